@@ -1,0 +1,28 @@
+-- What a tap tells of the device behind it.
+use Rattle.std.specs.Prelude.{ℕ, ◌+◌, ◌-◌, ◌^◌, ◌==◌, min, Bool, true, Result, Ok, Err, if◌then◌else◌}
+use Rattle.tpm_bytes.specs.declared.tap.Tap.{Tap}
+
+-- whether the device failed or ended, and how many of its reads gave bytes
+pub record Marks : Type 0 where
+  pub failed : Bool
+  pub ended : Bool
+  pub reads : ℕ
+
+abbrev pub marks_of : {D : Type 0} → Tap D → Marks
+marks_of tap = record { failed = tap.failed; ended = tap.ended; reads = tap.reads }
+
+abbrev pub device_of : {D : Type 0} → Tap D → D
+device_of tap = tap.device
+
+-- the marks after a read into a buffer of this length
+abbrev pub after_read : {E : Type 0} → Marks → Result ℕ E → ℕ → Marks
+after_read marks (Err e) room = record marks { failed = true }
+after_read marks (Ok count) room =
+    if count == 0 then (if room == 0 then marks else record marks { ended = true })
+    else record marks { reads = min (marks.reads + 1) (2 ^ 64 - 1) }
+
+-- the marks after a write of a piece of this length
+abbrev pub after_write : {E : Type 0} → Marks → Result ℕ E → ℕ → Marks
+after_write marks (Err e) size = record marks { failed = true }
+after_write marks (Ok count) size =
+    if count == 0 then (if size == 0 then marks else record marks { failed = true }) else marks

@@ -1,0 +1,129 @@
+ghost use Rattle.std.specs.Prelude.{◌≡◌, ℕ, ◌==◌, List, length};
+ghost use Rattle.std.specs.Int.{w8, w16, w32, w64};
+ghost use Rattle.tpm_bytes.specs.Reading.{Reads, bytes_at, number_at, sized_at};
+
+use std::marker::Model;
+
+/// Fewer bytes are left than were asked for.
+#[derive(Clone, Copy, Debug, PartialEq, Eq)]
+pub struct Short;
+
+/// Why a sized buffer was not read.
+#[derive(Clone, Copy, Debug, PartialEq, Eq)]
+pub enum SizedFault {
+    /// Its size is over the limit, whether its bytes are there or not.
+    TooLong,
+    /// Its size, or some of its bytes, are not there.
+    Short,
+}
+
+/// What is left to read of a text. Contracts see it as the bytes that are left.
+#[derive(Drop)]
+pub struct Cursor<'a> {
+    left: &'a [u8],
+}
+
+impl<'a> Model for Cursor<'a> {
+    ghost Value = { List ℕ };
+
+    ghost view = { λ c. c.left.now };
+}
+
+impl<'a> Cursor<'a> {
+    pub fn new(text: &'a [u8]) -> Cursor<'a>
+        ensures { result ≡ text.now }
+    {
+        Cursor { left: text }
+    }
+
+    /// All bytes that are left; they stay to be read.
+    pub fn rest(&self) -> &'a [u8]
+        ensures { result.now ≡ self.now }
+    {
+        self.left
+    }
+
+    pub fn len(&self) -> usize
+        ensures { result ≡ length self.now }
+    {
+        self.left.len()
+    }
+
+    pub fn is_empty(&self) -> bool
+        ensures { result ≡ (length self.now == 0) }
+    {
+        self.left.is_empty()
+    }
+
+    /// The next `count` bytes.
+    pub fn take(&mut self, count: usize) -> Result<&'a [u8], Short>
+        ensures { Reads (λ front. front.now) (bytes_at count self.old) self.old result self.new }
+    {
+        if self.left.len() < count {
+            return Err(Short);
+        }
+        let (front, back) = self.left.split_at(count);
+        self.left = back;
+        Ok(front)
+    }
+
+    pub fn u8(&mut self) -> Result<u8, Short>
+        ensures { Reads (λ n. n) (number_at w8 self.old) self.old result self.new }
+    {
+        if self.left.is_empty() {
+            return Err(Short);
+        }
+        let (front, back) = self.left.split_at(1);
+        self.left = back;
+        Ok(u8::from_be_bytes([front[0]]))
+    }
+
+    pub fn u16(&mut self) -> Result<u16, Short>
+        ensures { Reads (λ n. n) (number_at w16 self.old) self.old result self.new }
+    {
+        if self.left.len() < 2 {
+            return Err(Short);
+        }
+        let (front, back) = self.left.split_at(2);
+        self.left = back;
+        Ok(u16::from_be_bytes([front[0], front[1]]))
+    }
+
+    pub fn u32(&mut self) -> Result<u32, Short>
+        ensures { Reads (λ n. n) (number_at w32 self.old) self.old result self.new }
+    {
+        if self.left.len() < 4 {
+            return Err(Short);
+        }
+        let (front, back) = self.left.split_at(4);
+        self.left = back;
+        Ok(u32::from_be_bytes([front[0], front[1], front[2], front[3]]))
+    }
+
+    pub fn u64(&mut self) -> Result<u64, Short>
+        ensures { Reads (λ n. n) (number_at w64 self.old) self.old result self.new }
+    {
+        if self.left.len() < 8 {
+            return Err(Short);
+        }
+        let (front, back) = self.left.split_at(8);
+        self.left = back;
+        Ok(u64::from_be_bytes([
+            front[0], front[1], front[2], front[3], front[4], front[5], front[6], front[7],
+        ]))
+    }
+
+    /// A sized buffer of at most `limit` bytes (TPM2B: a size of two bytes, and that many bytes).
+    pub fn sized(&mut self, limit: usize) -> Result<&'a [u8], SizedFault>
+        ensures { Reads (λ bytes. bytes.now) (sized_at limit self.old) self.old result self.new }
+    {
+        let mut ahead = Cursor { left: self.left };
+        let size = ahead.u16().map_err(|_| SizedFault::Short)? as usize;
+        if size > limit {
+            return Err(SizedFault::TooLong);
+        }
+        let bytes = ahead.take(size).map_err(|_| SizedFault::Short)?;
+        *self = ahead;
+        Ok(bytes)
+    }
+}

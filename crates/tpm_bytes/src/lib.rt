@@ -1,0 +1,13 @@
+#![tactic(auto)]
+
+//! The bytes of a text: a [`cursor::Cursor`] reads them, a [`sink::Sink`] of fixed capacity takes
+//! them, and a [`tap::Tap`] tells what a reader or a writer of bytes did.
+//!
+//! Numbers are big-endian, as everywhere in a TPM's buffers (TPM 2.0 Library, Part 2, section 3.2). A
+//! refused read or write changes nothing, and no call here takes memory.
+
+pub mod cursor;
+pub mod sink;
+pub mod tap;
+#[cfg(test)]
+mod tests;

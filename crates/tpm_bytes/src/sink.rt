@@ -1,0 +1,99 @@
+ghost use Rattle.std.specs.Prelude.{◌≡◌, ℕ, ◌≤◌, List, [], length};
+ghost use Rattle.std.specs.Int.{w8, w16, w32, w64, to_be_bytes};
+ghost use Rattle.tpm_bytes.specs.Writing.{Puts, PutsSized};
+
+use arrayvec::ArrayVec;
+use std::marker::Model;
+
+/// The text does not fit.
+#[derive(Clone, Copy, Debug, PartialEq, Eq)]
+pub struct Full;
+
+/// A text of at most `N` bytes that is being written. Contracts see it as the bytes so far.
+#[derive(Drop)]
+pub struct Sink<const N: usize> {
+    bytes: ArrayVec<u8, N>,
+}
+
+impl<const N: usize> Model for Sink<N> {
+    ghost Value = { List ℕ };
+
+    ghost view = { λ s. s.bytes.items };
+
+    ghost invariant = { λ s. length s.bytes.items ≤ N };
+}
+
+impl<const N: usize> Sink<N> {
+    pub fn new() -> Sink<N>
+        ensures { result ≡ [] }
+    {
+        Sink {
+            bytes: ArrayVec::new(),
+        }
+    }
+
+    pub fn len(&self) -> usize
+        ensures value { result ≡ length self.now }
+        ensures fits { result ≤ N }
+    {
+        self.bytes.len()
+    }
+
+    pub fn as_slice(&self) -> &[u8]
+        ensures value { result.now ≡ self.now }
+        ensures fits { length result.now ≤ N }
+    {
+        self.bytes.as_slice()
+    }
+
+    pub fn into_bytes(self) -> ArrayVec<u8, N>
+        ensures value { result.items ≡ self.entry }
+        ensures fits { length result.items ≤ N }
+    {
+        self.bytes
+    }
+
+    pub fn put(&mut self, bytes: &[u8]) -> Result<(), Full>
+        ensures { Puts N bytes.now self.old result self.new }
+    {
+        match self.bytes.try_extend_from_slice(bytes) {
+            Ok(()) => Ok(()),
+            Err(_) => Err(Full),
+        }
+    }
+
+    pub fn put_u8(&mut self, number: u8) -> Result<(), Full>
+        ensures { Puts N (to_be_bytes w8 number) self.old result self.new }
+    {
+        self.put(&number.to_be_bytes())
+    }
+
+    pub fn put_u16(&mut self, number: u16) -> Result<(), Full>
+        ensures { Puts N (to_be_bytes w16 number) self.old result self.new }
+    {
+        self.put(&number.to_be_bytes())
+    }
+
+    pub fn put_u32(&mut self, number: u32) -> Result<(), Full>
+        ensures { Puts N (to_be_bytes w32 number) self.old result self.new }
+    {
+        self.put(&number.to_be_bytes())
+    }
+
+    pub fn put_u64(&mut self, number: u64) -> Result<(), Full>
+        ensures { Puts N (to_be_bytes w64 number) self.old result self.new }
+    {
+        self.put(&number.to_be_bytes())
+    }
+
+    /// A sized buffer: the size of `bytes` in two bytes, then `bytes`. Over 65,535 bytes never fit.
+    pub fn put_sized(&mut self, bytes: &[u8]) -> Result<(), Full>
+        ensures { PutsSized N bytes.now self.old result self.new }
+    {
+        if bytes.len() > 0xffff || N - self.bytes.len() < 2 + bytes.len() {
+            return Err(Full);
+        }
+        self.put_u16(bytes.len() as u16)?;
+        self.put(bytes)
+    }
+}

@@ -1,0 +1,107 @@
+ghost use Rattle.std.specs.Prelude.{◌≡◌, length, false};
+ghost use Rattle.std.specs.Io.{ReadsAtMost, WritesAtMost};
+ghost use Rattle.std.specs.Io.KnownBytes.{ReadConsumes, WriteAppends};
+ghost use Rattle.tpm_bytes.specs.Tap.{after_read, after_write, device_of, marks_of};
+
+use std::io;
+use std::io::{Read, Write};
+
+/// A reader or a writer, and what it did: whether it failed, whether it ended, and how many of its
+/// reads gave bytes.
+#[derive(Drop)]
+pub struct Tap<D> {
+    device: D,
+    failed: bool,
+    ended: bool,
+    reads: u64,
+}
+
+impl<D> Tap<D> {
+    pub fn new(device: D) -> Tap<D>
+        ensures device { device_of result ≡ device }
+        ensures marks { marks_of result ≡ record { failed = false; ended = false; reads = 0 } }
+    {
+        Tap {
+            device,
+            failed: false,
+            ended: false,
+            reads: 0,
+        }
+    }
+
+    /// Whether the device answered an error, or took nothing of a piece that was not empty.
+    pub fn failed(&self) -> bool
+        ensures { result ≡ (marks_of self.now).failed }
+    {
+        self.failed
+    }
+
+    /// Whether a read gave nothing for a buffer that was not empty.
+    pub fn ended(&self) -> bool
+        ensures { result ≡ (marks_of self.now).ended }
+    {
+        self.ended
+    }
+
+    /// How many reads gave bytes, up to 2^64 - 1.
+    pub fn reads(&self) -> u64
+        ensures { result ≡ (marks_of self.now).reads }
+    {
+        self.reads
+    }
+
+    pub fn into_inner(self) -> D
+        ensures { result ≡ device_of self }
+    {
+        let Tap {
+            device,
+            failed: _,
+            ended: _,
+            reads: _,
+        } = self;
+        device
+    }
+}
+
+impl<D: Read> Tap<D> {
+    /// One read of the device.
+    pub fn read(&mut self, buffer: &mut [u8]) -> io::Result<usize>
+        ensures bound { ReadsAtMost result buffer.new }
+        ensures bytes { ReadConsumes (D.remaining (device_of self.old)) (D.remaining (device_of self.new)) result buffer.new }
+        ensures marks { marks_of self.new ≡ after_read (marks_of self.old) result (length buffer.old) }
+    {
+        let room = buffer.len();
+        let outcome = self.device.read(buffer);
+        match &outcome {
+            Ok(0) => {
+                if room != 0 {
+                    self.ended = true;
+                }
+            }
+            Ok(_) => self.reads = self.reads.saturating_add(1),
+            Err(_) => self.failed = true,
+        }
+        outcome
+    }
+}
+
+impl<D: Write> Tap<D> {
+    /// One write to the device.
+    pub fn write(&mut self, piece: &[u8]) -> io::Result<usize>
+        ensures bound { WritesAtMost result piece.now }
+        ensures bytes { WriteAppends (D.contents (device_of self.old)) (D.contents (device_of self.new)) result piece.now }
+        ensures marks { marks_of self.new ≡ after_write (marks_of self.old) result (length piece.now) }
+    {
+        let outcome = self.device.write(piece);
+        match &outcome {
+            Ok(0) => {
+                if !piece.is_empty() {
+                    self.failed = true;
+                }
+            }
+            Ok(_) => {}
+            Err(_) => self.failed = true,
+        }
+        outcome
+    }
+}

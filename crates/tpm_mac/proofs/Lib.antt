@@ -1,0 +1,3 @@
+pub mod DigestSize
+pub mod Filling
+pub mod Blocks

@@ -1,0 +1,24 @@
+-- HMAC (FIPS 198-1) over whole texts. Keys, texts and digests are lists of bytes.
+use Rattle.std.specs.Prelude.{ℕ, ◌-◌, List, ◌++◌, bit_xor, if◌then◌else◌, length, map, nat_lt, replicate}
+use Rattle.tpm_mac.specs.Digest.{hash_of}
+use Rattle.tpm_mac.specs.declared.algorithm.HashAlg.{HashAlg}
+
+-- the key with zeros to the 64 bytes of a block; a key of more bytes is hashed first
+-- (FIPS 198-1, 4, steps 1 to 3: K0)
+abbrev pub padded_key : HashAlg → List ℕ → List ℕ
+padded_key alg key =
+    let short = if nat_lt 64 (length key) then hash_of alg key else key in
+    short ++ replicate (64 - length short) 0
+
+-- each byte of the key xor the pad
+abbrev pub masked : ℕ → List ℕ → List ℕ
+masked pad key = map (λ byte. bit_xor byte pad) key
+
+-- H((K0 xor opad) ++ H((K0 xor ipad) ++ text)) (FIPS 198-1, 4, steps 4 to 9; ipad and opad: 2.3)
+abbrev pub hmac_under : HashAlg → (block_key : List ℕ) → List ℕ → List ℕ
+hmac_under alg block_key text =
+    hash_of alg (masked 0x5c block_key ++ hash_of alg (masked 0x36 block_key ++ text))
+
+-- the HMAC of a text under a key of any length (FIPS 198-1, 4)
+abbrev pub hmac_of : HashAlg → (key text : List ℕ) → List ℕ
+hmac_of alg key text = hmac_under alg (padded_key alg key) text

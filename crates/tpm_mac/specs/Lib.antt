@@ -1,0 +1,6 @@
+pub mod Digest
+pub mod Hmac
+pub mod Kdf
+pub use Rattle.arrayvec.specs.ArrayVec
+pub use Rattle.sha1.specs.Sha1
+pub use Rattle.sha2.specs.Sha256

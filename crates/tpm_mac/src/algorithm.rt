@@ -1,0 +1,26 @@
+//! The hash algorithms of the profile.
+
+ghost use Rattle.std.specs.Prelude.{◌≡◌};
+
+/// A hash algorithm of FIPS 180-4.
+#[derive(Clone, Copy, Debug, PartialEq, Eq)]
+pub enum HashAlg {
+    /// SHA-1.
+    Sha1,
+    /// SHA-256.
+    Sha256,
+}
+
+impl HashAlg {
+    ghost use Rattle.tpm_mac.specs.Digest.{digest_size};
+
+    /// The length of a digest in bytes: 20 or 32.
+    pub fn size(self) -> usize
+        ensures { result ≡ digest_size self }
+    {
+        match self {
+            HashAlg::Sha1 => 20,
+            HashAlg::Sha256 => 32,
+        }
+    }
+}

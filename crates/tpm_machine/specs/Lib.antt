@@ -1,0 +1,16 @@
+pub mod Record
+pub mod State
+pub mod Tick
+pub mod Cycle
+pub mod Check
+pub mod Rows
+pub mod Startup
+pub mod GetRandom
+pub mod PcrRead
+pub mod Events
+pub mod General
+pub mod Table
+pub mod Step
+pub mod Run
+pub use Rattle.tpm_pcr.specs.Values
+pub use Rattle.tpm_pcr.specs.Banks

@@ -1,0 +1,56 @@
+-- One event: time passes, the general checks, the command's row, the answer. TPM 2.0 Library, Part 1,
+-- section 18.4 (responses) and Part 3, section 5.
+use Rattle.std.specs.Prelude.{◌≡◌, ◌+◌, ◌==◌, ℕ, List, [], ◌++◌, length, if◌then◌else◌, Result, Ok, Err}
+use Rattle.std.specs.Int.{w16, w32, to_be_bytes}
+use Rattle.tpm_types.specs.Rc.{rc_number}
+use Rattle.tpm_types.specs.CommandCode.{code_number}
+use Rattle.tpm_types.specs.declared.command_code.CommandCode.{CommandCode}
+use Rattle.tpm_types.specs.declared.rc.Rc.{Rc}
+use Rattle.tpm_machine.specs.Check.{check_number}
+use Rattle.tpm_machine.specs.Cycle.{cycled}
+use Rattle.tpm_machine.specs.Events.{Happening, Given, Cycled}
+use Rattle.tpm_machine.specs.General.{Command, general}
+use Rattle.tpm_machine.specs.Record.{Record}
+use Rattle.tpm_machine.specs.Rows.{Success}
+use Rattle.tpm_machine.specs.Table.{row_of}
+use Rattle.tpm_machine.specs.Tick.{ticked}
+use Rattle.tpm_machine.specs.declared.check.Refused.{Refused}
+use Rattle.tpm_machine.specs.declared.event.Outcome.{Outcome}
+use Rattle.tpm_machine.specs.declared.event.Row.{Row}
+use Rattle.tpm_machine.specs.declared.general.Refusal.{Refusal}
+
+-- what an event answers, the row that is reported, and the record after it
+pub record Stepped : Type 0 where
+  pub response : List ℕ
+  pub row : Row
+  pub after : Record
+
+-- ten bytes: the tag of no sessions, or that of a TPM 1.2 response to a bad tag, the size, the code
+abbrev pub error_text : Row → Rc → List ℕ
+error_text row rc =
+    to_be_bytes w16 (if row.check == 2 then 0xc4 else 0x8001) ++ to_be_bytes w32 10 ++ to_be_bytes w32 (rc_number rc)
+
+-- the tag, the size, the code 0, and the answer
+abbrev pub success_text : List ℕ → List ℕ
+success_text answer = to_be_bytes w16 0x8001 ++ to_be_bytes w32 (10 + length answer) ++ to_be_bytes w32 0 ++ answer
+
+-- a refusal leaves the record
+abbrev pub refused : Record → Refusal → Stepped
+refused r e = record { response = error_text e.row e.rc; row = e.row; after = r }
+
+abbrev pub answered : Record → CommandCode → Result Success Refused → Stepped
+answered r c (Ok s) = record { response = success_text s.answer; row = record { code = code_number c; check = 0 }; after = s.after }
+answered r c (Err e) = refused r (record { rc = e.rc; row = record { code = code_number c; check = check_number e.check } })
+
+abbrev pub decided : Record → List ℕ → Result Command Refusal → Stepped
+decided r random (Ok c) = answered r c.code (row_of r c.code c.parameters random)
+decided r random (Err e) = refused r e
+
+-- the step of an event
+abbrev pub step : Record → Happening → Stepped
+step r (Given buffer locality elapsed random) = let t = ticked r elapsed in decided t random (general t.started buffer)
+step r Cycled = record { response = []; row = record { code = 0; check = 0 }; after = cycled r }
+
+-- what is seen of an outcome that left this record
+abbrev pub seen : Record → Outcome → Stepped
+seen r o = record { response = o.response.items; row = o.row; after = r }

@@ -1,0 +1,35 @@
+use arrayvec::ArrayVec;
+use tpm_types::locality::Locality;
+
+/// The whole bytes of a response.
+pub type Response = ArrayVec<u8, 4096>;
+
+/// One atomic step of the device.
+#[derive(Drop)]
+pub enum Event<'a> {
+    /// A command buffer, whatever its bytes are: where it comes from, the milliseconds since the event
+    /// before, and the random bytes that it may draw.
+    Command {
+        buffer: &'a [u8],
+        locality: Locality,
+        elapsed_ms: u32,
+        random: [u8; 256],
+    },
+    /// Power goes off and on again.
+    PowerCycle,
+}
+
+/// What was decided about an event: the command's code, 0 where none was found or power was cycled, and
+/// the number of the check that refused it, 0 where none did.
+#[derive(Clone, Copy, Debug, PartialEq, Eq)]
+pub struct Row {
+    pub code: u32,
+    pub check: u8,
+}
+
+/// What an event gave: the response, empty for a power cycle, and the row.
+#[derive(Drop)]
+pub struct Outcome {
+    pub response: Response,
+    pub row: Row,
+}

@@ -1,0 +1,92 @@
+ghost use Rattle.std.specs.Prelude.{◌≡◌, List, IfOk, map};
+ghost use Rattle.tpm_machine.specs.Events.{happening};
+ghost use Rattle.tpm_machine.specs.Record.{manufactured};
+ghost use Rattle.tpm_machine.specs.Run.{Runs};
+ghost use Rattle.tpm_machine.specs.State.{state_of};
+ghost use Rattle.tpm_machine.specs.Step.{seen, step};
+
+use crate::event::{Event, Outcome, Row};
+use crate::general::decode;
+use crate::response::{accepted, refused};
+use crate::state::State;
+use crate::table::act;
+use arrayvec::ArrayVec;
+use std::alloc::Global;
+
+/// Memory was refused.
+#[derive(Clone, Copy, Debug, PartialEq, Eq)]
+pub struct NoMemory;
+
+/// The device.
+#[derive(Drop)]
+pub struct Machine {
+    state: State,
+}
+
+impl Machine {
+    /// A new device. Its memory comes from `alloc`, and its secrets from the random bytes; so far it has
+    /// neither need.
+    pub fn manufacture(_alloc: Global, _random: &[u8; 256]) -> Result<Machine, NoMemory>
+        ensures { IfOk result (λ machine. state_of machine ≡ manufactured) }
+    {
+        Ok(Machine {
+            state: State::manufactured(),
+        })
+    }
+
+    /// Executes one event: its response, its row and the state after it are those of the table.
+    pub fn execute(&mut self, event: &Event) -> Outcome
+        ensures { seen (state_of self.new) result ≡ step (state_of self.old) (happening event.now) }
+    {
+        match event {
+            Event::PowerCycle => {
+                self.state.power_cycle();
+                Outcome {
+                    response: ArrayVec::new(),
+                    row: Row { code: 0, check: 0 },
+                }
+            }
+            Event::Command {
+                buffer,
+                elapsed_ms,
+                random,
+                ..
+            } => {
+                self.state.tick(*elapsed_ms);
+                self.command(buffer, random)
+            }
+        }
+    }
+
+    /// Runs the events in order, and calls `tell` with the outcome of each, once each.
+    pub fn run<F: FnMut(&Outcome)>(&mut self, events: &[Event], tell: &mut F)
+        requires { F.IsAlwaysCallable tell.old }
+        ensures { Runs F.FnMut (state_of self.old) tell.old (map happening events.now) (state_of self.new) tell.new }
+    {
+        for event in events {
+            let outcome = self.execute(event);
+            tell(&outcome);
+        }
+    }
+
+    ghost use Rattle.tpm_machine.specs.General.{general};
+    ghost use Rattle.tpm_machine.specs.Step.{decided};
+
+    /// Executes a command's buffer, after its time has passed.
+    fn command(&mut self, buffer: &[u8], random: &[u8; 256]) -> Outcome
+        ensures { seen (state_of self.new) result ≡ decided (state_of self.old) random.now (general (state_of self.old).started buffer.now) }
+    {
+        let command = match decode(self.state.started, buffer) {
+            Ok(command) => command,
+            Err(refusal) => return refused(refusal.row, refusal.rc),
+        };
+        let code = command.code.number();
+        match act(&mut self.state, command.code, command.parameters, random) {
+            Ok(answer) => accepted(code, &answer),
+            Err(fault) => {
+                let check = fault.check.number();
+                refused(Row { code, check }, fault.rc)
+            }
+        }
+    }
+}

@@ -1,0 +1,59 @@
+-- PCR banks. TPM 2.0 Library, Part 1, section 17, and Part 3, section 22.4 (TPM2_PCR_Read).
+use Rattle.std.specs.Prelude.{ℕ, zero, suc, ◌+◌, ◌-◌, ◌<◌, nat_lt, nat_le, ◌&&◌, if◌then◌else◌, List, [], ◌∷◌, ◌++◌, length, take, map, filter, fold, replicate, slice_index_or}
+use Rattle.std.specs.List.{flat_map}
+use Rattle.tpm_mac.specs.declared.algorithm.HashAlg.{HashAlg}
+use Rattle.tpm_mac.specs.declared.algorithm.HashAlg.TheVariants.{Sha1, Sha256}
+use Rattle.tpm_mac.specs.Digest.{digest_size}
+use Rattle.tpm_types.specs.declared.pcr_selection.BankSelection.{BankSelection}
+use Rattle.tpm_types.specs.Pcr.{is_selected, with_pcr}
+use Rattle.tpm_pcr.specs.Values.{BankValues}
+
+-- the PCRs below a number, ascending
+abbrev pub pcrs_below : ℕ → List ℕ
+pcrs_below zero = []
+pcrs_below (suc n) = pcrs_below n ++ n ∷ []
+
+-- the PCRs of a bank
+unfoldable pub all_pcrs : List ℕ
+all_pcrs = pcrs_below 24
+
+-- a PCR starts with all ones from 17 to 22, which only a dynamic launch resets, and else with zeros
+abbrev pub starting_value : HashAlg → ℕ → List ℕ
+starting_value bank pcr = replicate (digest_size bank) (if nat_le 17 pcr && nat_le pcr 22 then 0xff else 0)
+
+unfoldable pub starting_values : HashAlg → List (List ℕ)
+starting_values bank = map (starting_value bank) all_pcrs
+
+-- the banks at manufacture and after a power cycle
+abbrev pub new_banks : BankValues
+new_banks = record { sha1 = starting_values Sha1; sha256 = starting_values Sha256; update_count = 0 }
+
+abbrev pub bank_values : BankValues → HashAlg → List (List ℕ)
+bank_values banks Sha1 = banks.sha1
+bank_values banks Sha256 = banks.sha256
+
+abbrev pub pcr_value : BankValues → HashAlg → ℕ → List ℕ
+pcr_value banks bank pcr = slice_index_or (bank_values banks bank) pcr []
+
+-- what TPM2_PCR_Read answers
+
+-- the PCRs that a bank's selection names, ascending, and their values
+unfoldable pub selected : BankSelection → List ℕ
+selected bank = filter (is_selected bank.select) all_pcrs
+
+abbrev pub selected_values : BankValues → BankSelection → List (List ℕ)
+selected_values banks bank = map (pcr_value banks bank.hash) (selected bank)
+
+-- the number that selects just these PCRs
+abbrev pub select_with : List ℕ → ℕ
+select_with pcrs = fold with_pcr 0 pcrs
+
+-- the values of a selection in its order, as many as there is room for
+unfoldable pub read_values : BankValues → ℕ → List BankSelection → List (List ℕ)
+read_values banks room selection = take room (flat_map (selected_values banks) selection)
+
+-- the selection of just these values
+abbrev pub answered : ℕ → List BankSelection → List BankSelection
+answered room [] = []
+answered room (bank ∷ selection) =
+    record bank { select = select_with (take room (selected bank)) } ∷ answered (room - length (selected bank)) selection

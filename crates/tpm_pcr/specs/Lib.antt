@@ -1,0 +1,4 @@
+pub mod Values
+pub mod Banks
+pub use Rattle.tpm_types.specs.Pcr
+pub use Rattle.tpm_types.specs.DigestList

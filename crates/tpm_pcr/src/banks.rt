@@ -1,0 +1,141 @@
+ghost use Rattle.std.specs.Prelude.{◌≡◌, ◌-◌, [], ◌∷◌, ◌++◌, ◌&&◌, nat_lt, if◌then◌else◌, length, take, replicate};
+ghost use Rattle.tpm_types.specs.Pcr.{is_selected, with_pcr};
+ghost use Rattle.tpm_types.specs.DigestList.{digests_of};
+ghost use Rattle.tpm_pcr.specs.Banks.{answered, new_banks, pcr_value, read_values, select_with, selected, selected_values};
+
+use arrayvec::ArrayVec;
+use std::marker::Model;
+use tpm_mac::{Digest, HashAlg};
+use tpm_types::digest_list::DigestList;
+use tpm_types::pcr::{PCR_COUNT, PcrIndex, PcrSelect};
+use tpm_types::pcr_selection::{BankSelection, PcrSelection};
+
+/// The most values that one read answers.
+pub const MOST_VALUES: usize = 8;
+
+/// The values of all PCRs, bank by bank, and how often a value was written.
+#[derive(Drop)]
+pub struct Banks {
+    sha1: [[u8; 20]; 24],
+    sha256: [[u8; 32]; 24],
+    update_count: u64,
+}
+
+impl Model for Banks {
+    ghost use Rattle.tpm_pcr.specs.Values.{BankValues};
+
+    ghost Value = { BankValues };
+
+    ghost view = { λ b. record { sha1 = b.sha1; sha256 = b.sha256; update_count = b.update_count } };
+}
+
+/// What a read of PCRs answers: their values in the order of the selection, at most eight, and the
+/// selection of just these.
+#[derive(Drop)]
+pub struct PcrReading {
+    pub selection: PcrSelection,
+    pub values: DigestList,
+}
+
+
+impl Banks {
+    /// The banks at manufacture and after a power cycle.
+    #[tactic(auto, unfolding(crate::specs::Banks::all_pcrs, crate::specs::Banks::starting_values))]
+    pub fn new() -> Banks
+        ensures { result ≡ new_banks }
+    {
+        Banks {
+            sha1: starting_values([0; 20], [0xff; 20]),
+            sha256: starting_values([0; 32], [0xff; 32]),
+            update_count: 0,
+        }
+    }
+
+    /// How many bank values were written since the last Startup, and Clears.
+    pub fn update_count(&self) -> u64
+        ensures { result ≡ self.now.update_count }
+    {
+        self.update_count
+    }
+
+    /// Begins to count updates anew, as TPM2_Startup does.
+    pub fn restart_update_count(&mut self)
+        ensures { self.new ≡ record self.old { update_count = 0 } }
+    {
+        self.update_count = 0;
+    }
+
+    /// The value of a PCR in a bank.
+    pub fn value(&self, bank: HashAlg, pcr: PcrIndex) -> Digest
+        ensures { result.items ≡ pcr_value self.now bank pcr }
+    {
+        let number = usize::from(pcr.number());
+        let mut value = Digest::new();
+        let _ = match bank {
+            HashAlg::Sha1 => value.try_extend_from_slice(&self.sha1[number]),
+            HashAlg::Sha256 => value.try_extend_from_slice(&self.sha256[number]),
+        };
+        value
+    }
+}
+
+impl Banks {
+    /// Reads the PCRs of a selection, the first eight of them (Part 3, section 22.4).
+    pub fn read(&self, selection: &PcrSelection) -> PcrReading
+        ensures selection { result.selection.banks.items ≡ answered 8 selection.now.banks.items }
+        ensures values { digests_of result.values.digests.items ≡ read_values self.now 8 selection.now.banks.items }
+    {
+        let mut values = ArrayVec::new();
+        let mut banks = ArrayVec::new();
+        for bank in selection.banks.as_slice() {
+            let select = self.read_bank(bank, &mut values);
+            let hash = bank.hash;
+            banks.push(BankSelection { hash, select });
+        }
+        PcrReading {
+            selection: PcrSelection { banks },
+            values: DigestList { digests: values },
+        }
+    }
+
+    /// Reads the PCRs of one bank's selection while there is room, and answers the selection of these.
+    fn read_bank(&self, bank: &BankSelection, values: &mut ArrayVec<Digest, 8>) -> PcrSelect
+        ensures select { result ≡ select_with (take (8 - length values.old.items) (selected bank.now)) }
+        ensures values { digests_of values.new.items ≡ digests_of values.old.items ++ take (8 - length values.old.items) (selected_values self.now bank.now) }
+    {
+        let mut select = PcrSelect::none();
+        for number in 0..PCR_COUNT {
+            let pcr = PcrIndex::new(number).unwrap();
+            self.read_pcr(bank, pcr, &mut select, values);
+        }
+        select
+    }
+
+    /// Reads one PCR where it is selected and there is room.
+    fn read_pcr(
+        &self,
+        bank: &BankSelection,
+        pcr: PcrIndex,
+        select: &mut PcrSelect,
+        values: &mut ArrayVec<Digest, 8>,
+    )
+        ensures select { select.new ≡ (if is_selected bank.now.select pcr && nat_lt (length values.old.items) 8 then with_pcr select.old pcr else select.old) }
+        ensures values { digests_of values.new.items ≡ (if is_selected bank.now.select pcr && nat_lt (length values.old.items) 8 then digests_of values.old.items ++ pcr_value self.now bank.now.hash pcr ∷ [] else digests_of values.old.items) }
+    {
+        if bank.select.contains(pcr) && !values.is_full() {
+            select.insert(pcr);
+            values.push(self.value(bank.hash, pcr));
+        }
+    }
+}
+
+/// What each PCR starts with: `high` for 17 to 22, which only a dynamic launch resets, and `low` for the
+/// others.
+fn starting_values<T: Copy>(low: T, high: T) -> [T; 24]
+    ensures { result ≡ replicate 17 low ++ replicate 6 high ++ low ∷ [] }
+{
+    [
+        low, low, low, low, low, low, low, low, low, low, low, low, low, low, low, low, low, high,
+        high, high, high, high, high, low,
+    ]
+}

@@ -1,0 +1,3 @@
+pub mod BanksLemmas
+pub mod EntriesLemmas
+pub mod DigestLemmas

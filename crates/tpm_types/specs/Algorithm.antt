@@ -1,0 +1,24 @@
+-- Hash algorithms on the wire. TPM 2.0 Library, Part 2, section 6.3 (TPM_ALG_ID) and section 9.27 (TPMI_ALG_HASH).
+use Rattle.std.specs.Prelude.{ℕ, ◌==◌, List, if◌then◌else◌, Option, Some, None, Result, Ok, ok_or}
+use Rattle.std.specs.Int.{w16}
+use Rattle.tpm_bytes.specs.Reading.{◌>>=◌, number_at, or_fault}
+use Rattle.tpm_mac.specs.declared.algorithm.HashAlg.{HashAlg}
+use Rattle.tpm_mac.specs.declared.algorithm.HashAlg.TheVariants.{Sha1, Sha256}
+use Rattle.tpm_types.specs.declared.rc.Rc.{Rc}
+use Rattle.tpm_types.specs.declared.rc.ResponseCode.TheVariants as code
+use Rattle.tpm_types.specs.Rc.{plain}
+
+abbrev pub hash_number : HashAlg → ℕ
+hash_number Sha1 = 0x0004
+hash_number Sha256 = 0x000b
+
+-- the hash algorithm of a number, if it is served
+abbrev pub hash_named : ℕ → Option HashAlg
+hash_named number = if number == 0x0004 then Some Sha1 else (if number == 0x000b then Some Sha256 else None)
+
+-- a hash algorithm, and what is after it
+unfoldable pub hash_at : List ℕ → Result (HashAlg × List ℕ) Rc
+hash_at text = do
+  number ← or_fault (number_at w16 text) (plain code.Insufficient)
+  algorithm ← ok_or (hash_named number.0) (plain code.Hash)
+  Ok (algorithm, number.1)

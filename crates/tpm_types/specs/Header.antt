@@ -1,0 +1,37 @@
+-- A command's header: tag, commandSize, commandCode. TPM 2.0 Library, Part 1, section 18.2.
+use Rattle.std.specs.Prelude.{ℕ, ◌==◌, ◌||◌, not, nat_lt, List, length, drop, take, Option, Some, None, Result, Ok, Err, ok_or}
+use Rattle.std.specs.Int.{w16, w32, from_be_bytes}
+use Rattle.tpm_bytes.specs.Reading.{◌>>=◌, refused_if}
+use Rattle.tpm_types.specs.declared.command.Header.{Header}
+use Rattle.tpm_types.specs.declared.command.HeaderFault.{HeaderFault}
+use Rattle.tpm_types.specs.declared.command.HeaderFault.TheVariants as fault
+use Rattle.tpm_types.specs.declared.rc.Rc.{Rc}
+use Rattle.tpm_types.specs.declared.rc.ResponseCode.TheVariants as code
+use Rattle.tpm_types.specs.Rc.{plain}
+use Rattle.tpm_types.specs.Tag.{tag_named}
+use Rattle.tpm_types.specs.CommandCode.{code_named}
+
+abbrev pub header_fault_rc : HeaderFault → Rc
+header_fault_rc fault.Length = plain code.CommandSize
+header_fault_rc fault.Tag = plain code.BadTag
+header_fault_rc fault.Size = plain code.CommandSize
+header_fault_rc fault.Code = plain code.CommandCode
+
+-- the three fields of a buffer of ten bytes or more
+abbrev pub tag_field : List ℕ → ℕ
+tag_field buffer = from_be_bytes w16 (take 2 buffer)
+
+abbrev pub size_field : List ℕ → ℕ
+size_field buffer = from_be_bytes w32 (take 4 (drop 2 buffer))
+
+abbrev pub code_field : List ℕ → ℕ
+code_field buffer = from_be_bytes w32 (take 4 (drop 6 buffer))
+
+-- the header of a whole buffer and what is after it, or its first fault
+unfoldable pub header_at : List ℕ → Result (Header × List ℕ) HeaderFault
+header_at buffer = do
+  length_fits ← refused_if (nat_lt (length buffer) 10 || nat_lt 4096 (length buffer)) fault.Length
+  tag ← ok_or (tag_named (tag_field buffer)) fault.Tag
+  size_is_length ← refused_if (not (size_field buffer == length buffer)) fault.Size
+  code ← ok_or (code_named (code_field buffer)) fault.Code
+  Ok (record { tag = tag; code = code }, drop 10 buffer)

@@ -1,0 +1,15 @@
+pub mod Rc
+pub mod Tag
+pub mod CommandCode
+pub mod Locality
+pub mod Algorithm
+pub mod Pcr
+pub mod PcrSelection
+pub mod Handle
+pub mod AuthEntry
+pub mod AuthArea
+pub mod Header
+pub mod DigestList
+pub use Rattle.tpm_bytes.specs.Reading
+pub use Rattle.tpm_bytes.specs.Writing
+pub use Rattle.tpm_mac.specs.Digest

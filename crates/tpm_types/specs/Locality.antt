@@ -1,0 +1,11 @@
+-- Localities. TPM 2.0 Library, Part 2, section 8.5 (TPMA_LOCALITY): zero to four.
+use Rattle.std.specs.Prelude.{◌≡◌, ℕ, ◌≤◌, ◌<◌, Option, Some, None}
+use Rattle.tpm_types.specs.declared.locality.Locality.{Locality}
+
+abbrev pub locality_number : Locality → ℕ
+locality_number locality = locality.number
+
+-- The locality of a number is there exactly for 0 to 4.
+abbrev pub SomeLocality : ℕ → Option Locality → Type 0
+SomeLocality number (Some locality) = (number ≤ 4) × (locality_number locality ≡ number)
+SomeLocality number None = 4 < number

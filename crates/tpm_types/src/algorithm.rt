@@ -1,0 +1,43 @@
+ghost use Rattle.std.specs.Prelude.{◌≡◌};
+ghost use Rattle.tpm_bytes.specs.Reading.{Reads};
+ghost use Rattle.tpm_types.specs.Algorithm.{hash_at, hash_named, hash_number};
+
+use crate::rc::{Rc, ResponseCode};
+use tpm_bytes::cursor::Cursor;
+use tpm_mac::HashAlg;
+
+/// The number of a hash algorithm on the wire: TPM_ALG_ID of TPM 2.0 Library, Part 2, section 6.3.
+pub fn hash_number(algorithm: HashAlg) -> u16
+    ensures { result ≡ hash_number algorithm }
+{
+    match algorithm {
+        HashAlg::Sha1 => 0x0004,
+        HashAlg::Sha256 => 0x000b,
+    }
+}
+
+/// The hash algorithm of this number, if it is served.
+pub fn hash_named(number: u16) -> Option<HashAlg>
+    ensures { result ≡ hash_named number }
+{
+    match number {
+        0x0004 => Some(HashAlg::Sha1),
+        0x000b => Some(HashAlg::Sha256),
+        _ => None,
+    }
+}
+
+/// Reads a hash algorithm (TPMI_ALG_HASH, Part 2, section 9.27): INSUFFICIENT where it is cut, HASH
+/// where it is no served one.
+#[tactic(auto, unfolding(crate::specs::Algorithm::hash_at))]
+pub fn read_hash(text: &mut Cursor) -> Result<HashAlg, Rc>
+    ensures { Reads (λ algorithm. algorithm) (hash_at text.old) text.old result text.new }
+{
+    let mut ahead = Cursor::new(text.rest());
+    let number = ahead
+        .u16()
+        .map_err(|_| ResponseCode::Insufficient.anywhere())?;
+    let algorithm = hash_named(number).ok_or(ResponseCode::Hash.anywhere())?;
+    *text = ahead;
+    Ok(algorithm)
+}

@@ -1,0 +1,39 @@
+ghost use Rattle.std.specs.Prelude.{◌≡◌, ◌/◌};
+
+/// The handle of an entity: TPM_HANDLE of TPM 2.0 Library, Part 2, section 7.1. Its highest byte says
+/// what it names (TPM_HT, section 7.2).
+#[derive(Clone, Copy, Debug, PartialEq, Eq, Default)]
+pub struct Handle {
+    pub number: u32,
+}
+
+/// What a handle in an authorization entry names.
+#[derive(Clone, Copy, Debug, PartialEq, Eq)]
+pub enum SessionKind {
+    /// TPM_RS_PW: no session, a password.
+    Password,
+    /// A session, HMAC or policy.
+    Session,
+    /// Neither.
+    Other,
+}
+
+impl Handle {
+    ghost use Rattle.tpm_types.specs.Handle.{session_kind};
+
+    /// TPM_RS_PW, section 7.4.
+    pub const PASSWORD: Handle = Handle {
+        number: 0x4000_0009,
+    };
+
+    /// What the handle names in an authorization entry.
+    pub fn session_kind(self) -> SessionKind
+        ensures { result ≡ session_kind self }
+    {
+        match self.number {
+            0x4000_0009 => SessionKind::Password,
+            number if number >> 24 == 0x02 || number >> 24 == 0x03 => SessionKind::Session,
+            _ => SessionKind::Other,
+        }
+    }
+}

@@ -1,0 +1,30 @@
+ghost use Rattle.std.specs.Prelude.{◌≡◌, ◌≤◌};
+
+/// The locality that a command comes from, 0 to 4 (TPM 2.0 Library, Part 1, section 3, and Part 2,
+/// section 8.5).
+#[derive(Clone, Copy, Debug, PartialEq, Eq)]
+pub struct Locality {
+    number: u8,
+    ghost in_range: { number ≤ 4 },
+}
+
+impl Locality {
+    ghost use Rattle.tpm_types.specs.Locality.{locality_number, SomeLocality};
+
+    /// The locality of this number, where there is one.
+    pub fn new(number: u8) -> Option<Locality>
+        ensures { SomeLocality number result }
+    {
+        if number <= 4 {
+            Some(Locality { number })
+        } else {
+            None
+        }
+    }
+
+    pub fn number(self) -> u8
+        ensures { result ≡ locality_number self }
+    {
+        self.number
+    }
+}

@@ -1,0 +1,138 @@
+ghost use Rattle.std.specs.Prelude.{◌≡◌, ◌+◌, ◌*◌, ◌≤◌, ◌<◌, ℕ, List, ◌++◌, length, IfOk};
+ghost use Rattle.tpm_bytes.specs.Reading.{Reads};
+ghost use Rattle.tpm_bytes.specs.Writing.{Puts};
+
+use crate::algorithm::{hash_number, read_hash};
+use crate::pcr::{PcrSelect, SELECT_SIZE};
+use crate::rc::{Rc, ResponseCode};
+use arrayvec::ArrayVec;
+use tpm_bytes::cursor::Cursor;
+use tpm_bytes::sink::{Full, Sink};
+use tpm_mac::HashAlg;
+
+/// How many banks a selection may name.
+pub const MOST_BANKS: u32 = 16;
+
+/// PCRs of one bank: TPMS_PCR_SELECTION (TPM 2.0 Library, Part 2, section 10.6.2).
+#[derive(Clone, Copy, Debug, PartialEq, Eq)]
+pub struct BankSelection {
+    pub hash: HashAlg,
+    pub select: PcrSelect,
+}
+
+impl Default for BankSelection {
+    fn default() -> BankSelection {
+        BankSelection {
+            hash: HashAlg::Sha256,
+            select: PcrSelect::none(),
+        }
+    }
+}
+
+impl BankSelection {
+    ghost use Rattle.tpm_types.specs.PcrSelection.{bank_at, bank_text};
+
+    /// Reads one bank's selection: INSUFFICIENT where it is cut, HASH, and VALUE where it has not
+    /// three octets.
+    #[tactic(auto, unfolding(crate::specs::PcrSelection::bank_at))]
+    pub fn read(text: &mut Cursor) -> Result<BankSelection, Rc>
+        ensures { Reads (λ bank. bank) (bank_at text.old) text.old result text.new }
+    {
+        let mut ahead = Cursor::new(text.rest());
+        let hash = read_hash(&mut ahead)?;
+        let size = ahead
+            .u8()
+            .map_err(|_| ResponseCode::Insufficient.anywhere())?;
+        if size != SELECT_SIZE {
+            return Err(ResponseCode::Value.anywhere());
+        }
+        let octets = ahead
+            .take(3)
+            .map_err(|_| ResponseCode::Insufficient.anywhere())?;
+        let select = PcrSelect::from_octets([octets[0], octets[1], octets[2]]);
+        *text = ahead;
+        Ok(BankSelection { hash, select })
+    }
+
+    /// Writes the selection at the end, six bytes, or nothing where it does not fit.
+    #[tactic(auto, unfolding(crate::specs::PcrSelection::bank_text))]
+    pub fn write<const N: usize>(&self, sink: &mut Sink<N>) -> Result<(), Full>
+        ensures { Puts N (bank_text self.now) sink.old result sink.new }
+    {
+        if N - sink.len() < 6 {
+            return Err(Full);
+        }
+        sink.put_u16(hash_number(self.hash))?;
+        sink.put_u8(SELECT_SIZE)?;
+        sink.put(&self.select.octets())
+    }
+}
+
+/// PCRs of up to sixteen banks, in the order in which they are asked for: TPML_PCR_SELECTION (Part 2,
+/// section 10.9.7).
+#[derive(Drop)]
+pub struct PcrSelection {
+    pub banks: ArrayVec<BankSelection, 16>,
+}
+
+impl PcrSelection {
+    ghost use Rattle.tpm_types.specs.PcrSelection.{selection_at, selection_text};
+
+    /// Reads a selection: INSUFFICIENT where it is cut, SIZE where it names over sixteen banks, and
+    /// the first fault of a bank.
+    #[tactic(auto, unfolding(crate::specs::PcrSelection::selection_at))]
+    pub fn read(text: &mut Cursor) -> Result<PcrSelection, Rc>
+        ensures exact { Reads (λ selection. selection.banks.items) (selection_at text.old) text.old result text.new }
+    {
+        let mut ahead = Cursor::new(text.rest());
+        let count = ahead
+            .u32()
+            .map_err(|_| ResponseCode::Insufficient.anywhere())?;
+        if count > MOST_BANKS {
+            return Err(ResponseCode::Size.anywhere());
+        }
+        let banks = read_banks(&mut ahead, count)?;
+        *text = ahead;
+        Ok(PcrSelection { banks })
+    }
+
+    /// Writes the selection at the end, at most 100 bytes, or nothing where it does not fit.
+    #[tactic(auto, using(crate::proofs::BanksLemmas::writing_banks))]
+    pub fn write<const N: usize>(&self, sink: &mut Sink<N>) -> Result<(), Full>
+        ensures written { Puts N (selection_text self.now.banks.items) sink.old result sink.new }
+        ensures small { length (selection_text self.now.banks.items) ≤ 100 }
+    {
+        let banks = self.banks.as_slice();
+        if N - sink.len() < 4 + 6 * banks.len() {
+            return Err(Full);
+        }
+        let _ = sink.put_u32(banks.len() as u32);
+        write_banks(banks, sink);
+        Ok(())
+    }
+}
+
+ghost use Rattle.tpm_types.specs.PcrSelection.{banks_at, banks_text};
+
+fn read_banks(text: &mut Cursor, count: u32) -> Result<ArrayVec<BankSelection, 16>, Rc>
+    requires { count ≤ 16 }
+    ensures { Reads (λ banks. banks.items) (banks_at count text.old) text.old result text.new }
+{
+    let mut ahead = Cursor::new(text.rest());
+    let mut banks = ArrayVec::new();
+    for _ in 0..count {
+        banks.push(BankSelection::read(&mut ahead)?);
+    }
+    *text = ahead;
+    Ok(banks)
+}
+
+#[tactic(auto, using(crate::proofs::BanksLemmas::writing_banks))]
+fn write_banks<const N: usize>(banks: &[BankSelection], sink: &mut Sink<N>)
+    requires { length sink.old + 6 * length banks.now ≤ N }
+    ensures { sink.new ≡ sink.old ++ banks_text banks.now }
+{
+    for bank in banks {
+        let _ = bank.write(sink);
+    }
+}
