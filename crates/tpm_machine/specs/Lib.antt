@@ -11,6 +11,7 @@ pub mod Events
 pub mod General
 pub mod Table
 pub mod Step
+pub mod Safe
 pub mod Run
 pub use Rattle.tpm_pcr.specs.Values
 pub use Rattle.tpm_pcr.specs.Banks

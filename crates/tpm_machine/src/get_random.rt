@@ -1,4 +1,4 @@
-ghost use Rattle.std.specs.Prelude.{◌≡◌, ◌≤◌, take, min};
+ghost use Rattle.std.specs.Prelude.{◌≡◌, ◌≤◌, IfOk, take, min};
 ghost use Rattle.tpm_bytes.specs.Writing.{sized_text};
 ghost use Rattle.tpm_machine.specs.GetRandom.{get_random_row};
 ghost use Rattle.tpm_machine.specs.Rows.{Acts};
@@ -33,7 +33,8 @@ pub fn get_random(
     parameters: &[u8],
     random: &[u8; 256],
 ) -> Result<Answer, Refused>
-    ensures { Acts (get_random_row (record_of state.old) parameters.now random.now) (record_of state.old) result (record_of state.new) }
+    ensures row { Acts (get_random_row (record_of state.old) parameters.now random.now) (record_of state.old) result (record_of state.new) }
+    ensures draws { IfOk result (λ answer. answer.drawn ≤ 32) }
 {
     let mut parameters = Cursor::new(parameters);
     let requested = parameters

@@ -1,7 +1,8 @@
-ghost use Rattle.std.specs.Prelude.{◌≡◌, List, IfOk, map};
+ghost use Rattle.std.specs.Prelude.{◌≡◌, ◌≤◌, List, IfOk, length, map};
 ghost use Rattle.tpm_machine.specs.Events.{happening};
 ghost use Rattle.tpm_machine.specs.Record.{manufactured};
 ghost use Rattle.tpm_machine.specs.Run.{Runs};
+ghost use Rattle.tpm_machine.specs.Safe.{IsHarmless};
 ghost use Rattle.tpm_machine.specs.State.{state_of};
 ghost use Rattle.tpm_machine.specs.Step.{seen, step};
 
@@ -35,8 +36,15 @@ impl Machine {
     }
 
     /// Executes one event: its response, its row and the state after it are those of the table.
+    #[tactic(auto, using(crate::proofs::Refusals::seen_harmless))]
     pub fn execute(&mut self, event: &Event) -> Outcome
-        ensures { seen (state_of self.new) result ≡ step (state_of self.old) (happening event.now) }
+        ensures step { seen (state_of self.new) result ≡ step (state_of self.old) (happening event.now) }
+
+        // A refusal is ten bytes, and changes nothing but the time.
+        ensures harmless { IsHarmless (state_of self.old) (happening event.now) (seen (state_of self.new) result) }
+
+        // An answer has a header and at most 2,048 bytes.
+        ensures fits { length result.response.items ≤ 2058 }
     {
         match event {
             Event::PowerCycle => {
@@ -74,7 +82,8 @@ impl Machine {
 
     /// Executes a command's buffer, after its time has passed.
     fn command(&mut self, buffer: &[u8], random: &[u8; 256]) -> Outcome
-        ensures { seen (state_of self.new) result ≡ decided (state_of self.old) random.now (general (state_of self.old).started buffer.now) }
+        ensures decided { seen (state_of self.new) result ≡ decided (state_of self.old) random.now (general (state_of self.old).started buffer.now) }
+        ensures fits { length result.response.items ≤ 2058 }
     {
         let command = match decode(self.state.started, buffer) {
             Ok(command) => command,

@@ -1,4 +1,4 @@
-ghost use Rattle.std.specs.Prelude.{◌≡◌, ◌++◌, ◌%◌, ◌^◌};
+ghost use Rattle.std.specs.Prelude.{◌≡◌, ◌++◌, ◌%◌, ◌^◌, IfOk};
 ghost use Rattle.std.specs.Int.{w32, to_be_bytes};
 ghost use Rattle.tpm_types.specs.DigestList.{digest_list_text, digests_of};
 ghost use Rattle.tpm_types.specs.PcrSelection.{selection_text};
@@ -31,7 +31,8 @@ fn reading_text(update_count: u64, reading: &PcrReading) -> ArrayVec<u8, 2048>
 /// selection of just these.
 #[tactic(auto, unfolding(crate::specs::PcrRead::pcr_read_row))]
 pub fn pcr_read(state: &mut State, parameters: &[u8]) -> Result<Answer, Refused>
-    ensures { Acts (pcr_read_row (record_of state.old) parameters.now) (record_of state.old) result (record_of state.new) }
+    ensures row { Acts (pcr_read_row (record_of state.old) parameters.now) (record_of state.old) result (record_of state.new) }
+    ensures draws { IfOk result (λ answer. answer.drawn ≡ 0) }
 {
     let mut parameters = Cursor::new(parameters);
     let selection = PcrSelection::read(&mut parameters).map_err(|rc| at_parameter(1, rc))?;

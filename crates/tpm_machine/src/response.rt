@@ -1,4 +1,4 @@
-ghost use Rattle.std.specs.Prelude.{◌≡◌};
+ghost use Rattle.std.specs.Prelude.{◌≡◌, ◌≤◌, length};
 ghost use Rattle.tpm_machine.specs.Step.{error_text, success_text};
 
 use crate::answer::Answer;
@@ -31,7 +31,8 @@ fn error(row: Row, rc: Rc) -> Response
 }
 
 fn success(answer: &Answer) -> Response
-    ensures { result.items ≡ success_text answer.now.parameters.items }
+    ensures text { result.items ≡ success_text answer.now.parameters.items }
+    ensures fits { length result.items ≤ 2058 }
 {
     let parameters = answer.parameters.as_slice();
     let mut text = Sink::<4096>::new();
@@ -57,6 +58,7 @@ pub fn refused(row: Row, rc: Rc) -> Outcome
 pub fn accepted(code: u32, answer: &Answer) -> Outcome
     ensures response { result.response.items ≡ success_text answer.now.parameters.items }
     ensures row { result.row ≡ record { code = code; check = 0 } }
+    ensures fits { length result.response.items ≤ 2058 }
 {
     Outcome {
         response: success(answer),

@@ -1,4 +1,4 @@
-ghost use Rattle.std.specs.Prelude.{◌≡◌};
+ghost use Rattle.std.specs.Prelude.{◌≡◌, IfOk};
 ghost use Rattle.tpm_bytes.specs.Reading.{Reads};
 ghost use Rattle.tpm_machine.specs.Rows.{Acts};
 ghost use Rattle.tpm_machine.specs.Startup.{lacks_state, startup_row, startup_type_at};
@@ -47,7 +47,8 @@ fn lacks_state(kind: StartupType, saved: Saved) -> bool
 /// TPM2_Startup: VALUE where it wants a saved state and there is none; else a TPM Reset.
 #[tactic(auto, unfolding(crate::specs::Startup::startup_row))]
 pub fn startup(state: &mut State, parameters: &[u8]) -> Result<Answer, Refused>
-    ensures { Acts (startup_row (record_of state.old) parameters.now) (record_of state.old) result (record_of state.new) }
+    ensures row { Acts (startup_row (record_of state.old) parameters.now) (record_of state.old) result (record_of state.new) }
+    ensures draws { IfOk result (λ answer. answer.drawn ≡ 0) }
 {
     let mut parameters = Cursor::new(parameters);
     let kind = read_startup_type(&mut parameters).map_err(|rc| at_parameter(1, rc))?;

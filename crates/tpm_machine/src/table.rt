@@ -1,4 +1,4 @@
-ghost use Rattle.std.specs.Prelude.{◌≡◌};
+ghost use Rattle.std.specs.Prelude.{◌≡◌, ◌≤◌, IfOk};
 ghost use Rattle.tpm_machine.specs.Rows.{Acts};
 ghost use Rattle.tpm_machine.specs.State.{record_of};
 ghost use Rattle.tpm_machine.specs.Table.{row_of};
@@ -19,7 +19,10 @@ pub fn act(
     parameters: &[u8],
     random: &[u8; 256],
 ) -> Result<Answer, Refused>
-    ensures { Acts (row_of (record_of state.old) code parameters.now random.now) (record_of state.old) result (record_of state.new) }
+    ensures row { Acts (row_of (record_of state.old) code parameters.now random.now) (record_of state.old) result (record_of state.new) }
+
+    // No command draws more of an event's 256 random bytes.
+    ensures draws { IfOk result (λ answer. answer.drawn ≤ 192) }
 {
     match code {
         CommandCode::Startup => startup(state, parameters),
