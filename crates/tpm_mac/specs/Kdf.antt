@@ -19,7 +19,7 @@ block_count alg size = size / digest_size alg + min 1 (size % digest_size alg)
 
 -- the first so many bytes of all blocks in order, from block 1 on
 -- (TCG TPM 2.0 Library Part 1, 11.4.10.2)
-abbrev pub kdfa_of : HashAlg → (key label context_u context_v : List ℕ) (size : ℕ) → List ℕ
+unfoldable pub kdfa_of : HashAlg → (key label context_u context_v : List ℕ) (size : ℕ) → List ℕ
 kdfa_of alg key label context_u context_v size =
     take size (flat_map
     (λ i. hmac_of alg key (kdfa_text label context_u context_v (size * 8) i))

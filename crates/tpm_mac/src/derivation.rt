@@ -11,6 +11,7 @@ use crate::mac::{BlockKey, block_key, hmac_with};
 
 /// Fills `out` with the bytes that KDFa derives from the key for the label and the two contexts. The
 /// number of bits that is asked for is eight times the length of `out`, and has to fit into 32 bits.
+#[tactic(auto, unfolding(crate::specs::Kdf::kdfa_of))]
 pub fn kdfa(
     alg: HashAlg,
     key: &[u8],

@@ -20,6 +20,7 @@ const OUTER_PAD: u8 = 0x5c;
 pub(crate) type BlockKey = [u8; BLOCK_SIZE];
 
 /// The HMAC of the parts joined, under a key of any length. No part is copied.
+#[tactic(auto, unfolding(crate::specs::Hmac::hmac_of))]
 pub fn hmac_parts(alg: HashAlg, key: &[u8], parts: &[&[u8]]) -> Digest
     ensures value { result.items ≡ hmac_of alg key.now (joined parts.now) }
     ensures size { length result.items ≡ digest_size alg }
@@ -28,6 +29,7 @@ pub fn hmac_parts(alg: HashAlg, key: &[u8], parts: &[&[u8]]) -> Digest
 }
 
 /// The HMAC of the parts joined, under a key that is as long as a block already.
+#[tactic(auto, unfolding(crate::specs::Hmac::hmac_under))]
 pub(crate) fn hmac_with(alg: HashAlg, key: &BlockKey, parts: &[&[u8]]) -> Digest
     ensures value { result.items ≡ hmac_under alg key.now (joined parts.now) }
     ensures size { length result.items ≡ digest_size alg }

@@ -1,0 +1,81 @@
+#!/bin/sh
+# Counts the instructions for each byte of HMAC-SHA-256 and of AES-128 in cipher feedback, over texts
+# of 1,024 bytes: the difference of two runs under valgrind, so that start and end do not count.
+# Needs rt and valgrind. It works in a temporary folder and leaves nothing behind.
+set -eu
+
+repository=$(cd "$(dirname "$0")/.." && pwd)
+folder=$(mktemp -d)
+trap 'rm -rf "$folder"' EXIT
+
+mkdir -p "$folder/crates/measured/src"
+for crate in tpm_mac tpm_aes; do
+    mkdir "$folder/crates/$crate"
+    for part in src specs proofs; do
+        cp -R "$repository/crates/$crate/$part" "$folder/crates/$crate/$part"
+    done
+    grep "^$crate:" "$repository/crates.txt" >> "$folder/crates.txt"
+done
+echo "measured: tpm_mac tpm_aes sha1 sha2 arrayvec" >> "$folder/crates.txt"
+
+cat > "$folder/crates/measured/src/main.rt" <<'PROGRAM'
+// For each line, "hmac" or "cfb", works on 64 texts of 1,024 bytes.
+#![tactic(auto)]
+
+use std::io;
+use tpm_aes::Aes128;
+use tpm_mac::{HashAlg, hmac_parts};
+
+const TEXTS: u32 = 64;
+
+fn authenticate(text: &mut [u8; 1024]) {
+    for _ in 0..TEXTS {
+        let mac = hmac_parts(HashAlg::Sha256, &[0x0b; 20], &[text.as_slice()]);
+        if let Some(byte) = mac.as_slice().first() {
+            text[0] ^= *byte;
+        }
+    }
+}
+
+fn encrypt(text: &mut [u8; 1024]) {
+    let cipher = Aes128::new(&[0x2b; 16]);
+    for _ in 0..TEXTS {
+        cipher.cfb_encrypt(&[0x07; 16], text);
+    }
+}
+
+fn main(rt: HostRuntime) -> io::Result<()> {
+    let mut text = [0u8; 1024];
+    for line in rt.lines(rt.alloc()) {
+        match line?.as_str() {
+            "hmac" => authenticate(&mut text),
+            "cfb" => encrypt(&mut text),
+            _ => {}
+        }
+    }
+    println!(rt; "{}", text[0])
+}
+PROGRAM
+
+(cd "$folder/crates/measured" && rt run < /dev/null > "$folder/build" 2>&1) || {
+    cat "$folder/build"
+    exit 1
+}
+
+# instructions WORD LINES: what the program executes on so many lines of the word
+instructions() {
+    line=0
+    : > "$folder/input"
+    while [ "$line" -lt "$2" ]; do
+        echo "$1" >> "$folder/input"
+        line=$((line + 1))
+    done
+    valgrind --tool=callgrind --callgrind-out-file=/dev/null "$folder/crates/measured/out/measured" \
+        < "$folder/input" 2>&1 > /dev/null | sed -n 's/.*Collected : \([0-9]*\).*/\1/p'
+}
+
+for word in hmac cfb; do
+    once=$(instructions "$word" 1)
+    thrice=$(instructions "$word" 3)
+    echo "$word: $(((thrice - once) / (2 * 64 * 1024))) instructions for each byte"
+done

@@ -1,0 +1,5 @@
+pub mod AllBytes
+pub mod Steps
+pub mod TextBlocks
+pub mod Undone
+pub mod Words

@@ -1,0 +1,144 @@
+-- Decryption undoes encryption.
+use Rattle.std.proofs.Common.{◌≡◌, ℕ, zero, suc, ◌+◌, ◌-◌, ◌*◌, ◌/◌, ◌%◌, ◌<◌, ◌≤◌, List, [], ◌∷◌, ◌++◌, add-one, ap, arith, bit_xor, drop, length, length-append, length-drop, min, refl, sym, take, ◌∙◌, inl, inr}
+use Rattle.std.proofs.lemmas.Bool.{cases_lt}
+use Rattle.std.proofs.lemmas.List.{drop-append-le, drop_at, take-append-le, take_all}
+use Rattle.std.proofs.Math.Seq.{take-add}
+use Rattle.std.specs.Int.Bits.{xor_assoc, xor_self, xor_zero_r}
+use Rattle.tpm_aes.proofs.TextBlocks.{block_count-covers, block_count-inside, length-block_at, pieces_to, pieces_to-add-one, pieces_to-suc, pieces_to-zero}
+use Rattle.tpm_aes.specs.Cfb.{block_at, block_before, block_count, cfb_decrypt_of, cfb_encrypt_of, cipher_block, plain_block}
+use Rattle.tpm_aes.specs.Cipher.{encrypted, xored}
+
+-- no more bytes than the first list has
+length-xored : (xs ys : List ℕ) → length (xored xs ys) ≤ length xs
+length-xored [] ys = omega arith
+length-xored (x ∷ xs) [] = omega arith
+length-xored (x ∷ xs) (y ∷ ys) = omega (arith, length-xored xs ys)
+
+-- what is added twice is gone, where it covers the bytes
+xored-twice : (xs ys : List ℕ) → length (xored xs ys) ≡ length xs → xored (xored xs ys) ys ≡ xs
+xored-twice [] ys whole = refl
+xored-twice (x ∷ xs) [] whole = absurd (omega arith)
+xored-twice (x ∷ xs) (y ∷ ys) whole =
+    let byte : bit_xor (bit_xor x y) y ≡ x = xor_assoc x y y ∙ ap (bit_xor x) (xor_self y) ∙ xor_zero_r x in
+    ap (λ (k : ℕ). k ∷ xored (xored xs ys) ys) byte ∙ ap (λ (t : List ℕ). x ∷ t) (xored-twice xs ys (omega arith))
+
+-- the bytes of one more piece
+length-more : (piece : ℕ → List ℕ) (n : ℕ) → length (pieces_to piece (n + 1)) ≡ length (pieces_to piece n) + length (piece n)
+length-more piece n = ap length (pieces_to-add-one piece n) ∙ length-append (pieces_to piece n) (piece n)
+
+-- pieces that are no longer than a text's blocks
+length-pieces_to : (piece : ℕ → List ℕ) (text : List ℕ) → ((i : ℕ) → length (piece i) ≤ length (block_at text i))
+    → (n : ℕ) → length (pieces_to piece n) ≤ min (16 * n) (length text)
+length-pieces_to piece text short zero = rw (pieces_to-zero piece) (omega arith)
+length-pieces_to piece text short (suc n) =
+    rw (pieces_to-suc piece n, length-append)
+    (omega (arith, length-pieces_to piece text short n, short n, length-block_at text n))
+
+-- if together they are as long as the text, so they are up to each of them
+length-pieces_whole : (piece : ℕ → List ℕ) (text : List ℕ) → ((i : ℕ) → length (piece i) ≤ length (block_at text i))
+    → (k i : ℕ) → i + k ≡ block_count text → length (pieces_to piece (block_count text)) ≡ length text
+    → length (pieces_to piece i) ≡ min (16 * i) (length text)
+length-pieces_whole piece text short zero i at whole =
+    let here : i ≡ block_count text = omega arith in
+    ap (λ (n : ℕ). length (pieces_to piece n)) here ∙ whole ∙ omega (arith, block_count-covers text)
+length-pieces_whole piece text short (suc k) i at whole =
+    omega (
+      arith,
+      length-pieces_whole piece text short k (i + 1) (omega arith) whole,
+      length-pieces_to piece text short i,
+      short i,
+      length-block_at text i,
+      length-more piece i,
+    )
+
+-- block i of pieces that are whole blocks but for the last
+block_at-pieces_to : (piece : ℕ → List ℕ) (n : ℕ) → ((i : ℕ) → i < n → length (pieces_to piece i) ≡ 16 * i)
+    → ((i : ℕ) → length (piece i) ≤ 16) → (i : ℕ) → i < n → block_at (pieces_to piece n) i ≡ piece i
+block_at-pieces_to piece zero whole short i low = absurd (omega arith)
+block_at-pieces_to piece (suc n) whole short i low =
+    let before : List ℕ = pieces_to piece n in
+    let size : length before ≡ 16 * n = whole n (omega arith) in
+    ap (λ (text : List ℕ). block_at text i) (pieces_to-suc piece n)
+    ∙ elim (cases_lt i n) [
+      | inl lower ↦
+          ap (take 16) (drop-append-le (16 * i) before (piece n) (omega arith))
+          ∙ take-append-le 16 (drop (16 * i) before) (piece n) (omega (arith, length-drop (16 * i) before))
+          ∙ block_at-pieces_to piece n (λ j h. whole j (omega arith)) short i lower
+      | inr higher ↦
+          let same : n ≡ i = omega arith in
+          ap (take 16) (drop_at before (piece n) (16 * i) (omega arith))
+          ∙ take_all 16 (piece n) (short n) ∙ ap piece same
+    ]
+
+-- equal pieces
+pieces_to-same : (f g : ℕ → List ℕ) (n : ℕ) → ((i : ℕ) → i < n → f i ≡ g i) → pieces_to f n ≡ pieces_to g n
+pieces_to-same f g zero each = pieces_to-zero f ∙ sym (pieces_to-zero g)
+pieces_to-same f g (suc n) each =
+    pieces_to-suc f n ∙ ap (λ (xs : List ℕ). xs ++ f n) (pieces_to-same f g n (λ i h. each i (omega arith)))
+    ∙ ap (λ (xs : List ℕ). pieces_to g n ++ xs) (each n (omega arith)) ∙ sym (pieces_to-suc g n)
+
+-- the blocks of a text, joined
+pieces_to-block_at : (text : List ℕ) (n : ℕ) → pieces_to (block_at text) n ≡ take (16 * n) text
+pieces_to-block_at text zero = pieces_to-zero (block_at text)
+pieces_to-block_at text (suc n) =
+    let more : 16 * n + 16 ≡ 16 * suc n = omega arith in
+    pieces_to-suc (block_at text) n ∙ ap (λ (xs : List ℕ). xs ++ block_at text n) (pieces_to-block_at text n)
+    ∙ sym (take-add (16 * n) 16 text) ∙ ap (λ (k : ℕ). take k text) more
+
+-- C(i + 1)
+pub cipher_block_more : (key iv text : List ℕ) (i : ℕ) → cipher_block key iv text (i + 1)
+    ≡ xored (block_at text i) (encrypted key (cipher_block key iv text i))
+unfolding cipher_block
+cipher_block_more key iv text i = rw (add-one i) refl
+
+-- C(0)
+pub cipher_block_none : (key iv text : List ℕ) → cipher_block key iv text 0 ≡ iv
+unfolding cipher_block
+cipher_block_none key iv text = refl
+
+-- C(i + 1) as piece i
+abbrev pub cipher_piece : (key iv text : List ℕ) → ℕ → List ℕ
+cipher_piece key iv text i = cipher_block key iv text (i + 1)
+
+-- the block before block i of a cipher text whose blocks are C(1), C(2) and so on
+block_before-cipher : (key iv text cipher : List ℕ) (i : ℕ)
+    → ((j : ℕ) → j < i → block_at cipher j ≡ cipher_block key iv text (j + 1))
+    → block_before iv cipher i ≡ cipher_block key iv text i
+block_before-cipher key iv text cipher zero each = sym (cipher_block_none key iv text)
+block_before-cipher key iv text cipher (suc i) each =
+    each i (omega arith) ∙ ap (cipher_block key iv text) (add-one i)
+
+-- where the cipher text is as long as the text, its decryption is the text
+pub cfb_undone : (key iv text : List ℕ) → length (cfb_encrypt_of key iv text) ≡ length text
+    → cfb_decrypt_of key iv (cfb_encrypt_of key iv text) ≡ text
+unfolding pieces_to
+cfb_undone key iv text whole =
+    let piece : ℕ → List ℕ = cipher_piece key iv text in
+    let cipher : List ℕ = cfb_encrypt_of key iv text in
+    let n : ℕ = block_count text in
+    let short : (i : ℕ) → length (piece i) ≤ length (block_at text i) =
+    λ i. rw (cipher_block_more key iv text i) (length-xored (block_at text i) (encrypted key (cipher_block key iv text i))) in
+    let sizes : (i : ℕ) → i ≤ n → length (pieces_to piece i) ≡ min (16 * i) (length text) =
+    λ i low. length-pieces_whole piece text short (n - i) i (omega arith) whole in
+    let at : (i : ℕ) → i < n → block_at cipher i ≡ piece i =
+    block_at-pieces_to piece n (λ i low. sizes i (omega arith) ∙ omega (arith, block_count-inside text i low))
+    (λ i. omega (arith, short i, length-block_at text i)) in
+    let full : (i : ℕ) → i < n → length (piece i) ≡ length (block_at text i) =
+    λ i low. omega (
+      arith,
+      sizes i (omega arith),
+      sizes (i + 1) (omega arith),
+      length-block_at text i,
+      length-more piece i,
+    ) in
+    let each : (i : ℕ) → i < n → plain_block key iv cipher i ≡ block_at text i =
+    λ i low.
+    let sum = cipher_block_more key iv text i in
+    ap (λ (b : List ℕ). xored b (encrypted key (block_before iv cipher i))) (at i low ∙ sum)
+    ∙ ap (λ (b : List ℕ). xored (xored (block_at text i) (encrypted key (cipher_block key iv text i))) (encrypted key b))
+    (block_before-cipher key iv text cipher i (λ j h. at j (omega arith)))
+    ∙ xored-twice (block_at text i) (encrypted key (cipher_block key iv text i)) (ap length (sym sum) ∙ full i low) in
+    let count : block_count cipher ≡ n = ap (λ (k : ℕ). k / 16 + min 1 (k % 16)) whole in
+    ap (pieces_to (plain_block key iv cipher)) count
+    ∙ pieces_to-same (plain_block key iv cipher) (block_at text) n each
+    ∙ pieces_to-block_at text n ∙ take_all (16 * n) text (block_count-covers text)

@@ -1,0 +1,3 @@
+pub mod Cfb
+pub mod Cipher
+pub mod Field

@@ -1,0 +1,59 @@
+//! Cipher feedback with segments of 128 bits (SP 800-38A, 6.3).
+
+ghost use Rattle.std.specs.Prelude.{◌≡◌, ◌≤◌, length};
+ghost use Rattle.tpm_aes.specs.Cfb.{cfb_decrypt_of, cfb_encrypt_of};
+ghost use Rattle.tpm_aes.specs.Cipher.{encrypted, xored};
+
+use crate::bytes::{Block, xor_with};
+use crate::cipher::Aes128;
+
+const BLOCK_SIZE: usize = 16;
+
+impl Aes128 {
+    /// Encrypts the text in place. The text may have any length; a last block that is short is
+    /// added to the first bytes of its key stream.
+    pub fn cfb_encrypt(&self, iv: &[u8; 16], text: &mut [u8])
+        ensures value { text.new ≡ cfb_encrypt_of self.now iv.now text.old }
+        ensures undone { cfb_decrypt_of self.now iv.now text.new ≡ text.old }
+    {
+        let mut feedback = *iv;
+        for index in 0..text.len().div_ceil(BLOCK_SIZE) {
+            let start = BLOCK_SIZE * index;
+            let size = BLOCK_SIZE.min(text.len() - start);
+            self.encrypt_block(&mut feedback, &mut text[start..start + size]);
+        }
+    }
+
+    /// Decrypts the text in place: undoes `cfb_encrypt` under the same key and IV.
+    pub fn cfb_decrypt(&self, iv: &[u8; 16], text: &mut [u8])
+        ensures { text.new ≡ cfb_decrypt_of self.now iv.now text.old }
+    {
+        let mut feedback = *iv;
+        for index in 0..text.len().div_ceil(BLOCK_SIZE) {
+            let start = BLOCK_SIZE * index;
+            let size = BLOCK_SIZE.min(text.len() - start);
+            self.decrypt_block(&mut feedback, &mut text[start..start + size]);
+        }
+    }
+
+    /// Encrypts a block, or the short last one, and feeds back a whole block.
+    fn encrypt_block(&self, feedback: &mut Block, text: &mut [u8])
+        requires { length text.old ≤ 16 }
+        ensures value { text.new ≡ xored text.old (encrypted self.now feedback.old) }
+        ensures fed_back { length text.old ≡ 16 → feedback.new ≡ text.new }
+    {
+        xor_with(text, &self.block(feedback));
+        feedback[..text.len()].copy_from_slice(text);
+    }
+
+    /// Decrypts a block, or the short last one, and feeds back a whole block.
+    fn decrypt_block(&self, feedback: &mut Block, text: &mut [u8])
+        requires { length text.old ≤ 16 }
+        ensures value { text.new ≡ xored text.old (encrypted self.now feedback.old) }
+        ensures fed_back { length text.old ≡ 16 → feedback.new ≡ text.old }
+    {
+        let key_stream = self.block(feedback);
+        feedback[..text.len()].copy_from_slice(text);
+        xor_with(text, &key_stream);
+    }
+}

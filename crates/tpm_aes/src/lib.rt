@@ -1,0 +1,18 @@
+//! AES-128 in the direction of encryption (FIPS 197), and its cipher feedback mode with segments of
+//! 128 bits (SP 800-38A, 6.3).
+//!
+//! It stands on nothing. Each call equals its definition in `specs/` for every length of its data,
+//! and decryption undoes encryption. None takes memory or refuses.
+
+#![tactic(auto)]
+
+mod bytes;
+mod cipher;
+mod feedback;
+mod field;
+mod key_schedule;
+mod rounds;
+#[cfg(test)]
+mod tests;
+
+pub use cipher::Aes128;
