@@ -1,0 +1,46 @@
+#![tactic(auto)]
+
+//! A TPM 2.0 simulator that runs scripts of commands: `tpmsim run SCRIPT`.
+//!
+//! Standard output holds the responses alone, in hex, one a line. A run that fails says why in one
+//! line on standard error.
+
+mod answers;
+mod arguments;
+mod fault;
+mod line;
+mod lines;
+mod run;
+mod script;
+#[cfg(test)]
+mod tests;
+
+use arguments::Arguments;
+use fault::Fault;
+use run::run_script;
+use std::process::ExitCode;
+use std::{env, fs};
+
+fn main(rt: HostRuntime) -> ExitCode {
+    match try_main(&rt) {
+        Ok(()) => ExitCode::SUCCESS,
+        Err(fault) => {
+            let _ = eprintln!(rt; "tpmsim: {fault}");
+            fault.exit_code()
+        }
+    }
+}
+
+fn try_main(rt: &HostRuntime) -> Result<(), Fault> {
+    let words: Vec<String> = env::args(rt)
+        .map_err(|error| Fault::of_io(error, Fault::Usage))?
+        .collect(rt.alloc())?;
+    match Arguments::parse(rt.alloc(), words.as_slice())? {
+        Arguments::Run { script: "-" } => run_script(rt.alloc(), rt.stdin(), rt.stdout())?,
+        Arguments::Run { script } => {
+            let file = fs::open(rt, script).map_err(|error| Fault::of_io(error, Fault::File))?;
+            run_script(rt.alloc(), file, rt.stdout())?;
+        }
+    }
+    Ok(())
+}
