@@ -1,5 +1,8 @@
 use Rattle.std.proofs.lemmas.Bool.{false≢true}
-use Rattle.std.proofs.Common.{◌≡◌, ℕ, ◌+◌, ◌<◌, ◌≤◌, ◌^◌, List, ◌++◌, length, Result, Ok, Err, arith, ap, ◌∙◌, append_assoc, length-append, le_refl}
+use Rattle.std.proofs.lemmas.List.{take_more, flat_map_more}
+use Rattle.std.proofs.lemmas.List.Folds.{length-flat_map-take}
+use Rattle.std.proofs.Common.{◌≡◌, ℕ, ◌+◌, ◌<◌, ◌≤◌, ◌^◌, List, [], ◌∷◌, ◌++◌, length, take, get_or, Result, Ok, Err, arith, ap, sym, subst, ◌∙◌, append_assoc, length-append, le_refl}
+use Rattle.std.specs.List.{flat_map}
 use Rattle.tpm_bytes.specs.Writing.{Puts, PutsSized, sized_text}
 
 -- what fits is written
@@ -24,3 +27,32 @@ put_two capacity a b old mid new r q first second fits =
     put_fits capacity b mid q new second (omega arith)
     ∙ ap (λ (l : List ℕ). l ++ b) written
     ∙ append_assoc old a b
+
+pub put_three : {E F G : Type 0} (capacity : ℕ) (a b c old one two new : List ℕ) (r : Result (Unit {0}) E) (q : Result (Unit {0}) F) (s : Result (Unit {0}) G) → Puts capacity a old r one → Puts capacity b one q two → Puts capacity c two s new → length old + (length a + length b + length c) ≤ capacity → new ≡ old ++ (a ++ b ++ c)
+put_three capacity a b c old one two new r q s first second third fits =
+    let both : two ≡ old ++ (a ++ b) = put_two capacity a b old one two r q first second (omega arith) in
+    let sizes : length two ≡ length old + (length a + length b) = rw both (omega (arith, length-append old (a ++ b), length-append a b)) in
+    put_fits capacity c two s new third (omega arith)
+    ∙ ap (λ (l : List ℕ). l ++ c) both
+    ∙ append_assoc old (a ++ b) c
+
+-- ---- texts one behind the other, as a loop writes them
+
+-- the next text, at the end of those before it
+pub written_more : {X : Type 0} (text : X → List ℕ) (xs : List X) (i : ℕ) (d x : X) (start so_far new : List ℕ) → i < length xs → x ≡ get_or xs i d → so_far ≡ start ++ flat_map text (take i xs) → new ≡ so_far ++ text x → new ≡ start ++ flat_map text (take (i + 1) xs)
+written_more {X} text xs i d x start so_far new below is so wrote =
+    let next : take i xs ++ x ∷ [] ≡ take (i + 1) xs = ap (λ (y : X). take i xs ++ y ∷ []) is ∙ sym (take_more xs i d below) in
+    wrote
+    ∙ ap (λ (l : List ℕ). l ++ text x) so
+    ∙ flat_map_more text start (take i xs) x
+    ∙ ap (λ (l : List X). start ++ flat_map text l) next
+
+-- where there is room for all texts, there is room for the next
+pub fits_more : {X : Type 0} (text : X → List ℕ) (xs : List X) (i capacity : ℕ) (d x : X) (start so_far : List ℕ) → i < length xs → x ≡ get_or xs i d → so_far ≡ start ++ flat_map text (take i xs) → length start + length (flat_map text xs) ≤ capacity → length so_far + length (text x) ≤ capacity
+fits_more {X} text xs i capacity d x start so_far below is so room =
+    let next : length (flat_map text (take i xs)) + length (text x) ≤ length (flat_map text xs) = subst (λ (y : X). length (flat_map text (take i xs)) + length (text y) ≤ length (flat_map text xs)) (sym is) (length-flat_map-take text xs i d below) in
+    rw so (omega (arith, length-append start (flat_map text (take i xs))))
+
+pub put_more : {X E : Type 0} (text : X → List ℕ) (capacity : ℕ) (xs : List X) (i : ℕ) (d x : X) (start so_far new : List ℕ) (result : Result (Unit {0}) E) → i < length xs → x ≡ get_or xs i d → so_far ≡ start ++ flat_map text (take i xs) → length start + length (flat_map text xs) ≤ capacity → Puts capacity (text x) so_far result new → new ≡ start ++ flat_map text (take (i + 1) xs)
+put_more text capacity xs i d x start so_far new result below is so room puts =
+    written_more text xs i d x start so_far new below is so (put_fits capacity (text x) so_far result new puts (fits_more text xs i capacity d x start so_far below is so room))

@@ -1,5 +1,6 @@
--- What stands at the front of a text: some bytes, a number, a sized buffer. TPM 2.0 Library, Part 2,
--- section 3.2 (numbers are big-endian) and section 10.4 (TPM2B: a size of two bytes, and that many bytes).
+-- What stands at the front of a text: some bytes, a number, a sized buffer. TPM 2.0 Library, Part 1 (numbers on the
+-- wire are big-endian), and Part 2, section 10.4 (TPM2B: a size of two bytes, and that many bytes). A reading gives the
+-- value and what is after it.
 use Rattle.std.specs.Prelude.{◌≡◌, ℕ, List, length, take, drop, nat_lt, Bool, true, false, if◌then◌else◌, Result, Ok, Err}
 use Rattle.std.specs.Int.{Width, w16, byte_len, from_be_bytes}
 use Rattle.tpm_bytes.specs.declared.cursor.Short.{Short}
@@ -34,7 +35,8 @@ number_at width text =
     if nat_lt (length text) (byte_len width) then Err too_short
     else Ok (from_be_bytes width (take (byte_len width) text), drop (byte_len width) text)
 
--- the bytes of a sized buffer, and what is after it
+-- the bytes of a sized buffer, and what is after it: too long where its size is over the limit, whether its bytes are
+-- there or not, and else short where they are not
 abbrev pub sized_at : ℕ → List ℕ → Result (List ℕ × List ℕ) SizedFault
 sized_at limit text = do
   size ← or_fault (number_at w16 text) fault.Short

@@ -14,14 +14,14 @@ marks_of tap = record { failed = tap.failed; ended = tap.ended; reads = tap.read
 abbrev pub device_of : {D : Type 0} → Tap D → D
 device_of tap = tap.device
 
--- the marks after a read into a buffer of this length
+-- the marks after a read into a buffer of this length; the reads that gave bytes are counted up to 2^64 - 1
 abbrev pub after_read : {E : Type 0} → Marks → Result ℕ E → ℕ → Marks
 after_read marks (Err e) room = record marks { failed = true }
 after_read marks (Ok count) room =
     if count == 0 then (if room == 0 then marks else record marks { ended = true })
     else record marks { reads = min (marks.reads + 1) (2 ^ 64 - 1) }
 
--- the marks after a write of a piece of this length
+-- the marks after a write of a piece of this length; one that took a part of it leaves them
 abbrev pub after_write : {E : Type 0} → Marks → Result ℕ E → ℕ → Marks
 after_write marks (Err e) size = record marks { failed = true }
 after_write marks (Ok count) size =

@@ -1,2 +1,4 @@
 pub mod Running
 pub mod Refusals
+pub mod HandlesLemmas
+pub mod Answering

@@ -1,6 +1,7 @@
 -- A refusal is ten bytes, and changes nothing but the time.
 use Rattle.std.proofs.Common.{◌≡◌, ◌≢◌, ℕ, List, length, Result, Ok, Err, refl}
 use Rattle.tpm_types.specs.declared.command_code.CommandCode.{CommandCode}
+use Rattle.tpm_types.specs.Locality.{locality_number}
 use Rattle.tpm_machine.specs.Events.{Happening, Given, Cycled}
 use Rattle.tpm_machine.specs.General.{Command, general}
 use Rattle.tpm_machine.specs.Record.{Record}
@@ -16,17 +17,17 @@ use Rattle.tpm_machine.specs.declared.general.Refusal.{Refusal}
 abbrev LeavesRecord : Record → Stepped → Type 0
 LeavesRecord r x = x.row.check ≢ 0 → (length x.response ≡ 10) × (x.after ≡ r)
 
-answered_leaves : (r : Record) (c : CommandCode) (row : Result Success Refused) → LeavesRecord r (answered r c row)
-answered_leaves r c (Ok s) refused = absurd (refused refl)
-answered_leaves r c (Err e) refused = (refl, refl)
+answered_leaves : (r : Record) (c : CommandCode) (entries : ℕ) (row : Result Success Refused) → LeavesRecord r (answered r c entries row)
+answered_leaves r c entries (Ok s) refused = absurd (refused refl)
+answered_leaves r c entries (Err e) refused = (refl, refl)
 
-decided_leaves : (r : Record) (random : List ℕ) (g : Result Command Refusal) → LeavesRecord r (decided r random g)
-decided_leaves r random (Ok c) = answered_leaves r c.code (row_of r c.code c.parameters random)
-decided_leaves r random (Err e) = λ refused. (refl, refl)
+decided_leaves : (r : Record) (locality : ℕ) (random : List ℕ) (g : Result Command Refusal) → LeavesRecord r (decided r locality random g)
+decided_leaves r locality random (Ok c) = answered_leaves r c.code c.entries (row_of r c.code locality c.handles c.parameters random)
+decided_leaves r locality random (Err e) = λ refused. (refl, refl)
 
 pub step_harmless : (r : Record) (event : Happening) → IsHarmless r event (step r event)
 step_harmless r (Given buffer locality elapsed random) =
-    decided_leaves (ticked r elapsed) random (general (ticked r elapsed).started buffer)
+    decided_leaves (ticked r elapsed) (locality_number locality) random (general (ticked r elapsed).started buffer)
 step_harmless r Cycled = λ refused. absurd (refused refl)
 
 pub seen_harmless : (r : Record) (event : Happening) (x : Stepped) → x ≡ step r event → IsHarmless r event x

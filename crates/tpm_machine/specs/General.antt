@@ -1,37 +1,38 @@
--- The order of refusals: what is checked of every command before its own parameters are read, and in which
--- order. The first check that applies is answered. What is checked is TPM 2.0 Library, Part 3, section 5
--- (header, mode, handles, session area); the order and the codes are this device's own.
-use Rattle.std.specs.Prelude.{◌≡◌, ℕ, ◌==◌, ◌||◌, ◌&&◌, nat_lt, not, Bool, true, false, List, [], ◌∷◌, length, if◌then◌else◌, Result, Ok, Err}
-use Rattle.std.specs.Borrow.{Bor}
+-- The order of refusals: what is checked of every command before its own parameters are read, and in which order. The
+-- first check that applies is answered. What is checked is TPM 2.0 Library, Part 3, sections 5.2 (header), 5.3 (mode),
+-- 5.4 (handles), 5.5 (session area) and 5.6 (authorization); the order and the codes are this device's own.
+use Rattle.std.specs.Prelude.{◌≡◌, ℕ, ◌&&◌, nat_lt, not, Bool, true, false, List, [], length, map, Result, Ok, Err}
+use Rattle.arrayvec.specs.ArrayVec.{ArrayVec}
 use Rattle.tpm_bytes.specs.Reading.{◌>>=◌}
 use Rattle.tpm_types.specs.declared.command.Header.{Header}
 use Rattle.tpm_types.specs.declared.command.HeaderFault.{HeaderFault}
 use Rattle.tpm_types.specs.declared.command.HeaderFault.TheVariants as fault
 use Rattle.tpm_types.specs.declared.command_code.CommandCode.{CommandCode}
-use Rattle.tpm_types.specs.declared.command_code.CommandCode.TheVariants.{Startup, GetRandom, PcrRead}
+use Rattle.tpm_types.specs.declared.command_code.CommandCode.TheVariants.{PcrEvent, PcrReset, Startup, GetRandom, PcrRead, PcrExtend}
 use Rattle.tpm_types.specs.declared.tag.Tag.{Tag}
 use Rattle.tpm_types.specs.declared.tag.Tag.TheVariants.{NoSessions, Sessions}
-use Rattle.tpm_types.specs.declared.handle.SessionKind.{SessionKind}
-use Rattle.tpm_types.specs.declared.handle.SessionKind.TheVariants.{Password, Session, Other}
+use Rattle.tpm_types.specs.declared.auth_entry.AuthEntry.{AuthEntry}
+use Rattle.tpm_types.specs.declared.handle.Handle.{Handle}
 use Rattle.tpm_types.specs.declared.rc.Rc.{Rc}
 use Rattle.tpm_types.specs.declared.rc.ResponseCode.TheVariants as code
-use Rattle.tpm_types.specs.declared.rc.Place.TheVariants as place
 use Rattle.tpm_types.specs.AuthArea.{area_at}
-use Rattle.tpm_types.specs.AuthEntry.{Entry}
+use Rattle.tpm_types.specs.AuthEntry.{Entry, entry_of}
 use Rattle.tpm_types.specs.CommandCode.{code_number}
-use Rattle.tpm_types.specs.Handle.{session_kind}
 use Rattle.tpm_types.specs.Header.{header_at, header_fault_rc}
-use Rattle.tpm_types.specs.Rc.{at, plain}
+use Rattle.tpm_types.specs.Rc.{plain}
 use Rattle.tpm_machine.specs.Check.{check_number}
-use Rattle.tpm_machine.specs.Record.{Record}
+use Rattle.tpm_machine.specs.Entries.{entries_pass, passwords_pass}
+use Rattle.tpm_machine.specs.Handles.{authorized_handles, handle_kinds, handles_at}
 use Rattle.tpm_machine.specs.declared.check.Check.{Check}
 use Rattle.tpm_machine.specs.declared.check.Check.TheVariants as check
 use Rattle.tpm_machine.specs.declared.general.Decoded.{Decoded}
 use Rattle.tpm_machine.specs.declared.general.Refusal.{Refusal}
 
--- a command that passed: which one, and its parameters
+-- a command that passed: which one, its handles, how many entries it had, and its parameters
 pub record Command : Type 0 where
   pub code : CommandCode
+  pub handles : List Handle
+  pub entries : ℕ
   pub parameters : List ℕ
 
 -- the refusal of a command by a check, and the row that reports it
@@ -56,69 +57,54 @@ abbrev pub headed : Result (Header × List ℕ) HeaderFault → Result (Header �
 headed (Ok h) = Ok h
 headed (Err f) = Err (refusal_of_header f)
 
--- G5: before TPM2_Startup nothing else is accepted, and after it no other one
+-- for G5, before TPM2_Startup nothing else is accepted, and after it no other one
 abbrev pub is_startup : CommandCode → Bool
+is_startup PcrEvent = false
+is_startup PcrReset = false
 is_startup Startup = true
 is_startup GetRandom = false
 is_startup PcrRead = false
+is_startup PcrExtend = false
 
 -- both or neither
-abbrev pub same_answer : Bool → Bool → Bool
-same_answer true b = b
-same_answer false b = not b
+abbrev pub both_or_neither : Bool → Bool → Bool
+both_or_neither true b = b
+both_or_neither false b = not b
 
--- G7: TPM2_Startup may have no sessions
+-- for G7, TPM2_Startup must have no sessions, and a command with a handle that needs authorization must have some
 abbrev pub has_sessions : Tag → Bool
 has_sessions NoSessions = false
 has_sessions Sessions = true
 
--- G8: what is wrong with entry n: a nonce or HMAC over 32 bytes; else a handle that names no session; else,
--- as no session exists, a session that is absent; else a password that authorizes no handle, as no command
--- has one that it could
-abbrev pub reference_of : ℕ → Rc
-reference_of n = plain (if n == 1 then code.ReferenceS0 else (if n == 2 then code.ReferenceS1 else code.ReferenceS2))
+-- what a session area leaves: the entries, and the text behind it; without one there are no entries
+abbrev pub area_of : Tag → List ℕ → Result (List Entry × List ℕ) Rc
+area_of NoSessions text = Ok ([], text)
+area_of Sessions text = area_at text
 
-abbrev pub kind_fault : ℕ → SessionKind → Rc
-kind_fault n Other = at (place.Session n) (plain code.Value)
-kind_fault n Session = reference_of n
-kind_fault n Password = at (place.Session n) (plain code.Handle)
-
-abbrev pub entry_fault : ℕ → Entry → Rc
-entry_fault n e =
-    if nat_lt 32 (length e.nonce) || nat_lt 32 (length e.hmac) then at (place.Session n) (plain code.Size)
-    else kind_fault n (session_kind e.session)
-
--- the first entry's fault, as each entry has one
-abbrev pub entries_pass : List Entry → Result (Unit {0}) Rc
-entries_pass [] = Ok tt
-entries_pass (first ∷ others) = Err (entry_fault 1 first)
-
--- what is left behind the authorization area, if there is one
-abbrev pub behind_area : Tag → List ℕ → Result (List ℕ) Rc
-behind_area NoSessions text = Ok text
-behind_area Sessions text = do
-  area ← area_at text
-  passed ← entries_pass area.0
-  Ok area.1
-
-abbrev pub entered : CommandCode → Result (List ℕ) Rc → Result (List ℕ) Refusal
-entered c (Ok rest) = Ok rest
-entered c (Err rc) = Err (refusal_of c check.Entries rc)
+-- a check of this number that refuses with the fault of a reading or of an entry
+abbrev pub checked : {X : Type 0} → CommandCode → Check → Result X Rc → Result X Refusal
+checked c check (Ok x) = Ok x
+checked c check (Err rc) = Err (refusal_of c check rc)
 
 -- the first general check that refuses a buffer, or the decoded command
 unfoldable pub general : Bool → List ℕ → Result Command Refusal
 general started buffer = do
   header ← headed (header_at buffer)
-  g5 ← stopped_by header.0.code check.Started (plain code.Initialize) (same_answer started (is_startup header.0.code))
-  g7 ← stopped_by header.0.code check.Sessions (plain code.AuthContext) (has_sessions header.0.tag && is_startup header.0.code)
-  parameters ← entered header.0.code (behind_area header.0.tag header.1)
-  Ok (record { code = header.0.code; parameters = parameters })
+  g5 ← stopped_by header.0.code check.Started (plain code.Initialize) (both_or_neither started (is_startup header.0.code))
+  handles ← checked header.0.code check.Handles (handles_at 1 (handle_kinds header.0.code) header.1)
+  forbidden ← stopped_by header.0.code check.Sessions (plain code.AuthContext) (has_sessions header.0.tag && is_startup header.0.code)
+  missing ← stopped_by header.0.code check.Sessions (plain code.AuthMissing) (not (has_sessions header.0.tag) && nat_lt 0 (authorized_handles header.0.code))
+  area ← checked header.0.code check.Entries (area_of header.0.tag handles.1)
+  g8 ← checked header.0.code check.Entries (entries_pass (authorized_handles header.0.code) 1 area.0)
+  g9 ← checked header.0.code check.Authorization (passwords_pass 1 area.0)
+  Ok (record { code = header.0.code; handles = handles.0; entries = length area.0; parameters = area.1 })
 
--- A decoding gave this.
+-- The code's result of a decoding stands for the definition's.
 abbrev pub Decodes : Result Command Refusal → Result Decoded Refusal → Type 0
-Decodes g (Ok d) = g ≡ Ok (record { code = d.code; parameters = d.parameters.now })
+Decodes g (Ok d) = g ≡ Ok (record { code = d.code; handles = d.handles.items; entries = d.entries; parameters = d.parameters.now })
 Decodes g (Err e) = g ≡ Err e
 
-abbrev pub PassesArea : Result (List ℕ) Rc → Result (Bor (List ℕ)) Rc → Type 0
-PassesArea passed (Ok rest) = passed ≡ Ok rest.now
-PassesArea passed (Err rc) = passed ≡ Err rc
+-- A reading of the session area gave these entries, and left this text.
+abbrev pub ReadsArea : Result (List Entry × List ℕ) Rc → Result (ArrayVec AuthEntry) Rc → List ℕ → Type 0
+ReadsArea area (Ok entries) new = area ≡ Ok (map entry_of entries.items, new)
+ReadsArea area (Err rc) new = area ≡ Err rc

@@ -1,5 +1,5 @@
 -- TPM2_GetRandom. TPM 2.0 Library, Part 3, section 16.1.
-use Rattle.std.specs.Prelude.{ℕ, List, ◌++◌, take, min, Result, Ok}
+use Rattle.std.specs.Prelude.{ℕ, List, take, min, Result, Ok}
 use Rattle.std.specs.Int.{w16}
 use Rattle.tpm_bytes.specs.Reading.{◌>>=◌, number_at, or_fault}
 use Rattle.tpm_bytes.specs.Writing.{sized_text}
@@ -9,7 +9,7 @@ use Rattle.tpm_machine.specs.Record.{Record}
 use Rattle.tpm_machine.specs.Rows.{Success, all_read, parameter}
 use Rattle.tpm_machine.specs.declared.check.Refused.{Refused}
 
--- bytesRequested; answered: that many random bytes, at most 32, as a sized buffer
+-- bytesRequested; answered: that many of the event's 256 random bytes, at most 32, as a sized buffer
 unfoldable pub get_random_row : Record → List ℕ → List ℕ → Result Success Refused
 get_random_row r parameters random = do
   requested ← parameter 1 (or_fault (number_at w16 parameters) (plain code.Insufficient))

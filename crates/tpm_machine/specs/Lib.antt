@@ -7,7 +7,13 @@ pub mod Rows
 pub mod Startup
 pub mod GetRandom
 pub mod PcrRead
+pub mod PcrChange
+pub mod PcrExtend
+pub mod PcrEvent
+pub mod PcrReset
 pub mod Events
+pub mod Handles
+pub mod Entries
 pub mod General
 pub mod Table
 pub mod Step

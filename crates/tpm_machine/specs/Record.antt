@@ -9,13 +9,13 @@ use Rattle.tpm_machine.specs.declared.state.Saved.TheVariants.{Nothing}
 pub record Record : Type 0 where
   -- whether TPM2_Startup was accepted since power came on
   pub started : Bool
-  -- what the last TPM2_Shutdown saved
+  -- what a TPM2_Shutdown saved for the next TPM2_Startup
   pub saved : Saved
   pub banks : BankValues
   -- milliseconds since power came on, and over all of the device's life
   pub time : ℕ
   pub clock : ℕ
-  -- TPM Resets, and TPM Restarts since the last of them
+  -- TPM Resets, and startups with saved state since the last of them
   pub reset_count : ℕ
   pub restart_count : ℕ
 

@@ -1,6 +1,5 @@
 -- What rows of the table are made of: a row gives a success or the first refusal.
-use Rattle.std.specs.Prelude.{◌≡◌, ℕ, ◌+◌, ◌==◌, not, Bool, true, false, if◌then◌else◌, List, length, Result, Ok, Err}
-use Rattle.tpm_bytes.specs.Reading.{◌>>=◌}
+use Rattle.std.specs.Prelude.{◌≡◌, ℕ, ◌==◌, not, Bool, true, false, List, length, Result, Ok, Err}
 use Rattle.tpm_machine.specs.Record.{Record}
 use Rattle.tpm_machine.specs.declared.answer.Answer.{Answer}
 use Rattle.tpm_machine.specs.declared.check.Check.{Check}
@@ -16,19 +15,22 @@ abbrev pub refused_by : Check → Rc → Bool → Result (Unit {0}) Refused
 refused_by check rc true = Err (record { rc = rc; check = check })
 refused_by check rc false = Ok tt
 
--- a parameter that is read; its fault is placed at the parameter of this number
+-- the refusal of a parameter, G11: its fault is placed at the parameter of this number
 abbrev pub refused_parameter : ℕ → Rc → Refused
 refused_parameter n rc = record { rc = at (place.Parameter n) rc; check = check.Parameters }
 
+-- a parameter that is read
+-- a parameter that is read
 abbrev pub parameter : {X : Type 0} → ℕ → Result X Rc → Result X Refused
 parameter n (Ok x) = Ok x
 parameter n (Err rc) = Err (refused_parameter n rc)
 
--- no byte is left over behind the parameters
+-- no byte is left over behind the parameters, G11 too, G11 too
 abbrev pub all_read : List ℕ → Result (Unit {0}) Refused
 all_read rest = refused_by check.Parameters (plain code.Size) (not (length rest == 0))
 
--- what a command answers, how many random bytes it drew, and the record after it
+-- what a command answers, how many of the event's random bytes it drew from their front, and the record after it; each
+-- event brings random bytes of its own
 pub record Success : Type 0 where
   pub answer : List ℕ
   pub drawn : ℕ

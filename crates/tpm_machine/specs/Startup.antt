@@ -1,5 +1,5 @@
 -- TPM2_Startup. TPM 2.0 Library, Part 3, section 9.3.
-use Rattle.std.specs.Prelude.{ℕ, ◌+◌, ◌-◌, ◌^◌, ◌==◌, ◌&&◌, not, nat_lt, min, true, Bool, false, List, [], Result, Ok, Err, Option, Some, None, ok_or, if◌then◌else◌}
+use Rattle.std.specs.Prelude.{ℕ, ◌+◌, ◌-◌, ◌^◌, ◌==◌, min, true, Bool, false, List, [], Result, Ok, Option, Some, None, ok_or, if◌then◌else◌}
 use Rattle.std.specs.Int.{w16}
 use Rattle.tpm_bytes.specs.Reading.{◌>>=◌, number_at, or_fault}
 use Rattle.tpm_types.specs.declared.rc.Rc.{Rc}
@@ -25,12 +25,13 @@ startup_type_at text = do
   type ← ok_or (startup_type_named number.0) (plain code.Value)
   Ok (type, number.1)
 
--- a startup with the state that a Shutdown saved
+-- whether a startup asks for a saved state that is not there; nothing is ever saved yet
 abbrev pub lacks_state : StartupType → Saved → Bool
 lacks_state Clear Nothing = false
 lacks_state State Nothing = true
 
--- startupType; a startup with no saved state is a TPM Reset: one more of these, and no TPM Restarts since
+-- startupType; TPM2_Startup(CLEAR) where nothing was saved is a TPM Reset: there is one more of these, and none of the
+-- other startups since. The update counter begins at 0, and the count of resets stops at 2^32 - 1
 unfoldable pub startup_row : Record → List ℕ → Result Success Refused
 startup_row r parameters = do
   type ← parameter 1 (startup_type_at parameters)

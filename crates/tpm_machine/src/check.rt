@@ -16,14 +16,20 @@ pub enum Check {
     Code = 4,
     /// G5: not started and not Startup, or started and Startup.
     Started = 5,
-    /// G7: sessions where the command may have none.
+    /// G6: a handle that is cut or not of the command's kind.
+    Handles = 6,
+    /// G7: sessions where the command may have none, or none where a handle needs authorization.
     Sessions = 7,
     /// G8: the authorization area and its entries.
     Entries = 8,
+    /// G9: what authorizes the command's handles.
+    Authorization = 9,
     /// G11: the parameters, and bytes left over behind them.
     Parameters = 11,
     /// A1: the first check of the command's own.
     Action1 = 21,
+    /// A2: the second.
+    Action2 = 22,
 }
 
 impl Check {

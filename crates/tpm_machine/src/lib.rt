@@ -10,11 +10,17 @@
 
 pub mod answer;
 pub mod check;
+pub mod entries;
 pub mod event;
 pub mod general;
 pub mod get_random;
+pub mod handles;
 pub mod machine;
+pub mod pcr_change;
+pub mod pcr_event;
+pub mod pcr_extend;
 pub mod pcr_read;
+pub mod pcr_reset;
 pub mod reading;
 pub mod response;
 pub mod startup;

@@ -13,6 +13,7 @@ use crate::state::State;
 use crate::table::act;
 use arrayvec::ArrayVec;
 use std::alloc::Global;
+use tpm_types::locality::Locality;
 
 /// Memory was refused.
 #[derive(Clone, Copy, Debug, PartialEq, Eq)]
@@ -43,8 +44,8 @@ impl Machine {
         // A refusal is ten bytes, and changes nothing but the time.
         ensures harmless { IsHarmless (state_of self.old) (happening event.now) (seen (state_of self.new) result) }
 
-        // An answer has a header and at most 2,048 bytes.
-        ensures fits { length result.response.items ≤ 2058 }
+        // An answer has at most 2,048 bytes, before it a header, and behind it at most three entries.
+        ensures fits { length result.response.items ≤ 2077 }
     {
         match event {
             Event::PowerCycle => {
@@ -56,12 +57,12 @@ impl Machine {
             }
             Event::Command {
                 buffer,
+                locality,
                 elapsed_ms,
                 random,
-                ..
             } => {
                 self.state.tick(*elapsed_ms);
-                self.command(buffer, random)
+                self.command(buffer, *locality, random)
             }
         }
     }
@@ -77,21 +78,22 @@ impl Machine {
         }
     }
 
+    ghost use Rattle.tpm_types.specs.Locality.{locality_number};
     ghost use Rattle.tpm_machine.specs.General.{general};
     ghost use Rattle.tpm_machine.specs.Step.{decided};
 
     /// Executes a command's buffer, after its time has passed.
-    fn command(&mut self, buffer: &[u8], random: &[u8; 256]) -> Outcome
-        ensures decided { seen (state_of self.new) result ≡ decided (state_of self.old) random.now (general (state_of self.old).started buffer.now) }
-        ensures fits { length result.response.items ≤ 2058 }
+    fn command(&mut self, buffer: &[u8], locality: Locality, random: &[u8; 256]) -> Outcome
+        ensures decided { seen (state_of self.new) result ≡ decided (state_of self.old) (locality_number locality) random.now (general (state_of self.old).started buffer.now) }
+        ensures fits { length result.response.items ≤ 2077 }
     {
         let command = match decode(self.state.started, buffer) {
             Ok(command) => command,
             Err(refusal) => return refused(refusal.row, refusal.rc),
         };
         let code = command.code.number();
-        match act(&mut self.state, command.code, command.parameters, random) {
-            Ok(answer) => accepted(code, &answer),
+        match act(&mut self.state, &command, locality, random) {
+            Ok(answer) => accepted(code, command.entries, &answer),
             Err(fault) => {
                 let check = fault.check.number();
                 refused(Row { code, check }, fault.rc)

@@ -1,5 +1,5 @@
-ghost use Rattle.std.specs.Prelude.{◌≡◌, ◌≤◌, length};
-ghost use Rattle.tpm_machine.specs.Step.{error_text, success_text};
+ghost use Rattle.std.specs.Prelude.{◌≡◌, ◌≤◌, ◌++◌, length};
+ghost use Rattle.tpm_machine.specs.Step.{entries_answer, error_text, plain_text, sessions_text, success_text};
 
 use crate::answer::Answer;
 use crate::event::{Outcome, Response, Row};
@@ -14,6 +14,9 @@ const BAD_TAG_RESPONSE: u16 = 0x00c4;
 const TAG_CHECK: u8 = 2;
 
 const HEADER_SIZE: usize = 10;
+
+/// The answer to a password entry: no nonce, continueSession, no HMAC (TPMS_AUTH_RESPONSE, section 10.13.3).
+const PASSWORD_ANSWER: [u8; 5] = [0, 0, 1, 0, 0];
 
 fn error(row: Row, rc: Rc) -> Response
     ensures { result.items ≡ error_text row rc }
@@ -30,8 +33,8 @@ fn error(row: Row, rc: Rc) -> Response
     text.into_bytes()
 }
 
-fn success(answer: &Answer) -> Response
-    ensures text { result.items ≡ success_text answer.now.parameters.items }
+fn plain_success(answer: &Answer) -> Response
+    ensures text { result.items ≡ plain_text answer.now.parameters.items }
     ensures fits { length result.items ≤ 2058 }
 {
     let parameters = answer.parameters.as_slice();
@@ -41,6 +44,47 @@ fn success(answer: &Answer) -> Response
     let _ = text.put_u32(0);
     let _ = text.put(parameters);
     text.into_bytes()
+}
+
+fn sessions_success(entries: usize, answer: &Answer) -> Response
+    requires { entries ≤ 3 }
+    ensures text { result.items ≡ sessions_text entries answer.now.parameters.items }
+    ensures fits { length result.items ≤ 2077 }
+{
+    let parameters = answer.parameters.as_slice();
+    let size = HEADER_SIZE + 4 + parameters.len() + PASSWORD_ANSWER.len() * entries;
+    let mut text = Sink::<4096>::new();
+    let _ = text.put_u16(Tag::Sessions.number());
+    let _ = text.put_u32(size as u32);
+    let _ = text.put_u32(0);
+    let _ = text.put_u32(parameters.len() as u32);
+    let _ = text.put(parameters);
+    answer_entries(entries, &mut text);
+    text.into_bytes()
+}
+
+/// Answers each password entry.
+fn answer_entries(entries: usize, text: &mut Sink<4096>)
+    requires few { entries ≤ 3 }
+    requires room { length text.old ≤ 2062 }
+    ensures answered { text.new ≡ text.old ++ entries_answer entries }
+    ensures fits { length text.new ≤ 2077 }
+{
+    for _ in 0..entries {
+        let _ = text.put(&PASSWORD_ANSWER);
+    }
+}
+
+fn success(entries: usize, answer: &Answer) -> Response
+    requires { entries ≤ 3 }
+    ensures text { result.items ≡ success_text entries answer.now.parameters.items }
+    ensures fits { length result.items ≤ 2077 }
+{
+    if entries == 0 {
+        plain_success(answer)
+    } else {
+        sessions_success(entries, answer)
+    }
 }
 
 /// The outcome of a refusal.
@@ -54,14 +98,15 @@ pub fn refused(row: Row, rc: Rc) -> Outcome
     }
 }
 
-/// The outcome of a command that succeeded.
-pub fn accepted(code: u32, answer: &Answer) -> Outcome
-    ensures response { result.response.items ≡ success_text answer.now.parameters.items }
+/// The outcome of a command with so many entries that succeeded.
+pub fn accepted(code: u32, entries: usize, answer: &Answer) -> Outcome
+    requires { entries ≤ 3 }
+    ensures response { result.response.items ≡ success_text entries answer.now.parameters.items }
     ensures row { result.row ≡ record { code = code; check = 0 } }
-    ensures fits { length result.response.items ≤ 2058 }
+    ensures fits { length result.response.items ≤ 2077 }
 {
     Outcome {
-        response: success(answer),
+        response: success(entries, answer),
         row: Row { code, check: 0 },
     }
 }

@@ -8,7 +8,6 @@ use crate::answer::Answer;
 use crate::check::{Check, Refused};
 use crate::reading::{at_parameter, end};
 use crate::state::{Saved, State};
-use arrayvec::ArrayVec;
 use tpm_bytes::cursor::Cursor;
 use tpm_types::rc::{Rc, ResponseCode};
 
@@ -64,8 +63,5 @@ pub fn startup(state: &mut State, parameters: &[u8]) -> Result<Answer, Refused>
     state.banks.restart_update_count();
     state.reset_count = state.reset_count.saturating_add(1);
     state.restart_count = 0;
-    Ok(Answer {
-        parameters: ArrayVec::new(),
-        drawn: 0,
-    })
+    Ok(Answer::empty())
 }

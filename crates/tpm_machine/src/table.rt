@@ -1,32 +1,44 @@
 ghost use Rattle.std.specs.Prelude.{◌≡◌, ◌≤◌, IfOk};
+ghost use Rattle.tpm_types.specs.Locality.{locality_number};
 ghost use Rattle.tpm_machine.specs.Rows.{Acts};
 ghost use Rattle.tpm_machine.specs.State.{record_of};
 ghost use Rattle.tpm_machine.specs.Table.{row_of};
 
 use crate::answer::Answer;
 use crate::check::Refused;
+use crate::general::Decoded;
 use crate::get_random::get_random;
+use crate::handles::first_handle;
+use crate::pcr_event::pcr_event;
+use crate::pcr_extend::pcr_extend;
 use crate::pcr_read::pcr_read;
+use crate::pcr_reset::pcr_reset;
 use crate::startup::startup;
 use crate::state::State;
 use tpm_types::command_code::CommandCode;
+use tpm_types::locality::Locality;
 
 /// Does what the command's row says, or answers its first refusal, which leaves the state.
 #[tactic(auto, unfolding(crate::specs::Table::row_of))]
 pub fn act(
     state: &mut State,
-    code: CommandCode,
-    parameters: &[u8],
+    command: &Decoded,
+    locality: Locality,
     random: &[u8; 256],
 ) -> Result<Answer, Refused>
-    ensures row { Acts (row_of (record_of state.old) code parameters.now random.now) (record_of state.old) result (record_of state.new) }
+    ensures row { Acts (row_of (record_of state.old) command.now.code (locality_number locality) command.now.handles.items command.now.parameters.now random.now) (record_of state.old) result (record_of state.new) }
 
     // No command draws more of an event's 256 random bytes.
     ensures draws { IfOk result (λ answer. answer.drawn ≤ 192) }
 {
-    match code {
+    let handle = first_handle(command.handles.as_slice());
+    let parameters = command.parameters;
+    match command.code {
+        CommandCode::PcrEvent => pcr_event(state, locality, handle, parameters),
+        CommandCode::PcrReset => pcr_reset(state, locality, handle, parameters),
         CommandCode::Startup => startup(state, parameters),
         CommandCode::GetRandom => get_random(state, parameters, random),
         CommandCode::PcrRead => pcr_read(state, parameters),
+        CommandCode::PcrExtend => pcr_extend(state, locality, handle, parameters),
     }
 }

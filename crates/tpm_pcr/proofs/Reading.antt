@@ -4,7 +4,6 @@ use Rattle.std.proofs.Math.Seq.{take-append-add}
 use Rattle.std.proofs.lemmas.List.{drop_more, take-append-le, take_all, map-append, length-map}
 use Rattle.std.proofs.lemmas.List.Elements.{filter-append}
 use Rattle.std.proofs.lemmas.List.Sums.{fold-append}
-use Rattle.std.proofs.lemmas.Grind.{common_steps}
 use Rattle.std.proofs.lemmas.Bool.Decides.{nat_tests}
 use Rattle.std.specs.List.{flat_map}
 use Rattle.tpm_pcr.specs.Values.{BankValues}
@@ -123,11 +122,11 @@ pub answered_more : (room after i : ℕ) (banks front : List BankSelection) (ban
 answered_more room after i banks front bank select below is kept left =
     append_assoc front _ _
     ∙ ap (λ (l : List BankSelection). front ++ l) (
-        ap (λ n. record bank { select = select } ∷ answered n (drop (i + 1) banks)) left
-        ∙ ap (λ n. record bank { select = n } ∷ answered (room - length (selected bank)) (drop (i + 1) banks)) kept
-        ∙ ap (λ (b : BankSelection). answered room (b ∷ drop (i + 1) banks)) is
-        ∙ sym (ap (answered room) (drop_more banks i bank below))
-      )
+    ap (λ n. record bank { select = select } ∷ answered n (drop (i + 1) banks)) left
+    ∙ ap (λ n. record bank { select = n } ∷ answered (room - length (selected bank)) (drop (i + 1) banks)) kept
+    ∙ ap (λ (b : BankSelection). answered room (b ∷ drop (i + 1) banks)) is
+    ∙ sym (ap (answered room) (drop_more banks i bank below))
+    )
 
 -- its values are read, and what is left is read behind them
 pub read_more : (all : BankValues) (room after i : ℕ) (banks : List BankSelection) (bank : BankSelection) (front : List (List ℕ)) → i < length banks → bank ≡ get_or banks i bank → after ≡ room - length (selected bank) → (front ++ take room (selected_values all bank)) ++ read_values all after (drop (i + 1) banks) ≡ front ++ read_values all room (drop i banks)
@@ -135,11 +134,11 @@ unfolding read_values
 read_more all room after i banks bank front below is left =
     append_assoc front _ _
     ∙ ap (λ (l : List (List ℕ)). front ++ l) (
-        ap (λ n. take room (selected_values all bank) ++ take n (flat_map (selected_values all) (drop (i + 1) banks))) (left ∙ ap (λ n. room - n) (sym (length-map (selected bank) (pcr_value all bank.hash))))
-        ∙ sym (take-append room (selected_values all bank) (flat_map (selected_values all) (drop (i + 1) banks)))
-        ∙ ap (λ (b : BankSelection). take room (flat_map (selected_values all) (b ∷ drop (i + 1) banks))) is
-        ∙ sym (ap (λ l. take room (flat_map (selected_values all) l)) (drop_more banks i bank below))
-      )
+    ap (λ n. take room (selected_values all bank) ++ take n (flat_map (selected_values all) (drop (i + 1) banks))) (left ∙ ap (λ n. room - n) (sym (length-map (selected bank) (pcr_value all bank.hash))))
+    ∙ sym (take-append room (selected_values all bank) (flat_map (selected_values all) (drop (i + 1) banks)))
+    ∙ ap (λ (b : BankSelection). take room (flat_map (selected_values all) (b ∷ drop (i + 1) banks))) is
+    ∙ sym (ap (λ l. take room (flat_map (selected_values all) l)) (drop_more banks i bank below))
+    )
 
 pub read_values-nil : (all : BankValues) (room : ℕ) → read_values all room [] ≡ []
 unfolding read_values

@@ -1,5 +1,6 @@
--- PCR banks. TPM 2.0 Library, Part 1, section 17, and Part 3, section 22.4 (TPM2_PCR_Read).
-use Rattle.std.specs.Prelude.{ℕ, zero, suc, ◌+◌, ◌-◌, ◌<◌, nat_lt, nat_le, ◌&&◌, if◌then◌else◌, List, [], ◌∷◌, ◌++◌, length, take, map, filter, fold, replicate, slice_index_or}
+-- PCR banks. TPM 2.0 Library, Part 1, section 17, and Part 3, section 22.4 (TPM2_PCR_Read); how many PCRs there are and
+-- what each starts with, as in the PC Client Platform TPM Profile.
+use Rattle.std.specs.Prelude.{ℕ, zero, suc, ◌-◌, nat_le, ◌&&◌, if◌then◌else◌, List, [], ◌∷◌, ◌++◌, length, take, map, filter, fold, replicate, slice_index_or}
 use Rattle.std.specs.List.{flat_map}
 use Rattle.tpm_mac.specs.declared.algorithm.HashAlg.{HashAlg}
 use Rattle.tpm_mac.specs.declared.algorithm.HashAlg.TheVariants.{Sha1, Sha256}
@@ -17,7 +18,7 @@ pcrs_below (suc n) = pcrs_below n ++ n ∷ []
 unfoldable pub all_pcrs : List ℕ
 all_pcrs = pcrs_below 24
 
--- a PCR starts with all ones from 17 to 22, which only a dynamic launch resets, and else with zeros
+-- a PCR starts with all ones from 17 to 22, until a dynamic launch, and else with zeros
 abbrev pub starting_value : HashAlg → ℕ → List ℕ
 starting_value bank pcr = replicate (digest_size bank) (if nat_le 17 pcr && nat_le pcr 22 then 0xff else 0)
 
@@ -44,7 +45,7 @@ selected bank = filter (is_selected bank.select) all_pcrs
 abbrev pub selected_values : BankValues → BankSelection → List (List ℕ)
 selected_values banks bank = map (pcr_value banks bank.hash) (selected bank)
 
--- the number that selects just these PCRs
+-- the number that selects just these PCRs: from none on, each of them added: from none on, each of them added
 abbrev pub select_with : List ℕ → ℕ
 select_with pcrs = fold with_pcr 0 pcrs
 
@@ -52,7 +53,8 @@ select_with pcrs = fold with_pcr 0 pcrs
 unfoldable pub read_values : BankValues → ℕ → List BankSelection → List (List ℕ)
 read_values banks room selection = take room (flat_map (selected_values banks) selection)
 
--- the selection of just these values
+-- the selection of just the values that read_values gives: each bank keeps the first PCRs that there is room for, and
+-- takes that room, down to none, from the banks behind it; a bank with none left stays in the list
 abbrev pub answered : ℕ → List BankSelection → List BankSelection
 answered room [] = []
 answered room (bank ∷ selection) =

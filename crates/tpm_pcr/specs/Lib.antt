@@ -1,4 +1,5 @@
 pub mod Values
 pub mod Banks
+pub mod Changes
 pub use Rattle.tpm_types.specs.Pcr
 pub use Rattle.tpm_types.specs.DigestList

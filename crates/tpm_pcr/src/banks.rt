@@ -1,6 +1,9 @@
 ghost use Rattle.std.specs.Prelude.{◌≡◌, ◌-◌, [], ◌∷◌, ◌++◌, ◌&&◌, nat_lt, if◌then◌else◌, length, take, replicate};
 ghost use Rattle.tpm_types.specs.Pcr.{is_selected, with_pcr};
 ghost use Rattle.tpm_types.specs.DigestList.{digests_of};
+ghost use Rattle.std.specs.Prelude.{◌<◌, ◌^◌};
+ghost use Rattle.tpm_mac.specs.declared.algorithm.HashAlg.TheVariants.{Sha1, Sha256};
+ghost use Rattle.tpm_pcr.specs.Changes.{written};
 ghost use Rattle.tpm_pcr.specs.Banks.{answered, new_banks, pcr_value, read_values, select_with, selected, selected_values};
 
 use arrayvec::ArrayVec;
@@ -37,7 +40,6 @@ pub struct PcrReading {
     pub values: DigestList,
 }
 
-
 impl Banks {
     /// The banks at manufacture and after a power cycle.
     #[tactic(auto, unfolding(crate::specs::Banks::all_pcrs, crate::specs::Banks::starting_values))]
@@ -56,6 +58,24 @@ impl Banks {
         ensures { result ≡ self.now.update_count }
     {
         self.update_count
+    }
+
+    /// Writes a PCR's value in the SHA-1 bank.
+    pub fn write_sha1(&mut self, pcr: PcrIndex, value: [u8; 20])
+        requires { self.old.update_count < 2 ^ 64 - 1 }
+        ensures { self.new ≡ written Sha1 pcr value self.old }
+    {
+        self.sha1[usize::from(pcr.number())] = value;
+        self.update_count += 1;
+    }
+
+    /// Writes a PCR's value in the SHA-256 bank.
+    pub fn write_sha256(&mut self, pcr: PcrIndex, value: [u8; 32])
+        requires { self.old.update_count < 2 ^ 64 - 1 }
+        ensures { self.new ≡ written Sha256 pcr value self.old }
+    {
+        self.sha256[usize::from(pcr.number())] = value;
+        self.update_count += 1;
     }
 
     /// Begins to count updates anew, as TPM2_Startup does.
@@ -129,8 +149,7 @@ impl Banks {
     }
 }
 
-/// What each PCR starts with: `high` for 17 to 22, which only a dynamic launch resets, and `low` for the
-/// others.
+/// What each PCR starts with: `high` for 17 to 22, until a dynamic launch, and `low` for the others.
 fn starting_values<T: Copy>(low: T, high: T) -> [T; 24]
     ensures { result ≡ replicate 17 low ++ replicate 6 high ++ low ∷ [] }
 {

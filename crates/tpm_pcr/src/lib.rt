@@ -6,3 +6,4 @@
 //! It stands on tpm_types for selections and on tpm_mac for digests. No call here takes memory.
 
 pub mod banks;
+pub mod changes;

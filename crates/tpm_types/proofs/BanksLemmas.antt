@@ -1,11 +1,9 @@
 use Rattle.std.proofs.Common.{◌≡◌, ℕ, zero, suc, ◌+◌, ◌*◌, ◌<◌, ◌≤◌, List, [], ◌∷◌, ◌++◌, length, take, drop, get_or, Result, Ok, Err, refl, ap, sym, ◌∙◌, append_assoc, arith, length-append, length-take, take_all}
-use Rattle.std.proofs.lemmas.Grind.{common_steps}
 use Rattle.std.proofs.lemmas.List.{take_more}
-use Rattle.std.specs.List.{flat_map}
 use Rattle.std.specs.Int.{w32, to_be_bytes}
 use Rattle.tpm_bytes.specs.Reading.{◌>>=◌}
 use Rattle.tpm_bytes.specs.Writing.{Puts}
-use Rattle.tpm_bytes.proofs.Putting.{put_fits}
+use Rattle.tpm_bytes.proofs.Putting.{put_fits, put_more}
 use Rattle.tpm_types.specs.declared.pcr_selection.BankSelection.{BankSelection}
 use Rattle.tpm_types.specs.declared.rc.Rc.{Rc}
 use Rattle.tpm_types.specs.PcrSelection.{bank_at, bank_text, banks_at, banks_text, selection_text}
@@ -16,7 +14,7 @@ with_front front read = do
   x ← read
   Ok (front ++ x.0, x.1)
 
-moved : {X : Type 0} (front : List X) (x : X) (read : Result (List X × List ℕ) Rc) → with_front (front ++ x ∷ []) read ≡ with_front front (read >>= λ others. Ok (x ∷ others.0, others.1))
+pub moved : {X : Type 0} (front : List X) (x : X) (read : Result (List X × List ℕ) Rc) → with_front (front ++ x ∷ []) read ≡ with_front front (read >>= λ others. Ok (x ∷ others.0, others.1))
 moved front x (Err e) = refl
 moved front x (Ok y) = ap (λ l. Ok (l, y.1)) (append_assoc front (x ∷ []) y.0)
 
@@ -42,25 +40,15 @@ unfolding banks_text
 length-banks_text [] = refl
 length-banks_text (bank ∷ banks) = omega (arith, length-banks_text banks, length-bank_text bank, length-append (bank_text bank) (banks_text banks))
 
--- the next bank's text, at the end of those before it
-pub banks_text_more : (banks : List BankSelection) (i : ℕ) (d : BankSelection) → i < length banks → banks_text (take (i + 1) banks) ≡ banks_text (take i banks) ++ bank_text (get_or banks i d)
-unfolding banks_text
-banks_text_more banks i d below = rw (take_more banks i d below) (grind (arith, common_steps))
-
 pub banks_text-nil : banks_text [] ≡ []
 unfolding banks_text
 banks_text-nil = refl
 
 -- a bank is written behind those before it, where there was room for all
 pub bank_written : {E : Type 0} (capacity : ℕ) (banks : List BankSelection) (i : ℕ) (bank : BankSelection) (start so_far new : List ℕ) (result : Result (Unit {0}) E) → i < length banks → bank ≡ get_or banks i bank → so_far ≡ start ++ banks_text (take i banks) → length start + 6 * length banks ≤ capacity → Puts capacity (bank_text bank) so_far result new → new ≡ start ++ banks_text (take (i + 1) banks)
+unfolding banks_text
 bank_written capacity banks i bank start so_far new result below is so room puts =
-    let sizes : length so_far ≡ length start + 6 * i = rw so (omega (arith, length-append start (banks_text (take i banks)), length-banks_text (take i banks), length-take i banks)) in
-    let fits : length so_far + length (bank_text bank) ≤ capacity = omega (arith, length-bank_text bank) in
-    put_fits capacity (bank_text bank) so_far result new puts fits
-    ∙ ap (λ (l : List ℕ). l ++ bank_text bank) so
-    ∙ append_assoc start (banks_text (take i banks)) (bank_text bank)
-    ∙ ap (λ (b : BankSelection). start ++ (banks_text (take i banks) ++ bank_text b)) is
-    ∙ ap (λ (l : List ℕ). start ++ l) (sym (banks_text_more banks i bank below))
+    put_more bank_text capacity banks i bank bank start so_far new result below is so (omega (arith, length-banks_text banks)) puts
 
 pub selection_text-is : (banks : List BankSelection) → selection_text banks ≡ to_be_bytes w32 (length banks) ++ banks_text banks
 unfolding selection_text

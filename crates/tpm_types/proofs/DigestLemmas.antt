@@ -1,8 +1,6 @@
-use Rattle.std.proofs.Common.{◌≡◌, ℕ, ◌+◌, ◌*◌, ◌<◌, ◌≤◌, ◌^◌, List, [], ◌∷◌, ◌++◌, length, take, map, get_or, Result, Ok, Err, refl, ap, sym, ◌∙◌, append_assoc, append-nil, arith, length-append}
-use Rattle.std.proofs.lemmas.Bool.{false≢true}
+use Rattle.std.proofs.Common.{◌≡◌, ℕ, ◌+◌, ◌*◌, ◌<◌, ◌≤◌, List, [], ◌++◌, length, take, get_or, Result, refl, ap, sym, ◌∙◌, append_assoc, arith, length-append}
 use Rattle.std.proofs.lemmas.Grind.{common_steps}
 use Rattle.std.proofs.lemmas.List.{take_more, map-append, length-map}
-use Rattle.std.specs.List.{flat_map}
 use Rattle.std.specs.Int.{w32, to_be_bytes}
 use Rattle.arrayvec.specs.ArrayVec.{ArrayVec}
 use Rattle.tpm_bytes.specs.Writing.{Puts, PutsSized, sized_text}
@@ -20,14 +18,13 @@ digests_text_more digests i d below = rw (take_more digests i d below, map-appen
 -- a digest is written behind those before it, where there was room for it
 pub digest_written : {E : Type 0} (capacity : ℕ) (digests : List (ArrayVec ℕ)) (i : ℕ) (digest : ArrayVec ℕ) (bytes start so_far new : List ℕ) (result : Result (Unit {0}) E) → i < length digests → digest ≡ get_or digests i digest → bytes ≡ digest.items → length bytes ≤ 32 → so_far ≡ start ++ digests_text (digests_of (take i digests)) → length so_far ≤ length start + 34 * i → length start + 34 * length digests ≤ capacity → PutsSized capacity bytes so_far result new → (new ≡ start ++ digests_text (digests_of (take (i + 1) digests))) × (length new ≤ length start + 34 * (i + 1))
 digest_written capacity digests i digest bytes start so_far new result below is same short so small room puts =
-    let sized : new ≡ so_far ++ sized_text bytes = put_sized_fits capacity bytes so_far result new puts (omega arith) (omega arith) in
-    (
+    let sized : new ≡ so_far ++ sized_text bytes = put_sized_fits capacity bytes so_far result new puts (omega arith) (omega arith) in (
       sized
-      ∙ ap (λ (l : List ℕ). l ++ sized_text bytes) so
-      ∙ append_assoc start (digests_text (digests_of (take i digests))) (sized_text bytes)
-      ∙ ap (λ (l : List ℕ). start ++ (digests_text (digests_of (take i digests)) ++ sized_text l)) same
-      ∙ ap (λ (d : ArrayVec ℕ). start ++ (digests_text (digests_of (take i digests)) ++ sized_text d.items)) is
-      ∙ ap (λ (l : List ℕ). start ++ l) (sym (digests_text_more digests i digest below)),
+          ∙ ap (λ (l : List ℕ). l ++ sized_text bytes) so
+          ∙ append_assoc start (digests_text (digests_of (take i digests))) (sized_text bytes)
+          ∙ ap (λ (l : List ℕ). start ++ (digests_text (digests_of (take i digests)) ++ sized_text l)) same
+          ∙ ap (λ (d : ArrayVec ℕ). start ++ (digests_text (digests_of (take i digests)) ++ sized_text d.items)) is
+          ∙ ap (λ (l : List ℕ). start ++ l) (sym (digests_text_more digests i digest below)),
       rw sized (omega (arith, length-append so_far (sized_text bytes))),
     )
 

@@ -1,8 +1,14 @@
-use Rattle.std.proofs.Common.{◌≡◌, ℕ, zero, suc, List, [], ◌∷◌, ◌++◌, ◌<◌, length, arith, map, append-nil, Result, Ok, Err, refl, ap, sym, ◌∙◌, append_assoc}
-use Rattle.std.proofs.lemmas.List.{map-append}
+use Rattle.std.proofs.Common.{◌≡◌, ℕ, zero, suc, ◌+◌, ◌*◌, List, [], ◌∷◌, ◌++◌, ◌<◌, ◌≤◌, length, arith, map, take, get_or, append-nil, Result, Ok, Err, refl, ap, sym, subst, ◌∙◌, append_assoc, length-append}
+use Rattle.std.proofs.lemmas.Bool.{false≢true}
+use Rattle.std.proofs.lemmas.List.{map-append, take_more}
+use Rattle.std.proofs.lemmas.List.Folds.{flat_map-map}
+use Rattle.std.specs.List.{flat_map, AllByRecursion}
+use Rattle.tpm_bytes.proofs.Putting.{fits_more, written_more}
+use Rattle.tpm_types.specs.declared.auth_entry.AuthEntry.{AuthEntry}
 use Rattle.tpm_bytes.specs.Reading.{◌>>=◌}
-use Rattle.tpm_types.specs.AuthEntry.{Entry, entry_at}
-use Rattle.tpm_types.specs.AuthArea.{entries_in}
+use Rattle.tpm_types.specs.AuthEntry.{Entry, HasSizes, PutsEntry, entry_at, entry_of, entry_text}
+use Rattle.tpm_types.specs.AuthArea.{entries_in, entries_text}
+use Rattle.tpm_types.proofs.EntryLaws.{length-entry_text}
 use Rattle.tpm_types.specs.declared.rc.Rc.{Rc}
 use Rattle.tpm_types.specs.declared.rc.ResponseCode.TheVariants as code
 use Rattle.tpm_types.specs.Rc.{plain}
@@ -45,3 +51,52 @@ entry_too_many front most (byte ∷ bytes) e some = ap (λ k. behind front (entr
 
 pub map_push : {X Y : Type 0} (f : X → Y) (xs : List X) (x : X) → map f (xs ++ x ∷ []) ≡ map f xs ++ f x ∷ []
 map_push f xs x = map-append f xs (x ∷ [])
+
+-- ---- entries, written one after the other
+
+abbrev pub text_in : AuthEntry → List ℕ
+text_in entry = entry_text (entry_of entry)
+
+-- what a loop takes for an entry beyond the last
+abbrev pub no_entry : AuthEntry
+no_entry = record { session = record { number = 0 }; nonce = record { ref_ptr = (0, 0); now = [] }; attributes = record { octet = 0 }; hmac = record { ref_ptr = (0, 0); now = [] } }
+
+pub entries_text-is : (entries : List AuthEntry) → entries_text (map entry_of entries) ≡ flat_map text_in entries
+entries_text-is entries = flat_map-map entry_text entry_of entries
+
+-- each has the sizes that all have
+pub sizes_at : (entries : List AuthEntry) (i : ℕ) (d : AuthEntry) → AllByRecursion HasSizes (map entry_of entries) → i < length entries → HasSizes (entry_of (get_or entries i d))
+sizes_at [] i d all below = absurd (omega arith)
+sizes_at (entry ∷ entries) zero d all below = all.0
+sizes_at (entry ∷ entries) (suc i) d all below = sizes_at entries i d all.1 (omega arith)
+
+sizes_push : (entries : List AuthEntry) (entry : AuthEntry) → AllByRecursion HasSizes (map entry_of entries) → HasSizes (entry_of entry) → AllByRecursion HasSizes (map entry_of (entries ++ entry ∷ []))
+sizes_push [] entry all one = (one, tt)
+sizes_push (first ∷ entries) entry all one = (all.0, sizes_push entries entry all.1 one)
+
+-- the sizes and the length of one entry more
+pub sizes_more : (entries : List AuthEntry) (i : ℕ) (d : AuthEntry) → i < length entries → AllByRecursion HasSizes (map entry_of (take i entries)) → HasSizes (entry_of (get_or entries i d)) → AllByRecursion HasSizes (map entry_of (take (i + 1) entries))
+sizes_more entries i d below all one = subst (λ (l : List AuthEntry). AllByRecursion HasSizes (map entry_of l)) (sym (take_more entries i d below)) (sizes_push (take i entries) (get_or entries i d) all one)
+
+pub length_more : (entries : List AuthEntry) (i bytes more : ℕ) (d : AuthEntry) → i < length entries → bytes ≡ length (flat_map text_in (take i entries)) → more ≡ length (text_in (get_or entries i d)) → bytes + more ≡ length (flat_map text_in (take (i + 1) entries))
+length_more entries i bytes more d below so now =
+    let before = flat_map text_in (take i entries) in
+    let next = text_in (get_or entries i d) in
+    rw (so, now) (sym (length-append before next) ∙ ap length (written_more text_in entries i d (get_or entries i d) [] before (before ++ next) below refl refl refl))
+
+pub small_text : (bytes i more : ℕ) (entry : Entry) → bytes ≤ i * 131_079 → HasSizes entry → more ≡ length (entry_text entry) → bytes + more ≤ (i + 1) * 131_079
+small_text bytes i more entry so sizes is =
+    let nonce = sizes.0 in
+    let hmac = sizes.1 in
+    omega (arith, length-entry_text entry)
+
+-- an entry that has a text is written where it fits
+entry_fits : {E : Type 0} (capacity : ℕ) (entry : Entry) (old new : List ℕ) (result : Result (Unit {0}) E) → PutsEntry capacity entry old result new → HasSizes entry → length old + length (entry_text entry) ≤ capacity → new ≡ old ++ entry_text entry
+entry_fits capacity entry old new (Ok x) puts sizes fits = puts.1
+entry_fits capacity entry old new (Err e) puts sizes fits = absurd (false≢true (puts.0.1 (sizes.0, sizes.1, omega (arith, length-entry_text entry))))
+
+pub entry_written : {E : Type 0} (capacity : ℕ) (entries : List AuthEntry) (i : ℕ) (d : AuthEntry) (start so_far new : List ℕ) (result : Result (Unit {0}) E) → i < length entries → so_far ≡ start ++ flat_map text_in (take i entries) → AllByRecursion HasSizes (map entry_of entries) → length start + length (flat_map text_in entries) ≤ capacity → PutsEntry capacity (entry_of (get_or entries i d)) so_far result new → new ≡ start ++ flat_map text_in (take (i + 1) entries)
+entry_written capacity entries i d start so_far new result below so sizes room puts =
+    let entry = get_or entries i d in
+    let fits = fits_more text_in entries i capacity d entry start so_far below refl so room in
+    written_more text_in entries i d entry start so_far new below refl so (entry_fits capacity (entry_of entry) so_far new result puts (sizes_at entries i d sizes below) fits)

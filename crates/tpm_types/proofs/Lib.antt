@@ -1,3 +1,11 @@
 pub mod BanksLemmas
 pub mod EntriesLemmas
 pub mod DigestLemmas
+pub mod Named
+pub mod SelectionLaws
+pub mod EntryLaws
+pub mod Laws
+pub mod HandleLemmas
+pub mod HeaderLaws
+pub mod CommandLaws
+pub mod ValuesLemmas

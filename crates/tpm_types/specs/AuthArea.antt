@@ -35,7 +35,7 @@ area_at text = do
   entries ← entries_in 3 bytes.0
   Ok (entries, bytes.1)
 
--- The entries are all of these bytes, or they are no entries.
+-- A reading gave the entries that all of these bytes are, or their fault.
 abbrev pub AreEntries : List ℕ → Result (ArrayVec AuthEntry) Rc → Type 0
 AreEntries bytes (Ok entries) = entries_in 3 bytes ≡ Ok (map entry_of entries.items)
 AreEntries bytes (Err fault) = entries_in 3 bytes ≡ Err fault

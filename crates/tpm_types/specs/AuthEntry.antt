@@ -1,5 +1,5 @@
 -- Entries of an authorization area. TPM 2.0 Library, Part 2, section 10.13.2 (TPMS_AUTH_COMMAND).
-use Rattle.std.specs.Prelude.{◌≡◌, ℕ, ◌+◌, ◌<◌, ◌≤◌, ◌^◌, ◌↔◌, List, [], ◌∷◌, ◌++◌, length, Result, Ok, Err, IsOk, OnOk, OnErr}
+use Rattle.std.specs.Prelude.{◌≡◌, ℕ, ◌+◌, ◌<◌, ◌≤◌, ◌^◌, ◌↔◌, List, ◌++◌, length, Result, Ok, IsOk, OnOk, OnErr}
 use Rattle.std.specs.Int.{w8, w32, to_be_bytes}
 use Rattle.tpm_bytes.specs.Reading.{◌>>=◌, number_at, or_fault, sized_at}
 use Rattle.tpm_bytes.specs.Writing.{sized_text}
@@ -25,12 +25,16 @@ abbrev pub entry_text : Entry → List ℕ
 entry_text e =
     to_be_bytes w32 e.session.number ++ sized_text e.nonce ++ to_be_bytes w8 e.attributes.octet ++ sized_text e.hmac
 
--- what has a text: each size fits two bytes
+-- what has a text: each number fits its field
 pub record IsEntry (e : Entry) : Type 0 where
   pub session : e.session.number < 2 ^ 32
   pub nonce : length e.nonce < 2 ^ 16
   pub attributes : e.attributes.octet < 2 ^ 8
   pub hmac : length e.hmac < 2 ^ 16
+
+-- a nonce and an HMAC of a length that two bytes can say
+abbrev pub HasSizes : Entry → Type 0
+HasSizes e = (length e.nonce < 2 ^ 16) × (length e.hmac < 2 ^ 16)
 
 -- reading; a cut entry is AUTHSIZE wherever it is cut
 unfoldable pub entry_at : List ℕ → Result (Entry × List ℕ) Rc

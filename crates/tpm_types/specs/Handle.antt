@@ -1,6 +1,7 @@
 -- Handles. TPM 2.0 Library, Part 2, sections 7.2 (TPM_HT, the highest byte) and 7.4 (TPM_RH).
-use Rattle.std.specs.Prelude.{ℕ, ◌==◌, ◌/◌, ◌^◌, ◌||◌, if◌then◌else◌}
+use Rattle.std.specs.Prelude.{◌≡◌, ℕ, ◌==◌, ◌/◌, ◌^◌, ◌||◌, nat_lt, if◌then◌else◌, Option, Some, None}
 use Rattle.tpm_types.specs.declared.handle.Handle.{Handle}
+use Rattle.tpm_types.specs.declared.pcr.PcrIndex.{PcrIndex}
 use Rattle.tpm_types.specs.declared.handle.SessionKind.{SessionKind}
 use Rattle.tpm_types.specs.declared.handle.SessionKind.TheVariants.{Password, Session, Other}
 
@@ -14,3 +15,15 @@ session_kind handle =
     if handle.number == 0x4000_0009 then Password
     else (if handle_type handle == 0x02 || handle_type handle == 0x03 then Session
     else Other)
+
+-- TPM_RH_NULL
+abbrev pub null_handle : Handle
+null_handle = record { number = 0x4000_0007 }
+
+-- the PCR that a handle names: handles 0 to 23 (TPM_HT_PCR)
+abbrev pub pcr_of : Handle → Option ℕ
+pcr_of handle = if nat_lt handle.number 24 then Some handle.number else None
+
+abbrev pub SomePcrOf : Option ℕ → Option PcrIndex → Type 0
+SomePcrOf named (Some pcr) = named ≡ Some pcr
+SomePcrOf named None = named ≡ None

@@ -1,21 +1,27 @@
 -- A command's header: tag, commandSize, commandCode. TPM 2.0 Library, Part 1, section 18.2.
-use Rattle.std.specs.Prelude.{ℕ, ◌==◌, ◌||◌, not, nat_lt, List, length, drop, take, Option, Some, None, Result, Ok, Err, ok_or}
-use Rattle.std.specs.Int.{w16, w32, from_be_bytes}
+use Rattle.std.specs.Prelude.{ℕ, ◌==◌, ◌||◌, not, nat_lt, List, ◌++◌, length, drop, take, Result, Ok, ok_or}
+use Rattle.std.specs.Int.{w16, w32, from_be_bytes, to_be_bytes}
 use Rattle.tpm_bytes.specs.Reading.{◌>>=◌, refused_if}
 use Rattle.tpm_types.specs.declared.command.Header.{Header}
 use Rattle.tpm_types.specs.declared.command.HeaderFault.{HeaderFault}
 use Rattle.tpm_types.specs.declared.command.HeaderFault.TheVariants as fault
+use Rattle.tpm_types.specs.declared.command_code.CommandCode.{CommandCode}
 use Rattle.tpm_types.specs.declared.rc.Rc.{Rc}
 use Rattle.tpm_types.specs.declared.rc.ResponseCode.TheVariants as code
+use Rattle.tpm_types.specs.declared.tag.Tag.{Tag}
 use Rattle.tpm_types.specs.Rc.{plain}
-use Rattle.tpm_types.specs.Tag.{tag_named}
-use Rattle.tpm_types.specs.CommandCode.{code_named}
+use Rattle.tpm_types.specs.Tag.{tag_named, tag_number}
+use Rattle.tpm_types.specs.CommandCode.{code_named, code_number}
 
 abbrev pub header_fault_rc : HeaderFault → Rc
 header_fault_rc fault.Length = plain code.CommandSize
 header_fault_rc fault.Tag = plain code.BadTag
 header_fault_rc fault.Size = plain code.CommandSize
 header_fault_rc fault.Code = plain code.CommandCode
+
+-- the header of a command of this length
+unfoldable pub header_text : Tag → ℕ → CommandCode → List ℕ
+header_text tag size code = to_be_bytes w16 (tag_number tag) ++ to_be_bytes w32 size ++ to_be_bytes w32 (code_number code)
 
 -- the three fields of a buffer of ten bytes or more
 abbrev pub tag_field : List ℕ → ℕ

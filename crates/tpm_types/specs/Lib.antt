@@ -9,7 +9,9 @@ pub mod Handle
 pub mod AuthEntry
 pub mod AuthArea
 pub mod Header
+pub mod Command
 pub mod DigestList
+pub mod DigestValues
 pub use Rattle.tpm_bytes.specs.Reading
 pub use Rattle.tpm_bytes.specs.Writing
 pub use Rattle.tpm_mac.specs.Digest

@@ -9,7 +9,7 @@ abbrev pub SomePcr : ℕ → Option PcrIndex → Type 0
 SomePcr number (Some pcr) = (number < 24) × (pcr ≡ number)
 SomePcr number None = 24 ≤ number
 
--- the number that three octets stand for, and the octets of a number
+-- the number that three octets stand for, with a fourth of zero to fill 32 bits, and the octets of a number
 abbrev pub select_of : List ℕ → ℕ
 select_of octets = from_le_bytes w32 (octets ++ 0 ∷ [])
 

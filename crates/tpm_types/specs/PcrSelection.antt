@@ -1,6 +1,6 @@
 -- Selections of PCRs on the wire. TPM 2.0 Library, Part 2, section 10.6.2 (TPMS_PCR_SELECTION) and
 -- section 10.9.7 (TPML_PCR_SELECTION).
-use Rattle.std.specs.Prelude.{◌≡◌, ℕ, zero, suc, ◌≤◌, ◌<◌, ◌^◌, ◌==◌, not, nat_lt, List, [], ◌∷◌, ◌++◌, length, Result, Ok, Err}
+use Rattle.std.specs.Prelude.{ℕ, zero, suc, ◌≤◌, ◌<◌, ◌^◌, ◌==◌, not, nat_lt, List, [], ◌∷◌, ◌++◌, length, Result, Ok}
 use Rattle.std.specs.List.{flat_map}
 use Rattle.std.specs.Int.{w8, w16, w32, to_be_bytes}
 use Rattle.tpm_bytes.specs.Reading.{◌>>=◌, bytes_at, number_at, or_fault, refused_if}
@@ -22,11 +22,12 @@ banks_text banks = flat_map bank_text banks
 unfoldable pub selection_text : List BankSelection → List ℕ
 selection_text banks = to_be_bytes w32 (length banks) ++ banks_text banks
 
--- what has a text: at most sixteen banks, each of 24 PCRs
+-- each bank selects among 24 PCRs
 abbrev pub AreBanks : List BankSelection → Type 0
 AreBanks [] = Unit {0}
 AreBanks (bank ∷ banks) = (bank.select < 2 ^ 24) × AreBanks banks
 
+-- what has a text: at most sixteen banks
 pub record IsSelection (banks : List BankSelection) : Type 0 where
   pub few : length banks ≤ 16
   pub each : AreBanks banks

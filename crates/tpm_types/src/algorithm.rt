@@ -27,7 +27,7 @@ pub fn hash_named(number: u16) -> Option<HashAlg>
     }
 }
 
-/// Reads a hash algorithm (TPMI_ALG_HASH, Part 2, section 9.27): INSUFFICIENT where it is cut, HASH
+/// Reads a hash algorithm (TPMI_ALG_HASH, Part 2, section 9): INSUFFICIENT where it is cut, HASH
 /// where it is no served one.
 #[tactic(auto, unfolding(crate::specs::Algorithm::hash_at))]
 pub fn read_hash(text: &mut Cursor) -> Result<HashAlg, Rc>

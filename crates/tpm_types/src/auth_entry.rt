@@ -1,6 +1,8 @@
-ghost use Rattle.std.specs.Prelude.{◌≡◌, ◌≤◌, ◌<◌};
+ghost use Rattle.std.specs.Prelude.{◌≡◌, ℕ, ◌≤◌, ◌<◌, List, ◌++◌, length, Ok, IfOk};
+ghost use Rattle.std.specs.Option.{SomeIff};
 ghost use Rattle.tpm_bytes.specs.Reading.{Reads};
 
+use crate::grammar::bytes_fit;
 use crate::handle::Handle;
 use crate::rc::{Rc, ResponseCode};
 use tpm_bytes::cursor::Cursor;
@@ -24,12 +26,26 @@ pub struct AuthEntry<'a> {
 }
 
 impl<'a> AuthEntry<'a> {
-    ghost use Rattle.tpm_types.specs.AuthEntry.{PutsEntry, entry_at, entry_of};
+    ghost use Rattle.tpm_types.specs.AuthEntry.{Entry, HasSizes, IsEntry, PutsEntry, entry_at, entry_of, entry_text};
 
     /// Reads an entry: AUTHSIZE where it is cut.
-    #[tactic(auto, unfolding(crate::specs::AuthEntry::entry_at))]
     pub fn read(text: &mut Cursor<'a>) -> Result<AuthEntry<'a>, Rc>
+        // Which value it is, or the fault.
         ensures exact { Reads entry_of (entry_at text.old) text.old result text.new }
+        // What is read was spelled so.
+        ensures found { IfOk result (λ entry. IsEntry (entry_of entry)
+            × (text.old ≡ entry_text (entry_of entry) ++ text.new)) }
+        // What is spelled so is read.
+        ensures only { (entry : Entry) (rest : List ℕ) → IsEntry entry → text.old ≡ entry_text entry ++ rest
+            → Reads entry_of (Ok (entry, rest)) text.old result text.new }
+    {
+        bytes_fit(text.rest());
+        AuthEntry::read_fields(text)
+    }
+
+    #[tactic(auto, unfolding(crate::specs::AuthEntry::entry_at))]
+    fn read_fields(text: &mut Cursor<'a>) -> Result<AuthEntry<'a>, Rc>
+        ensures { Reads entry_of (entry_at text.old) text.old result text.new }
     {
         let cut = ResponseCode::Authsize.anywhere();
         let mut ahead = Cursor::new(text.rest());
@@ -44,6 +60,18 @@ impl<'a> AuthEntry<'a> {
             attributes: SessionAttributes { octet },
             hmac,
         })
+    }
+
+    /// How many bytes the entry's text has, where it has one.
+    #[tactic(auto, using(crate::proofs::EntryLaws::entry_sizes))]
+    pub fn text_len(&self) -> Option<usize>
+        ensures { SomeIff result (HasSizes (entry_of self.now)) (length (entry_text (entry_of self.now))) }
+    {
+        let (nonce, hmac) = (self.nonce.len(), self.hmac.len());
+        if nonce > 0xffff || hmac > 0xffff {
+            return None;
+        }
+        Some(9 + nonce + hmac)
     }
 
     /// Writes the entry at the end, or nothing where it does not fit or a size does not fit its two

@@ -4,7 +4,7 @@ use arrayvec::ArrayVec;
 use tpm_bytes::sink::Sink;
 use tpm_mac::Digest;
 
-/// Up to eight digests: TPML_DIGEST of TPM 2.0 Library, Part 2, section 10.9.4.
+/// Up to eight digests: TPML_DIGEST of TPM 2.0 Library, Part 2, section 10.9.5.
 #[derive(Drop)]
 pub struct DigestList {
     pub digests: ArrayVec<Digest, 8>,

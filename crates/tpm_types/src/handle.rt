@@ -1,5 +1,7 @@
 ghost use Rattle.std.specs.Prelude.{◌≡◌, ◌/◌};
 
+use crate::pcr::{PCR_COUNT, PcrIndex};
+
 /// The handle of an entity: TPM_HANDLE of TPM 2.0 Library, Part 2, section 7.1. Its highest byte says
 /// what it names (TPM_HT, section 7.2).
 #[derive(Clone, Copy, Debug, PartialEq, Eq, Default)]
@@ -19,12 +21,28 @@ pub enum SessionKind {
 }
 
 impl Handle {
-    ghost use Rattle.tpm_types.specs.Handle.{session_kind};
+    ghost use Rattle.tpm_types.specs.Handle.{SomePcrOf, pcr_of, session_kind};
 
     /// TPM_RS_PW, section 7.4.
     pub const PASSWORD: Handle = Handle {
         number: 0x4000_0009,
     };
+
+    /// TPM_RH_NULL, section 7.4.
+    pub const NULL: Handle = Handle {
+        number: 0x4000_0007,
+    };
+
+    /// The PCR that the handle names, if it names one.
+    pub fn pcr(self) -> Option<PcrIndex>
+        ensures { SomePcrOf (pcr_of self) result }
+    {
+        if self.number < u32::from(PCR_COUNT) {
+            PcrIndex::new(self.number as u8)
+        } else {
+            None
+        }
+    }
 
     /// What the handle names in an authorization entry.
     pub fn session_kind(self) -> SessionKind

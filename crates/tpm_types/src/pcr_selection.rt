@@ -1,8 +1,10 @@
 ghost use Rattle.std.specs.Prelude.{◌≡◌, ◌+◌, ◌*◌, ◌≤◌, ◌<◌, ℕ, List, ◌++◌, length, IfOk};
 ghost use Rattle.tpm_bytes.specs.Reading.{Reads};
 ghost use Rattle.tpm_bytes.specs.Writing.{Puts};
+ghost use Rattle.tpm_types.specs.declared.pcr_selection.BankSelection.{BankSelection};
 
 use crate::algorithm::{hash_number, read_hash};
+use crate::grammar::bytes_fit;
 use crate::pcr::{PcrSelect, SELECT_SIZE};
 use crate::rc::{Rc, ResponseCode};
 use arrayvec::ArrayVec;
@@ -76,13 +78,28 @@ pub struct PcrSelection {
 }
 
 impl PcrSelection {
-    ghost use Rattle.tpm_types.specs.PcrSelection.{selection_at, selection_text};
+    ghost use Rattle.std.specs.Prelude.{Ok};
+    ghost use Rattle.tpm_types.specs.PcrSelection.{IsSelection, selection_at, selection_text};
 
     /// Reads a selection: INSUFFICIENT where it is cut, SIZE where it names over sixteen banks, and
     /// the first fault of a bank.
-    #[tactic(auto, unfolding(crate::specs::PcrSelection::selection_at))]
     pub fn read(text: &mut Cursor) -> Result<PcrSelection, Rc>
+        // Which value or which fault it is.
         ensures exact { Reads (λ selection. selection.banks.items) (selection_at text.old) text.old result text.new }
+        // What is read was spelled so.
+        ensures found { IfOk result (λ selection. IsSelection selection.banks.items
+            × (text.old ≡ selection_text selection.banks.items ++ text.new)) }
+        // What is spelled so is read.
+        ensures only { (banks : List BankSelection) (rest : List ℕ) → IsSelection banks → text.old ≡ selection_text banks ++ rest
+            → Reads (λ selection. selection.banks.items) (Ok (banks, rest)) text.old result text.new }
+    {
+        bytes_fit(text.rest());
+        PcrSelection::read_fields(text)
+    }
+
+    #[tactic(auto, unfolding(crate::specs::PcrSelection::selection_at))]
+    fn read_fields(text: &mut Cursor) -> Result<PcrSelection, Rc>
+        ensures { Reads (λ selection. selection.banks.items) (selection_at text.old) text.old result text.new }
     {
         let mut ahead = Cursor::new(text.rest());
         let count = ahead

@@ -13,6 +13,8 @@ mod lines;
 mod run;
 mod script;
 #[cfg(test)]
+mod table_tests;
+#[cfg(test)]
 mod tests;
 
 use arguments::Arguments;

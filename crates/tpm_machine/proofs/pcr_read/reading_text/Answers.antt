@@ -1,4 +1,4 @@
-use Rattle.std.proofs.Common.{arith, ◌≡◌, ◌∙◌, ◌++◌, ◌+◌, ◌≤◌, ◌%◌, ◌^◌, List, [], ℕ, ap, length, lit<, append_assoc}
+use Rattle.std.proofs.Common.{arith, ◌≡◌, ◌∙◌, ◌++◌, ◌+◌, ◌≤◌, ◌%◌, ◌^◌, List, [], ℕ, ap, length, lit<}
 use Rattle.std.specs.Int.{w32, to_be_bytes}
 use Rattle.tpm_bytes.proofs.Putting.{put_grows, put_two}
 use Rattle.tpm_types.specs.DigestList.{digest_list_text, digests_of}

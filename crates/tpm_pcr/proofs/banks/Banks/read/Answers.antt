@@ -1,8 +1,8 @@
-use Rattle.std.proofs.Common.{rules, arith, refl, ◌≡◌, ◌+◌, ◌-◌, ◌∙◌, ◌++◌, List, ℕ, ap, sym, min, length, length-append, length-take, append-nil, drop, []}
+use Rattle.std.proofs.Common.{arith, refl, ◌≡◌, ◌+◌, ◌-◌, ◌∙◌, ◌++◌, ap, sym, min, length, length-append, length-take, append-nil, drop, []}
 use Rattle.std.proofs.lemmas.Grind.{common_steps}
 use Rattle.std.proofs.lemmas.List.{length-map, drop_all}
 use Rattle.tpm_types.specs.DigestList.{digests_of}
-use Rattle.tpm_pcr.specs.Banks.{pcr_value, read_values, selected, selected_values}
+use Rattle.tpm_pcr.specs.Banks.{read_values, selected}
 use Rattle.tpm_pcr.proofs.Reading.{answered_more, read_more, read_values-nil, room_after}
 use Rattle.tpm_pcr.proofs.banks.Banks.read.Goals as goal
 
@@ -14,7 +14,7 @@ loop-bank-preserved c =
     let old = length c.loop-bank.values.items in
     let new = length c.read_bank-select.new.values.items in
     let counted : new ≡ old + min (8 - old) (length (selected bank)) =
-        sym (length-map _ _) ∙ ap length c.read_bank-select.ensures.values ∙ length-append front _ ∙ rw (length-take, length-map, length-map) refl in
+    sym (length-map _ _) ∙ ap length c.read_bank-select.ensures.values ∙ length-append front _ ∙ rw (length-take, length-map, length-map) refl in
     let left : 8 - new ≡ (8 - old) - length (selected bank) = room_after old new (length (selected bank)) counted in
     record {
       banks = rw c.push.ensures.items (answered_more (8 - old) (8 - new) c.loop-bank.bank-index _ c.loop-bank.banks.items bank _ c.loop-bank-test.true c.bank-item.is c.read_bank-select.ensures.select left ∙ i.banks);

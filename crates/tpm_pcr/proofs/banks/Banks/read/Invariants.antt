@@ -1,4 +1,4 @@
-use Rattle.std.proofs.Common.{◌≡◌, ◌-◌, ◌++◌, ◌≤◌, length, drop}
+use Rattle.std.proofs.Common.{◌≡◌, ◌-◌, ◌++◌, length, drop}
 use Rattle.tpm_types.specs.DigestList.{digests_of}
 use Rattle.tpm_pcr.specs.Banks.{answered, read_values}
 use Rattle.tpm_pcr.proofs.banks.Banks.read.Given as goal

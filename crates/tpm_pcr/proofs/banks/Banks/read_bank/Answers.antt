@@ -1,4 +1,4 @@
-use Rattle.std.proofs.Common.{rules, arith, ◌≡◌, ◌+◌, ◌-◌, ◌∙◌, ◌++◌, List, ℕ, ap, sym, min, length, filter}
+use Rattle.std.proofs.Common.{rules, arith, ◌≡◌, ◌+◌, ◌-◌, ◌∙◌, min, length, filter}
 use Rattle.std.proofs.lemmas.List.{length-map, take-map}
 use Rattle.tpm_types.specs.Pcr.{is_selected}
 use Rattle.tpm_types.specs.DigestList.{digests_of}
@@ -16,7 +16,7 @@ loop-number-preserved c =
     let values = digests_of c.loop-number.values.items in
     let is : c.unwrap-pcr.result ≡ n = search rules in
     let counted : length c.loop-number.values.items ≡ length c.args.values.now.items + min (8 - length c.args.values.now.items) (length (filter p (pcrs_below n))) =
-        values_count p f n _ _ front values (length-map _ _) (length-map _ _) i.values in
+    values_count p f n _ _ front values (length-map _ _) (length-map _ _) i.values in
     record {
       select = c.read_pcr.ensures.select ∙ select_step p n _ _ _ _ is counted i.select;
       values = c.read_pcr.ensures.values ∙ values_step p f n _ _ _ front values is counted i.values;

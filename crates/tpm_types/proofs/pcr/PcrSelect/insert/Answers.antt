@@ -1,4 +1,4 @@
-use Rattle.std.proofs.Common.{arith, ◌≡◌, ◌^◌, ◌*◌, ◌%◌, ◌<◌, bit_or}
+use Rattle.std.proofs.Common.{arith, ◌≡◌, ◌^◌, ◌*◌, ◌%◌, ◌<◌}
 use Rattle.std.proofs.lemmas.Nat.{or_lt, pow_below, shl_whole}
 use Rattle.tpm_types.proofs.pcr.PcrSelect.insert.Goals as goal
 

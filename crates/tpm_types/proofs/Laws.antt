@@ -1,0 +1,13 @@
+-- From what reading gives to the grammar: a read whose value and rest are what a function on lists gives, where that
+-- function takes one text a value and each value's text.
+use Rattle.std.proofs.Common.{◌≡◌, ℕ, List, ◌++◌, Result, Ok, Err, ap, subst, ◌∙◌}
+use Rattle.std.specs.Prelude.{IfOk}
+use Rattle.tpm_bytes.specs.Reading.{Reads}
+use Rattle.tpm_bytes.proofs.Fields.{AreBytes}
+
+pub read_found : {X Y E : Type 0} (view : X → Y) (read : List ℕ → Result (Y × List ℕ) E) (text_of : Y → List ℕ) (HasText : Y → Type 0) → ((bytes : List ℕ) (x : Y × List ℕ) → AreBytes bytes → read bytes ≡ Ok x → (bytes ≡ text_of x.0 ++ x.1) × HasText x.0) → (old : List ℕ) (result : Result X E) (new : List ℕ) → AreBytes old → Reads view (read old) old result new → IfOk result (λ x. HasText (view x) × (old ≡ text_of (view x) ++ new))
+read_found view read text_of HasText takes old (Ok x) new fits reads = let t = takes old (view x, new) fits reads in (t.1, t.0)
+read_found view read text_of HasText takes old (Err e) new fits reads = tt
+
+pub read_only : {X Y E : Type 0} (view : X → Y) (read : List ℕ → Result (Y × List ℕ) E) (old text : List ℕ) (y : Y) (rest : List ℕ) (result : Result X E) (new : List ℕ) → read text ≡ Ok (y, rest) → old ≡ text → Reads view (read old) old result new → Reads view (Ok (y, rest)) old result new
+read_only view read old text y rest result new again is reads = subst (λ (r : Result (_ × List ℕ) _). Reads view r old result new) (ap read is ∙ again) reads

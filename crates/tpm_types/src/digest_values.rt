@@ -1,0 +1,152 @@
+ghost use Rattle.std.specs.Prelude.{◌≡◌, ◌+◌, ◌*◌, ◌≤◌, ◌++◌, length};
+ghost use Rattle.tpm_bytes.specs.Reading.{Reads};
+ghost use Rattle.tpm_bytes.specs.Writing.{Puts};
+ghost use Rattle.tpm_types.specs.DigestValues.{digest_value_at, digest_value_text, digest_values_at, digest_values_text, values_at, values_text};
+
+use crate::algorithm::{hash_number, read_hash};
+use crate::rc::{Rc, ResponseCode};
+use arrayvec::ArrayVec;
+use tpm_bytes::cursor::Cursor;
+use tpm_bytes::sink::{Full, Sink};
+use tpm_mac::HashAlg;
+
+/// How many digests a list may have: one for each hash algorithm.
+pub const MOST_DIGEST_VALUES: u32 = 2;
+
+/// A digest with its algorithm: TPMT_HA of TPM 2.0 Library, Part 2, section 10.3.2.
+#[derive(Clone, Copy, Debug, PartialEq, Eq)]
+pub enum DigestValue {
+    Sha1([u8; 20]),
+    Sha256([u8; 32]),
+}
+
+impl Default for DigestValue {
+    fn default() -> DigestValue {
+        DigestValue::Sha1([0; 20])
+    }
+}
+
+/// Up to two digests with their algorithms: TPML_DIGEST_VALUES (Part 2, section 10.9.6).
+#[derive(Drop)]
+pub struct DigestValues {
+    pub values: ArrayVec<DigestValue, 2>,
+}
+
+impl DigestValue {
+    ghost use Rattle.tpm_types.specs.DigestValues.{digest_of, hash_of_value};
+
+    pub fn hash(&self) -> HashAlg
+        ensures { result ≡ hash_of_value self.now }
+    {
+        match self {
+            DigestValue::Sha1(_) => HashAlg::Sha1,
+            DigestValue::Sha256(_) => HashAlg::Sha256,
+        }
+    }
+
+    pub fn digest(&self) -> &[u8]
+        ensures value { result.now ≡ digest_of self.now }
+        ensures fits { length result.now ≤ 32 }
+    {
+        match self {
+            DigestValue::Sha1(digest) => digest,
+            DigestValue::Sha256(digest) => digest,
+        }
+    }
+
+    /// Reads a digest: INSUFFICIENT where it is cut, HASH where its algorithm is not served.
+    #[tactic(auto, unfolding(crate::specs::DigestValues::digest_value_at))]
+    pub fn read(text: &mut Cursor) -> Result<DigestValue, Rc>
+        ensures { Reads (λ value. value) (digest_value_at text.old) text.old result text.new }
+    {
+        let mut ahead = Cursor::new(text.rest());
+        let value = match read_hash(&mut ahead)? {
+            HashAlg::Sha1 => DigestValue::Sha1(read_octets::<20>(&mut ahead)?),
+            HashAlg::Sha256 => DigestValue::Sha256(read_octets::<32>(&mut ahead)?),
+        };
+        *text = ahead;
+        Ok(value)
+    }
+
+    /// Writes the digest at the end, at most 34 bytes, or nothing where it does not fit.
+    #[tactic(auto, unfolding(crate::specs::DigestValues::digest_value_text))]
+    pub fn write<const N: usize>(&self, sink: &mut Sink<N>) -> Result<(), Full>
+        ensures written { Puts N (digest_value_text self.now) sink.old result sink.new }
+        ensures small { length (digest_value_text self.now) ≤ 34 }
+    {
+        let digest = self.digest();
+        if N - sink.len() < 2 + digest.len() {
+            return Err(Full);
+        }
+        sink.put_u16(hash_number(self.hash()))?;
+        sink.put(digest)
+    }
+}
+
+ghost use Rattle.tpm_types.specs.DigestValues.{octets_at};
+
+/// The next `N` bytes: INSUFFICIENT where they are cut.
+fn read_octets<const N: usize>(text: &mut Cursor) -> Result<[u8; N], Rc>
+    ensures { Reads (λ octets. octets) (octets_at N text.old) text.old result text.new }
+{
+    let bytes = match text.take(N) {
+        Ok(bytes) => bytes,
+        Err(_) => return Err(ResponseCode::Insufficient.anywhere()),
+    };
+    let mut octets = [0; N];
+    octets.copy_from_slice(bytes);
+    Ok(octets)
+}
+
+impl DigestValues {
+    /// Reads a list of digests: INSUFFICIENT where it is cut, SIZE where it has over two, and the first
+    /// fault of a digest.
+    #[tactic(auto, unfolding(crate::specs::DigestValues::digest_values_at))]
+    pub fn read(text: &mut Cursor) -> Result<DigestValues, Rc>
+        ensures { Reads (λ digests. digests.values.items) (digest_values_at text.old) text.old result text.new }
+    {
+        let mut ahead = Cursor::new(text.rest());
+        let count = ahead
+            .u32()
+            .map_err(|_| ResponseCode::Insufficient.anywhere())?;
+        if count > MOST_DIGEST_VALUES {
+            return Err(ResponseCode::Size.anywhere());
+        }
+        let values = read_values(&mut ahead, count)?;
+        *text = ahead;
+        Ok(DigestValues { values })
+    }
+
+    /// Writes the list at the end. The caller has room for the longest list, four bytes and twice an
+    /// algorithm and 32 bytes.
+    pub fn write<const N: usize>(&self, sink: &mut Sink<N>)
+        requires { length sink.old + 72 ≤ N }
+        ensures { sink.new ≡ sink.old ++ digest_values_text self.now.values.items }
+    {
+        let values = self.values.as_slice();
+        let _ = sink.put_u32(values.len() as u32);
+        write_values(values, sink);
+    }
+}
+
+fn read_values(text: &mut Cursor, count: u32) -> Result<ArrayVec<DigestValue, 2>, Rc>
+    requires { count ≤ 2 }
+    ensures { Reads (λ values. values.items) (values_at count text.old) text.old result text.new }
+{
+    let mut ahead = Cursor::new(text.rest());
+    let mut values = ArrayVec::new();
+    for _ in 0..count {
+        values.push(DigestValue::read(&mut ahead)?);
+    }
+    *text = ahead;
+    Ok(values)
+}
+
+fn write_values<const N: usize>(values: &[DigestValue], sink: &mut Sink<N>)
+    requires { length sink.old + 34 * length values.now ≤ N }
+    ensures { sink.new ≡ sink.old ++ values_text values.now }
+{
+    for value in values {
+        let _ = value.write(sink);
+    }
+}
