@@ -13,9 +13,9 @@ unfolding entries_answer
 answer_more n = rw add-one refl
 
 -- one answer more, where there is room for it
-pub one_answered : {E : Type 0} (n : ℕ) (start so_far new : List ℕ) (result : Result (Unit {0}) E) → so_far ≡ start ++ entries_answer n → length so_far ≤ 2062 + 5 * n → n ≤ 3 → Puts 4096 password_answer so_far result new → (new ≡ start ++ entries_answer (n + 1)) × (length new ≤ 2062 + 5 * (n + 1))
-one_answered n start so_far new result so small few puts =
-    let written : new ≡ so_far ++ password_answer = put_fits 4096 password_answer so_far result new puts (omega arith) in (
+pub one_answered : {E : Type 0} (capacity n : ℕ) (start so_far new : List ℕ) (result : Result (Unit {0}) E) → so_far ≡ start ++ entries_answer n → length so_far ≤ 2062 + 5 * n → 2067 + 5 * n ≤ capacity → Puts capacity password_answer so_far result new → (new ≡ start ++ entries_answer (n + 1)) × (length new ≤ 2062 + 5 * (n + 1))
+one_answered capacity n start so_far new result so small room puts =
+    let written : new ≡ so_far ++ password_answer = put_fits capacity password_answer so_far result new puts (omega arith) in (
       written
           ∙ ap (λ (l : List ℕ). l ++ password_answer) so
           ∙ append_assoc start (entries_answer n) password_answer

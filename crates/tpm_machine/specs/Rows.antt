@@ -20,12 +20,11 @@ abbrev pub refused_parameter : ℕ → Rc → Refused
 refused_parameter n rc = record { rc = at (place.Parameter n) rc; check = check.Parameters }
 
 -- a parameter that is read
--- a parameter that is read
 abbrev pub parameter : {X : Type 0} → ℕ → Result X Rc → Result X Refused
 parameter n (Ok x) = Ok x
 parameter n (Err rc) = Err (refused_parameter n rc)
 
--- no byte is left over behind the parameters, G11 too, G11 too
+-- no byte is left over behind the parameters, G11 too
 abbrev pub all_read : List ℕ → Result (Unit {0}) Refused
 all_read rest = refused_by check.Parameters (plain code.Size) (not (length rest == 0))
 

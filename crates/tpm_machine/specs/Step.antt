@@ -16,7 +16,6 @@ use Rattle.tpm_machine.specs.Rows.{Success}
 use Rattle.tpm_machine.specs.Table.{row_of}
 use Rattle.tpm_machine.specs.Tick.{ticked}
 use Rattle.tpm_machine.specs.declared.check.Check.TheVariants.{Tag}
-use Rattle.tpm_machine.specs.declared.check.Check.TheVariants.{Tag}
 use Rattle.tpm_machine.specs.declared.check.Refused.{Refused}
 use Rattle.tpm_machine.specs.declared.event.Outcome.{Outcome}
 use Rattle.tpm_machine.specs.declared.event.Row.{Row}
@@ -66,9 +65,13 @@ abbrev pub decided : Record → ℕ → List ℕ → Result Command Refusal → 
 decided r locality random (Ok c) = answered r c.code c.entries (row_of r c.code locality c.handles c.parameters random)
 decided r locality random (Err e) = refused r e
 
+-- a command, by the number of its locality: first its time passes
+abbrev pub commanded : Record → List ℕ → ℕ → ℕ → List ℕ → Stepped
+commanded r buffer locality elapsed random = let t = ticked r elapsed in decided t locality random (general t.started buffer)
+
 -- the step of an event
 abbrev pub step : Record → Happening → Stepped
-step r (Given buffer locality elapsed random) = let t = ticked r elapsed in decided t (locality_number locality) random (general t.started buffer)
+step r (Given buffer locality elapsed random) = commanded r buffer (locality_number locality) elapsed random
 step r Cycled = record { response = []; row = record { code = 0; check = 0 }; after = cycled r }
 
 -- what is seen of an outcome that left this record

@@ -1,8 +1,11 @@
 use arrayvec::ArrayVec;
 use tpm_types::locality::Locality;
 
+/// The most bytes of a response, as of a command.
+pub const RESPONSE_LIMIT: usize = 4_096;
+
 /// The whole bytes of a response.
-pub type Response = ArrayVec<u8, 4096>;
+pub type Response = ArrayVec<u8, RESPONSE_LIMIT>;
 
 /// One atomic step of the device.
 #[derive(Drop)]

@@ -1,4 +1,4 @@
-ghost use Rattle.std.specs.Prelude.{◌≡◌, ◌≤◌, List, IfOk, length, map};
+ghost use Rattle.std.specs.Prelude.{◌≡◌, ◌≤◌, List, [], IfOk, length, map};
 ghost use Rattle.tpm_machine.specs.Events.{happening};
 ghost use Rattle.tpm_machine.specs.Record.{manufactured};
 ghost use Rattle.tpm_machine.specs.Run.{Runs};
@@ -6,13 +6,13 @@ ghost use Rattle.tpm_machine.specs.Safe.{IsHarmless};
 ghost use Rattle.tpm_machine.specs.State.{state_of};
 ghost use Rattle.tpm_machine.specs.Step.{seen, step};
 
-use crate::event::{Event, Outcome, Row};
-use crate::general::decode;
-use crate::response::{accepted, refused};
+use crate::event::{Event, RESPONSE_LIMIT, Outcome, Row};
+use crate::general::{Refusal, decode};
+use crate::response::refused;
 use crate::state::State;
 use crate::table::act;
-use arrayvec::ArrayVec;
 use std::alloc::Global;
+use tpm_bytes::sink::Sink;
 use tpm_types::locality::Locality;
 
 /// Memory was refused.
@@ -47,13 +47,11 @@ impl Machine {
         // An answer has at most 2,048 bytes, before it a header, and behind it at most three entries.
         ensures fits { length result.response.items ≤ 2077 }
     {
-        match event {
+        let mut text = Sink::new();
+        let row = match event {
             Event::PowerCycle => {
                 self.state.power_cycle();
-                Outcome {
-                    response: ArrayVec::new(),
-                    row: Row { code: 0, check: 0 },
-                }
+                Row { code: 0, check: 0 }
             }
             Event::Command {
                 buffer,
@@ -62,8 +60,12 @@ impl Machine {
                 random,
             } => {
                 self.state.tick(*elapsed_ms);
-                self.command(buffer, *locality, random)
+                self.command(buffer, *locality, random, &mut text)
             }
+        };
+        Outcome {
+            response: text.into_bytes(),
+            row,
         }
     }
 
@@ -82,21 +84,25 @@ impl Machine {
     ghost use Rattle.tpm_machine.specs.General.{general};
     ghost use Rattle.tpm_machine.specs.Step.{decided};
 
-    /// Executes a command's buffer, after its time has passed.
-    fn command(&mut self, buffer: &[u8], locality: Locality, random: &[u8; 256]) -> Outcome
-        ensures decided { seen (state_of self.new) result ≡ decided (state_of self.old) (locality_number locality) random.now (general (state_of self.old).started buffer.now) }
-        ensures fits { length result.response.items ≤ 2077 }
+    /// Executes a command's buffer, after its time has passed: writes the response, and gives the row. Where it is inlined
+    /// into `execute`, whole responses are copied.
+    #[inline(never)]
+    fn command(
+        &mut self,
+        buffer: &[u8],
+        locality: Locality,
+        random: &[u8; 256],
+        text: &mut Sink<RESPONSE_LIMIT>,
+    ) -> Row
+        requires { text.old ≡ [] }
+        ensures decided { decided (state_of self.old) (locality_number locality) random.now (general (state_of self.old).started buffer.now) ≡ record { response = text.new; row = result; after = state_of self.new } }
+        ensures fits { length text.new ≤ 2077 }
     {
-        let command = match decode(self.state.started, buffer) {
-            Ok(command) => command,
-            Err(refusal) => return refused(refusal.row, refusal.rc),
-        };
-        let code = command.code.number();
-        match act(&mut self.state, &command, locality, random) {
-            Ok(answer) => accepted(code, command.entries, &answer),
-            Err(fault) => {
-                let check = fault.check.number();
-                refused(Row { code, check }, fault.rc)
+        match decode(self.state.started, buffer) {
+            Ok(command) => act(&mut self.state, &command, locality, random, text),
+            Err(Refusal { rc, row }) => {
+                refused(row, rc, text);
+                row
             }
         }
     }
