@@ -45,7 +45,7 @@ selected bank = filter (is_selected bank.select) all_pcrs
 abbrev pub selected_values : BankValues → BankSelection → List (List ℕ)
 selected_values banks bank = map (pcr_value banks bank.hash) (selected bank)
 
--- the number that selects just these PCRs: from none on, each of them added: from none on, each of them added
+-- the number that selects just these PCRs: from none on, each of them added
 abbrev pub select_with : List ℕ → ℕ
 select_with pcrs = fold with_pcr 0 pcrs
 

@@ -53,7 +53,7 @@ impl Banks {
         }
     }
 
-    /// How many bank values were written since the last Startup, and Clears.
+    /// The update counter: how many bank values were written since the last TPM2_Startup.
     pub fn update_count(&self) -> u64
         ensures { result ≡ self.now.update_count }
     {

@@ -1,4 +1,4 @@
-ghost use Rattle.std.specs.Prelude.{◌≡◌, ◌+◌, ◌*◌, ◌≤◌, ◌++◌, length};
+ghost use Rattle.std.specs.Prelude.{◌≡◌, ◌+◌, ◌*◌, ◌≤◌, ◌++◌, length, replicate};
 ghost use Rattle.tpm_bytes.specs.Reading.{Reads};
 ghost use Rattle.tpm_bytes.specs.Writing.{Puts};
 ghost use Rattle.tpm_types.specs.DigestValues.{digest_value_at, digest_value_text, digest_values_at, digest_values_text, values_at, values_text};
@@ -21,7 +21,9 @@ pub enum DigestValue {
 }
 
 impl Default for DigestValue {
-    fn default() -> DigestValue {
+    fn default() -> DigestValue
+        ensures { result ≡ DigestValue.Sha1 (replicate 20 0) }
+    {
         DigestValue::Sha1([0; 20])
     }
 }

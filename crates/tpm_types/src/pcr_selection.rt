@@ -23,7 +23,9 @@ pub struct BankSelection {
 }
 
 impl Default for BankSelection {
-    fn default() -> BankSelection {
+    fn default() -> BankSelection
+        ensures { result ≡ record { hash = HashAlg.Sha256; select = 0 } }
+    {
         BankSelection {
             hash: HashAlg::Sha256,
             select: PcrSelect::none(),

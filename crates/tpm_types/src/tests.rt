@@ -17,6 +17,9 @@ use tpm_bytes::cursor::Cursor;
 use tpm_bytes::sink::{Full, Sink};
 use tpm_mac::{HashAlg, digest_parts};
 
+mod commands;
+mod structures;
+
 const INSUFFICIENT: u32 = 0x09a;
 
 const AUTHSIZE: u32 = 0x144;
