@@ -1,1 +1,7 @@
+pub mod Fault
+pub mod Line
+pub mod Lines
+pub mod Answers
 pub mod Script
+pub mod Player
+pub mod Run

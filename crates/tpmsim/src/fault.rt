@@ -1,7 +1,10 @@
+ghost use Rattle.std.specs.Prelude.{◌≡◌};
+
+use crate::line::BadLine;
 use std::alloc::AllocError;
 use std::io::ErrorKind;
-use std::process::ExitCode;
 use std::{fmt, io};
+use tpm_machine::machine::NoMemory;
 
 /// Why a script did not run to its end. The lines before the fault were run, and their responses
 /// written, but for those that a `Write` fault cut off.
@@ -17,6 +20,29 @@ pub enum ScriptFault {
     NoMemory,
 }
 
+/// Why a line was not run.
+#[derive(Clone, Copy, Debug, PartialEq, Eq)]
+pub enum LineFault {
+    /// It is none of a script's lines.
+    Bad,
+    /// Its response, or one before it, could not be written.
+    Write,
+}
+
+impl LineFault {
+    ghost use Rattle.tpmsim.specs.Fault.{fault_at};
+
+    /// The fault of a script whose line of this number was not run.
+    pub fn at(self, number: u32) -> ScriptFault
+        ensures { result ≡ fault_at number self }
+    {
+        match self {
+            LineFault::Bad => ScriptFault::Line(number),
+            LineFault::Write => ScriptFault::Write,
+        }
+    }
+}
+
 /// Why the program failed. It prints as the line on standard error says it.
 #[derive(Clone, Copy, Debug, PartialEq, Eq)]
 pub enum Fault {
@@ -30,19 +56,26 @@ pub enum Fault {
 }
 
 impl Fault {
+    ghost use Rattle.std.specs.IoError.{error_kind};
+    ghost use Rattle.tpmsim.specs.Fault.{fault_or, status_of};
+
     /// `Memory` where memory ran out, and else `otherwise`.
-    pub fn of_io(error: io::Error, otherwise: Fault) -> Fault {
+    pub fn of_io(error: io::Error, otherwise: Fault) -> Fault
+        ensures { result ≡ fault_or otherwise (error_kind error) }
+    {
         match error.kind() {
             ErrorKind::OutOfMemory => Fault::Memory,
             _ => otherwise,
         }
     }
 
-    /// 2 where what was asked for makes no sense, 3 where the world refused it.
-    pub fn exit_code(self) -> ExitCode {
+    /// The exit status: 2 where what was asked for makes no sense, 3 where the world refused it.
+    pub fn status(self) -> u8
+        ensures { result ≡ status_of self }
+    {
         match self {
-            Fault::Usage | Fault::ScriptLine(_) => ExitCode::from(2),
-            Fault::File | Fault::Memory => ExitCode::from(3),
+            Fault::Usage | Fault::ScriptLine(_) => 2,
+            Fault::File | Fault::Memory => 3,
         }
     }
 }
@@ -58,19 +91,51 @@ impl fmt::Display for Fault {
     }
 }
 
+impl From<BadLine> for LineFault {
+    ghost use Rattle.tpmsim.specs.declared.fault.LineFault.TheVariants.{Bad};
+
+    ghost from_gives = { λ _ fault. fault ≡ Bad };
+
+    fn from(_error: BadLine) -> LineFault {
+        LineFault::Bad
+    }
+}
+
 impl From<AllocError> for ScriptFault {
+    ghost use Rattle.tpmsim.specs.declared.fault.ScriptFault.TheVariants.{NoMemory};
+
+    ghost from_gives = { λ _ fault. fault ≡ NoMemory };
+
     fn from(_error: AllocError) -> ScriptFault {
         ScriptFault::NoMemory
     }
 }
 
+impl From<NoMemory> for ScriptFault {
+    ghost use Rattle.tpmsim.specs.declared.fault.ScriptFault.TheVariants.{NoMemory as Refused};
+
+    ghost from_gives = { λ _ fault. fault ≡ Refused };
+
+    fn from(_error: NoMemory) -> ScriptFault {
+        ScriptFault::NoMemory
+    }
+}
+
 impl From<AllocError> for Fault {
+    ghost use Rattle.tpmsim.specs.declared.fault.Fault.TheVariants.{Memory};
+
+    ghost from_gives = { λ _ fault. fault ≡ Memory };
+
     fn from(_error: AllocError) -> Fault {
         Fault::Memory
     }
 }
 
 impl From<ScriptFault> for Fault {
+    ghost use Rattle.tpmsim.specs.Fault.{fault_of};
+
+    ghost from_gives = { λ script_fault fault. fault ≡ fault_of script_fault };
+
     fn from(fault: ScriptFault) -> Fault {
         match fault {
             ScriptFault::Line(number) => Fault::ScriptLine(number),

@@ -1,6 +1,8 @@
-ghost use Rattle.std.specs.Prelude.{◌≤◌, ◌-◌, length, vec_len};
-ghost use Rattle.tpmsim.specs.declared.lines.TheConstants.{LINE_LIMIT};
+ghost use Rattle.std.specs.Prelude.{◌≡◌, ◌≤◌, vec_len};
+ghost use Rattle.tpmsim.specs.declared.lines.TheConstants.{CAPACITY, LINE_LIMIT};
 
+use crate::line::place_of;
+use arrayvec::ArrayVec;
 use std::alloc::{AllocError, Global};
 use std::io;
 use std::io::Read;
@@ -8,8 +10,8 @@ use std::io::Read;
 /// How many bytes a line may have, without the 0a at its end.
 pub const LINE_LIMIT: usize = 65_536;
 
-/// How many bytes are held at once: the start of a line, and as many again to be read at one go.
-const CAPACITY: usize = 2 * LINE_LIMIT;
+/// How many bytes are read at one go.
+const CAPACITY: usize = 65_536;
 
 /// What stands next among the bytes that were read.
 #[derive(Clone, Copy, Debug, PartialEq, Eq)]
@@ -24,42 +26,40 @@ pub enum Next {
     End,
 }
 
+/// The line has more than [`LINE_LIMIT`] bytes.
+#[derive(Clone, Copy, Debug, PartialEq, Eq)]
+struct TooLong;
+
 /// The lines of a text, each of which ends with 0a, but for the last, which need not. The memory
 /// that it takes does not depend on the text.
 #[derive(Drop)]
-pub struct Lines<R> {
-    reader: R,
+pub struct Lines {
+    /// The line that was found last, or what has come of the next one.
+    line: ArrayVec<u8, 65536>,
     bytes: Vec<u8>,
-    /// Where the line that was found last begins and ends in `bytes`.
-    line_start: usize,
-    line_end: usize,
-    /// Where the next line begins, how far it is known to hold no 0a, and where the bytes that were
-    /// read end.
+    /// Which of the bytes were read and belong to no line yet.
     next: usize,
-    searched: usize,
     filled: usize,
+    /// Whether the last read gave nothing.
     ended: bool,
-    ghost line_in_order: { line_start ≤ line_end },
-    ghost line_within: { line_end ≤ vec_len bytes },
-    ghost line_in_limit: { line_end - line_start ≤ LINE_LIMIT },
-    ghost next_in_order: { next ≤ searched },
-    ghost searched_in_order: { searched ≤ filled },
-    ghost filled_within: { filled ≤ vec_len bytes },
+    ghost capacity: { vec_len bytes ≡ CAPACITY },
+    ghost in_order: { next ≤ filled },
+    ghost within: { filled ≤ CAPACITY },
 }
 
-impl<R> Lines<R> {
-    pub fn new(alloc: Global, reader: R) -> Result<Lines<R>, AllocError>
-    where
-        R: Drop,
+impl Lines {
+    ghost use Rattle.std.specs.Prelude.{◌+◌, ◌<◌, ◌++◌, [], false, take, drop, length, IfOk, OnOk, OnErr};
+    ghost use Rattle.std.specs.Io.KnownBytes.{Consumes};
+    ghost use Rattle.tpmsim.specs.Lines.{Agrees, Finds, IsUnbroken, line_of, rest_of, stopped_at};
+
+    pub fn new(alloc: Global) -> Result<Lines, AllocError>
+        ensures { IfOk result (λ lines. (rest_of lines ≡ []) × (lines.ended ≡ false)) }
     {
         let bytes = vec![in alloc; 0u8; CAPACITY]?;
         Ok(Lines {
-            reader,
+            line: ArrayVec::new(),
             bytes,
-            line_start: 0,
-            line_end: 0,
             next: 0,
-            searched: 0,
             filled: 0,
             ended: false,
         })
@@ -67,78 +67,90 @@ impl<R> Lines<R> {
 
     /// The line that was found last, without its 0a.
     pub fn line(&self) -> &[u8]
-        ensures { length result.now ≤ LINE_LIMIT }
+        ensures line { result.now ≡ line_of self.now }
+        ensures limit { length result.now ≤ LINE_LIMIT }
     {
-        &self.bytes[self.line_start..self.line_end]
+        self.line.as_slice()
     }
 
-    /// Looks for the next line among the bytes that were read, and goes past it.
-    pub fn find(&mut self) -> Next {
-        let unsearched = &self.bytes[self.searched..self.filled];
-        match unsearched.iter().position(|byte| *byte == b'\n') {
-            Some(at) => {
-                let end = self.searched + at;
-                self.go_past(end, end + 1)
-            }
-            None => {
-                self.searched = self.filled;
-                self.go_to_end()
-            }
-        }
-    }
-
-    /// Takes the bytes up to `end` for the next line, and goes on at `after`.
-    fn go_past(&mut self, end: usize, after: usize) -> Next
-        requires ahead { self.old.next ≤ end }
-        requires in_order { end ≤ after }
-        requires within { after ≤ self.old.filled }
+    /// Goes past the line that was found last.
+    pub fn next(&mut self)
+        ensures line { line_of self.new ≡ [] }
+        ensures rest { rest_of self.new ≡ rest_of self.old }
+        ensures ended { self.new.ended ≡ self.old.ended }
     {
-        if end - self.next > LINE_LIMIT {
-            return Next::TooLong;
-        }
-        self.line_start = self.next;
-        self.line_end = end;
-        self.next = after;
-        self.searched = after;
-        Next::Line
+        self.line.clear();
     }
 
-    /// What stands next where no 0a does.
-    fn go_to_end(&mut self) -> Next {
-        if self.filled - self.next > LINE_LIMIT {
-            Next::TooLong
-        } else if !self.ended {
-            Next::Incomplete
-        } else if self.next == self.filled {
-            Next::End
-        } else {
-            self.go_past(self.filled, self.filled)
+    /// Adds what was read to the line, up to its end if that was read.
+    pub fn find(&mut self) -> Next
+        requires { IsUnbroken (line_of self.old) }
+        ensures found { Finds self.old result self.new }
+        ensures ended { self.new.ended ≡ self.old.ended }
+    {
+        match place_of(b'\n', &self.bytes[self.next..self.filled]) {
+            Some(at) => match self.take(at, at + 1) {
+                Ok(()) => Next::Line,
+                Err(TooLong) => Next::TooLong,
+            },
+            None => match self.take_rest() {
+                Ok(()) => self.stopped(),
+                Err(TooLong) => Next::TooLong,
+            },
         }
     }
-}
 
-impl<R: Read> Lines<R> {
-    /// Reads more bytes, by one read of the reader.
-    pub fn fill(&mut self) -> io::Result<()> {
-        self.move_to_front();
-        let room = &mut self.bytes[self.filled..];
-        if room.is_empty() {
-            return Ok(());
-        }
-        match self.reader.read(room)? {
-            0 => self.ended = true,
-            count => self.filled += count,
-        }
+    /// Adds this many of the bytes to the line, and goes past so many.
+    fn take(&mut self, count: usize, past: usize) -> Result<(), TooLong>
+        requires count { count ≤ past }
+        requires past { past ≤ length (rest_of self.old) }
+        ensures line { OnOk result (line_of self.new ≡ line_of self.old ++ take count (rest_of self.old)) }
+        ensures rest { OnOk result (rest_of self.new ≡ drop past (rest_of self.old)) }
+        ensures long { OnErr result (LINE_LIMIT < length (line_of self.old) + count) }
+        ensures ended { self.new.ended ≡ self.old.ended }
+    {
+        let piece = &self.bytes[self.next..self.next + count];
+        self.line.try_extend_from_slice(piece).map_err(|_| TooLong)?;
+        self.next += past;
         Ok(())
     }
 
-    /// Moves what is not found yet to the front of the buffer. The line that was found last is gone.
-    fn move_to_front(&mut self) {
-        self.bytes.copy_within(self.next..self.filled, 0);
-        self.line_start = 0;
-        self.line_end = 0;
-        self.searched -= self.next;
-        self.filled -= self.next;
+    /// Adds all of the bytes to the line.
+    fn take_rest(&mut self) -> Result<(), TooLong>
+        ensures line { OnOk result (line_of self.new ≡ line_of self.old ++ rest_of self.old) }
+        ensures rest { OnOk result (rest_of self.new ≡ []) }
+        ensures long { OnErr result (LINE_LIMIT < length (line_of self.old) + length (rest_of self.old)) }
+        ensures ended { self.new.ended ≡ self.old.ended }
+    {
+        let count = self.filled - self.next;
+        self.take(count, count)
+    }
+
+    /// What stands next where all bytes that were read belong to the line.
+    fn stopped(&self) -> Next
+        ensures { result ≡ stopped_at self.now.ended (line_of self.now) }
+    {
+        if !self.ended {
+            Next::Incomplete
+        } else if self.line.is_empty() {
+            Next::End
+        } else {
+            Next::Line
+        }
+    }
+
+    /// Reads more bytes, by one read of the reader.
+    pub fn fill<R: Read>(&mut self, reader: &mut R) -> io::Result<()>
+        requires { rest_of self.old ≡ [] }
+        ensures line { line_of self.new ≡ line_of self.old }
+        ensures more { OnOk result (Consumes (R.remaining reader.old) (R.remaining reader.new) (rest_of self.new)) }
+        ensures agrees { OnOk result (Agrees (R.remaining reader.new) self.new) }
+        ensures none { OnErr result (rest_of self.new ≡ []) }
+    {
         self.next = 0;
+        self.filled = 0;
+        self.filled = reader.read(&mut self.bytes)?;
+        self.ended = self.filled == 0;
+        Ok(())
     }
 }

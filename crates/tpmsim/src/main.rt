@@ -10,6 +10,7 @@ mod arguments;
 mod fault;
 mod line;
 mod lines;
+mod player;
 mod run;
 mod script;
 #[cfg(test)]
@@ -28,7 +29,7 @@ fn main(rt: HostRuntime) -> ExitCode {
         Ok(()) => ExitCode::SUCCESS,
         Err(fault) => {
             let _ = eprintln!(rt; "tpmsim: {fault}");
-            fault.exit_code()
+            ExitCode::from(fault.status())
         }
     }
 }
@@ -38,10 +39,12 @@ fn try_main(rt: &HostRuntime) -> Result<(), Fault> {
         .map_err(|error| Fault::of_io(error, Fault::Usage))?
         .collect(rt.alloc())?;
     match Arguments::parse(rt.alloc(), words.as_slice())? {
-        Arguments::Run { script: "-" } => run_script(rt.alloc(), rt.stdin(), rt.stdout())?,
+        Arguments::Run { script: "-" } => {
+            run_script(rt.alloc(), &mut rt.stdin(), &mut rt.stdout())?;
+        }
         Arguments::Run { script } => {
-            let file = fs::open(rt, script).map_err(|error| Fault::of_io(error, Fault::File))?;
-            run_script(rt.alloc(), file, rt.stdout())?;
+            let mut file = fs::open(rt, script).map_err(|error| Fault::of_io(error, Fault::File))?;
+            run_script(rt.alloc(), &mut file, &mut rt.stdout())?;
         }
     }
     Ok(())

@@ -1,68 +1,91 @@
-use crate::answers::Answers;
+ghost use Rattle.std.specs.Prelude.{◌≡◌, [], false, length, vec_len, IfOk, OnOk, OnErr};
+ghost use Rattle.std.specs.Io.KnownBytes.{Keeps};
+ghost use Rattle.tpmsim.specs.Answers.{pending, printed};
+ghost use Rattle.tpmsim.specs.Lines.{Agrees, line_of, rest_of, text_left};
+ghost use Rattle.tpmsim.specs.Player.{playing_of};
+ghost use Rattle.tpmsim.specs.Run.{NextFound, NoFailure, Ran};
+ghost use Rattle.tpmsim.specs.Script.{Plays, at_first};
+
 use crate::fault::ScriptFault;
-use crate::line::{BadLine, Line, decode};
-use crate::lines::{LINE_LIMIT, Lines, Next};
-use crate::script::Script;
-use std::alloc::Global;
-use std::array;
+use crate::lines::{Lines, Next};
+use crate::player::Player;
+use std::alloc::{AllocError, Global};
 use std::io::{Read, Write};
-use tpm_machine::event::Event;
-use tpm_machine::machine::Machine;
 
 /// How many lines a script may have.
 pub const SCRIPT_LINES: u32 = 1_048_576;
 
+/// How many bytes a line can write in hex.
+const DECODED_LIMIT: usize = 32_768;
+
 /// Runs the script that `reader` gives on a new device, and writes the response to each command to
 /// `writer`. It takes memory once, at the start. Whatever the fault, the lines before it were run,
-/// and their responses written.
-pub fn run_script<R: Read + Drop, W: Write + Drop>(
+/// and their responses written, but for those that a `Write` fault cut off.
+pub fn run_script<R: Read, W: Write>(
     alloc: Global,
-    reader: R,
-    writer: W,
-) -> Result<(), ScriptFault> {
-    let mut run = Run::new(alloc, reader, writer)?;
-    let outcome = run.lines();
-    run.flush()?;
+    reader: &mut R,
+    writer: &mut W,
+) -> Result<(), ScriptFault>
+    // What is written is what the script prints, up to its first bad line.
+    ensures played { Ran (Plays (R.remaining reader.old) (W.contents writer.old) (W.contents writer.new) at_first 1) result }
+{
+    let mut run = Run::new(alloc)?;
+    let mut room = room(alloc)?;
+    let outcome = run.lines(reader, writer, &mut room);
+    run.player.flush(writer)?;
     outcome
 }
 
-/// A device, and the script that is run on it.
-#[derive(Drop)]
-struct Run<R, W> {
-    lines: Lines<R>,
-    answers: Answers<W>,
-    machine: Machine,
-    script: Script,
-    /// Room for what a line writes in hex.
-    decoded: Vec<u8>,
+/// Room for what a line writes in hex.
+fn room(alloc: Global) -> Result<Vec<u8>, AllocError>
+    ensures { IfOk result (λ room. vec_len room ≡ DECODED_LIMIT) }
+{
+    vec![in alloc; 0u8; DECODED_LIMIT]
 }
 
-impl<R: Read + Drop, W: Write + Drop> Run<R, W> {
-    fn new(alloc: Global, reader: R, writer: W) -> Result<Run<R, W>, ScriptFault> {
-        let lines = Lines::new(alloc, reader)?;
-        let answers = Answers::new(alloc, writer)?;
-        let decoded = vec![in alloc; 0u8; LINE_LIMIT / 2]?;
-        let machine = Machine::manufacture(alloc, &array::from_fn(|place| place as u8)).map_err(
-            |_| ScriptFault::NoMemory,
-        )?;
+/// A script, and what plays it.
+#[derive(Drop)]
+struct Run {
+    lines: Lines,
+    player: Player,
+}
+
+impl Run {
+    fn new(alloc: Global) -> Result<Run, ScriptFault>
+        ensures fault { OnErr result (result ≡ Err ScriptFault.NoMemory) }
+        ensures playing { IfOk result (λ run. playing_of run.player ≡ at_first) }
+        ensures lines { IfOk result (λ run. rest_of run.lines ≡ []) }
+        ensures ended { IfOk result (λ run. run.lines.ended ≡ false) }
+        ensures answers { IfOk result (λ run. pending run.player.answers ≡ []) }
+    {
         Ok(Run {
-            lines,
-            answers,
-            machine,
-            script: Script::new(),
-            decoded,
+            lines: Lines::new(alloc)?,
+            player: Player::new(alloc)?,
         })
     }
 
-    /// Runs the lines, to the end of the script or to a fault.
-    fn lines(&mut self) -> Result<(), ScriptFault> {
-        for number in 1..=SCRIPT_LINES {
-            if !self.next_line(number)? {
-                return Ok(());
+    /// Runs the lines, to the end of the script or to a fault. What they write in hex goes to `room`.
+    fn lines<R: Read, W: Write>(
+        &mut self,
+        reader: &mut R,
+        writer: &mut W,
+        room: &mut [u8],
+    ) -> Result<(), ScriptFault>
+        requires room { length room.old ≡ DECODED_LIMIT }
+        requires agrees { Agrees (R.remaining reader.old) self.old.lines }
+        ensures { Ran (Plays (text_left (R.remaining reader.old) self.old.lines) (printed (W.contents writer.old) self.old.player.answers) (printed (W.contents writer.new) self.new.player.answers) (playing_of self.old.player) 1) result }
+    {
+        for number in 1..SCRIPT_LINES + 1 {
+            match self.next_line(reader, writer, number) {
+                Ok(true) => {}
+                Ok(false) => return Ok(()),
+                Err(fault) => return Err(fault),
             }
-            self.line(number)?;
+            if let Err(fault) = self.player.line(self.lines.line(), room, writer) {
+                return Err(fault.at(number));
+            }
         }
-        match self.next_line(SCRIPT_LINES) {
+        match self.next_line(reader, writer, SCRIPT_LINES) {
             Ok(false) => Ok(()),
             Err(ScriptFault::Write) => Err(ScriptFault::Write),
             _ => Err(ScriptFault::Read),
@@ -71,48 +94,30 @@ impl<R: Read + Drop, W: Write + Drop> Run<R, W> {
 
     /// Goes to the next line, of this number, and tells whether there is one. The responses are
     /// written before more of the script is read.
-    fn next_line(&mut self, number: u32) -> Result<bool, ScriptFault> {
+    fn next_line<R: Read, W: Write>(
+        &mut self,
+        reader: &mut R,
+        writer: &mut W,
+        number: u32,
+    ) -> Result<bool, ScriptFault>
+        requires { Agrees (R.remaining reader.old) self.old.lines }
+        ensures played { playing_of self.new.player ≡ playing_of self.old.player }
+        ensures found { NextFound number (text_left (R.remaining reader.old) self.old.lines) result (line_of self.new.lines) (text_left (R.remaining reader.new) self.new.lines) }
+        ensures agrees { OnOk result (Agrees (R.remaining reader.new) self.new.lines) }
+        ensures printed { NoFailure result (Keeps (printed (W.contents writer.old) self.old.player.answers) (printed (W.contents writer.new) self.new.player.answers)) }
+    {
+        self.lines.next();
         for _ in 0..u64::MAX {
             match self.lines.find() {
                 Next::Line => return Ok(true),
                 Next::End => return Ok(false),
                 Next::TooLong => return Err(ScriptFault::Line(number)),
                 Next::Incomplete => {
-                    self.flush()?;
-                    self.lines.fill().map_err(|_| ScriptFault::Read)?;
+                    self.player.flush(writer)?;
+                    self.lines.fill(reader).map_err(|_| ScriptFault::Read)?;
                 }
             }
         }
         Err(ScriptFault::Read)
-    }
-
-    /// Runs the line that was found last, of this number.
-    fn line(&mut self, number: u32) -> Result<(), ScriptFault> {
-        let bad_line = |_: BadLine| ScriptFault::Line(number);
-        match Line::parse(self.lines.line()).map_err(bad_line)? {
-            Line::Command(digits) => {
-                let size = decode(digits, &mut self.decoded).map_err(bad_line)?;
-                let event = self.script.command(&self.decoded[..size]);
-                let outcome = self.machine.execute(&event);
-                let written = self.answers.put(outcome.response.as_slice());
-                written.map_err(|_| ScriptFault::Write)?;
-            }
-            Line::Locality(locality) => self.script.set_locality(locality),
-            Line::Wait(milliseconds) => self.script.wait(milliseconds).map_err(bad_line)?,
-            Line::Entropy(digits) => {
-                let size = decode(digits, &mut self.decoded).map_err(bad_line)?;
-                let entropy = &self.decoded[..size];
-                self.script.set_entropy(entropy).map_err(bad_line)?;
-            }
-            Line::PowerCycle => {
-                let _ = self.machine.execute(&Event::PowerCycle);
-            }
-            Line::Nothing => {}
-        }
-        Ok(())
-    }
-
-    fn flush(&mut self) -> Result<(), ScriptFault> {
-        self.answers.flush().map_err(|_| ScriptFault::Write)
     }
 }

@@ -1,6 +1,6 @@
 ghost use Rattle.std.specs.Prelude.{◌≡◌, ◌+◌, ◌≤◌, ◌<◌, ◌^◌, ◌↔◌, length, replicate, IsOk, OnOk, OnErr};
 ghost use Rattle.tpm_types.specs.Locality.{locality_number};
-ghost use Rattle.tpmsim.specs.Script.{Repeats};
+ghost use Rattle.tpmsim.specs.Script.{repeated};
 
 use crate::line::BadLine;
 use std::mem;
@@ -52,8 +52,7 @@ impl Script {
     /// Sets what the random bytes repeat: 1 to 256 bytes.
     pub fn set_entropy(&mut self, entropy: &[u8]) -> Result<(), BadLine>
         ensures fits { IsOk result ↔ ((0 < length entropy.now) × (length entropy.now ≤ RANDOM_BYTES)) }
-        ensures ok { OnOk result (Repeats entropy.now self.new.random) }
-        ensures kept { self.new ≡ record self.old { random = self.new.random } }
+        ensures ok { OnOk result (self.new ≡ record self.old { random = repeated entropy.now }) }
         ensures err { OnErr result (self.new ≡ self.old) }
     {
         if entropy.is_empty() || entropy.len() > RANDOM_BYTES {
@@ -80,7 +79,7 @@ impl Script {
 /// 256 bytes: the given ones, over and over.
 pub fn repeated(entropy: &[u8]) -> [u8; 256]
     requires { 0 < length entropy.now }
-    ensures { Repeats entropy.now result }
+    ensures { result ≡ repeated entropy.now }
 {
     let mut random = [0; 256];
     for place in 0..256 {

@@ -21,8 +21,9 @@ const COMMAND_SIZE: &str = "80010000000a00000142\n";
 
 /// Runs a script, and gives what it wrote and how it ended.
 fn played(alloc: Global, script: &[u8]) -> (Vec<u8>, Result<(), ScriptFault>) {
+    let mut reader = script;
     let mut written = Vec::new(alloc);
-    let outcome = run_script(alloc, script, &mut written);
+    let outcome = run_script(alloc, &mut reader, &mut written);
     (written, outcome)
 }
 
@@ -325,12 +326,12 @@ fn a_reader_may_give_pieces_and_fail(rt: HostRuntime) -> Result<(), Fail> {
     for step in [1, 2, 28, 29, 30, 1000] {
         for fails in [false, true] {
             let mut written = Vec::new(rt.alloc());
-            let reader = Pieces {
+            let mut reader = Pieces {
                 text: script.as_bytes(),
                 step,
                 fails,
             };
-            let outcome = run_script(rt.alloc(), reader, &mut written);
+            let outcome = run_script(rt.alloc(), &mut reader, &mut written);
             let wanted = if fails {
                 Err(ScriptFault::Read)
             } else {
@@ -365,7 +366,8 @@ fn a_writer_may_take_pieces_and_fail(rt: HostRuntime) -> Result<(), Fail> {
                 fails,
                 flushes,
             };
-            let outcome = run_script(rt.alloc(), script.as_bytes(), &mut writer);
+            let mut reader = script.as_bytes();
+            let outcome = run_script(rt.alloc(), &mut reader, &mut writer);
             assert_eq!(rt; outcome, Err(wanted), "room for {room}");
             let taken = whole.as_bytes().get(..room).unwrap_or(whole.as_bytes());
             assert_eq!(rt; writer.taken.as_slice(), taken, "room for {room}");

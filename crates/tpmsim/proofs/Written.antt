@@ -1,0 +1,37 @@
+-- What was printed, written in part and held in part.
+use Rattle.std.proofs.Common.{◌≡◌, ℕ, ◌+◌, ◌≤◌, List, [], ◌++◌, length, take, Option, Some, None, sym, ap, ◌∙◌, append_assoc, append-nil, length-append}
+use Rattle.std.proofs.lemmas.List.{length-take-le, take-take, take_at}
+use Rattle.std.specs.Io.KnownBytes.{Appends, Keeps, append_known}
+
+-- what was held was written
+pub written : (old new : Option (List ℕ)) (held : List ℕ) → Appends old new held → Keeps (append_known old held) (append_known new [])
+written None new held h = tt
+written (Some old) None held h = absurd h
+written (Some old) (Some new) held h = append-nil new ∙ h
+
+-- in two turns
+pub keeps_on : (a b c : Option (List ℕ)) → Keeps a b → Keeps b c → Keeps a c
+keeps_on None b c h k = tt
+keeps_on (Some a) None c h k = absurd h
+keeps_on (Some a) (Some b) None h k = absurd k
+keeps_on (Some a) (Some b) (Some c) h k = k ∙ h
+
+pub appends_on : (a b c : Option (List ℕ)) (more : List ℕ) → Keeps a b → Appends b c more → Appends a c more
+appends_on None b c more h k = tt
+appends_on (Some a) None c more h k = absurd h
+appends_on (Some a) (Some b) None more h k = absurd k
+appends_on (Some a) (Some b) (Some c) more h k = k ∙ ap (λ (l : List ℕ). l ++ more) h
+
+-- more is held
+pub held : (known : Option (List ℕ)) (old more : List ℕ) → Appends (append_known known old) (append_known known (old ++ more)) more
+held None old more = tt
+held (Some known) old more = sym (append_assoc known old more)
+
+-- a line that was put behind what was held, within a longer list
+pub put_behind : (items held line printed rest tail : List ℕ) (used end size : ℕ) → held ≡ items → line ≡ printed → used ≤ length items → end ≡ used + length printed → end ≤ size
+    → take end (take size (take used held ++ (line ++ rest) ++ tail)) ≡ take used items ++ printed
+put_behind items held line printed rest tail used end size a b inside e fits =
+    let front : take used held ++ (line ++ rest) ++ tail ≡ (take used items ++ printed) ++ (rest ++ tail) =
+    ap (λ (l : List ℕ). take used l ++ (line ++ rest) ++ tail) a ∙ ap (λ (l : List ℕ). take used items ++ (l ++ rest) ++ tail) b ∙ simp append_assoc in
+    let whole : length (take used items ++ printed) ≡ end = length-append (take used items) printed ∙ ap (λ n. n + length printed) (length-take-le used items inside) ∙ sym e in
+    take-take end size (take used held ++ (line ++ rest) ++ tail) fits ∙ ap (take end) front ∙ take_at (take used items ++ printed) (rest ++ tail) end whole

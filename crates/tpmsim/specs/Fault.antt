@@ -1,0 +1,33 @@
+-- How the program ends where it fails.
+use Rattle.std.specs.Prelude.{ℕ}
+use Rattle.std.specs.declared.io.ErrorKind.{ErrorKind}
+use Rattle.std.specs.declared.io.ErrorKind.TheVariants.{OutOfMemory}
+use Rattle.tpmsim.specs.declared.fault.Fault.{Fault}
+use Rattle.tpmsim.specs.declared.fault.Fault.TheVariants.{Usage, ScriptLine, File, Memory}
+use Rattle.tpmsim.specs.declared.fault.LineFault.{LineFault}
+use Rattle.tpmsim.specs.declared.fault.LineFault.TheVariants as line
+use Rattle.tpmsim.specs.declared.fault.ScriptFault.{ScriptFault}
+use Rattle.tpmsim.specs.declared.fault.ScriptFault.TheVariants.{Line, Read, Write, NoMemory}
+
+-- the fault that an error of this kind is, where it is not memory that was refused
+abbrev pub fault_or : Fault → ErrorKind → Fault
+fault_or otherwise OutOfMemory = Memory
+fault_or otherwise _ = otherwise
+
+-- the fault of a script whose line of this number was not run
+abbrev pub fault_at : ℕ → LineFault → ScriptFault
+fault_at number line.Bad = Line number
+fault_at number line.Write = Write
+
+abbrev pub fault_of : ScriptFault → Fault
+fault_of (Line number) = ScriptLine number
+fault_of Read = File
+fault_of Write = File
+fault_of NoMemory = Memory
+
+-- the exit status: 2 where what was asked for makes no sense, 3 where the world refused it
+abbrev pub status_of : Fault → ℕ
+status_of Usage = 2
+status_of (ScriptLine number) = 2
+status_of File = 3
+status_of Memory = 3
