@@ -1,5 +1,6 @@
 -- How the program ends where it fails.
-use Rattle.std.specs.Prelude.{ℕ}
+use Rattle.std.specs.Prelude.{ℕ, List, ◌++◌, codes}
+use Rattle.std.specs.Fmt.{decimal}
 use Rattle.std.specs.declared.io.ErrorKind.{ErrorKind}
 use Rattle.std.specs.declared.io.ErrorKind.TheVariants.{OutOfMemory}
 use Rattle.tpmsim.specs.declared.fault.Fault.{Fault}
@@ -31,3 +32,10 @@ status_of Usage = 2
 status_of (ScriptLine number) = 2
 status_of File = 3
 status_of Memory = 3
+
+-- what follows the program's name on standard error
+abbrev pub fault_text : Fault → List ℕ
+fault_text Usage = codes "usage"
+fault_text (ScriptLine number) = codes "script line " ++ decimal number
+fault_text File = codes "file"
+fault_text Memory = codes "memory"

@@ -89,10 +89,6 @@ abbrev pub play : Playing → ℕ → List (List ℕ) → Played
 play p number [] = record { text = []; bad = None }
 play p number (line ∷ lines) = going_on (line_done p line) number (λ next. play next (number + 1) lines)
 
--- what a whole script prints on a new device
-abbrev pub played : List ℕ → Played
-played script = play at_first 1 (lines_of script)
-
 -- What a script wrote, from known bytes of the writer to known ones: it played these lines, and found this line bad.
 -- Nothing is said where it is not known what the reader gives.
 abbrev pub Plays : Option (List ℕ) → Option (List ℕ) → Option (List ℕ) → Playing → ℕ → Option ℕ → Type 0

@@ -1,3 +1,5 @@
+ghost use Rattle.std.specs.Prelude.{◌≡◌, ◌⊎◌, IfErr};
+
 use crate::fault::Fault;
 use clap::error::ErrorKind;
 use clap::{Arg, ArgAction, ArgMatches, Command};
@@ -14,7 +16,9 @@ pub enum Arguments<'a> {
 impl<'a> Arguments<'a> {
     /// Reads the words of a command line, of which the first is the program's name. It refuses with
     /// `Usage`, or with `Memory`.
-    pub fn parse<S: AsStr>(alloc: Global, words: &'a [S]) -> Result<Arguments<'a>, Fault> {
+    pub fn parse<S: AsStr>(alloc: Global, words: &'a [S]) -> Result<Arguments<'a>, Fault>
+        ensures { IfErr result (λ fault. (fault ≡ Fault.Usage) ⊎ (fault ≡ Fault.Memory)) }
+    {
         let matches = command(alloc)?
             .try_get_matches_from(words)
             .map_err(|error| match error.kind() {
