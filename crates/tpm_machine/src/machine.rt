@@ -6,7 +6,7 @@ ghost use Rattle.tpm_machine.specs.Safe.{IsHarmless};
 ghost use Rattle.tpm_machine.specs.State.{state_of};
 ghost use Rattle.tpm_machine.specs.Step.{seen, step};
 
-use crate::event::{Event, RESPONSE_LIMIT, Outcome, Row};
+use crate::event::{Event, Outcome, RESPONSE_LIMIT, Row};
 use crate::general::{Refusal, decode};
 use crate::response::refused;
 use crate::state::State;

@@ -3,12 +3,12 @@ use Rattle.std.proofs.Common.{◌≡◌, ℕ, ◌+◌, List, [], ◌∷◌, ◌+
 use Rattle.std.specs.Io.KnownBytes.{Appends, Keeps}
 use Rattle.tpmsim.proofs.Doing.{lt_none}
 use Rattle.tpmsim.specs.Line.{lines_of}
-use Rattle.tpmsim.specs.Lines.{BeginsTooLong, Takes}
+use Rattle.tpmsim.specs.Lines.{BeginsTooLong, LosesFirstLine}
 use Rattle.std.specs.Prelude.{Err}
-use Rattle.tpmsim.specs.Run.{NextFound, NoFailure, Ran}
+use Rattle.tpmsim.specs.Run.{NextFound, UnlessFailed, Ran}
 use Rattle.tpmsim.specs.declared.fault.ScriptFault.{ScriptFault}
 use Rattle.tpmsim.specs.declared.fault.ScriptFault.TheVariants.{Line, Read, Write, NoMemory}
-use Rattle.tpmsim.specs.Script.{Played, Playing, Plays, Printed, going_on, line_done, play}
+use Rattle.tpmsim.specs.Script.{Output, Playing, Plays, Effect, going_on, perform_line, play}
 
 -- what was appended in turns, the first of which may have kept what was there
 appended : (a b c d : Option (List ℕ)) (first more : List ℕ) → Keeps a b → Appends b c first → Appends c d more → Appends a d (first ++ more)
@@ -25,15 +25,15 @@ kept (Some a) None h = absurd h
 kept (Some a) (Some b) h = h ∙ sym (append-nil a)
 
 -- a line that did this, and then the rest
-pub went_on : (left rest old held mid new : Option (List ℕ)) (p : Playing) (number : ℕ) (line : List ℕ) (did : Printed) (bad : Option ℕ)
-    → Takes left line rest → Keeps old held → line_done p line ≡ Some did → Appends held mid did.text → Plays rest mid new did.next (number + 1) bad → Plays left old new p number bad
+pub went_on : (left rest old held mid new : Option (List ℕ)) (p : Playing) (number : ℕ) (line : List ℕ) (did : Effect) (bad : Option ℕ)
+    → LosesFirstLine left line rest → Keeps old held → perform_line p line ≡ Some did → Appends held mid did.text → Plays rest mid new did.next (number + 1) bad → Plays left old new p number bad
 went_on None rest old held mid new p number line did bad t k e a h = tt
 went_on (Some text) None old held mid new p number line did bad t k e a h = absurd t
 went_on (Some text) (Some rest) old held mid new p number line did bad t k e a h =
-    let after : Played = play did.next (number + 1) (lines_of rest) in
+    let after : Output = play did.next (number + 1) (lines_of rest) in
     let whole : play p number (lines_of text) ≡ record { text = did.text ++ after.text; bad = after.bad } =
     ap (play p number) t ∙ ap (λ d. going_on d number (λ next. play next (number + 1) (lines_of rest))) e in
-    let P : Played → Type 0 = λ played. Appends old new played.text × (played.bad ≡ bad) in
+    let P : Output → Type 0 = λ played. Appends old new played.text × (played.bad ≡ bad) in
     subst P (sym whole) (appended old held mid new did.text after.text k a h.0, h.1)
 
 -- the end
@@ -44,15 +44,15 @@ ended (Some text) old new p number e k =
     subst P (sym e) (kept old new k, refl)
 
 -- a bad line
-stopped : (text line : List ℕ) (rest : List (List ℕ)) (old new : Option (List ℕ)) (p : Playing) (number : ℕ) → lines_of text ≡ line ∷ rest → line_done p line ≡ None → Keeps old new
+stopped : (text line : List ℕ) (rest : List (List ℕ)) (old new : Option (List ℕ)) (p : Playing) (number : ℕ) → lines_of text ≡ line ∷ rest → perform_line p line ≡ None → Keeps old new
     → Plays (Some text) old new p number (Some number)
 stopped text line rest old new p number t e k =
     let whole : play p number (lines_of text) ≡ record { text = []; bad = Some number } =
     ap (play p number) t ∙ ap (λ d. going_on d number (λ next. play next (number + 1) rest)) e in
-    let P : Played → Type 0 = λ played. Appends old new played.text × (played.bad ≡ Some number) in
+    let P : Output → Type 0 = λ played. Appends old new played.text × (played.bad ≡ Some number) in
     subst P (sym whole) (kept old new k, refl)
 
-pub stopped_by_line : (left rest old held new : Option (List ℕ)) (p : Playing) (number : ℕ) (line : List ℕ) → Takes left line rest → Keeps old held → line_done p line ≡ None → new ≡ held
+pub stopped_by_line : (left rest old held new : Option (List ℕ)) (p : Playing) (number : ℕ) (line : List ℕ) → LosesFirstLine left line rest → Keeps old held → perform_line p line ≡ None → new ≡ held
     → Plays left old new p number (Some number)
 stopped_by_line None rest old held new p number line t k e n = tt
 stopped_by_line (Some text) None old held new p number line t k e n = absurd t
@@ -64,7 +64,7 @@ stopped_by_length (Some text) old new p number t k = stopped text t.0 t.1 old ne
 
 -- a fault that came before there was a line
 pub ran_to_fault : (left old new rest : Option (List ℕ)) (p : Playing) (number : ℕ) (fault : ScriptFault) (line : List ℕ) (P : Option ℕ → Type 0)
-    → NextFound number left (Err fault) line rest → NoFailure {X = Bool} (Err fault) (Keeps old new) → ((bad : Option ℕ) → Plays left old new p number bad → P bad) → Ran P (Err fault)
+    → NextFound number left (Err fault) line rest → UnlessFailed {X = Bool} (Err fault) (Keeps old new) → ((bad : Option ℕ) → Plays left old new p number bad → P bad) → Ran P (Err fault)
 ran_to_fault left old new rest p number (Line bad) line P found kept whole = whole (Some bad) (subst (λ n. Plays left old new p number (Some n)) (sym found.0) (stopped_by_length left old new p number found.1 kept))
 ran_to_fault left old new rest p number Read line P found kept whole = tt
 ran_to_fault left old new rest p number Write line P found kept whole = tt

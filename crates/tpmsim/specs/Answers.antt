@@ -7,6 +7,6 @@ use Rattle.tpmsim.specs.declared.answers.Answers.{Answers}
 abbrev pub pending : Answers → List ℕ
 pending answers = take answers.used answers.text.items
 
--- all that was printed, where it is known what the writer holds
+-- what the writer holds, where that is known, and behind it what is pending
 abbrev pub printed : Option (List ℕ) → Answers → Option (List ℕ)
 printed contents answers = append_known contents (pending answers)

@@ -10,12 +10,12 @@ use Rattle.tpmsim.specs.declared.fault.LineFault.TheVariants as line
 use Rattle.tpmsim.specs.declared.fault.ScriptFault.{ScriptFault}
 use Rattle.tpmsim.specs.declared.fault.ScriptFault.TheVariants.{Line, Read, Write, NoMemory}
 
--- the fault that an error of this kind is, where it is not memory that was refused
+-- Memory of an error of that kind, and else the other fault
 abbrev pub fault_or : Fault → ErrorKind → Fault
 fault_or otherwise OutOfMemory = Memory
 fault_or otherwise _ = otherwise
 
--- the fault of a script whose line of this number was not run
+-- the fault of a script that was stopped at the line of this number
 abbrev pub fault_at : ℕ → LineFault → ScriptFault
 fault_at number line.Bad = Line number
 fault_at number line.Write = Write
@@ -26,7 +26,7 @@ fault_of Read = File
 fault_of Write = File
 fault_of NoMemory = Memory
 
--- the exit status: 2 where what was asked for makes no sense, 3 where the world refused it
+-- the exit status: 2 where what was asked for makes no sense, 3 where a file, a stream or memory refused it
 abbrev pub status_of : Fault → ℕ
 status_of Usage = 2
 status_of (ScriptLine number) = 2

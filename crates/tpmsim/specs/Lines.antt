@@ -50,7 +50,7 @@ abbrev pub text_left : Option (List ℕ) → Lines → Option (List ℕ)
 text_left remaining lines = prepend_known (rest_of lines) remaining
 
 -- A text lost its first line.
-abbrev pub Takes : Option (List ℕ) → List ℕ → Option (List ℕ) → Type 0
-Takes None line new = Unit {0}
-Takes (Some text) line None = ⊥
-Takes (Some text) line (Some rest) = lines_of text ≡ line ∷ lines_of rest
+abbrev pub LosesFirstLine : Option (List ℕ) → List ℕ → Option (List ℕ) → Type 0
+LosesFirstLine None line new = Unit {0}
+LosesFirstLine (Some text) line None = ⊥
+LosesFirstLine (Some text) line (Some rest) = lines_of text ≡ line ∷ lines_of rest

@@ -1,7 +1,7 @@
 -- What a player is seen as, and what a line did.
 use Rattle.std.specs.Prelude.{◌≡◌, ℕ, List, Option, Some, None, Result, Ok, Err}
 use Rattle.std.specs.Io.KnownBytes.{Appends}
-use Rattle.tpmsim.specs.Script.{Playing, Printed, playing}
+use Rattle.tpmsim.specs.Script.{Playing, Effect, playing}
 use Rattle.tpmsim.specs.declared.fault.LineFault.{LineFault}
 use Rattle.tpmsim.specs.declared.fault.LineFault.TheVariants.{Bad, Write}
 use Rattle.tpmsim.specs.declared.player.Player.{Player}
@@ -9,9 +9,9 @@ use Rattle.tpmsim.specs.declared.player.Player.{Player}
 abbrev pub playing_of : Player → Playing
 playing_of player = playing player.script player.machine
 
--- A line did what it says, and printed that, from known bytes to known ones; or it is bad, and did nothing. Of a writer
--- that failed nothing is said.
-abbrev pub Did : Option Printed → Option (List ℕ) → Result (Unit {0}) LineFault → Option (List ℕ) → Playing → Type 0
-Did line old (Ok done) new next = (did : Printed) × (line ≡ Some did) × Appends old new did.text × (next ≡ did.next)
-Did line old (Err Bad) new next = (line ≡ None) × (new ≡ old)
-Did line old (Err Write) new next = Unit {0}
+-- A line had this effect, and printed its text, from known bytes to known ones; or it is bad, and did and printed nothing.
+-- Of a writer that failed nothing is said.
+abbrev pub Did : Option Effect → Option (List ℕ) → Playing → Result (Unit {0}) LineFault → Option (List ℕ) → Playing → Type 0
+Did line old before (Ok done) new after = (effect : Effect) × (line ≡ Some effect) × Appends old new effect.text × (after ≡ effect.next)
+Did line old before (Err Bad) new after = (line ≡ None) × (new ≡ old) × (after ≡ before)
+Did line old before (Err Write) new after = Unit {0}

@@ -20,7 +20,7 @@ pub enum ScriptFault {
     NoMemory,
 }
 
-/// Why a line was not run.
+/// Why a script is stopped at a line.
 #[derive(Clone, Copy, Debug, PartialEq, Eq)]
 pub enum LineFault {
     /// It is none of a script's lines.
@@ -32,7 +32,7 @@ pub enum LineFault {
 impl LineFault {
     ghost use Rattle.tpmsim.specs.Fault.{fault_at};
 
-    /// The fault of a script whose line of this number was not run.
+    /// The fault of a script that is stopped at the line of this number.
     pub fn at(self, number: u32) -> ScriptFault
         ensures { result ≡ fault_at number self }
     {
@@ -69,7 +69,7 @@ impl Fault {
         }
     }
 
-    /// The exit status: 2 where what was asked for makes no sense, 3 where the world refused it.
+    /// The exit status: 2 where what was asked for makes no sense, 3 where a file, a stream or memory refused it.
     pub fn status(self) -> u8
         ensures { result ≡ status_of self }
     {

@@ -3,7 +3,7 @@ ghost use Rattle.std.specs.Io.KnownBytes.{Keeps};
 ghost use Rattle.tpmsim.specs.Answers.{pending, printed};
 ghost use Rattle.tpmsim.specs.Line.{hex_of, said};
 ghost use Rattle.tpmsim.specs.Player.{Did, playing_of};
-ghost use Rattle.tpmsim.specs.Script.{at_first, done, execute, line_done, set_entropy};
+ghost use Rattle.tpmsim.specs.Script.{at_first, execute, perform, perform_line, set_entropy};
 
 use crate::answers::Answers;
 use crate::fault::{LineFault, ScriptFault};
@@ -50,10 +50,10 @@ impl Player {
     ) -> Result<(), LineFault>
         requires limit { length line.now ≤ 65536 }
         requires room { length line.now ≤ 2 * length room.old }
-        ensures { Did (line_done (playing_of self.old) line.now) (printed (W.contents writer.old) self.old.answers) result (printed (W.contents writer.new) self.new.answers) (playing_of self.new) }
+        ensures { Did (perform_line (playing_of self.old) line.now) (printed (W.contents writer.old) self.old.answers) (playing_of self.old) result (printed (W.contents writer.new) self.new.answers) (playing_of self.new) }
     {
         let said = Line::parse(line)?;
-        self.done(said, room, writer)
+        self.perform(said, room, writer)
     }
 
     /// Writes all responses so far.
@@ -66,15 +66,16 @@ impl Player {
         self.answers.flush(writer).map_err(|_| ScriptFault::Write)
     }
 
+    /// Does what was said.
     #[tactic(auto, using(crate::proofs::Doing::nothing_printed))]
-    fn done<W: Write>(
+    fn perform<W: Write>(
         &mut self,
         line: Line,
         room: &mut [u8],
         writer: &mut W,
     ) -> Result<(), LineFault>
         requires { length (hex_of (said line)) ≤ 2 * length room.old }
-        ensures { Did (done (playing_of self.old) (said line.entry)) (printed (W.contents writer.old) self.old.answers) result (printed (W.contents writer.new) self.new.answers) (playing_of self.new) }
+        ensures { Did (perform (playing_of self.old) (said line.entry)) (printed (W.contents writer.old) self.old.answers) (playing_of self.old) result (printed (W.contents writer.new) self.new.answers) (playing_of self.new) }
     {
         match line {
             Line::Command(digits) => self.execute(decode(digits, room)?, writer)?,
@@ -91,7 +92,7 @@ impl Player {
 
     /// Executes a command, and prints the response.
     fn execute<W: Write>(&mut self, buffer: &[u8], writer: &mut W) -> Result<(), LineFault>
-        ensures { Did (Some (execute (playing_of self.old) buffer.now)) (printed (W.contents writer.old) self.old.answers) result (printed (W.contents writer.new) self.new.answers) (playing_of self.new) }
+        ensures { Did (Some (execute (playing_of self.old) buffer.now)) (printed (W.contents writer.old) self.old.answers) (playing_of self.old) result (printed (W.contents writer.new) self.new.answers) (playing_of self.new) }
     {
         let outcome = self.machine.execute(&self.script.command(buffer));
         let response = outcome.response.as_slice();

@@ -3,7 +3,7 @@ ghost use Rattle.std.specs.Io.KnownBytes.{Keeps};
 ghost use Rattle.tpmsim.specs.Answers.{pending, printed};
 ghost use Rattle.tpmsim.specs.Lines.{Agrees, line_of, rest_of, text_left};
 ghost use Rattle.tpmsim.specs.Player.{playing_of};
-ghost use Rattle.tpmsim.specs.Run.{NextFound, NoFailure, Ran};
+ghost use Rattle.tpmsim.specs.Run.{NextFound, UnlessFailed, Ran};
 ghost use Rattle.tpmsim.specs.Script.{Plays, at_first};
 
 use crate::fault::ScriptFault;
@@ -20,13 +20,14 @@ const DECODED_LIMIT: usize = 32_768;
 
 /// Runs the script that `reader` gives on a new device, and writes the response to each command to
 /// `writer`. It takes memory once, at the start. Whatever the fault, the lines before it were run,
-/// and their responses written, but for those that a `Write` fault cut off.
+/// and their responses written, but for those that a `Write` fault cut off. A script of more than
+/// [`SCRIPT_LINES`] lines ends with a `Read` fault.
 pub fn run_script<R: Read, W: Write>(
     alloc: Global,
     reader: &mut R,
     writer: &mut W,
 ) -> Result<(), ScriptFault>
-    // What is written is what the script prints, up to its first bad line.
+    // What is written is what the script prints, to its end or up to its first bad line.
     ensures played { Ran (Plays (R.remaining reader.old) (W.contents writer.old) (W.contents writer.new) at_first 1) result }
 {
     let mut run = Run::new(alloc)?;
@@ -104,7 +105,7 @@ impl Run {
         ensures played { playing_of self.new.player ≡ playing_of self.old.player }
         ensures found { NextFound number (text_left (R.remaining reader.old) self.old.lines) result (line_of self.new.lines) (text_left (R.remaining reader.new) self.new.lines) }
         ensures agrees { OnOk result (Agrees (R.remaining reader.new) self.new.lines) }
-        ensures printed { NoFailure result (Keeps (printed (W.contents writer.old) self.old.player.answers) (printed (W.contents writer.new) self.new.player.answers)) }
+        ensures printed { UnlessFailed result (Keeps (printed (W.contents writer.old) self.old.player.answers) (printed (W.contents writer.new) self.new.player.answers)) }
     {
         self.lines.next();
         for _ in 0..u64::MAX {

@@ -1,7 +1,7 @@
 use Rattle.std.proofs.Common.{rules, refl}
 use Rattle.tpmsim.specs.Script.{playing, silent}
 use Rattle.tpmsim.proofs.Doing.{nothing_printed}
-use Rattle.tpmsim.proofs.player.Player.done.Goals as goal
+use Rattle.tpmsim.proofs.player.Player.perform.Goals as goal
 
 pub returns-in-Locality : goal.returns-in-Locality
 returns-in-Locality g c = (silent (playing c.set_locality.new.self c.args.self.now.machine), search rules, nothing_printed _, refl)
