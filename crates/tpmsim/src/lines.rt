@@ -48,7 +48,7 @@ pub struct Lines {
 }
 
 impl Lines {
-    ghost use Rattle.std.specs.Prelude.{◌+◌, ◌<◌, ◌++◌, [], false, take, drop, length, IfOk, OnOk, OnErr};
+    ghost use Rattle.std.specs.Prelude.{◌+◌, ◌<◌, ◌==◌, ◌++◌, [], false, take, drop, length, IfOk, OnOk, OnErr};
     ghost use Rattle.std.specs.Io.KnownBytes.{Consumes};
     ghost use Rattle.tpmsim.specs.Lines.{Agrees, Finds, IsUnbroken, line_of, rest_of, stopped_at};
 
@@ -145,6 +145,7 @@ impl Lines {
         ensures line { line_of self.new ≡ line_of self.old }
         ensures more { OnOk result (Consumes (R.remaining reader.old) (R.remaining reader.new) (rest_of self.new)) }
         ensures agrees { OnOk result (Agrees (R.remaining reader.new) self.new) }
+        ensures ended { OnOk result (self.new.ended ≡ (length (rest_of self.new) == 0)) }
         ensures none { OnErr result (rest_of self.new ≡ []) }
     {
         self.next = 0;
