@@ -38,7 +38,7 @@ BeginsTooLong text = (line : List ℕ) × (rest : List (List ℕ)) × (lines_of 
 abbrev pub Finds : Lines → Next → Lines → Type 0
 Finds old Line new = (more : List ℕ) → MayFollow old more → lines_of (line_of old ++ (rest_of old ++ more)) ≡ line_of new ∷ lines_of (rest_of new ++ more)
 Finds old TooLong new = (more : List ℕ) → BeginsTooLong (line_of old ++ (rest_of old ++ more))
-Finds old Incomplete new = (line_of new ≡ line_of old ++ rest_of old) × (rest_of new ≡ []) × IsUnbroken (line_of new)
+Finds old Incomplete new = (line_of new ≡ line_of old ++ rest_of old) × (rest_of new ≡ []) × IsUnbroken (line_of new) × (old.ended ≡ false)
 Finds old End new = (line_of old ++ rest_of old ≡ []) × (rest_of new ≡ []) × (old.ended ≡ true)
 
 -- A buffer that says that its reader has ended is right.
