@@ -1,7 +1,8 @@
 #!/bin/sh
-# Counts the instructions for each byte of HMAC-SHA-256 and of AES-128 in cipher feedback, over texts
-# of 1,024 bytes: the difference of two runs under valgrind, so that start and end do not count.
-# Needs rt and valgrind. It works in a temporary folder and leaves nothing behind.
+# Counts the instructions for each byte of HMAC-SHA-256 and of AES-128 in cipher feedback, over
+# texts of 1,024 bytes: the difference of two runs under callgrind, so that start and end do not
+# count. Needs rt, which proves and builds a small program, and valgrind. It works in a temporary
+# folder and leaves nothing behind. Not part of the gate.
 set -eu
 
 repository=$(cd "$(dirname "$0")/.." && pwd)
@@ -70,7 +71,8 @@ instructions() {
         echo "$1" >> "$folder/input"
         line=$((line + 1))
     done
-    valgrind --tool=callgrind --callgrind-out-file=/dev/null "$folder/crates/measured/out/measured" \
+    valgrind --tool=callgrind --callgrind-out-file=/dev/null \
+        "$folder/crates/measured/out/measured" \
         < "$folder/input" 2>&1 > /dev/null | sed -n 's/.*Collected : \([0-9]*\).*/\1/p'
 }
 

@@ -181,6 +181,9 @@ fn a_tap_tells_what_a_reader_did(rt: HostRuntime) {
         Conduct::OneByte,
         Conduct::Fails,
         Conduct::OneByte,
+        Conduct::Nothing,
+        Conduct::Nothing,
+        Conduct::OneByte,
     ];
     let mut tap = Tap::new(Device { conducts });
     let mut buffer = [0u8; 2];
@@ -192,6 +195,7 @@ fn a_tap_tells_what_a_reader_did(rt: HostRuntime) {
         (1, Ok(1), true, false, 2),
         (0, Ok(0), true, false, 2),
         (1, Ok(0), true, true, 2),
+        (2, Ok(1), true, true, 3),
     ] {
         let room: usize = room;
         let got = tap

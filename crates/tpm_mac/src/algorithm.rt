@@ -1,4 +1,4 @@
-//! The hash algorithms of the profile.
+//! The hash algorithms of the device.
 
 ghost use Rattle.std.specs.Prelude.{◌≡◌};
 

@@ -5,7 +5,7 @@ use Rattle.tpm_machine.specs.Record.{Record}
 use Rattle.tpm_machine.specs.Step.{Stepped}
 use Rattle.tpm_machine.specs.Tick.{ticked}
 
--- the record after Time and Clock have gone on by an event's milliseconds, and nothing else
+-- the record after Time and Clock have gone on by a command's elapsed time, and nothing else
 abbrev pub only_ticked : Record → Happening → Record
 only_ticked r (Given buffer locality elapsed random) = ticked r elapsed
 only_ticked r Cycled = r

@@ -10,8 +10,8 @@ pub type Response = ArrayVec<u8, RESPONSE_LIMIT>;
 /// One atomic step of the device.
 #[derive(Drop)]
 pub enum Event<'a> {
-    /// A command buffer, whatever its bytes are: where it comes from, the milliseconds since the event
-    /// before, and the random bytes that it may draw.
+    /// A command buffer, whatever its bytes are: where it comes from, the milliseconds since the
+    /// command before it (its elapsed time), and the random bytes that it may draw.
     Command {
         buffer: &'a [u8],
         locality: Locality,

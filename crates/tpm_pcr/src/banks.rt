@@ -13,8 +13,8 @@ use tpm_types::digest_list::DigestList;
 use tpm_types::pcr::{PCR_COUNT, PcrIndex, PcrSelect};
 use tpm_types::pcr_selection::{BankSelection, PcrSelection};
 
-/// The most values that one read answers.
-pub const MOST_VALUES: usize = 8;
+#[cfg(test)]
+mod tests;
 
 /// The values of all PCRs, bank by bank, and how often a value was written.
 #[derive(Drop)]
@@ -61,7 +61,7 @@ impl Banks {
     }
 
     /// Writes a PCR's value in the SHA-1 bank.
-    pub fn write_sha1(&mut self, pcr: PcrIndex, value: [u8; 20])
+    pub(crate) fn write_sha1(&mut self, pcr: PcrIndex, value: [u8; 20])
         requires { self.old.update_count < 2 ^ 64 - 1 }
         ensures { self.new ≡ written Sha1 pcr value self.old }
     {
@@ -70,7 +70,7 @@ impl Banks {
     }
 
     /// Writes a PCR's value in the SHA-256 bank.
-    pub fn write_sha256(&mut self, pcr: PcrIndex, value: [u8; 32])
+    pub(crate) fn write_sha256(&mut self, pcr: PcrIndex, value: [u8; 32])
         requires { self.old.update_count < 2 ^ 64 - 1 }
         ensures { self.new ≡ written Sha256 pcr value self.old }
     {

@@ -6,7 +6,7 @@ use Rattle.tpm_types.specs.declared.rc.Place.{Place}
 use Rattle.tpm_types.specs.declared.rc.Place.TheVariants as place
 use Rattle.tpm_types.specs.declared.rc.Rc.{Rc}
 
-abbrev pub code_number : ResponseCode → ℕ
+unfoldable pub code_number : ResponseCode → ℕ
 code_number code.BadTag = 0x01e
 code_number code.Initialize = 0x100
 code_number code.Failure = 0x101

@@ -1,4 +1,4 @@
-ghost use Rattle.std.specs.Prelude.{◌≡◌};
+ghost use Rattle.std.specs.Prelude.{◌≡◌, ◌<◌};
 
 /// A response code without its place: TPM_RC of TPM 2.0 Library, Part 2, section 6.6.3, in the
 /// standard's names without `TPM_RC_`.
@@ -76,8 +76,10 @@ impl ResponseCode {
     ghost use Rattle.tpm_types.specs.Rc.{code_number, plain};
 
     /// The number on the wire, without a place.
+    #[tactic(auto, unfolding(crate::specs::Rc::code_number))]
     pub fn number(self) -> u32
-        ensures { result ≡ code_number self }
+        ensures value { result ≡ code_number self }
+        ensures small { result < 0x1000 }
     {
         self as u32
     }

@@ -3,22 +3,22 @@ use Rattle.std.specs.Prelude.{ℕ, List, ◌++◌, codes}
 use Rattle.std.specs.Fmt.{decimal}
 use Rattle.std.specs.declared.io.ErrorKind.{ErrorKind}
 use Rattle.std.specs.declared.io.ErrorKind.TheVariants.{OutOfMemory}
+use Rattle.clap.specs.declared.error.kind.ErrorKind as clap
+use Rattle.clap.specs.declared.error.kind.ErrorKind.TheVariants as refused
 use Rattle.tpmsim.specs.declared.fault.Fault.{Fault}
 use Rattle.tpmsim.specs.declared.fault.Fault.TheVariants.{Usage, ScriptLine, File, Memory}
-use Rattle.tpmsim.specs.declared.fault.LineFault.{LineFault}
-use Rattle.tpmsim.specs.declared.fault.LineFault.TheVariants as line
-use Rattle.tpmsim.specs.declared.fault.ScriptFault.{ScriptFault}
-use Rattle.tpmsim.specs.declared.fault.ScriptFault.TheVariants.{Line, Read, Write, NoMemory}
+use Rattle.tpmsim_script.specs.declared.fault.ScriptFault.{ScriptFault}
+use Rattle.tpmsim_script.specs.declared.fault.ScriptFault.TheVariants.{Line, Read, Write, NoMemory}
 
 -- Memory of an error of that kind, and else the other fault
 abbrev pub fault_or : Fault → ErrorKind → Fault
 fault_or otherwise OutOfMemory = Memory
 fault_or otherwise _ = otherwise
 
--- the fault of a script that was stopped at the line of this number
-abbrev pub fault_at : ℕ → LineFault → ScriptFault
-fault_at number line.Bad = Line number
-fault_at number line.Write = Write
+-- the fault of words that clap refuses for this reason: memory ran out, or they are none of the program's
+abbrev pub fault_of_words : clap.ErrorKind → Fault
+fault_of_words refused.OutOfMemory = Memory
+fault_of_words _ = Usage
 
 abbrev pub fault_of : ScriptFault → Fault
 fault_of (Line number) = ScriptLine number

@@ -1,7 +1,1 @@
 pub mod Fault
-pub mod Line
-pub mod Lines
-pub mod Answers
-pub mod Script
-pub mod Player
-pub mod Run

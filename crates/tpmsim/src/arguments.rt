@@ -1,7 +1,6 @@
 ghost use Rattle.std.specs.Prelude.{◌≡◌, ◌⊎◌, IfErr};
 
 use crate::fault::Fault;
-use clap::error::ErrorKind;
 use clap::{Arg, ArgAction, ArgMatches, Command};
 use std::alloc::{AllocError, Global};
 use std::convert::AsStr;
@@ -19,12 +18,7 @@ impl<'a> Arguments<'a> {
     pub fn parse<S: AsStr>(alloc: Global, words: &'a [S]) -> Result<Arguments<'a>, Fault>
         ensures { IfErr result (λ fault. (fault ≡ Fault.Usage) ⊎ (fault ≡ Fault.Memory)) }
     {
-        let matches = command(alloc)?
-            .try_get_matches_from(words)
-            .map_err(|error| match error.kind() {
-                ErrorKind::OutOfMemory => Fault::Memory,
-                _ => Fault::Usage,
-            })?;
+        let matches = command(alloc)?.try_get_matches_from(words)?;
         Arguments::of_matches(&matches).ok_or(Fault::Usage)
     }
 

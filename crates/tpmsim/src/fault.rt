@@ -1,47 +1,9 @@
 ghost use Rattle.std.specs.Prelude.{◌≡◌};
 
-use crate::line::BadLine;
 use std::alloc::AllocError;
 use std::io::ErrorKind;
 use std::{fmt, io};
-use tpm_machine::machine::NoMemory;
-
-/// Why a script did not run to its end. The lines before the fault were run, and their responses
-/// written, but for those that a `Write` fault cut off.
-#[derive(Clone, Copy, Debug, PartialEq, Eq)]
-pub enum ScriptFault {
-    /// The line of this number, from 1, is none of a script's lines.
-    Line(u32),
-    /// The script could not be read, or has more lines than a script may have.
-    Read,
-    /// The responses could not be written.
-    Write,
-    /// There is no memory for the device or the buffers. Nothing was read.
-    NoMemory,
-}
-
-/// Why a script is stopped at a line.
-#[derive(Clone, Copy, Debug, PartialEq, Eq)]
-pub enum LineFault {
-    /// It is none of a script's lines.
-    Bad,
-    /// Its response, or one before it, could not be written.
-    Write,
-}
-
-impl LineFault {
-    ghost use Rattle.tpmsim.specs.Fault.{fault_at};
-
-    /// The fault of a script that is stopped at the line of this number.
-    pub fn at(self, number: u32) -> ScriptFault
-        ensures { result ≡ fault_at number self }
-    {
-        match self {
-            LineFault::Bad => ScriptFault::Line(number),
-            LineFault::Write => ScriptFault::Write,
-        }
-    }
-}
+use tpmsim_script::fault::ScriptFault;
 
 /// Why the program failed. It prints as the line on standard error says it.
 #[derive(Clone, Copy, Debug, PartialEq, Eq)]
@@ -96,36 +58,6 @@ impl fmt::Display for Fault {
     }
 }
 
-impl From<BadLine> for LineFault {
-    ghost use Rattle.tpmsim.specs.declared.fault.LineFault.TheVariants.{Bad};
-
-    ghost from_gives = { λ _ fault. fault ≡ Bad };
-
-    fn from(_error: BadLine) -> LineFault {
-        LineFault::Bad
-    }
-}
-
-impl From<AllocError> for ScriptFault {
-    ghost use Rattle.tpmsim.specs.declared.fault.ScriptFault.TheVariants.{NoMemory};
-
-    ghost from_gives = { λ _ fault. fault ≡ NoMemory };
-
-    fn from(_error: AllocError) -> ScriptFault {
-        ScriptFault::NoMemory
-    }
-}
-
-impl From<NoMemory> for ScriptFault {
-    ghost use Rattle.tpmsim.specs.declared.fault.ScriptFault.TheVariants.{NoMemory as Refused};
-
-    ghost from_gives = { λ _ fault. fault ≡ Refused };
-
-    fn from(_error: NoMemory) -> ScriptFault {
-        ScriptFault::NoMemory
-    }
-}
-
 impl From<AllocError> for Fault {
     ghost use Rattle.tpmsim.specs.declared.fault.Fault.TheVariants.{Memory};
 
@@ -146,6 +78,20 @@ impl From<ScriptFault> for Fault {
             ScriptFault::Line(number) => Fault::ScriptLine(number),
             ScriptFault::Read | ScriptFault::Write => Fault::File,
             ScriptFault::NoMemory => Fault::Memory,
+        }
+    }
+}
+
+impl From<clap::Error> for Fault {
+    ghost use Rattle.clap.specs.Words.{kind_of};
+    ghost use Rattle.tpmsim.specs.Fault.{fault_of_words};
+
+    ghost from_gives = { λ error fault. fault ≡ fault_of_words (kind_of error) };
+
+    fn from(error: clap::Error) -> Fault {
+        match error.kind() {
+            clap::error::ErrorKind::OutOfMemory => Fault::Memory,
+            _ => Fault::Usage,
         }
     }
 }

@@ -5,24 +5,16 @@
 //! Standard output holds the responses alone, in hex, one a line. A run that fails says why in one
 //! line on standard error.
 
-mod answers;
 mod arguments;
 mod fault;
-mod line;
-mod lines;
-mod player;
-mod run;
-mod script;
-#[cfg(test)]
-mod table_tests;
 #[cfg(test)]
 mod tests;
 
 use arguments::Arguments;
 use fault::Fault;
-use run::run_script;
 use std::process::ExitCode;
 use std::{env, fs};
+use tpmsim_script::run::run_script;
 
 fn main(rt: HostRuntime) -> ExitCode {
     match try_main(&rt) {

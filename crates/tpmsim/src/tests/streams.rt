@@ -1,51 +1,78 @@
-//! Readers and writers that work in pieces, fail, or listen to each other.
+//! Readers and writers that fail, or stop and go on.
 
-use super::{COMMAND_SIZE, INITIALIZE, STARTUP, SUCCESS};
-use crate::fault::ScriptFault;
-use crate::run::run_script;
-use std::cell::Cell;
 use std::io;
 use std::io::{ErrorKind, Read, Write};
 use std::test::Fail;
+use tpmsim_script::fault::ScriptFault;
+use tpmsim_script::run::run_script;
 
-/// Gives a text in pieces of at most `step` bytes, and then fails or ends.
-#[derive(Drop)]
-struct Pieces<'a> {
-    text: &'a [u8],
-    step: usize,
-    fails: bool,
+const STARTUP: &[u8] = b"cmd 80010000000c000001440000\ncmd";
+
+const SUCCESS: &[u8] = b"80010000000a00000000\n";
+
+const SUCCESS_AND_COMMAND_SIZE: &[u8] = b"80010000000a00000000\n80010000000a00000142\n";
+
+/// What a reader does at a call.
+#[derive(Clone, Copy)]
+enum Turn {
+    Gives(&'static [u8]),
+    Fails,
 }
 
-impl Read for Pieces<'_> {
+/// Takes its turns, one a call, and then gives nothing.
+#[derive(Drop)]
+struct Reader<'a> {
+    turns: &'a [Turn],
+}
+
+impl Read for Reader<'_> {
     fn read(&mut self, buffer: &mut [u8]) -> io::Result<usize> {
-        if self.text.is_empty() && self.fails {
-            return Err(ErrorKind::ConnectionReset.into());
+        let Some((turn, others)) = self.turns.split_first() else {
+            return Ok(0);
+        };
+        self.turns = others;
+        match *turn {
+            Turn::Gives(bytes) => {
+                let count = bytes.len().min(buffer.len());
+                buffer[..count].copy_from_slice(&bytes[..count]);
+                Ok(count)
+            }
+            Turn::Fails => Err(ErrorKind::ConnectionReset.into()),
         }
-        let count = self.text.len().min(self.step).min(buffer.len());
-        let (piece, rest) = self.text.split_at(count);
-        buffer[..count].copy_from_slice(piece);
-        self.text = rest;
-        Ok(count)
     }
 }
 
-/// LosesFirstLine at most `room` bytes, at most `step` at a time, and then fails or takes nothing.
+#[test]
+fn a_reader_is_not_asked_again(rt: HostRuntime) -> Result<(), Fail> {
+    for (turn, outcome, written) in [
+        (Turn::Fails, Err(ScriptFault::Read), SUCCESS),
+        (Turn::Gives(b""), Ok(()), SUCCESS_AND_COMMAND_SIZE),
+    ] {
+        let turns = [Turn::Gives(STARTUP), turn, Turn::Gives(b"\ncmd\n")];
+        let mut reader = Reader { turns: &turns };
+        let mut writer = Vec::new(rt.alloc());
+        assert_eq!(rt; run_script(rt.alloc(), &mut reader, &mut writer), outcome);
+        assert_eq!(rt; writer.as_slice(), written);
+        assert_eq!(rt; reader.turns.len(), 1);
+    }
+    Ok(())
+}
+
+/// Takes at most `room` bytes, five at a time, and then fails.
 #[derive(Drop)]
 struct Narrow {
     taken: Vec<u8>,
     room: usize,
-    step: usize,
-    fails: bool,
     flushes: bool,
 }
 
 impl Write for Narrow {
     fn write(&mut self, piece: &[u8]) -> io::Result<usize> {
         let left = self.room.saturating_sub(self.taken.len());
-        if left == 0 && self.fails {
+        if left == 0 {
             return Err(ErrorKind::StorageFull.into());
         }
-        let count = piece.len().min(self.step).min(left);
+        let count = piece.len().min(left).min(5);
         self.taken.extend_from_slice(&piece[..count])?;
         Ok(count)
     }
@@ -60,115 +87,26 @@ impl Write for Narrow {
 }
 
 #[test]
-fn a_reader_may_give_pieces_and_fail(rt: HostRuntime) -> Result<(), Fail> {
-    let script = format!(in rt.alloc(); "{STARTUP}# once more\n{STARTUP}cmd 80")?;
-    let whole = format!(in rt.alloc(); "{SUCCESS}{INITIALIZE}{COMMAND_SIZE}")?;
-    let cut = format!(in rt.alloc(); "{SUCCESS}{INITIALIZE}")?;
-    for step in [1, 2, 28, 29, 30, 1000] {
-        for fails in [false, true] {
-            let mut written = Vec::new(rt.alloc());
-            let mut reader = Pieces {
-                text: script.as_bytes(),
-                step,
-                fails,
-            };
-            let outcome = run_script(rt.alloc(), &mut reader, &mut written);
-            let wanted = if fails {
-                Err(ScriptFault::Read)
-            } else {
-                Ok(())
-            };
-            assert_eq!(rt; outcome, wanted, "by {step}");
-            let answers = if fails { &cut } else { &whole };
-            assert_eq!(rt; written.as_slice(), answers.as_bytes(), "by {step}");
-        }
-    }
-    Ok(())
-}
-
-#[test]
 fn a_writer_may_take_pieces_and_fail(rt: HostRuntime) -> Result<(), Fail> {
-    let script = format!(in rt.alloc(); "{STARTUP}{STARTUP}bad")?;
-    let whole = format!(in rt.alloc(); "{SUCCESS}{INITIALIZE}")?;
-    for (room, fails, flushes, wanted) in [
-        (1000, false, true, ScriptFault::Line(3)),
-        (42, true, true, ScriptFault::Line(3)),
-        (41, true, true, ScriptFault::Write),
-        (22, false, true, ScriptFault::Write),
-        (0, true, true, ScriptFault::Write),
-        (1000, false, false, ScriptFault::Write),
+    for (room, flushes, outcome, taken) in [
+        (42, true, Ok(()), 42),
+        (41, true, Err(ScriptFault::Write), 41),
+        (0, true, Err(ScriptFault::Write), 0),
+        (42, false, Err(ScriptFault::Write), 21),
     ] {
-        for step in [1, 5, 1000] {
-            let taken = Vec::new(rt.alloc());
-            let mut writer = Narrow {
-                taken,
-                room,
-                step,
-                fails,
-                flushes,
-            };
-            let mut reader = script.as_bytes();
-            let outcome = run_script(rt.alloc(), &mut reader, &mut writer);
-            assert_eq!(rt; outcome, Err(wanted), "room for {room}");
-            let taken = whole.as_bytes().get(..room).unwrap_or(whole.as_bytes());
-            assert_eq!(rt; writer.taken.as_slice(), taken, "room for {room}");
-        }
-    }
-    Ok(())
-}
-
-/// Gives a line at each read, and notes how much was written by then.
-#[derive(Drop)]
-struct Listener<'a> {
-    text: &'a [u8],
-    written: &'a Cell<usize>,
-    seen: Vec<usize>,
-}
-
-impl Read for Listener<'_> {
-    fn read(&mut self, buffer: &mut [u8]) -> io::Result<usize> {
-        self.seen.push(self.written.get())?;
-        let count = match self.text.iter().position(|byte| *byte == b'\n') {
-            Some(end) => (end + 1).min(buffer.len()),
-            None => 0,
+        let mut reader = STARTUP;
+        let mut writer = Narrow {
+            taken: Vec::new(rt.alloc()),
+            room,
+            flushes,
         };
-        let (piece, rest) = self.text.split_at(count);
-        buffer[..count].copy_from_slice(piece);
-        self.text = rest;
-        Ok(count)
+        let given = run_script(rt.alloc(), &mut reader, &mut writer);
+        assert_eq!(rt; given, outcome, "room for {room}");
+        assert_eq!(rt;
+            Some(writer.taken.as_slice()),
+            SUCCESS_AND_COMMAND_SIZE.get(..taken),
+            "room for {room}"
+        );
     }
-}
-
-/// Counts what is written.
-#[derive(Drop)]
-struct Counter<'a> {
-    written: &'a Cell<usize>,
-}
-
-impl Write for Counter<'_> {
-    fn write(&mut self, piece: &[u8]) -> io::Result<usize> {
-        self.written
-            .set(self.written.get().saturating_add(piece.len()));
-        Ok(piece.len())
-    }
-
-    fn flush(&mut self) -> io::Result<()> {
-        Ok(())
-    }
-}
-
-#[test]
-fn responses_are_written_before_more_is_read(rt: HostRuntime) -> Result<(), Fail> {
-    let script = format!(in rt.alloc(); "{STARTUP}# nothing\n{STARTUP}cmd\n")?;
-    let written = Cell::new(0);
-    let mut reader = Listener {
-        text: script.as_bytes(),
-        written: &written,
-        seen: Vec::new(rt.alloc()),
-    };
-    let mut writer = Counter { written: &written };
-    let outcome = run_script(rt.alloc(), &mut reader, &mut writer);
-    assert_eq!(rt; outcome, Ok(()));
-    assert_eq!(rt; reader.seen.as_slice(), [0, 21, 21, 42, 63].as_slice());
     Ok(())
 }

@@ -1,0 +1,59 @@
+#!/bin/sh
+# Says which share of its instructions `tpmsim run` spends on the device and which on the text
+# around it (reading lines, decoding hex, printing), for each command of a script of GetRandom
+# lines: the difference of two lengths under callgrind, so that start and end do not count.
+# Needs valgrind, and rt where the program is not built yet. Not part of the gate.
+#
+# `Machine::execute` is inlined into what does the text of a line. What is the device's there is the
+# call of `Machine::command`, and nearly all that is cleared and copied beside that call: the room
+# for the response. So these two are told apart from the rest, which is the text.
+set -eu
+
+top=$(CDPATH='' cd "$(dirname "$0")/.." && pwd -P)
+program=$top/crates/tpmsim/out/tpmsim
+folder=$(mktemp -d)
+trap 'rm -rf "$folder"' EXIT
+
+# The C library clears and copies blocks of these lengths by vectors, as it does shorter ones. Else
+# it uses one repeated instruction, which callgrind counts again for each byte.
+limits=glibc.cpu.x86_rep_stosb_threshold=1000000:glibc.cpu.x86_rep_movsb_threshold=1000000
+
+# counts LINES: the instructions of a script of this many lines: all, those of `Machine::command`
+# and what it calls, and those that clear and copy in the function that calls it.
+counts() {
+    "$top/bench/script.sh" "$1" >"$folder/script"
+    GLIBC_TUNABLES=$limits valgrind --tool=callgrind --callgrind-out-file="$folder/calls" \
+        "$program" run "$folder/script" >"$folder/answers" 2>"$folder/log" || {
+        cat "$folder/log" >&2
+        exit 1
+    }
+    callgrind_annotate --threshold=100 --tree=calling "$folder/calls" | awk '
+        { gsub(",", "", $1) }
+        / PROGRAM TOTALS/ { all = $1 }
+        / \* / { caller = $0 }
+        / > / && /:tpm_machine::machine::Machine::command[ :]/ { command += $1; place = caller }
+        / > / && /:[a-z_]*mem(set|cpy|move)_/ { moved[caller] += $1 }
+        END { print all + 0, command + 0, moved[place] + 0 }'
+}
+
+"$top/tpmsim" run /dev/null # builds the program where it is not built
+short=$(counts 2000)
+long=$(counts 6000)
+echo "$short $long" | awk -v name="$0" '
+    function say(part, count) {
+        printf "%-31s %5d instructions, %3d %%\n", part, count + 0.5, 100 * count / all + 0.5
+    }
+    {
+        all = ($4 - $1) / 4000
+        command = ($5 - $2) / 4000
+        moved = ($6 - $3) / 4000
+        if (command == 0 || moved == 0) {
+            print name ": no call of Machine::command, or no memset and memcpy beside it" \
+                > "/dev/stderr"
+            exit 1
+        }
+        say("each GetRandom line", all)
+        say("Machine::command", command)
+        say("clearing and copying beside it", moved)
+        say("the text, which is the rest", all - command - moved)
+    }'

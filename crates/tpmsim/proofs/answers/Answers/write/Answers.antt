@@ -1,8 +1,0 @@
-use Rattle.tpmsim.specs.Answers.{pending}
-use Rattle.tpmsim.proofs.Written.{written}
-use Rattle.tpmsim.proofs.answers.Answers.write.Goals as goal
-
-pub returns-clause-printed : goal.returns-clause-printed
-returns-clause-printed g c =
-    let contents = g.W.Write.contents in
-    written (contents c.args.writer.now) (contents c.write_all.new.self) (pending c.args.self.now) (rw c.deref.ensures.value at c.in_ok-write_all.ensures.bytes)

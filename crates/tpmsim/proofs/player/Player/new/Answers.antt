@@ -1,5 +1,0 @@
-use Rattle.tpmsim.proofs.Starting.{starts}
-use Rattle.tpmsim.proofs.player.Player.new.Goals as goal
-
-pub returns-clause-playing : goal.returns-clause-playing
-returns-clause-playing c = starts _ _ _ _ c.new-2.ensures.locality c.new-2.ensures.time c.new-2.ensures.random c.in_ok-machine.ensures

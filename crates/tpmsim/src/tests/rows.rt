@@ -1,0 +1,197 @@
+//! The row that each command reports: its code, and the check that refused it.
+
+use std::alloc::{AllocError, Global};
+use std::test::Fail;
+use tpm_machine::event::{Event, Outcome, Row};
+use tpm_machine::machine::Machine;
+use tpm_types::locality::Locality;
+
+const NO_SESSIONS: u16 = 0x8001;
+
+const SESSIONS: u16 = 0x8002;
+
+const STARTUP: u32 = 0x144;
+
+const GET_RANDOM: u32 = 0x17b;
+
+const PCR_READ: u32 = 0x17e;
+
+const PCR_EXTEND: u32 = 0x182;
+
+const PCR_EVENT: u32 = 0x13c;
+
+const PCR_RESET: u32 = 0x13d;
+
+const CLEAR: &[u8] = &[0, 0];
+
+const STATE: &[u8] = &[0, 1];
+
+const HANDLE_NULL: &[u8] = &[0x40, 0, 0, 7];
+
+const PCR_0: &[u8] = &[0, 0, 0, 0];
+
+const PCR_16: &[u8] = &[0, 0, 0, 16];
+
+const PCR_17: &[u8] = &[0, 0, 0, 17];
+
+/// An area of one entry, the empty password.
+const PASSWORD: &[u8] = &[0, 0, 0, 9, 0x40, 0, 0, 9, 0, 0, 1, 0, 0];
+
+/// The same with the password 01.
+const PASSWORD_01: &[u8] = &[0, 0, 0, 10, 0x40, 0, 0, 9, 0, 0, 1, 0, 1, 1];
+
+/// The same with a reserved attribute.
+const RESERVED: &[u8] = &[0, 0, 0, 9, 0x40, 0, 0, 9, 0, 0, 8, 0, 0];
+
+/// A list with no digests or banks.
+const NONE: &[u8] = &[0, 0, 0, 0];
+
+const NO_DATA: &[u8] = &[0, 0];
+
+/// A command, built of its tag, its code and its other fields, and the check that must be reported.
+#[derive(Clone, Copy)]
+struct Wanted<'a> {
+    tag: u16,
+    code: u32,
+    fields: &'a [&'a [u8]],
+    check: &'a str,
+}
+
+fn case<'a>(tag: u16, code: u32, fields: &'a [&'a [u8]], check: &'a str) -> Wanted<'a> {
+    Wanted {
+        tag,
+        code,
+        fields,
+        check,
+    }
+}
+
+impl Wanted<'_> {
+    /// The command's buffer: the header with its size, and the fields.
+    fn buffer(&self, alloc: Global) -> Result<Vec<u8>, Fail> {
+        let mut fields = Vec::new(alloc);
+        for field in self.fields {
+            fields.extend_from_slice(field)?;
+        }
+        let size = u32::try_from(fields.len())?.saturating_add(10);
+        let mut buffer = Vec::new(alloc);
+        buffer.extend_from_slice(&self.tag.to_be_bytes())?;
+        buffer.extend_from_slice(&size.to_be_bytes())?;
+        buffer.extend_from_slice(&self.code.to_be_bytes())?;
+        buffer.extend_from_slice(fields.as_slice())?;
+        Ok(buffer)
+    }
+}
+
+/// The check of a row, as the table names it.
+fn check_of(alloc: Global, row: Row) -> Result<String, AllocError> {
+    match row.check {
+        0 => format!(in alloc; "ok"),
+        1..=11 => format!(in alloc; "G{}", row.check),
+        check => format!(in alloc; "A{}", check.saturating_sub(20)),
+    }
+}
+
+fn command(buffer: &[u8]) -> Event {
+    Event::Command {
+        buffer,
+        locality: Locality::new(0).unwrap(),
+        elapsed_ms: 0,
+        random: [7; 256],
+    }
+}
+
+#[test]
+fn each_check_is_reported(rt: HostRuntime) -> Result<(), Fail> {
+    let cases = [
+        case(0x00c1, GET_RANDOM, &[NO_DATA], "G2"),
+        case(NO_SESSIONS, 0x999, &[], "G4"),
+        case(NO_SESSIONS, GET_RANDOM, &[NO_DATA], "G5"),
+        case(SESSIONS, STARTUP, &[PASSWORD, CLEAR], "G7"),
+        case(NO_SESSIONS, STARTUP, &[CLEAR, CLEAR], "G11"),
+        case(NO_SESSIONS, STARTUP, &[STATE], "A1"),
+        case(NO_SESSIONS, STARTUP, &[CLEAR], "ok"),
+        case(NO_SESSIONS, STARTUP, &[CLEAR], "G5"),
+        case(NO_SESSIONS, GET_RANDOM, &[], "G11"),
+        case(SESSIONS, GET_RANDOM, &[PASSWORD, NO_DATA], "G8"),
+        case(NO_SESSIONS, GET_RANDOM, &[NO_DATA], "ok"),
+        case(NO_SESSIONS, PCR_READ, &[NONE], "ok"),
+        case(SESSIONS, PCR_RESET, &[CLEAR], "G6"),
+        case(SESSIONS, PCR_RESET, &[HANDLE_NULL, PASSWORD], "G6"),
+        case(NO_SESSIONS, PCR_RESET, &[PCR_16], "G7"),
+        case(SESSIONS, PCR_RESET, &[PCR_16], "G8"),
+        case(SESSIONS, PCR_RESET, &[PCR_16, RESERVED], "G8"),
+        case(SESSIONS, PCR_RESET, &[PCR_16, PASSWORD_01], "G9"),
+        case(SESSIONS, PCR_RESET, &[PCR_16, PASSWORD, CLEAR], "G11"),
+        case(SESSIONS, PCR_RESET, &[PCR_0, PASSWORD], "A1"),
+        case(SESSIONS, PCR_RESET, &[PCR_16, PASSWORD], "ok"),
+        case(SESSIONS, PCR_EXTEND, &[PCR_17, PASSWORD, NONE], "A1"),
+        case(SESSIONS, PCR_EXTEND, &[HANDLE_NULL, PASSWORD, NONE], "ok"),
+        case(SESSIONS, PCR_EVENT, &[PCR_17, PASSWORD, NO_DATA], "A1"),
+        case(SESSIONS, PCR_EVENT, &[HANDLE_NULL, PASSWORD, NO_DATA], "ok"),
+    ];
+    let mut machine = Machine::manufacture(rt.alloc(), &[0; 256])?;
+    for case in &cases {
+        let buffer = case.buffer(rt.alloc())?;
+        let row = machine.execute(&command(buffer.as_slice())).row;
+        let check = check_of(rt.alloc(), row)?;
+        assert_eq!(rt; check.as_str(), case.check, "of {buffer:?}");
+        let named = !matches!(case.check, "G2" | "G4");
+        assert_eq!(rt; row.code, if named { case.code } else { 0 });
+    }
+    Ok(())
+}
+
+#[test]
+fn a_length_is_checked_before_and_behind_the_tag(rt: HostRuntime) -> Result<(), Fail> {
+    let mut machine = Machine::manufacture(rt.alloc(), &[0; 256])?;
+    let whole = [0x80, 1, 0, 0, 0, 11, 0, 0, 1, 0x7b];
+    for (buffer, check) in [(&whole[..9], 1), (&whole, 3)] {
+        let row = machine.execute(&command(buffer)).row;
+        assert_eq!(rt; row, Row { code: 0, check });
+    }
+    Ok(())
+}
+
+#[test]
+fn a_run_tells_each_outcome_once(rt: HostRuntime) -> Result<(), Fail> {
+    let startup = case(NO_SESSIONS, STARTUP, &[CLEAR], "ok").buffer(rt.alloc())?;
+    let random = case(NO_SESSIONS, GET_RANDOM, &[CLEAR], "G5").buffer(rt.alloc())?;
+    let events = [
+        command(startup.as_slice()),
+        Event::PowerCycle,
+        command(random.as_slice()),
+    ];
+    let mut machine = Machine::manufacture(rt.alloc(), &[0; 256])?;
+    let mut told = Vec::new(rt.alloc());
+    let mut kept = true;
+    machine.run(
+        &events,
+        &mut |outcome: &Outcome| {
+            kept = kept && told.push((outcome.response.len(), outcome.row)).is_ok();
+        },
+    );
+    assert!(rt; kept);
+    assert_eq!(rt;
+        told.as_slice(),
+        [
+            (
+                10,
+                Row {
+                    code: STARTUP,
+                    check: 0
+                }
+            ),
+            (0, Row { code: 0, check: 0 }),
+            (
+                10,
+                Row {
+                    code: GET_RANDOM,
+                    check: 5
+                }
+            ),
+        ]
+        .as_slice()
+    );
+    Ok(())
+}

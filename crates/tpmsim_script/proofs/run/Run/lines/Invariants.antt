@@ -1,0 +1,18 @@
+use Rattle.std.proofs.Common.{ℕ, List, Option}
+use Rattle.tpmsim_script.specs.Answers.{printed}
+use Rattle.tpmsim_script.specs.Lines.{Agrees, text_left}
+use Rattle.tpmsim_script.specs.Player.{playing_of}
+use Rattle.tpmsim_script.specs.Script.{Plays}
+use Rattle.tpmsim_script.proofs.run.Run.lines.Given as goal
+
+-- what is left to be played decides about the whole
+abbrev pub invariant-loop-number : goal.invariant-loop-number
+invariant-loop-number g l =
+    let remaining = g.R.Read.remaining in
+    let contents = g.W.Write.contents in
+    record {
+      whole : (new : Option (List ℕ)) (bad : Option ℕ)
+          → Plays (text_left (remaining l.reader) l.self.lines) (printed (contents l.writer) l.self.player.answers) new (playing_of l.self.player) l.number bad
+          → Plays (text_left (remaining l.fn.reader) l.fn.self.lines) (printed (contents l.fn.writer) l.fn.self.player.answers) new (playing_of l.fn.self.player) 1 bad;
+      agrees : Agrees (remaining l.reader) l.self.lines;
+    }

@@ -1,0 +1,17 @@
+use Rattle.std.proofs.Common.{◌≡◌, ◌++◌}
+use Rattle.std.specs.Io.KnownBytes.{Keeps, prepend_known}
+use Rattle.tpmsim_script.specs.Answers.{printed}
+use Rattle.tpmsim_script.specs.Lines.{Agrees, IsUnbroken, line_of, rest_of, text_left}
+use Rattle.tpmsim_script.specs.Player.{playing_of}
+use Rattle.tpmsim_script.proofs.run.Run.next_line.Given as goal
+
+-- what has come of the line and what is left are what was left, and nothing that was printed is lost
+abbrev pub invariant-loop : goal.invariant-loop
+invariant-loop g l =
+    record {
+      playing : playing_of l.self.player ≡ playing_of l.fn.self.player;
+      unbroken : IsUnbroken (line_of l.self.lines);
+      text : Keeps (text_left (g.R.Read.remaining l.fn.reader) l.fn.self.lines) (prepend_known (line_of l.self.lines ++ rest_of l.self.lines) (g.R.Read.remaining l.reader));
+      agrees : Agrees (g.R.Read.remaining l.reader) l.self.lines;
+      printed : Keeps (printed (g.W.Write.contents l.fn.writer) l.fn.self.player.answers) (printed (g.W.Write.contents l.writer) l.self.player.answers);
+    }

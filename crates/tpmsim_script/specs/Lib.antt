@@ -1,0 +1,7 @@
+pub mod LineFault
+pub mod Line
+pub mod Lines
+pub mod Answers
+pub mod Script
+pub mod Player
+pub mod Run

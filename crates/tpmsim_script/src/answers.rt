@@ -1,0 +1,88 @@
+ghost use Rattle.std.specs.Prelude.{◌≡◌, ◌+◌, ◌*◌, ◌≤◌, length, vec_len};
+ghost use Rattle.tpmsim_script.specs.Script.{printed_response};
+ghost use Rattle.tpmsim_script.specs.declared.answers.TheConstants.{CAPACITY};
+
+use std::alloc::{AllocError, Global};
+use std::io;
+use std::io::Write;
+
+/// How many bytes a response has at most.
+const RESPONSE_LIMIT: usize = 4_096;
+
+/// How many bytes of text are held before they are written.
+const CAPACITY: usize = 65_536;
+
+/// Responses that are written in lower-case hex, one a line.
+#[derive(Drop)]
+pub struct Answers {
+    text: Vec<u8>,
+    used: usize,
+    ghost capacity: { vec_len text ≡ CAPACITY },
+    ghost within: { used ≤ CAPACITY },
+}
+
+impl Answers {
+    ghost use Rattle.std.specs.Prelude.{◌++◌, [], IfOk, OnOk};
+    ghost use Rattle.std.specs.Io.KnownBytes.{Appends, Keeps};
+    ghost use Rattle.tpmsim_script.specs.Answers.{pending, printed};
+
+    pub fn new(alloc: Global) -> Result<Answers, AllocError>
+        ensures { IfOk result (λ answers. pending answers ≡ []) }
+    {
+        let text = vec![in alloc; 0u8; CAPACITY]?;
+        Ok(Answers { text, used: 0 })
+    }
+
+    /// Adds a line. It may stay in memory until [`Answers::flush`].
+    pub fn put<W: Write>(&mut self, writer: &mut W, response: &[u8]) -> io::Result<()>
+        requires { length response.now ≤ RESPONSE_LIMIT }
+        ensures { OnOk result (Appends (printed (W.contents writer.old) self.old) (printed (W.contents writer.new) self.new) (printed_response response.now)) }
+    {
+        if CAPACITY - self.used <= 2 * response.len() {
+            self.write(writer)?;
+        }
+        self.hold(response);
+        Ok(())
+    }
+
+    fn hold(&mut self, response: &[u8])
+        requires { self.old.used + 2 * length response.now + 1 ≤ CAPACITY }
+        ensures { pending self.new ≡ pending self.old ++ printed_response response.now }
+    {
+        let end = self.used + 2 * response.len() + 1;
+        print(response, &mut self.text[self.used..end]);
+        self.used = end;
+    }
+
+    /// Writes all lines so far. Those that an error cut off are not written again.
+    pub fn flush<W: Write>(&mut self, writer: &mut W) -> io::Result<()>
+        ensures empty { OnOk result (pending self.new ≡ []) }
+        ensures printed { OnOk result (Keeps (printed (W.contents writer.old) self.old) (printed (W.contents writer.new) self.new)) }
+    {
+        if self.used == 0 {
+            return Ok(());
+        }
+        self.write(writer)?;
+        writer.flush()
+    }
+
+    fn write<W: Write>(&mut self, writer: &mut W) -> io::Result<()>
+        ensures empty { self.new.used ≡ 0 }
+        ensures printed { OnOk result (Keeps (printed (W.contents writer.old) self.old) (printed (W.contents writer.new) self.new)) }
+    {
+        let used = self.used;
+        self.used = 0;
+        writer.write_all(&self.text[..used])?;
+        Ok(())
+    }
+}
+
+/// A response in lower-case hex, and the end of its line.
+fn print(response: &[u8], line: &mut [u8])
+    requires { length line.old ≡ 2 * length response.now + 1 }
+    ensures { line.new ≡ printed_response response.now }
+{
+    let (digits, end) = line.split_at_mut(2 * response.len());
+    hex::encode_to_slice(response, digits).unwrap();
+    end[0] = b'\n';
+}

@@ -1,0 +1,38 @@
+ghost use Rattle.std.specs.Prelude.{◌≡◌};
+
+use std::alloc::AllocError;
+use tpm_machine::machine::NoMemory;
+
+/// Why a script did not run to its end. The lines before the fault were run, and their responses
+/// written, but for those that a `Write` fault cut off.
+#[derive(Clone, Copy, Debug, PartialEq, Eq)]
+pub enum ScriptFault {
+    /// The line of this number, from 1, is none of a script's lines.
+    Line(u32),
+    /// The script could not be read, or has more lines than a script may have.
+    Read,
+    /// The responses could not be written.
+    Write,
+    /// There is no memory for the device or the buffers. Nothing was read.
+    NoMemory,
+}
+
+impl From<AllocError> for ScriptFault {
+    ghost use Rattle.tpmsim_script.specs.declared.fault.ScriptFault.TheVariants.{NoMemory};
+
+    ghost from_gives = { λ _ fault. fault ≡ NoMemory };
+
+    fn from(_error: AllocError) -> ScriptFault {
+        ScriptFault::NoMemory
+    }
+}
+
+impl From<NoMemory> for ScriptFault {
+    ghost use Rattle.tpmsim_script.specs.declared.fault.ScriptFault.TheVariants.{NoMemory as Refused};
+
+    ghost from_gives = { λ _ fault. fault ≡ Refused };
+
+    fn from(_error: NoMemory) -> ScriptFault {
+        ScriptFault::NoMemory
+    }
+}

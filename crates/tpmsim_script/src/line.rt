@@ -1,0 +1,130 @@
+ghost use Rattle.std.specs.Prelude.{◌≡◌, ◌+◌, ◌*◌, ◌==◌, ◌≤◌, [], length, IfOk, option_and_then, option_map};
+ghost use Rattle.std.specs.List.{position};
+ghost use Rattle.tpm_types.specs.Locality.{locality_number};
+ghost use Rattle.tpmsim_script.specs.Line.{Tells, bytes_of, decimal_of, hex_of, is_word, line_said, locality_of, said, said_alone, said_by, said_with};
+
+use std::str;
+use tpm_types::locality::Locality;
+
+/// A line of a script.
+#[derive(Clone, Copy, Debug, PartialEq, Eq)]
+pub enum Line<'a> {
+    /// `cmd HEX`: a command, in hex.
+    Command(&'a [u8]),
+    /// `loc N`: the locality of the commands that follow.
+    Locality(Locality),
+    /// `wait MS`: milliseconds that pass before the next command.
+    Wait(u32),
+    /// `entropy HEX`: what the random bytes of the commands that follow repeat, in hex.
+    Entropy(&'a [u8]),
+    /// `power`: a power cycle.
+    PowerCycle,
+    /// An empty line, or one that begins with `#`.
+    Nothing,
+}
+
+/// The line is none of a script's lines.
+#[derive(Clone, Copy, Debug, PartialEq, Eq)]
+pub struct BadLine;
+
+impl<'a> Line<'a> {
+    /// Reads a line, given without its 0a. Hex is not looked at yet: [`decode`] does that.
+    #[tactic(auto, unfolding(crate::specs::Line::line_said), using(crate::proofs::SaidLemmas::said_by_words))]
+    pub fn parse(text: &'a [u8]) -> Result<Line<'a>, BadLine>
+        ensures said { Tells said result (line_said text.now) }
+        ensures short { IfOk result (λ line. length (hex_of (said line)) ≤ length text.now) }
+    {
+        if text.is_empty() || text[0] == b'#' {
+            return Ok(Line::Nothing);
+        }
+        Line::by_words(text)
+    }
+
+    /// A line that begins with a word, which the first space ends.
+    fn by_words(text: &'a [u8]) -> Result<Line<'a>, BadLine>
+        ensures said { Tells said result (said_by (position (λ byte. byte == 32) text.now) text.now) }
+        ensures short { IfOk result (λ line. length (hex_of (said line)) ≤ length text.now) }
+    {
+        match place_of(b' ', text) {
+            None => Line::alone(text),
+            Some(space) => Line::with(&text[..space], &text[space + 1..]),
+        }
+    }
+
+    /// A line of one word.
+    #[tactic(auto, unfolding(crate::specs::Line::said_alone))]
+    fn alone(word: &'a [u8]) -> Result<Line<'a>, BadLine>
+        ensures said { Tells said result (said_alone word.now) }
+        ensures short { IfOk result (λ line. hex_of (said line) ≡ []) }
+    {
+        if is_word("cmd", word) {
+            Ok(Line::Command(&[]))
+        } else if is_word("power", word) {
+            Ok(Line::PowerCycle)
+        } else {
+            Err(BadLine)
+        }
+    }
+
+    /// A word, and what stands behind its space.
+    #[tactic(auto, unfolding(crate::specs::Line::said_with))]
+    fn with(word: &'a [u8], argument: &'a [u8]) -> Result<Line<'a>, BadLine>
+        ensures said { Tells said result (said_with word.now argument.now) }
+        ensures short { IfOk result (λ line. length (hex_of (said line)) ≤ length argument.now) }
+    {
+        if is_word("cmd", word) {
+            Ok(Line::Command(argument))
+        } else if is_word("loc", word) {
+            Ok(Line::Locality(locality(argument).ok_or(BadLine)?))
+        } else if is_word("wait", word) {
+            Ok(Line::Wait(decimal(argument).ok_or(BadLine)?))
+        } else if is_word("entropy", word) {
+            Ok(Line::Entropy(argument))
+        } else {
+            Err(BadLine)
+        }
+    }
+}
+
+/// The first place of a byte.
+pub fn place_of(byte: u8, bytes: &[u8]) -> Option<usize>
+    ensures { result ≡ position (λ other. other == byte) bytes.now }
+{
+    bytes.iter().position(|other| *other == byte)
+}
+
+fn is_word(word: &str, text: &[u8]) -> bool
+    ensures { result ≡ is_word word.now text.now }
+{
+    text == word.as_bytes()
+}
+
+/// The bytes that hex digits of either case write, in a room that is large enough. It refuses other
+/// digits, and an odd number of them.
+pub fn decode<'a>(digits: &[u8], room: &'a mut [u8]) -> Result<&'a [u8], BadLine>
+    requires { length digits.now ≤ 2 * length room.old + 1 }
+    ensures { Tells (λ bytes. bytes.now) result (bytes_of digits.now) }
+{
+    let bytes = &mut room[..digits.len() / 2];
+    hex::decode_to_slice(digits, bytes).map_err(|_| BadLine)?;
+    Ok(bytes)
+}
+
+fn locality(digits: &[u8]) -> Option<Locality>
+    ensures { option_map locality_number result ≡ option_and_then locality_of (decimal_of digits.now) }
+{
+    let number = u8::try_from(decimal(digits)?).ok()?;
+    Locality::new(number)
+}
+
+/// The number that decimal digits write: at least one, with leading zeros or none, and no sign.
+/// `None` is any other text, and a number of 2^32 or more.
+#[tactic(auto, using(crate::proofs::Decimal::decimal_parsed, crate::proofs::Decimal::no_decimal, crate::proofs::Decimal::plus_no_decimal))]
+pub fn decimal(digits: &[u8]) -> Option<u32>
+    ensures { result ≡ decimal_of digits.now }
+{
+    if matches!(digits, [b'+', ..]) {
+        return None;
+    }
+    str::from_utf8(digits).ok()?.parse().ok()
+}

@@ -1,0 +1,37 @@
+ghost use Rattle.std.specs.Prelude.{◌≡◌};
+
+use crate::fault::ScriptFault;
+use crate::line::BadLine;
+
+/// Why a script is stopped at a line.
+#[derive(Clone, Copy, Debug, PartialEq, Eq)]
+pub enum LineFault {
+    /// It is none of a script's lines.
+    Bad,
+    /// Its response, or one before it, could not be written.
+    Write,
+}
+
+impl LineFault {
+    ghost use Rattle.tpmsim_script.specs.LineFault.{fault_at};
+
+    /// The fault of a script that is stopped at the line of this number.
+    pub fn at(self, number: u32) -> ScriptFault
+        ensures { result ≡ fault_at number self }
+    {
+        match self {
+            LineFault::Bad => ScriptFault::Line(number),
+            LineFault::Write => ScriptFault::Write,
+        }
+    }
+}
+
+impl From<BadLine> for LineFault {
+    ghost use Rattle.tpmsim_script.specs.declared.line_fault.LineFault.TheVariants.{Bad};
+
+    ghost from_gives = { λ _ fault. fault ≡ Bad };
+
+    fn from(_error: BadLine) -> LineFault {
+        LineFault::Bad
+    }
+}

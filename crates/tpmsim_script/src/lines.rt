@@ -1,0 +1,157 @@
+ghost use Rattle.std.specs.Prelude.{◌≡◌, ◌≤◌, vec_len};
+ghost use Rattle.tpmsim_script.specs.declared.lines.TheConstants.{CAPACITY, LINE_LIMIT};
+
+use crate::line::place_of;
+use arrayvec::ArrayVec;
+use std::alloc::{AllocError, Global};
+use std::io;
+use std::io::Read;
+
+/// How many bytes a line may have, without the 0a at its end.
+pub const LINE_LIMIT: usize = 65_536;
+
+/// How many bytes are read at one go.
+const CAPACITY: usize = 65_536;
+
+/// What stands next among the bytes that were read.
+#[derive(Clone, Copy, Debug, PartialEq, Eq)]
+pub enum Next {
+    /// A whole line, which [`Lines::line`] gives.
+    Line,
+    /// A line of more than [`LINE_LIMIT`] bytes, or the start of one.
+    TooLong,
+    /// The start of a line, or nothing: more bytes have to be read.
+    Incomplete,
+    /// Nothing, and no bytes follow.
+    End,
+}
+
+/// The line has more than [`LINE_LIMIT`] bytes.
+#[derive(Clone, Copy, Debug, PartialEq, Eq)]
+struct TooLong;
+
+/// The lines of a text, each of which ends with 0a, but for the last, which need not. The memory
+/// that it takes does not depend on the text.
+#[derive(Drop)]
+pub struct Lines {
+    /// The line that was found last, or what has come of the next one.
+    line: ArrayVec<u8, 65536>,
+    bytes: Vec<u8>,
+    /// Which of the bytes were read and belong to no line yet.
+    next: usize,
+    filled: usize,
+    /// Whether the last read gave nothing.
+    ended: bool,
+    ghost capacity: { vec_len bytes ≡ CAPACITY },
+    ghost in_order: { next ≤ filled },
+    ghost within: { filled ≤ CAPACITY },
+}
+
+impl Lines {
+    ghost use Rattle.std.specs.Prelude.{◌+◌, ◌<◌, ◌==◌, ◌++◌, [], false, take, drop, length, IfOk, OnOk, OnErr};
+    ghost use Rattle.std.specs.Io.KnownBytes.{Consumes};
+    ghost use Rattle.tpmsim_script.specs.Lines.{Agrees, Finds, IsUnbroken, line_of, rest_of, stopped_at};
+
+    pub fn new(alloc: Global) -> Result<Lines, AllocError>
+        ensures { IfOk result (λ lines. (rest_of lines ≡ []) × (lines.ended ≡ false)) }
+    {
+        let bytes = vec![in alloc; 0u8; CAPACITY]?;
+        Ok(Lines {
+            line: ArrayVec::new(),
+            bytes,
+            next: 0,
+            filled: 0,
+            ended: false,
+        })
+    }
+
+    /// The line that was found last, without its 0a.
+    pub fn line(&self) -> &[u8]
+        ensures line { result.now ≡ line_of self.now }
+        ensures limit { length result.now ≤ LINE_LIMIT }
+    {
+        self.line.as_slice()
+    }
+
+    /// Goes past the line that was found last.
+    pub fn next(&mut self)
+        ensures line { line_of self.new ≡ [] }
+        ensures rest { rest_of self.new ≡ rest_of self.old }
+        ensures ended { self.new.ended ≡ self.old.ended }
+    {
+        self.line.clear();
+    }
+
+    /// Adds what was read to the line, up to its end if that was read.
+    pub fn find(&mut self) -> Next
+        requires { IsUnbroken (line_of self.old) }
+        ensures found { Finds self.old result self.new }
+        ensures ended { self.new.ended ≡ self.old.ended }
+    {
+        match place_of(b'\n', &self.bytes[self.next..self.filled]) {
+            Some(at) => match self.take(at, at + 1) {
+                Ok(()) => Next::Line,
+                Err(TooLong) => Next::TooLong,
+            },
+            None => match self.take_rest() {
+                Ok(()) => self.stopped(),
+                Err(TooLong) => Next::TooLong,
+            },
+        }
+    }
+
+    /// Adds this many of the bytes to the line, and goes past so many.
+    fn take(&mut self, count: usize, past: usize) -> Result<(), TooLong>
+        requires count { count ≤ past }
+        requires past { past ≤ length (rest_of self.old) }
+        ensures line { OnOk result (line_of self.new ≡ line_of self.old ++ take count (rest_of self.old)) }
+        ensures rest { OnOk result (rest_of self.new ≡ drop past (rest_of self.old)) }
+        ensures long { OnErr result (LINE_LIMIT < length (line_of self.old) + count) }
+        ensures ended { self.new.ended ≡ self.old.ended }
+    {
+        let piece = &self.bytes[self.next..self.next + count];
+        self.line.try_extend_from_slice(piece).map_err(|_| TooLong)?;
+        self.next += past;
+        Ok(())
+    }
+
+    /// Adds all of the bytes to the line.
+    fn take_rest(&mut self) -> Result<(), TooLong>
+        ensures line { OnOk result (line_of self.new ≡ line_of self.old ++ rest_of self.old) }
+        ensures rest { OnOk result (rest_of self.new ≡ []) }
+        ensures long { OnErr result (LINE_LIMIT < length (line_of self.old) + length (rest_of self.old)) }
+        ensures ended { self.new.ended ≡ self.old.ended }
+    {
+        let count = self.filled - self.next;
+        self.take(count, count)
+    }
+
+    /// What stands next where all bytes that were read belong to the line.
+    fn stopped(&self) -> Next
+        ensures { result ≡ stopped_at self.now.ended (line_of self.now) }
+    {
+        if !self.ended {
+            Next::Incomplete
+        } else if self.line.is_empty() {
+            Next::End
+        } else {
+            Next::Line
+        }
+    }
+
+    /// Reads more bytes, by one read of the reader.
+    pub fn fill<R: Read>(&mut self, reader: &mut R) -> io::Result<()>
+        requires { rest_of self.old ≡ [] }
+        ensures line { line_of self.new ≡ line_of self.old }
+        ensures more { OnOk result (Consumes (R.remaining reader.old) (R.remaining reader.new) (rest_of self.new)) }
+        ensures agrees { OnOk result (Agrees (R.remaining reader.new) self.new) }
+        ensures ended { OnOk result (self.new.ended ≡ (length (rest_of self.new) == 0)) }
+        ensures none { OnErr result (rest_of self.new ≡ []) }
+    {
+        self.next = 0;
+        self.filled = 0;
+        self.filled = reader.read(&mut self.bytes)?;
+        self.ended = self.filled == 0;
+        Ok(())
+    }
+}

@@ -1,0 +1,104 @@
+ghost use Rattle.std.specs.Prelude.{◌≡◌, ◌*◌, ◌+◌, ◌≤◌, [], length, IfOk, OnOk, OnErr};
+ghost use Rattle.std.specs.Io.KnownBytes.{Keeps};
+ghost use Rattle.tpmsim_script.specs.Answers.{pending, printed};
+ghost use Rattle.tpmsim_script.specs.Line.{hex_of, said};
+ghost use Rattle.tpmsim_script.specs.Player.{Did, playing_of};
+ghost use Rattle.tpmsim_script.specs.Script.{at_first, execute, perform, perform_line, set_entropy};
+
+use crate::answers::Answers;
+use crate::fault::ScriptFault;
+use crate::line::{Line, decode};
+use crate::line_fault::LineFault;
+use crate::script::Script;
+use std::alloc::Global;
+use std::array;
+use std::io::Write;
+use tpm_machine::event::Event;
+use tpm_machine::machine::Machine;
+
+/// A device, and what the lines of a script so far say of its next command.
+#[derive(Drop)]
+pub struct Player {
+    script: Script,
+    machine: Machine,
+    pub answers: Answers,
+}
+
+impl Player {
+    /// A new device that was manufactured with the bytes 00 to ff.
+    pub fn new(alloc: Global) -> Result<Player, ScriptFault>
+        ensures fault { OnErr result (result ≡ Err ScriptFault.NoMemory) }
+        ensures playing { IfOk result (λ player. playing_of player ≡ at_first) }
+        ensures answers { IfOk result (λ player. pending player.answers ≡ []) }
+    {
+        let answers = Answers::new(alloc)?;
+        let machine = Machine::manufacture(alloc, &array::from_fn(|place| place as u8))?;
+        Ok(Player {
+            script: Script::new(),
+            machine,
+            answers,
+        })
+    }
+
+    /// Does what a line says, and prints the response to a command. What is written in hex goes to
+    /// `room`.
+    #[tactic(auto, using(crate::proofs::Doing::said_done, crate::proofs::Doing::unsaid_done))]
+    pub fn line<W: Write>(
+        &mut self,
+        line: &[u8],
+        room: &mut [u8],
+        writer: &mut W,
+    ) -> Result<(), LineFault>
+        requires limit { length line.now ≤ 65536 }
+        requires room { length line.now ≤ 2 * length room.old }
+        ensures { Did (perform_line (playing_of self.old) line.now) (printed (W.contents writer.old) self.old.answers) (playing_of self.old) result (printed (W.contents writer.new) self.new.answers) (playing_of self.new) }
+    {
+        let said = Line::parse(line)?;
+        self.perform(said, room, writer)
+    }
+
+    /// Writes all responses so far.
+    pub fn flush<W: Write>(&mut self, writer: &mut W) -> Result<(), ScriptFault>
+        ensures fault { OnErr result (result ≡ Err ScriptFault.Write) }
+        ensures playing { playing_of self.new ≡ playing_of self.old }
+        ensures empty { OnOk result (pending self.new.answers ≡ []) }
+        ensures printed { OnOk result (Keeps (printed (W.contents writer.old) self.old.answers) (printed (W.contents writer.new) self.new.answers)) }
+    {
+        self.answers.flush(writer).map_err(|_| ScriptFault::Write)
+    }
+
+    /// Does what was said.
+    #[tactic(auto, using(crate::proofs::Doing::nothing_printed))]
+    fn perform<W: Write>(
+        &mut self,
+        line: Line,
+        room: &mut [u8],
+        writer: &mut W,
+    ) -> Result<(), LineFault>
+        requires { length (hex_of (said line)) ≤ 2 * length room.old }
+        ensures { Did (perform (playing_of self.old) (said line.entry)) (printed (W.contents writer.old) self.old.answers) (playing_of self.old) result (printed (W.contents writer.new) self.new.answers) (playing_of self.new) }
+    {
+        match line {
+            Line::Command(digits) => self.execute(decode(digits, room)?, writer)?,
+            Line::Locality(locality) => self.script.set_locality(locality),
+            Line::Wait(milliseconds) => self.script.wait(milliseconds)?,
+            Line::Entropy(digits) => self.script.set_entropy(decode(digits, room)?)?,
+            Line::PowerCycle => {
+                let _ = self.machine.execute(&Event::PowerCycle);
+            }
+            Line::Nothing => {}
+        }
+        Ok(())
+    }
+
+    /// Executes a command, and prints the response.
+    fn execute<W: Write>(&mut self, buffer: &[u8], writer: &mut W) -> Result<(), LineFault>
+        ensures { Did (Some (execute (playing_of self.old) buffer.now)) (printed (W.contents writer.old) self.old.answers) (playing_of self.old) result (printed (W.contents writer.new) self.new.answers) (playing_of self.new) }
+    {
+        let outcome = self.machine.execute(&self.script.command(buffer));
+        let response = outcome.response.as_slice();
+        self.answers
+            .put(writer, response)
+            .map_err(|_| LineFault::Write)
+    }
+}

@@ -1,0 +1,124 @@
+ghost use Rattle.std.specs.Prelude.{◌≡◌, [], false, length, vec_len, IfOk, OnOk, OnErr};
+ghost use Rattle.std.specs.Io.KnownBytes.{Keeps};
+ghost use Rattle.tpmsim_script.specs.Answers.{pending, printed};
+ghost use Rattle.tpmsim_script.specs.Lines.{Agrees, line_of, rest_of, text_left};
+ghost use Rattle.tpmsim_script.specs.Player.{playing_of};
+ghost use Rattle.tpmsim_script.specs.Run.{NextFound, UnlessFailed, Ran};
+ghost use Rattle.tpmsim_script.specs.Script.{Plays, at_first};
+
+use crate::fault::ScriptFault;
+use crate::lines::{Lines, Next};
+use crate::player::Player;
+use std::alloc::{AllocError, Global};
+use std::io::{Read, Write};
+
+/// How many lines a script may have.
+pub const SCRIPT_LINES: u32 = 1_048_576;
+
+/// How many bytes a line can write in hex.
+const DECODED_LIMIT: usize = 32_768;
+
+/// Runs the script that `reader` gives on a new device, and writes the response to each command to
+/// `writer`. It takes memory once, at the start. Whatever the fault, the lines before it were run,
+/// and their responses written, but for those that a `Write` fault cut off. A script of more than
+/// [`SCRIPT_LINES`] lines ends with a `Read` fault.
+pub fn run_script<R: Read, W: Write>(
+    alloc: Global,
+    reader: &mut R,
+    writer: &mut W,
+) -> Result<(), ScriptFault>
+    // What is written is what the script prints, to its end or up to its first bad line.
+    ensures played { Ran (Plays (R.remaining reader.old) (W.contents writer.old) (W.contents writer.new) at_first 1) result }
+{
+    let mut run = Run::new(alloc)?;
+    let mut room = room(alloc)?;
+    let outcome = run.lines(reader, writer, &mut room);
+    run.player.flush(writer)?;
+    outcome
+}
+
+/// Room for what a line writes in hex.
+fn room(alloc: Global) -> Result<Vec<u8>, AllocError>
+    ensures { IfOk result (λ room. vec_len room ≡ DECODED_LIMIT) }
+{
+    vec![in alloc; 0u8; DECODED_LIMIT]
+}
+
+/// A script, and what plays it.
+#[derive(Drop)]
+struct Run {
+    lines: Lines,
+    player: Player,
+}
+
+impl Run {
+    fn new(alloc: Global) -> Result<Run, ScriptFault>
+        ensures fault { OnErr result (result ≡ Err ScriptFault.NoMemory) }
+        ensures playing { IfOk result (λ run. playing_of run.player ≡ at_first) }
+        ensures lines { IfOk result (λ run. rest_of run.lines ≡ []) }
+        ensures ended { IfOk result (λ run. run.lines.ended ≡ false) }
+        ensures answers { IfOk result (λ run. pending run.player.answers ≡ []) }
+    {
+        Ok(Run {
+            lines: Lines::new(alloc)?,
+            player: Player::new(alloc)?,
+        })
+    }
+
+    /// Runs the lines, to the end of the script or to a fault. What they write in hex goes to `room`.
+    fn lines<R: Read, W: Write>(
+        &mut self,
+        reader: &mut R,
+        writer: &mut W,
+        room: &mut [u8],
+    ) -> Result<(), ScriptFault>
+        requires room { length room.old ≡ DECODED_LIMIT }
+        requires agrees { Agrees (R.remaining reader.old) self.old.lines }
+        ensures { Ran (Plays (text_left (R.remaining reader.old) self.old.lines) (printed (W.contents writer.old) self.old.player.answers) (printed (W.contents writer.new) self.new.player.answers) (playing_of self.old.player) 1) result }
+    {
+        for number in 1..SCRIPT_LINES + 1 {
+            match self.next_line(reader, writer, number) {
+                Ok(true) => {}
+                Ok(false) => return Ok(()),
+                Err(fault) => return Err(fault),
+            }
+            if let Err(fault) = self.player.line(self.lines.line(), room, writer) {
+                return Err(fault.at(number));
+            }
+        }
+        match self.next_line(reader, writer, SCRIPT_LINES) {
+            Ok(false) => Ok(()),
+            Err(ScriptFault::Write) => Err(ScriptFault::Write),
+            _ => Err(ScriptFault::Read),
+        }
+    }
+
+    /// Goes to the next line, of this number, and tells whether there is one. The responses are
+    /// written before more of the script is read.
+    fn next_line<R: Read, W: Write>(
+        &mut self,
+        reader: &mut R,
+        writer: &mut W,
+        number: u32,
+    ) -> Result<bool, ScriptFault>
+        requires { Agrees (R.remaining reader.old) self.old.lines }
+        ensures played { playing_of self.new.player ≡ playing_of self.old.player }
+        ensures found { NextFound number (text_left (R.remaining reader.old) self.old.lines) result (line_of self.new.lines) (text_left (R.remaining reader.new) self.new.lines) }
+        ensures agrees { OnOk result (Agrees (R.remaining reader.new) self.new.lines) }
+        ensures printed { UnlessFailed result (Keeps (printed (W.contents writer.old) self.old.player.answers) (printed (W.contents writer.new) self.new.player.answers)) }
+    {
+        self.lines.next();
+        for _ in 0..u64::MAX {
+            match self.lines.find() {
+                Next::Line => return Ok(true),
+                Next::End => return Ok(false),
+                Next::TooLong => return Err(ScriptFault::Line(number)),
+                Next::Incomplete => {
+                    self.player.flush(writer)?;
+                    self.lines.fill(reader).map_err(|_| ScriptFault::Read)?;
+                }
+            }
+        }
+        Err(ScriptFault::Read)
+    }
+}

@@ -1,0 +1,89 @@
+ghost use Rattle.std.specs.Prelude.{◌≡◌, ◌+◌, ◌≤◌, ◌<◌, ◌^◌, ◌↔◌, length, replicate, IsOk, OnOk, OnErr};
+ghost use Rattle.tpm_types.specs.Locality.{locality_number};
+ghost use Rattle.tpmsim_script.specs.Script.{repeated};
+
+use crate::line::BadLine;
+use std::mem;
+use tpm_machine::event::Event;
+use tpm_types::locality::Locality;
+
+/// How many random bytes each command gets.
+pub const RANDOM_BYTES: usize = 256;
+
+/// What the lines of a script so far say of its next command.
+#[derive(Drop)]
+pub struct Script {
+    locality: Locality,
+    /// Milliseconds since the last command.
+    waited: u32,
+    random: [u8; 256],
+}
+
+impl Script {
+    /// Locality 0, no time, and random bytes that are all 0.
+    pub fn new() -> Script
+        ensures locality { locality_number result.locality ≡ 0 }
+        ensures time { result.waited ≡ 0 }
+        ensures random { result.random ≡ replicate 256 0 }
+    {
+        Script {
+            locality: Locality::new(0).unwrap(),
+            waited: 0,
+            random: [0; 256],
+        }
+    }
+
+    pub fn set_locality(&mut self, locality: Locality)
+        ensures { self.new ≡ record self.old { locality = locality } }
+    {
+        self.locality = locality;
+    }
+
+    /// Lets time pass, in all up to 2^32 - 1 milliseconds between two commands.
+    pub fn wait(&mut self, milliseconds: u32) -> Result<(), BadLine>
+        ensures fits { IsOk result ↔ (self.old.waited + milliseconds < 2 ^ 32) }
+        ensures ok { OnOk result (self.new ≡ record self.old { waited = self.old.waited + milliseconds }) }
+        ensures err { OnErr result (self.new ≡ self.old) }
+    {
+        self.waited = self.waited.checked_add(milliseconds).ok_or(BadLine)?;
+        Ok(())
+    }
+
+    /// Sets what the random bytes repeat: 1 to 256 bytes.
+    pub fn set_entropy(&mut self, entropy: &[u8]) -> Result<(), BadLine>
+        ensures fits { IsOk result ↔ ((0 < length entropy.now) × (length entropy.now ≤ RANDOM_BYTES)) }
+        ensures ok { OnOk result (self.new ≡ record self.old { random = repeated entropy.now }) }
+        ensures err { OnErr result (self.new ≡ self.old) }
+    {
+        if entropy.is_empty() || entropy.len() > RANDOM_BYTES {
+            return Err(BadLine);
+        }
+        self.random = repeated(entropy);
+        Ok(())
+    }
+
+    /// The event of this command, now.
+    pub fn command<'a>(&mut self, buffer: &'a [u8]) -> Event<'a>
+        ensures event { result ≡ Event.Command buffer.entry self.old.locality self.old.waited self.old.random }
+        ensures time { self.new ≡ record self.old { waited = 0 } }
+    {
+        Event::Command {
+            buffer,
+            locality: self.locality,
+            elapsed_ms: mem::take(&mut self.waited),
+            random: self.random,
+        }
+    }
+}
+
+/// 256 bytes: the given ones, over and over.
+pub fn repeated(entropy: &[u8]) -> [u8; 256]
+    requires { 0 < length entropy.now }
+    ensures { result ≡ repeated entropy.now }
+{
+    let mut random = [0; 256];
+    for place in 0..256 {
+        random[place] = entropy[place % entropy.len()];
+    }
+    random
+}

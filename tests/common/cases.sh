@@ -1,0 +1,46 @@
+# What the shell tests share: each runs the program in a folder of its own, once a case, and says in
+# a line what came of it. A test is given the program's path, and reads this file first.
+LC_ALL=C
+export LC_ALL
+
+[ "$#" -eq 1 ] || { echo "usage: sh $0 PROGRAM" >&2; exit 2; }
+program=$(cd "$(dirname "$1")" && pwd -P)/$(basename "$1")
+room=$(mktemp -d) || exit 1
+trap 'rm -rf "$room"' EXIT
+mkdir "$room/folder" && cd "$room/folder" || exit 1
+
+# TPM2_Startup(CLEAR), which is answered SUCCESS (80010000000a00000000), and INITIALIZE
+# (80010000000a00000100) the second time. `cmd` alone is COMMAND_SIZE (80010000000a00000142).
+# shellcheck disable=SC2034 # the tests use it
+startup='cmd 80010000000c000001440000'
+
+# told FILE: what a file holds, line by line, each with the number of times that it stands in a row.
+told() {
+    [ -s "$1" ] || { printf 'empty'; return; }
+    uniq -c "$1" | awk '{
+        times = $1
+        sub(/^ *[0-9]+ /, "")
+        printf "%s\"%s\"", between, $0
+        if (times > 1) printf " %s times", times
+        between = ", "
+    }'
+    [ -z "$(tail -c 1 "$1")" ] || printf ' without a line break'
+}
+
+# report LABEL STATUS: a case's line, from what the program wrote, as far as that was kept.
+report() {
+    printf '%s: status %s' "$1" "$2"
+    for stream in output error; do
+        [ ! -e "$room/$stream" ] || printf ', %s %s' "$stream" "$(told "$room/$stream")"
+    done
+    echo
+}
+
+# run LABEL WORDS..: runs the program with these words, for at most a minute.
+run() {
+    label=$1
+    shift
+    status=0
+    timeout 60 "$program" "$@" >"$room/output" 2>"$room/error" || status=$?
+    report "$label" "$status"
+}

@@ -1,0 +1,115 @@
+#!/usr/bin/env python3
+"""Writes tests/cut_commands.tpm: each command that succeeds, cut to every shorter length.
+
+A cut buffer whose commandSize is left as it was is refused for that. With commandSize corrected it
+is refused where it is cut: each command says here, in words and codes, up to which length by what.
+"""
+
+import pathlib
+
+import frames
+from frames import SHA1, SHA256, area, command, digests, entry, number, on_handle, sized
+
+SCRIPT = pathlib.Path(__file__).resolve().parent.parent / "cut_commands.tpm"
+HEADER_BYTES = 10
+
+HEAD = """\
+# Each command that succeeds, cut to every shorter length: first as it is, and then with its
+# commandSize corrected. At last it comes whole. So does TPM2_GetRandom with a password, which is
+# refused whole too. Written by tests/outside/cut_commands.py.
+"""
+
+# Where the pieces of a command end: the handle, and then the area with one empty password.
+HANDLE = (14, "within its handle", "INSUFFICIENT/h1")
+AREA = (27, "within the authorization area", "AUTHSIZE")
+
+STARTUP = command(frames.STARTUP, number(0, 2))
+COMMANDS = [
+    (
+        "TPM2_Startup(CLEAR)",
+        STARTUP,
+        [(12, "within startupType", "INSUFFICIENT/p1")],
+        "SUCCESS",
+    ),
+    (
+        "TPM2_GetRandom of 32 bytes",
+        command(frames.GET_RANDOM, number(32, 2)),
+        [(12, "within bytesRequested", "INSUFFICIENT/p1")],
+        "SUCCESS",
+    ),
+    (
+        "TPM2_PCR_Read of a bank",
+        command(frames.PCR_READ, frames.selection((SHA256, range(24)))),
+        [(20, "within its selection", "INSUFFICIENT/p1")],
+        "SUCCESS",
+    ),
+    (
+        "TPM2_PCR_Read of two banks",
+        command(frames.PCR_READ, frames.selection((SHA1, [0]), (SHA256, [23]))),
+        [(26, "within its selection", "INSUFFICIENT/p1")],
+        "SUCCESS",
+    ),
+    (
+        "TPM2_PCR_Extend by a digest",
+        on_handle(frames.PCR_EXTEND, 10, digests((SHA256, bytes(32)))),
+        [HANDLE, AREA, (65, "within its digests", "INSUFFICIENT/p1")],
+        "SUCCESS",
+    ),
+    (
+        "TPM2_PCR_Extend by two digests",
+        on_handle(frames.PCR_EXTEND, 10, digests((SHA1, bytes(20)), (SHA256, bytes(32)))),
+        [HANDLE, AREA, (87, "within its digests", "INSUFFICIENT/p1")],
+        "SUCCESS",
+    ),
+    (
+        'TPM2_PCR_Event of "abc"',
+        on_handle(frames.PCR_EVENT, 10, sized(b"abc")),
+        [HANDLE, AREA, (32, "within its data", "INSUFFICIENT/p1")],
+        "SUCCESS",
+    ),
+    (
+        "TPM2_PCR_Reset of PCR 16",
+        on_handle(frames.PCR_RESET, 16),
+        [HANDLE, AREA],
+        "SUCCESS",
+    ),
+    (
+        "TPM2_GetRandom with a password",
+        command(frames.GET_RANDOM, area(entry()) + number(4, 2), frames.SESSIONS),
+        [
+            (23, "within the authorization area", "AUTHSIZE"),
+            (25, "behind the authorization area", "HANDLE/s1"),
+        ],
+        "HANDLE/s1",
+    ),
+]
+
+
+def comment(what, outcome):
+    """A comment that names an outcome, with its number where it is a code."""
+    shown = outcome if outcome == "SUCCESS" else f"{outcome} ({frames.code_of(outcome):03X})"
+    return f"# {what}: {shown}.\n"
+
+
+def line(buffer):
+    return f"cmd {buffer.hex()}\n" if buffer else "cmd\n"
+
+
+def with_size(buffer):
+    """The buffer with its length as commandSize."""
+    return buffer[:2] + number(len(buffer), 4) + buffer[6:]
+
+
+def cuts(name, whole, pieces, outcome):
+    text = f"\n# {name}.\n" + comment("Cut, with commandSize as it was", "COMMAND_SIZE")
+    text += "".join(line(whole[:length]) for length in range(len(whole)))
+    start = HEADER_BYTES
+    for end, where, code in pieces:
+        text += "\n" + comment(f"Cut {where}, with commandSize corrected", code)
+        text += "".join(line(with_size(whole[:length])) for length in range(start, end))
+        start = end
+    assert start == len(whole)
+    return text + "\n" + comment("Whole", outcome) + line(whole)
+
+
+SCRIPT.write_text(HEAD + "".join(cuts(*it) for it in COMMANDS), "ascii")

@@ -1,0 +1,112 @@
+"""Frames of TPM 2.0 commands and responses, byte by byte (TPM 2.0 Library, Part 1, section 18)."""
+
+NO_SESSIONS, SESSIONS, BAD_TAG_ANSWER = 0x8001, 0x8002, 0x00C4
+
+PCR_EVENT, PCR_RESET, STARTUP = 0x13C, 0x13D, 0x144
+GET_RANDOM, PCR_READ, PCR_EXTEND = 0x17B, 0x17E, 0x182
+
+RS_PW, RH_NULL = 0x4000_0009, 0x4000_0007
+SHA1, SHA256 = 0x0004, 0x000B
+
+CONTINUE_SESSION = 0x01
+
+# The response codes of docs/TABLE.md (Part 2, section 6.6.3), without their places.
+CODES = {
+    "BAD_TAG": 0x01E,
+    "ATTRIBUTES": 0x082,
+    "HASH": 0x083,
+    "VALUE": 0x084,
+    "HANDLE": 0x08B,
+    "SIZE": 0x095,
+    "INSUFFICIENT": 0x09A,
+    "RESERVED_BITS": 0x0A1,
+    "BAD_AUTH": 0x0A2,
+    "INITIALIZE": 0x100,
+    "FAILURE": 0x101,
+    "AUTH_MISSING": 0x125,
+    "COMMAND_SIZE": 0x142,
+    "COMMAND_CODE": 0x143,
+    "AUTHSIZE": 0x144,
+    "AUTH_CONTEXT": 0x145,
+    "LOCALITY": 0x907,
+    "REFERENCE_S0": 0x918,
+    "REFERENCE_S1": 0x919,
+    "REFERENCE_S2": 0x91A,
+}
+
+# What the first of a kind of places adds to a code, before 0x100 for its number (section 6.6.2).
+PLACES = {"h": 0, "p": 0x040, "s": 0x800}
+
+
+def number(value, size):
+    """A number of so many bytes, the highest first."""
+    return value.to_bytes(size, "big")
+
+
+def sized(data):
+    """A buffer behind its size in two bytes."""
+    return number(len(data), 2) + data
+
+
+# Commands.
+
+
+def command(code, body, tag=NO_SESSIONS, size=None):
+    """A command; commandSize is right where no other is given."""
+    length = 10 + len(body) if size is None else size
+    return number(tag, 2) + number(length, 4) + number(code, 4) + body
+
+
+def entry(session=RS_PW, nonce=b"", attributes=CONTINUE_SESSION, hmac=b""):
+    """An entry of an authorization area; with nothing given, the empty password."""
+    return number(session, 4) + sized(nonce) + number(attributes, 1) + sized(hmac)
+
+
+def area(*entries, size=None):
+    """An authorization area; authorizationSize is right where no other is given."""
+    text = b"".join(entries)
+    return number(len(text) if size is None else size, 4) + text
+
+
+def on_handle(code, handle, parameters=b"", entries=None):
+    """A command with one handle, which the entries authorize: the empty password, if none is given."""
+    text = area(*([entry()] if entries is None else entries))
+    return command(code, number(handle, 4) + text + parameters, SESSIONS)
+
+
+def selection(*banks):
+    """A selection of PCRs: for each bank its hash algorithm and the numbers of its PCRs."""
+    text = number(len(banks), 4)
+    for algorithm, pcrs in banks:
+        bits = sum(1 << pcr for pcr in set(pcrs))
+        text += number(algorithm, 2) + b"\x03" + bits.to_bytes(3, "little")
+    return text
+
+
+def digests(*values):
+    """A list of digests, each behind its hash algorithm."""
+    return number(len(values), 4) + b"".join(number(alg, 2) + digest for alg, digest in values)
+
+
+# Responses.
+
+
+def refusal(code):
+    """Ten bytes: the tag, the size and the code."""
+    tag = BAD_TAG_ANSWER if code == CODES["BAD_TAG"] else NO_SESSIONS
+    return number(tag, 2) + number(10, 4) + number(code, 4)
+
+
+def success(answer, entries):
+    """A success; with entries, each is answered by an empty nonce, continueSession and no HMAC."""
+    if entries == 0:
+        return number(NO_SESSIONS, 2) + number(10 + len(answer), 4) + number(0, 4) + answer
+    body = number(len(answer), 4) + answer + entries * bytes([0, 0, CONTINUE_SESSION, 0, 0])
+    return number(SESSIONS, 2) + number(10 + len(body), 4) + number(0, 4) + body
+
+
+def code_of(name):
+    """The number of a code such as HASH/p1: the code's, and what its place adds."""
+    code, slash, place = name.partition("/")
+    added = PLACES[place[0]] + 0x100 * int(place[1:]) if slash else 0
+    return CODES[code] + added

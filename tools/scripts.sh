@@ -1,0 +1,108 @@
+#!/bin/sh
+# Runs the scripts of tests/ and examples/, and the shell tests of tests/, with each of the two
+# programs that `rt ci` leaves, and compares what comes of them with the files beside them.
+#
+#   tools/scripts.sh                   all of them
+#   tools/scripts.sh pcr_extend files  these
+#
+# NAME.tpm is run as `PROGRAM run NAME.tpm`, and NAME.sh as `sh NAME.sh PROGRAM`. NAME.out is what
+# standard output must be, NAME.err what standard error must be (no file: empty), and NAME.status
+# the exit status (no file: 0). The last line is `N passed, M failed`.
+set -u
+
+top=$(CDPATH='' cd "$(dirname "$0")/.." && pwd -P) || exit 1
+work=$(mktemp -d) || exit 1
+trap 'rm -rf "$work"' EXIT
+: >"$work/empty"
+passed=0
+failed=0
+
+fail() {
+    echo "FAILED: $1"
+    failed=$((failed + 1))
+}
+
+# first_difference TEST: the first line of standard output that differs, and of a script the command
+# that it answers, which is the script's cmd line of the same number.
+first_difference() {
+    awk -v test="${1#"$top/"}" -v out="${base#"$top/"}.out" '
+        FILENAME == ARGV[1] {
+            if (test ~ /tpm$/ && /^cmd( |$)/) command[++commands] = test ":" FNR ": " $0
+            next
+        }
+        FILENAME == ARGV[2] { wanted[++wanted_lines] = $0; next }
+        { given[++given_lines] = $0 }
+        END {
+            most = wanted_lines > given_lines ? wanted_lines : given_lines
+            for (n = 1; n <= most; n++) if (wanted[n] "" != given[n] "") break
+            print "    " (n <= commands ? command[n] : out ":" n)
+            print "        wanted: " (n <= wanted_lines ? wanted[n] : "no more")
+            print "        given:  " (n <= given_lines ? given[n] : "no more")
+        }
+    ' "$1" "$base.out" "$work/output"
+}
+
+# check TEST PROGRAM: counts a test that is run with a program, and says what differs.
+check() {
+    base=${1%.*}
+    named="${1#"$top/"} with ${2##*/}"
+    if [ ! -f "$base.out" ]; then
+        fail "$named: ${base#"$top/"}.out is not there"
+        return
+    fi
+    status=0
+    case $1 in
+    *.tpm) timeout 120 "$2" run "$1" ;;
+    *) timeout 120 sh "$1" "$2" ;;
+    esac </dev/null >"$work/output" 2>"$work/error" || status=$?
+    wanted_status=0
+    [ ! -f "$base.status" ] || wanted_status=$(cat "$base.status")
+    wanted_error=$work/empty
+    [ ! -f "$base.err" ] || wanted_error=$base.err
+
+    if [ "$status" = "$wanted_status" ] && cmp -s "$base.out" "$work/output" &&
+        cmp -s "$wanted_error" "$work/error"; then
+        echo "ok: $named"
+        passed=$((passed + 1))
+        return
+    fi
+    fail "$named"
+    cmp -s "$base.out" "$work/output" || first_difference "$1"
+    [ "$status" = "$wanted_status" ] || echo "    status wanted: $wanted_status, given: $status"
+    cmp -s "$wanted_error" "$work/error" || {
+        echo "    standard error wanted: $(cat "$wanted_error")"
+        echo "    standard error given:  $(cat "$work/error")"
+    }
+}
+
+if [ "$#" -eq 0 ]; then
+    set -- "$top"/tests/*.tpm "$top"/tests/*.sh "$top"/examples/*.tpm
+else
+    for name do
+        shift
+        found=
+        for test in "$top/tests/$name.tpm" "$top/tests/$name.sh" "$top/examples/$name.tpm"; do
+            if [ -f "$test" ]; then
+                set -- "$@" "$test"
+                found=yes
+            fi
+        done
+        [ -n "$found" ] || fail "$name: there is no such test"
+    done
+fi
+
+programs=0
+for program in "$top/crates/tpmsim/out/tpmsim" "$top/crates/tpmsim/out/tpmsim.by-rattle"; do
+    if [ ! -x "$program" ]; then
+        echo "${program#"$top/"} is not there"
+        continue
+    fi
+    programs=$((programs + 1))
+    for test do
+        check "$test" "$program"
+    done
+done
+[ "$programs" -gt 0 ] || fail 'no program was there to be run'
+
+echo "$passed passed, $failed failed"
+[ "$failed" -eq 0 ]
