@@ -6,8 +6,8 @@
 trap '' PIPE
 mkfifo lines responses
 
-# begin SCRIPT: starts the program, for at most twenty seconds. What is given to it goes into a pipe,
-# and its responses come out of another.
+# begin SCRIPT: starts the program, for at most twenty seconds. What is given to it goes into one
+# pipe, and its responses come out of another.
 begin() {
     timeout 20 "$program" run "$1" <lines >responses 2>"$room/error" &
     exec 3>lines 4<responses

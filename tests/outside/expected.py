@@ -4,10 +4,10 @@
     python3 tests/outside/expected.py                    for every script in tests/
     python3 tests/outside/expected.py tests/startup.tpm  for these
 
-The comment above a command, or above a few of them, names what must come: `: SUCCESS`, or a response
-code with its number, as in `: VALUE/p1 (1C4)`. It holds up to the next comment or empty line. A
-refusal is that code in ten bytes, and the comment is believed; what a success answers is computed
-by device.py.
+The comment above a command, or above a few of them, names what must come: `: SUCCESS`, or a
+response code with its number, as in `: VALUE/p1 (1C4)`. It holds up to the next comment or empty
+line. A refusal is that code in ten bytes, and the comment is believed; what a success answers is
+computed by device.py.
 """
 
 import pathlib

@@ -69,7 +69,7 @@ def area(*entries, size=None):
 
 
 def on_handle(code, handle, parameters=b"", entries=None):
-    """A command with one handle, which the entries authorize: the empty password, if none is given."""
+    """A command with one handle, and the entries that authorize it, or the empty password."""
     text = area(*([entry()] if entries is None else entries))
     return command(code, number(handle, 4) + text + parameters, SESSIONS)
 
