@@ -51,3 +51,6 @@ words RUN a
 words help
 words help run
 words version
+
+# A word that is not UTF-8.
+echo cmd | run 'tpmsim run \377' run "$(printf '\377')"

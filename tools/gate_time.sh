@@ -15,6 +15,27 @@ KINDS = ("proofs", "tests", "wrong bodies")
 TICK = os.sysconf("SC_CLK_TCK")
 
 
+def parents():
+    """The parent of each process."""
+    found = {}
+    for pid in filter(str.isdigit, os.listdir("/proc")):
+        try:
+            with open(f"/proc/{pid}/stat") as file:
+                found[pid] = file.read().rsplit(")", 1)[1].split()[1]
+        except OSError:
+            pass
+    return found
+
+
+def below(pid, top, found):
+    """Whether a process was started by the one at the top, however far below it."""
+    while pid in found:
+        if pid == top:
+            return True
+        pid = found[pid]
+    return False
+
+
 def of_process(pid):
     """The crate and the kind of work of a process of the toolchain, and its processor seconds."""
     with open(f"/proc/{pid}/cmdline", "rb") as file:
@@ -26,6 +47,7 @@ def of_process(pid):
     folder = os.readlink(f"/proc/{pid}/cwd")
     named = words[words.index("--crate-name") + 1] if "--crate-name" in words else ""
     crate = named or re.sub(r".*/crates/([^/]+).*", r"\1", folder)
+    crate = crate if "/" not in crate else "linking"
     if re.search(r"/rt-edit-", folder):
         kind = "wrong bodies"
     elif "--test" in words or any(word.startswith("out/") and "_tests" in word for word in words):
@@ -35,11 +57,12 @@ def of_process(pid):
     return (pid, fields[19]), (crate, kind), (int(fields[11]) + int(fields[12])) / TICK
 
 
-def watch(ended, taken):
+def watch(top, ended, taken):
     while not ended.is_set():
-        for pid in filter(str.isdigit, os.listdir("/proc")):
+        found = parents()
+        for pid in found:
             try:
-                process = of_process(pid)
+                process = of_process(pid) if below(pid, top, found) else None
             except OSError:
                 continue
             if process:
@@ -49,9 +72,10 @@ def watch(ended, taken):
 
 
 ended, taken, began = threading.Event(), {}, time.time()
-watcher = threading.Thread(target=watch, args=(ended, taken))
+command = subprocess.Popen(sys.argv[1:])
+watcher = threading.Thread(target=watch, args=(str(command.pid), ended, taken))
 watcher.start()
-status = subprocess.run(sys.argv[1:]).returncode
+status = command.wait()
 ended.set()
 watcher.join()
 

@@ -1,2 +1,4 @@
 pub mod Putting
 pub mod Fields
+pub mod Joining
+pub mod Spelling

@@ -1,3 +1,4 @@
 pub mod Reading
+pub mod Many
 pub mod Writing
 pub mod Tap

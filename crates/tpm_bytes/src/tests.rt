@@ -1,9 +1,14 @@
+ghost use Rattle.std.specs.Prelude.{ℕ};
+ghost use Rattle.std.specs.Int.{w8};
+ghost use Rattle.tpm_bytes.specs.Reading.{number_at, or_fault};
+
 use crate::cursor::{Cursor, Short, SizedFault};
+use crate::many::{Readable, ReadableBy, read_each, read_many};
 use crate::sink::{Full, Sink};
 use crate::tap::Tap;
+use arrayvec::ArrayVec;
 use std::io;
 use std::io::{ErrorKind, Read, Write};
-use std::test::Fail;
 
 /// Sixteen bytes, no two alike.
 const TEXT: [u8; 16] = [
@@ -40,6 +45,51 @@ fn a_cut_read_leaves_the_cursor(rt: HostRuntime) {
         assert_eq!(rt; cursor.take(length + 1), Err(Short), "of {length} bytes");
         assert_eq!(rt; cursor.rest(), text, "of {length} bytes");
     }
+}
+
+/// A byte, as a thing that a text spells.
+#[derive(Clone, Copy, Default)]
+struct Octet(u8);
+
+impl<'a> Readable<'a> for Octet {
+    type Fault = Short;
+
+    ghost Seen = { ℕ };
+
+    ghost seen = { λ octet. octet.0 };
+
+    ghost at = { number_at w8 };
+
+    fn read(text: &mut Cursor<'a>) -> Result<Octet, Short> {
+        Ok(Octet(text.u8()?))
+    }
+}
+
+impl<'a> ReadableBy<'a, ()> for Octet {
+    type Fault = u8;
+
+    ghost Seen = { ℕ };
+
+    ghost seen = { λ octet. octet.0 };
+
+    ghost at = { λ place key text. or_fault (number_at w8 text) place };
+
+    fn read(number: u8, _key: &(), text: &mut Cursor<'a>) -> Result<Octet, u8> {
+        text.u8().map(Octet).map_err(|_| number)
+    }
+}
+
+#[test]
+fn things_are_read_one_after_another(rt: HostRuntime) {
+    let mut text = Cursor::new(b"abcd");
+    let two: Result<ArrayVec<Octet, 2>, Short> = read_many(&mut text, 2);
+    if let Ok(things) = two {
+        assert_eq!(rt; things.as_slice().last().map(|thing| thing.0), Some(b'b'));
+    }
+    assert_eq!(rt; text.rest(), b"cd".as_slice());
+    let three: Result<ArrayVec<Octet, 3>, u8> = read_each(&[(), (), ()], &mut text);
+    assert_eq!(rt; three.err(), Some(3));
+    assert_eq!(rt; text.rest(), b"cd".as_slice());
 }
 
 #[test]
@@ -103,18 +153,6 @@ fn a_piece_may_fill_a_sink_and_not_pass_it(rt: HostRuntime) {
             assert_eq!(rt; sink.len(), if put.is_ok() { 2 + piece.len() } else { 2 });
         }
     }
-}
-
-#[test]
-fn a_size_has_two_bytes(rt: HostRuntime) -> Result<(), Fail> {
-    let piece = vec![in rt.alloc(); 7; 65_536]?;
-    let mut sink: Sink<65_540> = Sink::new();
-    assert_eq!(rt; sink.put_sized(piece.as_slice()), Err(Full));
-    assert_eq!(rt; sink.len(), 0);
-    assert_eq!(rt; sink.put_sized(&piece[..65_535]), Ok(()));
-    assert_eq!(rt; sink.len(), 65_537);
-    assert_eq!(rt; sink.as_slice().get(..3), Some(b"\xff\xff\x07".as_slice()));
-    Ok(())
 }
 
 /// What a device does at each call.

@@ -1,4 +1,5 @@
 pub mod Running
 pub mod Refusals
-pub mod HandlesLemmas
 pub mod Answering
+pub mod Decoding
+pub mod Keeping

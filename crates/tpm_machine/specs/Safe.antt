@@ -1,15 +1,25 @@
--- What a refusal leaves, said of a step and apart from it.
-use Rattle.std.specs.Prelude.{◌≡◌, ◌≢◌, length}
+-- What a refusal leaves, and what a success may take, said of a step and apart from it.
+use Rattle.std.specs.Prelude.{◌≡◌, ◌≢◌, ◌≤◌, length, IfOk}
+use Rattle.tpm_record.specs.Record.{Record}
+use Rattle.tpm_record.specs.Tick.{ticked}
+use Rattle.tpm_auth.specs.declared.refused.Counted.{Counted}
 use Rattle.tpm_machine.specs.Events.{Happening, Given, Cycled}
-use Rattle.tpm_machine.specs.Record.{Record}
-use Rattle.tpm_machine.specs.Step.{Stepped}
-use Rattle.tpm_machine.specs.Tick.{ticked}
+use Rattle.tpm_machine.specs.Step.{Accepted, Stepped, accepted, counted_in}
 
 -- the record after Time and Clock have gone on by a command's elapsed time, and nothing else
 abbrev pub only_ticked : Record → Happening → Record
 only_ticked r (Given buffer locality elapsed random) = ticked r elapsed
 only_ticked r Cycled = r
 
--- A refusal is ten bytes, and changes nothing but Time and Clock.
+-- A refusal is ten bytes, and changes nothing but Time and Clock and what it counts.
 abbrev pub IsHarmless : Record → Happening → Stepped → Type 0
-IsHarmless r event x = x.row.check ≢ 0 → (length x.response ≡ 10) × (x.after ≡ only_ticked r event)
+IsHarmless r event x = x.row.check ≢ 0 → (length x.response ≡ 10) × (counted : Counted) × (x.after ≡ counted_in counted (only_ticked r event))
+
+-- A row draws at most 96 of the event's random bytes, and answers at most 2,048 bytes of parameters.
+abbrev pub IsModest : Accepted → Type 0
+IsModest a = (a.success.drawn ≤ 96) × (length a.success.answer ≤ 2048)
+
+abbrev pub AcceptsModestly : Record → Happening → Type 0
+AcceptsModestly r (Given buffer locality elapsed random) =
+    let t = ticked r elapsed in IfOk (accepted t buffer locality random) IsModest
+AcceptsModestly r Cycled = Unit {0}

@@ -1,3 +1,5 @@
+ghost use Rattle.std.specs.Prelude.{◌≡◌};
+
 use arrayvec::ArrayVec;
 use tpm_types::locality::Locality;
 
@@ -20,6 +22,31 @@ pub enum Event<'a> {
     },
     /// Power goes off and on again.
     PowerCycle,
+}
+
+impl<'a> Event<'a> {
+    ghost use Rattle.tpm_machine.specs.Events.{IsEvent, happening};
+    ghost use Rattle.tpm_machine.specs.declared.event.Event.TheVariants.{Command};
+
+    /// The event of a command.
+    pub fn of_command(
+        buffer: &'a [u8],
+        locality: Locality,
+        elapsed_ms: u32,
+        random: [u8; 256],
+    ) -> Event<'a>
+        ensures value { result ≡ Command buffer.entry locality elapsed_ms random }
+
+        // What happens comes from locality 0 to 4, with a time of 32 bits and 256 random bytes.
+        ensures event { IsEvent (happening result) }
+    {
+        Event::Command {
+            buffer,
+            locality,
+            elapsed_ms,
+            random,
+        }
+    }
 }
 
 /// What was decided about an event: the command's code, 0 where none was found or power was cycled, and

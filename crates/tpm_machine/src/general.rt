@@ -1,46 +1,37 @@
-ghost use Rattle.std.specs.Prelude.{◌≡◌, ◌≤◌, IfOk};
+ghost use Rattle.std.specs.Prelude.{◌≡◌, [], Ok, IfOk};
 ghost use Rattle.tpm_types.specs.CommandCode.{code_number};
-ghost use Rattle.tpm_machine.specs.Check.{check_number};
-ghost use Rattle.tpm_machine.specs.General.{Decodes, ReadsArea, area_of, general, header_check, refusal_of, refusal_of_header};
+ghost use Rattle.tpm_types.specs.Command.{command_at, whole_of};
+ghost use Rattle.tpm_machine.specs.General.{Decodes, body_of, general, header_check, header_refusal, sessions_pass};
 
-use crate::check::Check;
-use crate::entries::{check_entries, check_passwords};
-use crate::event::Row;
-use crate::handles::{Handles, authorized_handles, read_handles};
-use arrayvec::ArrayVec;
+use tpm_auth::check::Check;
+use tpm_auth::refused::Refused;
 use tpm_bytes::cursor::Cursor;
-use tpm_types::auth_area::AuthArea;
-use tpm_types::auth_entry::AuthEntry;
+use tpm_record::keep::Keep;
 use tpm_types::command::{Header, HeaderFault};
 use tpm_types::command_code::CommandCode;
-use tpm_types::rc::{Rc, ResponseCode};
+use tpm_types::handle_area::read_handles;
+use tpm_types::rc::ResponseCode;
 use tpm_types::tag::Tag;
+use tpm_types::whole_command::Command;
+use tpm_types::whole_command::reading::read_sessions;
 
-/// A command that passed the general checks.
-#[derive(Drop)]
-pub struct Decoded<'a> {
-    pub code: CommandCode,
-    pub handles: Handles,
-    /// How many entries it had.
-    pub entries: usize,
-    pub parameters: &'a [u8],
-}
-
-/// A refusal with the row that reports it.
+/// A refusal, and the code of the command that is refused; 0 where none was found.
 #[derive(Clone, Copy, Debug, PartialEq, Eq)]
 pub struct Refusal {
-    pub rc: Rc,
-    pub row: Row,
+    pub code: u32,
+    pub refused: Refused,
 }
 
-fn refused_by(code: CommandCode, check: Check, rc: Rc) -> Refusal
-    ensures { result ≡ refusal_of code check rc }
-{
-    let row = Row {
-        code: code.number(),
-        check: check.number(),
-    };
-    Refusal { rc, row }
+impl Refusal {
+    /// A refusal of a command.
+    pub fn of(code: CommandCode, refused: Refused) -> Refusal
+        ensures { result ≡ record { code = code_number code; refused = refused } }
+    {
+        Refusal {
+            code: code.number(),
+            refused,
+        }
+    }
 }
 
 fn header_check(fault: HeaderFault) -> Check
@@ -55,62 +46,77 @@ fn header_check(fault: HeaderFault) -> Check
 }
 
 fn header_refusal(fault: HeaderFault) -> Refusal
-    ensures { result ≡ refusal_of_header fault }
+    ensures { result ≡ header_refusal fault }
 {
-    let row = Row {
-        code: 0,
-        check: header_check(fault).number(),
-    };
     Refusal {
-        rc: fault.rc(),
-        row,
+        code: 0,
+        refused: Refused::by(header_check(fault), fault.rc()),
     }
 }
 
-/// Reads the entries of the session area, if the tag says that there is one.
-fn read_area<'a>(tag: Tag, text: &mut Cursor<'a>) -> Result<ArrayVec<AuthEntry<'a>, 3>, Rc>
-    ensures { ReadsArea (area_of tag text.old) result text.new }
+/// Refuses sessions where the command may have none, and none where it must have some.
+#[tactic(auto, unfolding(crate::specs::General::sessions_pass))]
+fn check_sessions(code: CommandCode, tag: Tag) -> Result<(), Refused>
+    ensures { result ≡ sessions_pass code tag }
 {
-    match tag {
-        Tag::NoSessions => Ok(ArrayVec::new()),
-        Tag::Sessions => Ok(AuthArea::read(text)?.entries),
-    }
-}
-
-/// Decodes a command's buffer, or gives the first general check that refuses it.
-#[tactic(auto, unfolding(crate::specs::General::general))]
-pub fn decode<'a>(started: bool, buffer: &'a [u8]) -> Result<Decoded<'a>, Refusal>
-    ensures decoded { Decodes (general started buffer.now) result }
-    ensures few { IfOk result (λ command. command.entries ≤ 3) }
-{
-    let mut rest = Cursor::new(buffer);
-    let Header { tag, code } = Header::read(&mut rest).map_err(header_refusal)?;
-    let is_startup = code == CommandCode::Startup;
-    if started == is_startup {
-        let rc = ResponseCode::Initialize.anywhere();
-        return Err(refused_by(code, Check::Started, rc));
-    }
-    let handles = read_handles(code, &mut rest).map_err(|rc| refused_by(code, Check::Handles, rc))?;
-    if tag == Tag::Sessions && is_startup {
+    let has_sessions = tag == Tag::Sessions;
+    if has_sessions && !code.shape().allows_sessions {
         let rc = ResponseCode::AuthContext.anywhere();
-        return Err(refused_by(code, Check::Sessions, rc));
+        return Err(Refused::by(Check::Sessions, rc));
     }
-    let authorized = authorized_handles(code);
-    if tag == Tag::NoSessions && authorized > 0 {
+    if !has_sessions && code.authorized_handles() > 0 {
         let rc = ResponseCode::AuthMissing.anywhere();
-        return Err(refused_by(code, Check::Sessions, rc));
+        return Err(Refused::by(Check::Sessions, rc));
     }
-    let entries = read_area(tag, &mut rest).map_err(|rc| refused_by(code, Check::Entries, rc))?;
-    check_entries(authorized, entries.as_slice()).map_err(|rc| refused_by(
-        code,
+    Ok(())
+}
+
+/// Reads what stands behind a command's header, or gives the first check that refuses it.
+#[tactic(auto, unfolding(crate::specs::General::body_of))]
+fn decode_body<'a, K: Keep>(
+    keep: &K,
+    header: Header,
+    mut text: Cursor<'a>,
+) -> Result<Command<'a>, Refused>
+    ensures { Decodes (body_of (K.record_of keep.now) header text.entry) result }
+{
+    let code = header.code;
+    let is_startup = code.number() == CommandCode::Startup.number();
+    if keep.fixed().started == is_startup {
+        let rc = ResponseCode::Initialize.anywhere();
+        return Err(Refused::by(Check::Started, rc));
+    }
+    let handles = read_handles(code, &mut text).map_err(|rc| Refused::by(Check::Handles, rc))?;
+    check_sessions(code, header.tag)?;
+    let entries = read_sessions(&mut text, header.tag).map_err(|rc| Refused::by(
         Check::Entries,
         rc,
     ))?;
-    check_passwords(entries.as_slice()).map_err(|rc| refused_by(code, Check::Authorization, rc))?;
-    Ok(Decoded {
+    Ok(Command {
         code,
         handles,
-        entries: entries.len(),
-        parameters: rest.rest(),
+        entries,
+        parameters: text.rest(),
     })
+}
+
+#[inline(always)]
+#[tactic(auto, unfolding(crate::specs::General::general))]
+fn decode_whole<'a, K: Keep>(keep: &K, buffer: &'a [u8]) -> Result<Command<'a>, Refusal>
+    ensures { Decodes (general (K.record_of keep.now) buffer.now) result }
+{
+    let mut text = Cursor::new(buffer);
+    let header = Header::read(&mut text).map_err(header_refusal)?;
+    decode_body(keep, header, text).map_err(|refused| Refusal::of(header.code, refused))
+}
+
+/// Decodes a command's buffer, or gives the first general check that refuses it.
+#[tactic(auto, using(crate::proofs::Decoding::decodes_reads))]
+pub fn decode<'a, K: Keep>(keep: &K, buffer: &'a [u8]) -> Result<Command<'a>, Refusal>
+    ensures decoded { Decodes (general (K.record_of keep.now) buffer.now) result }
+
+    // It is the command that the whole buffer spells.
+    ensures read { IfOk result (λ command. command_at buffer.now ≡ Ok (whole_of command, [])) }
+{
+    decode_whole(keep, buffer)
 }

@@ -1,56 +1,87 @@
-ghost use Rattle.std.specs.Prelude.{◌≡◌, ◌≤◌, List, [], IfOk, length, map};
+ghost use Rattle.std.specs.Prelude.{◌≡◌, ◌≤◌, List, [], IfOk, false, length, map};
+ghost use Rattle.tpm_record.specs.IsRecord.{IsRecord};
+ghost use Rattle.tpm_record.specs.Record.{manufactured};
 ghost use Rattle.tpm_machine.specs.Events.{happening};
-ghost use Rattle.tpm_machine.specs.Record.{manufactured};
-ghost use Rattle.tpm_machine.specs.Run.{Runs};
-ghost use Rattle.tpm_machine.specs.Safe.{IsHarmless};
+ghost use Rattle.tpm_machine.specs.Run.{Runs, after_all};
+ghost use Rattle.tpm_machine.specs.Safe.{AcceptsModestly, IsHarmless};
 ghost use Rattle.tpm_machine.specs.State.{state_of};
-ghost use Rattle.tpm_machine.specs.Step.{seen, step};
+ghost use Rattle.tpm_machine.specs.Step.{Steps, seen, step};
 
 use crate::event::{Event, Outcome, RESPONSE_LIMIT, Row};
 use crate::general::{Refusal, decode};
-use crate::response::refused;
-use crate::state::State;
-use crate::table::act;
+use crate::response::{write_refusal, write_success};
+use crate::table::accept;
 use std::alloc::Global;
 use tpm_bytes::sink::Sink;
+use tpm_record::cycle::power_cycle;
+use tpm_record::keep::{Keep, NoMemory};
+use tpm_record::tick::tick;
 use tpm_types::locality::Locality;
 
-/// Memory was refused.
-#[derive(Clone, Copy, Debug, PartialEq, Eq)]
-pub struct NoMemory;
-
-/// The device.
+/// The device, by a way of keeping its state.
 #[derive(Drop)]
-pub struct Machine {
-    state: State,
+pub struct Machine<K: Keep> {
+    keep: K,
 }
 
-impl Machine {
-    /// A new device. Its memory comes from `alloc`, and its secrets from the random bytes; so far it has
-    /// neither need.
-    pub fn manufacture(_alloc: Global, _random: &[u8; 256]) -> Result<Machine, NoMemory>
-        ensures { IfOk result (λ machine. state_of machine ≡ manufactured) }
+impl<K: Keep> Machine<K> {
+    /// A new device. Its memory comes from `alloc`, and its secrets from the random bytes, of which it
+    /// has no need so far.
+    pub fn manufacture(alloc: Global, _random: &[u8; 256]) -> Result<Machine<K>, NoMemory>
+        ensures state { IfOk result (λ machine. state_of K.record_of machine ≡ manufactured) }
+        ensures is_record { IfOk result (λ machine. IsRecord (state_of K.record_of machine)) }
     {
-        Ok(Machine {
-            state: State::manufactured(),
-        })
+        Ok(Machine::from_keep(K::empty(alloc)?))
+    }
+
+    /// The device whose state is kept so.
+    pub fn from_keep(keep: K) -> Machine<K>
+        ensures { state_of K.record_of result ≡ K.record_of keep }
+    {
+        Machine { keep }
+    }
+
+    /// What keeps the device's state.
+    pub fn keep(&self) -> &K
+        ensures { K.record_of result.now ≡ state_of K.record_of self.now }
+    {
+        &self.keep
     }
 
     /// Executes one event: its response, its row and the state after it are those of the table.
-    #[tactic(auto, using(crate::proofs::Refusals::seen_harmless))]
+    #[tactic(auto, using(crate::proofs::Refusals::steps_exactly, crate::proofs::Refusals::step_harmless_seen))]
     pub fn execute(&mut self, event: &Event) -> Outcome
-        ensures step { seen (state_of self.new) result ≡ step (state_of self.old) (happening event.now) }
+        ensures steps { Steps K.can_refuse (state_of K.record_of self.old) (happening event.now) (seen (state_of K.record_of self.new) result) }
+
+        // No command that is served grows anything, so each event is its step, however the state is kept.
+        ensures exact { seen (state_of K.record_of self.new) result ≡ step (state_of K.record_of self.old) (happening event.now) }
+
+        // What holds of every record holds after each event: values of their sizes, numbers of their widths.
+        ensures kept { IsRecord (state_of K.record_of self.old) → IsRecord (state_of K.record_of self.new) }
 
         // A refusal is ten bytes, and changes nothing but the time.
-        ensures harmless { IsHarmless (state_of self.old) (happening event.now) (seen (state_of self.new) result) }
+        ensures harmless { IsHarmless (state_of K.record_of self.old) (happening event.now) (seen (state_of K.record_of self.new) result) }
 
-        // An answer has at most 2,048 bytes, before it a header, and behind it at most three entries.
-        ensures fits { length result.response.items ≤ 2077 }
+        // A row that is accepted draws at most 96 random bytes, and answers at most 2,048 bytes.
+        ensures modest { AcceptsModestly (state_of K.record_of self.old) (happening event.now) }
+
+        // With what stands before and behind such an answer a response has at most so many bytes.
+        ensures fits { length result.response.items ≤ 2081 }
+    {
+        self.advance(event)
+    }
+
+    /// Executes one event. It is inlined, so that no whole response is copied.
+    #[inline(always)]
+    fn advance(&mut self, event: &Event) -> Outcome
+        ensures exact { seen (state_of K.record_of self.new) result ≡ step (state_of K.record_of self.old) (happening event.now) }
+        ensures modest { AcceptsModestly (state_of K.record_of self.old) (happening event.now) }
+        ensures fits { length result.response.items ≤ 2081 }
     {
         let mut text = Sink::new();
         let row = match event {
             Event::PowerCycle => {
-                self.state.power_cycle();
+                power_cycle(&mut self.keep);
                 Row { code: 0, check: 0 }
             }
             Event::Command {
@@ -59,7 +90,7 @@ impl Machine {
                 elapsed_ms,
                 random,
             } => {
-                self.state.tick(*elapsed_ms);
+                tick(&mut self.keep, *elapsed_ms);
                 self.command(buffer, *locality, random, &mut text)
             }
         };
@@ -70,9 +101,20 @@ impl Machine {
     }
 
     /// Runs the events in order, and calls `tell` with the outcome of each, once each.
+    #[tactic(auto, using(crate::proofs::Running::runs_lead))]
     pub fn run<F: FnMut(&Outcome)>(&mut self, events: &[Event], tell: &mut F)
         requires { F.IsAlwaysCallable tell.old }
-        ensures { Runs F.FnMut (state_of self.old) tell.old (map happening events.now) (state_of self.new) tell.new }
+        ensures runs { Runs F.FnMut K.can_refuse (state_of K.record_of self.old) tell.old (map happening events.now) (state_of K.record_of self.new) tell.new }
+
+        // Where no memory can be refused, the events lead where their steps lead.
+        ensures after { K.can_refuse ≡ false → state_of K.record_of self.new ≡ after_all (state_of K.record_of self.old) (map happening events.now) }
+    {
+        self.execute_all(events, tell);
+    }
+
+    fn execute_all<F: FnMut(&Outcome)>(&mut self, events: &[Event], tell: &mut F)
+        requires { F.IsAlwaysCallable tell.old }
+        ensures { Runs F.FnMut K.can_refuse (state_of K.record_of self.old) tell.old (map happening events.now) (state_of K.record_of self.new) tell.new }
     {
         for event in events {
             let outcome = self.execute(event);
@@ -81,12 +123,13 @@ impl Machine {
     }
 
     ghost use Rattle.tpm_types.specs.Locality.{locality_number};
-    ghost use Rattle.tpm_machine.specs.General.{general};
-    ghost use Rattle.tpm_machine.specs.Step.{decided};
+    ghost use Rattle.tpm_machine.specs.Safe.{IsModest};
+    ghost use Rattle.tpm_machine.specs.Step.{accepted, answer_of};
 
     /// Executes a command's buffer, after its time has passed: writes the response, and gives the row. Where it is inlined
     /// into `execute`, whole responses are copied.
     #[inline(never)]
+    #[tactic(auto, unfolding(crate::specs::Step::accepted))]
     fn command(
         &mut self,
         buffer: &[u8],
@@ -95,15 +138,40 @@ impl Machine {
         text: &mut Sink<RESPONSE_LIMIT>,
     ) -> Row
         requires { text.old ≡ [] }
-        ensures decided { decided (state_of self.old) (locality_number locality) random.now (general (state_of self.old).started buffer.now) ≡ record { response = text.new; row = result; after = state_of self.new } }
-        ensures fits { length text.new ≤ 2077 }
+        ensures answer { answer_of (state_of K.record_of self.old) (accepted (state_of K.record_of self.old) buffer.now (locality_number locality) random.now) ≡ record { response = text.new; row = result; after = state_of K.record_of self.new } }
+        ensures modest { IfOk (accepted (state_of K.record_of self.old) buffer.now (locality_number locality) random.now) IsModest }
+        ensures fits { length text.new ≤ 2081 }
     {
-        match decode(self.state.started, buffer) {
-            Ok(command) => act(&mut self.state, &command, locality, random, text),
-            Err(Refusal { rc, row }) => {
-                refused(row, rc, text);
-                row
+        let command = match decode(&self.keep, buffer) {
+            Ok(command) => command,
+            Err(refusal) => return refuse(refusal, text),
+        };
+        match &accept(&mut self.keep, &command, locality, random) {
+            Ok(answer) => {
+                write_success(command.entries.as_slice(), answer, text);
+                Row {
+                    code: command.code.number(),
+                    check: 0,
+                }
             }
+            Err(refused) => refuse(Refusal::of(command.code, *refused), text),
         }
+    }
+}
+
+ghost use Rattle.tpm_auth.specs.Check.{check_number};
+ghost use Rattle.tpm_machine.specs.Answer.{refusal_text};
+
+/// Writes the response to a command that is refused, and gives the row.
+fn refuse(refusal: Refusal, text: &mut Sink<RESPONSE_LIMIT>) -> Row
+    requires { text.old ≡ [] }
+    ensures text { text.new ≡ refusal_text refusal.refused }
+    ensures row { result ≡ record { code = refusal.code; check = check_number refusal.refused.check } }
+    ensures size { length text.new ≡ 10 }
+{
+    write_refusal(refusal.refused, text);
+    Row {
+        code: refusal.code,
+        check: refusal.refused.check.number(),
     }
 }

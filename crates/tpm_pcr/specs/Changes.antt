@@ -1,6 +1,6 @@
 -- How PCRs change. TPM 2.0 Library, Part 3, sections 22.2 (TPM2_PCR_Extend), 22.3 (TPM2_PCR_Event) and 22.8
--- (TPM2_PCR_Reset); which PCR is for what, and from where it changes, as the PC Client Platform TPM Profile
--- has it (section on PCR attributes).
+-- (TPM2_PCR_Reset). Which PCR is for what is the PC Client Platform TPM Profile's (section on PCR attributes); from
+-- where each changes is this device's own, a simplification of that profile, and so is that each value counts.
 use Rattle.std.specs.Prelude.{◌≡◌, ℕ, ◌+◌, ◌-◌, ◌^◌, ◌==◌, not, nat_lt, nat_le, if◌then◌else◌, Bool, true, false, List, [], ◌∷◌, ◌++◌, length, fold, replicate, slice_set, Result, Ok, Err}
 use Rattle.tpm_bytes.specs.Reading.{◌>>=◌, refused_if}
 use Rattle.tpm_mac.specs.declared.algorithm.HashAlg.{HashAlg}

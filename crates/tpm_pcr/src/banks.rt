@@ -1,4 +1,5 @@
 ghost use Rattle.std.specs.Prelude.{◌≡◌, ◌-◌, [], ◌∷◌, ◌++◌, ◌&&◌, nat_lt, if◌then◌else◌, length, take, replicate};
+ghost use Rattle.std.specs.List.{flat_map};
 ghost use Rattle.tpm_types.specs.Pcr.{is_selected, with_pcr};
 ghost use Rattle.tpm_types.specs.DigestList.{digests_of};
 ghost use Rattle.std.specs.Prelude.{◌<◌, ◌^◌};
@@ -104,6 +105,8 @@ impl Banks {
     pub fn read(&self, selection: &PcrSelection) -> PcrReading
         ensures selection { result.selection.banks.items ≡ answered 8 selection.now.banks.items }
         ensures values { digests_of result.values.digests.items ≡ read_values self.now 8 selection.now.banks.items }
+        ensures own { digests_of result.values.digests.items
+            ≡ flat_map (selected_values self.now) result.selection.banks.items }
     {
         let mut values = ArrayVec::new();
         let mut banks = ArrayVec::new();

@@ -1,35 +1,9 @@
-use Rattle.std.proofs.Common.{◌≡◌, ℕ, zero, suc, ◌+◌, ◌*◌, ◌<◌, ◌≤◌, List, [], ◌∷◌, ◌++◌, length, take, drop, get_or, Result, Ok, Err, refl, ap, sym, ◌∙◌, append_assoc, arith, length-append, length-take, take_all}
-use Rattle.std.proofs.lemmas.List.{take_more}
+use Rattle.std.proofs.Common.{◌≡◌, ℕ, ◌+◌, ◌*◌, ◌<◌, ◌≤◌, List, [], ◌∷◌, ◌++◌, length, take, get_or, Result, refl, ap, sym, ◌∙◌, append_assoc, arith, length-append, take_all}
 use Rattle.std.specs.Int.{w32, to_be_bytes}
-use Rattle.tpm_bytes.specs.Reading.{◌>>=◌}
 use Rattle.tpm_bytes.specs.Writing.{Puts}
 use Rattle.tpm_bytes.proofs.Putting.{put_fits, put_more}
 use Rattle.tpm_types.specs.declared.pcr_selection.BankSelection.{BankSelection}
-use Rattle.tpm_types.specs.declared.rc.Rc.{Rc}
-use Rattle.tpm_types.specs.PcrSelection.{bank_at, bank_text, banks_at, banks_text, selection_text}
-
--- what is read, behind what was read before it
-abbrev pub with_front : {X : Type 0} → List X → Result (List X × List ℕ) Rc → Result (List X × List ℕ) Rc
-with_front front read = do
-  x ← read
-  Ok (front ++ x.0, x.1)
-
-pub moved : {X : Type 0} (front : List X) (x : X) (read : Result (List X × List ℕ) Rc) → with_front (front ++ x ∷ []) read ≡ with_front front (read >>= λ others. Ok (x ∷ others.0, others.1))
-moved front x (Err e) = refl
-moved front x (Ok y) = ap (λ l. Ok (l, y.1)) (append_assoc front (x ∷ []) y.0)
-
--- one bank more in front
-pub one_more : (front : List BankSelection) (m n : ℕ) (x : BankSelection) (text rest : List ℕ) → m ≡ suc n → bank_at text ≡ Ok (x, rest) → with_front (front ++ x ∷ []) (banks_at n rest) ≡ with_front front (banks_at m text)
-one_more front m n x text rest e is =
-    moved front x (banks_at n rest)
-    ∙ ap (λ (r : Result (BankSelection × List ℕ) Rc). with_front front (r >>= λ first. banks_at n first.1 >>= λ others. Ok (first.0 ∷ others.0, others.1))) (sym is)
-    ∙ ap (λ k. with_front front (banks_at k text)) (sym e)
-
--- a bank that is not read ends the reading
-pub none_more : (front : List BankSelection) (m n : ℕ) (fault : Rc) (text : List ℕ) → m ≡ suc n → bank_at text ≡ Err fault → with_front front (banks_at m text) ≡ Err fault
-none_more front m n fault text e is =
-    ap (λ k. with_front front (banks_at k text)) e
-    ∙ ap (λ (r : Result (BankSelection × List ℕ) Rc). with_front front (r >>= λ first. banks_at n first.1 >>= λ others. Ok (first.0 ∷ others.0, others.1))) is
+use Rattle.tpm_types.specs.PcrSelection.{bank_text, banks_text, selection_text}
 
 pub length-bank_text : (bank : BankSelection) → length (bank_text bank) ≡ 6
 unfolding bank_text

@@ -1,6 +1,6 @@
 use Rattle.std.proofs.Common.{◌≡◌, ℕ, zero, suc, ◌+◌, ◌*◌, List, [], ◌∷◌, ◌++◌, ◌<◌, ◌≤◌, length, arith, map, take, get_or, append-nil, Result, Ok, Err, refl, ap, sym, subst, ◌∙◌, append_assoc, length-append}
 use Rattle.std.proofs.lemmas.Bool.{false≢true}
-use Rattle.std.proofs.lemmas.List.{map-append, take_more}
+use Rattle.std.proofs.lemmas.List.{take_more}
 use Rattle.std.proofs.lemmas.List.Folds.{flat_map-map}
 use Rattle.std.specs.List.{flat_map, AllByRecursion}
 use Rattle.tpm_bytes.proofs.Putting.{fits_more, written_more}
@@ -48,9 +48,6 @@ no_entry_left front most (byte ∷ bytes) none = absurd (omega arith)
 pub entry_too_many : (front : List Entry) (most : ℕ) (left : List ℕ) → most ≡ 0 → 0 < length left → behind front (entries_in most left) ≡ Err (plain code.Authsize)
 entry_too_many front most [] e some = absurd (omega arith)
 entry_too_many front most (byte ∷ bytes) e some = ap (λ k. behind front (entries_in k (byte ∷ bytes))) e
-
-pub map_push : {X Y : Type 0} (f : X → Y) (xs : List X) (x : X) → map f (xs ++ x ∷ []) ≡ map f xs ++ f x ∷ []
-map_push f xs x = map-append f xs (x ∷ [])
 
 -- ---- entries, written one after the other
 

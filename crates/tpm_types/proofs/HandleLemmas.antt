@@ -10,7 +10,7 @@ use Rattle.tpm_types.specs.declared.rc.ResponseCode.TheVariants as code
 use Rattle.tpm_types.specs.declared.rc.Place.TheVariants as place
 use Rattle.tpm_types.specs.Command.{IsHandle, handle_text, handles_at, handles_text}
 use Rattle.tpm_types.specs.Rc.{at, plain}
-use Rattle.tpm_types.proofs.BanksLemmas.{with_front, moved}
+use Rattle.tpm_bytes.proofs.Joining.{behind, moved}
 
 abbrev pub cut_at : ℕ → Rc
 cut_at number = at (place.Handle number) (plain code.Insufficient)
@@ -21,17 +21,17 @@ behind_first number count first = handles_at (number + 1) count first.1 >>= λ o
 -- ---- read
 
 -- one handle more in front
-pub handle_more : (front : List Handle) (place m n x : ℕ) (text rest : List ℕ) → m ≡ suc n → or_fault (number_at w32 text) (cut_at place) ≡ Ok (x, rest) → with_front (front ++ record { number = x } ∷ []) (handles_at (place + 1) n rest) ≡ with_front front (handles_at place m text)
+pub handle_more : (front : List Handle) (place m n x : ℕ) (text rest : List ℕ) → m ≡ suc n → or_fault (number_at w32 text) (cut_at place) ≡ Ok (x, rest) → behind (front ++ record { number = x } ∷ []) (handles_at (place + 1) n rest) ≡ behind front (handles_at place m text)
 handle_more front place m n x text rest e is =
     moved front (record { number = x }) (handles_at (place + 1) n rest)
-    ∙ ap (λ (r : Result (ℕ × List ℕ) Rc). with_front front (r >>= behind_first place n)) (sym is)
-    ∙ ap (λ k. with_front front (handles_at place k text)) (sym e)
+    ∙ ap (λ (r : Result (ℕ × List ℕ) Rc). behind front (r >>= behind_first place n)) (sym is)
+    ∙ ap (λ k. behind front (handles_at place k text)) (sym e)
 
 -- a handle that is cut ends the reading
-pub handle_cut : (front : List Handle) (place m n : ℕ) (fault : Rc) (text : List ℕ) → m ≡ suc n → or_fault (number_at w32 text) (cut_at place) ≡ Err fault → with_front front (handles_at place m text) ≡ Err fault
+pub handle_cut : (front : List Handle) (place m n : ℕ) (fault : Rc) (text : List ℕ) → m ≡ suc n → or_fault (number_at w32 text) (cut_at place) ≡ Err fault → behind front (handles_at place m text) ≡ Err fault
 handle_cut front place m n fault text e is =
-    ap (λ k. with_front front (handles_at place k text)) e
-    ∙ ap (λ (r : Result (ℕ × List ℕ) Rc). with_front front (r >>= behind_first place n)) is
+    ap (λ k. behind front (handles_at place k text)) e
+    ∙ ap (λ (r : Result (ℕ × List ℕ) Rc). behind front (r >>= behind_first place n)) is
 
 pub handles_take : (n place : ℕ) (bytes : List ℕ) (x : List Handle × List ℕ) → AreBytes bytes → handles_at place n bytes ≡ Ok x → Takes bytes (flat_map handle_text x.0) x.1 × (length x.0 ≡ n) × AllByRecursion IsHandle x.0
 handles_take zero place bytes x fits e = subst (λ (y : List Handle × List ℕ). Takes bytes (flat_map handle_text y.0) y.1 × (length y.0 ≡ 0) × AllByRecursion IsHandle y.0) (ok_is ([], bytes) x e) (record { parts = refl; rest_fits = fits }, refl, tt)

@@ -15,7 +15,8 @@ use Rattle.tpm_types.specs.declared.tag.Tag.{Tag}
 use Rattle.tpm_types.specs.CommandCode.{code_named, code_number}
 use Rattle.tpm_types.specs.Header.{code_field, header_at, header_text, size_field, tag_field}
 use Rattle.tpm_types.specs.Tag.{tag_named, tag_number}
-use Rattle.tpm_types.proofs.Named.{code_named-again, code_named-is, code_number-small, tag_named-again, tag_named-is, tag_number-small}
+use Rattle.tpm_types.proofs.Codes.{code_named-again, code_named-is, code_number-small}
+use Rattle.tpm_types.proofs.Named.{tag_named-again, tag_named-is, tag_number-small}
 use Rattle.tpm_types.proofs.SelectionLaws.{is_equal}
 
 neither : (a b : Bool) → (a || b) ≡ false → (a ≡ false) × (b ≡ false)

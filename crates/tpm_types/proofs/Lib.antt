@@ -2,6 +2,8 @@ pub mod BanksLemmas
 pub mod EntriesLemmas
 pub mod DigestLemmas
 pub mod Named
+pub mod Codes
+pub mod HashLaws
 pub mod SelectionLaws
 pub mod EntryLaws
 pub mod Laws
@@ -9,3 +11,4 @@ pub mod HandleLemmas
 pub mod HeaderLaws
 pub mod CommandLaws
 pub mod ValuesLemmas
+pub mod ValuesLaws

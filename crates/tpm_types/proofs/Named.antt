@@ -1,15 +1,12 @@
 -- A number on the wire and what it names: the one that is found has that number, and is found by it.
-use Rattle.std.proofs.Common.{◌≡◌, ℕ, ◌<◌, ◌≤◌, ◌^◌, Bool, true, false, cond, Option, Some, None, refl, ap, ◌∙◌, arith}
+use Rattle.std.proofs.Common.{◌≡◌, ℕ, ◌<◌, ◌^◌, Bool, true, false, cond, Option, Some, None, refl, ap, ◌∙◌, arith}
 use Rattle.std.specs.Prelude.{◌==◌}
 use Rattle.std.proofs.lemmas.Bool.{eqb-true}
 use Rattle.tpm_mac.specs.declared.algorithm.HashAlg.{HashAlg}
 use Rattle.tpm_mac.specs.declared.algorithm.HashAlg.TheVariants.{Sha1, Sha256}
-use Rattle.tpm_types.specs.declared.command_code.CommandCode.{CommandCode}
-use Rattle.tpm_types.specs.declared.command_code.CommandCode.TheVariants.{PcrEvent, PcrReset, Startup, GetRandom, PcrRead, PcrExtend}
 use Rattle.tpm_types.specs.declared.tag.Tag.{Tag}
 use Rattle.tpm_types.specs.declared.tag.Tag.TheVariants.{NoSessions, Sessions}
 use Rattle.tpm_types.specs.Algorithm.{hash_named, hash_number}
-use Rattle.tpm_types.specs.CommandCode.{code_named, code_number, handle_count}
 use Rattle.tpm_types.specs.Tag.{tag_named, tag_number}
 
 -- one link of a chain of tests: it names the first, whose number it is, or the links after it name one
@@ -44,33 +41,3 @@ tag_named-again Sessions = refl
 pub tag_number-small : (tag : Tag) → tag_number tag < 2 ^ 16
 tag_number-small NoSessions = omega arith
 tag_number-small Sessions = omega arith
-
-pub code_named-is : (number : ℕ) (code : CommandCode) → code_named number ≡ Some code → number ≡ code_number code
-code_named-is number code =
-    link code_number number PcrEvent _ code λ o. link code_number number PcrReset _ o λ p. link code_number number Startup _ p λ q. link code_number number GetRandom _ q λ r. link code_number number PcrRead _ r λ s. link code_number number PcrExtend None s (none code_number number)
-
-pub code_named-again : (code : CommandCode) → code_named (code_number code) ≡ Some code
-code_named-again PcrEvent = refl
-code_named-again PcrReset = refl
-code_named-again Startup = refl
-code_named-again GetRandom = refl
-code_named-again PcrRead = refl
-code_named-again PcrExtend = refl
-
-pub code_number-small : (code : CommandCode) → code_number code < 2 ^ 32
-code_number-small PcrEvent = omega arith
-code_number-small PcrReset = omega arith
-code_number-small Startup = omega arith
-code_number-small GetRandom = omega arith
-code_number-small PcrRead = omega arith
-code_number-small PcrExtend = omega arith
-
-pub handle_count-few : (code : CommandCode) → handle_count code ≤ 3
-handle_count-few PcrEvent = omega arith
-handle_count-few PcrReset = omega arith
-handle_count-few Startup = omega arith
-handle_count-few GetRandom = omega arith
-handle_count-few PcrRead = omega arith
-handle_count-few PcrExtend = omega arith
-
-pub ruleset few_handles = (handle_count-few)

@@ -1,20 +1,21 @@
 -- Selections of PCRs: what is read was spelled so, and what is spelled so is read.
 use Rattle.std.proofs.Common.{◌≡◌, ℕ, zero, suc, ◌/◌, ◌%◌, ◌^◌, ◌<◌, ◌≤◌, Bool, true, false, ltb, List, [], ◌∷◌, ◌++◌, length, take, Ok, refl, sym, ap, subst, ◌∙◌, append_assoc, arith}
-use Rattle.std.specs.Prelude.{◌==◌, not, ok_or}
-use Rattle.std.specs.List.{flat_map}
+use Rattle.std.specs.Prelude.{◌==◌, not}
 use Rattle.std.specs.Int.{w8, w16, w32, to_be_bytes, from_le_bytes, to_le_bytes}
 use Rattle.std.proofs.lemmas.Bool.{eqb-true, ltb-false, le-ltb}
 use Rattle.std.proofs.lemmas.Nat.{le_bytes_4, from_le_bytes-to_le_bytes_4}
+use Rattle.tpm_bytes.specs.Many.{many_at}
 use Rattle.tpm_bytes.specs.Reading.{◌>>=◌, bytes_at, number_at, or_fault, refused_if}
-use Rattle.tpm_bytes.proofs.Fields.{AreBytes, Takes, Takes-then, bind_ok, ok_or_ok, or_fault_ok, passed, bytes_take, bytes_again, number_or_takes, number_or_again, wide8, wide16, wide32, ok_is}
+use Rattle.tpm_bytes.proofs.Fields.{AreBytes, Takes, Takes-then, bind_ok, or_fault_ok, passed, bytes_take, bytes_again, number_or_takes, number_or_again, wide8, wide32, ok_is}
+use Rattle.tpm_bytes.proofs.Spelling.{many_again, many_taken}
 use Rattle.tpm_mac.specs.declared.algorithm.HashAlg.{HashAlg}
 use Rattle.tpm_types.specs.declared.pcr_selection.BankSelection.{BankSelection}
 use Rattle.tpm_types.specs.declared.rc.ResponseCode.TheVariants as code
 use Rattle.tpm_types.specs.Rc.{plain}
-use Rattle.tpm_types.specs.Algorithm.{hash_at, hash_named, hash_number}
+use Rattle.tpm_types.specs.Algorithm.{hash_at, hash_number}
 use Rattle.tpm_types.specs.Pcr.{select_of, select_text}
-use Rattle.tpm_types.specs.PcrSelection.{AreBanks, IsSelection, bank_at, bank_text, banks_at, banks_text, selection_at, selection_text}
-use Rattle.tpm_types.proofs.Named.{hash_named-is, hash_named-again, hash_number-small}
+use Rattle.tpm_types.specs.PcrSelection.{IsBank, IsSelection, bank_at, bank_text, banks_text, selection_at, selection_text}
+use Rattle.tpm_types.proofs.HashLaws.{hash_again, hash_takes}
 
 -- a test of inequality that did not hold
 pub is_equal : (m n : ℕ) → not (m == n) ≡ false → m ≡ n
@@ -49,29 +50,12 @@ select_again select small = ap (from_le_bytes w32) (fourth_octet select small) �
 length-select_text : (select : ℕ) → length (select_text select) ≡ 3
 length-select_text select = refl
 
--- ---- a hash algorithm
-
-hash_takes : (bytes : List ℕ) (x : HashAlg × List ℕ) → AreBytes bytes → hash_at bytes ≡ Ok x → Takes bytes (to_be_bytes w16 (hash_number x.0)) x.1
-unfolding hash_at
-hash_takes bytes x fits e =
-    let a = bind_ok (or_fault (number_at w16 bytes) (plain code.Insufficient)) (λ number. ok_or (hash_named number.0) (plain code.Hash) >>= λ algorithm. Ok (algorithm, number.1)) x e in
-    let b = bind_ok (ok_or (hash_named a.0.0) (plain code.Hash)) (λ algorithm. Ok (algorithm, a.0.1)) x a.2 in
-    let t = number_or_takes w16 (2 ^ 16) wide16 (plain code.Insufficient) bytes a.0 fits a.1 in
-    let is : a.0.0 ≡ hash_number b.0 = hash_named-is a.0.0 b.0 (ok_or_ok (hash_named a.0.0) (plain code.Hash) b.0 b.1) in
-    let named : Takes bytes (to_be_bytes w16 (hash_number b.0)) a.0.1 = subst (λ (n : ℕ). Takes bytes (to_be_bytes w16 n) a.0.1) is t.0 in
-    let made : HashAlg × List ℕ = (b.0, a.0.1) in
-    subst (λ (y : HashAlg × List ℕ). Takes bytes (to_be_bytes w16 (hash_number y.0)) y.1) (ok_is made x b.2) named
-
-hash_again : (hash : HashAlg) (rest : List ℕ) → hash_at (to_be_bytes w16 (hash_number hash) ++ rest) ≡ Ok (hash, rest)
-unfolding hash_at
-hash_again hash rest = rw (number_or_again w16 (2 ^ 16) wide16 (plain code.Insufficient) (hash_number hash) rest (hash_number-small hash), hash_named-again hash) refl
-
 -- ---- a bank
 
 abbrev bank_of : HashAlg → List ℕ × List ℕ → BankSelection × List ℕ
 bank_of hash octets = (record { hash = hash; select = select_of octets.0 }, octets.1)
 
-bank_takes : (bytes : List ℕ) (x : BankSelection × List ℕ) → AreBytes bytes → bank_at bytes ≡ Ok x → Takes bytes (bank_text x.0) x.1 × (x.0.select < 2 ^ 24)
+bank_takes : (bytes : List ℕ) (x : BankSelection × List ℕ) → AreBytes bytes → bank_at bytes ≡ Ok x → Takes bytes (bank_text x.0) x.1 × IsBank x.0
 unfolding bank_at bank_text
 bank_takes bytes x fits e =
     let a = bind_ok (hash_at bytes) (λ hash. or_fault (number_at w8 hash.1) (plain code.Insufficient) >>= λ size. refused_if (not (size.0 == 3)) (plain code.Value) >>= λ three. or_fault (bytes_at 3 size.1) (plain code.Insufficient) >>= λ octets. Ok (bank_of hash.0 octets)) x e in
@@ -89,51 +73,30 @@ bank_takes bytes x fits e =
     let spelled : Takes bytes ((to_be_bytes w16 (hash_number a.0.0) ++ to_be_bytes w8 3) ++ select_text (select_of d.0.0)) d.0.1 = subst (λ (l : List ℕ). Takes bytes ((to_be_bytes w16 (hash_number a.0.0) ++ to_be_bytes w8 3) ++ l) d.0.1) (sym octets.0) sized in
     subst (λ (y : BankSelection × List ℕ). Takes bytes ((to_be_bytes w16 (hash_number y.0.hash) ++ to_be_bytes w8 3) ++ select_text y.0.select) y.1 × (y.0.select < 2 ^ 24)) (ok_is (bank_of a.0.0 d.0) x d.2) (spelled, octets.1)
 
-bank_again : (bank : BankSelection) (rest : List ℕ) → bank.select < 2 ^ 24 → bank_at (bank_text bank ++ rest) ≡ Ok (bank, rest)
+bank_again : (bank : BankSelection) (rest : List ℕ) → IsBank bank → bank_at (bank_text bank ++ rest) ≡ Ok (bank, rest)
 unfolding bank_at bank_text
 bank_again bank rest small =
     let regrouped : bank_text bank ++ rest ≡ to_be_bytes w16 (hash_number bank.hash) ++ (to_be_bytes w8 3 ++ (select_text bank.select ++ rest)) = append_assoc (to_be_bytes w16 (hash_number bank.hash) ++ to_be_bytes w8 3) (select_text bank.select) rest ∙ append_assoc (to_be_bytes w16 (hash_number bank.hash)) (to_be_bytes w8 3) (select_text bank.select ++ rest) in
     ap bank_at regrouped
     ∙ rw (hash_again bank.hash (to_be_bytes w8 3 ++ (select_text bank.select ++ rest)), number_or_again w8 (2 ^ 8) wide8 (plain code.Insufficient) 3 (select_text bank.select ++ rest) (omega arith), bytes_again (select_text bank.select) rest 3 refl) (ap (λ (n : ℕ). let made : BankSelection × List ℕ = (record { hash = bank.hash; select = n }, rest) in Ok made) (select_again bank.select small))
 
--- ---- some banks
-
-banks_take : (n : ℕ) (bytes : List ℕ) (x : List BankSelection × List ℕ) → AreBytes bytes → banks_at n bytes ≡ Ok x → Takes bytes (banks_text x.0) x.1 × (length x.0 ≡ n) × AreBanks x.0
-unfolding banks_text
-banks_take zero bytes x fits e = subst (λ (y : List BankSelection × List ℕ). Takes bytes (flat_map bank_text y.0) y.1 × (length y.0 ≡ 0) × AreBanks y.0) (ok_is ([], bytes) x e) (record { parts = refl; rest_fits = fits }, refl, tt)
-banks_take (suc n) bytes x fits e =
-    let a = bind_ok (bank_at bytes) (λ first. banks_at n first.1 >>= λ others. Ok (first.0 ∷ others.0, others.1)) x e in
-    let b = bind_ok (banks_at n a.0.1) (λ others. Ok (a.0.0 ∷ others.0, others.1)) x a.2 in
-    let first = bank_takes bytes a.0 fits a.1 in
-    let second = banks_take n a.0.1 b.0 first.0.rest_fits b.1 in
-    let both = Takes-then bytes (bank_text a.0.0) a.0.1 (flat_map bank_text b.0.0) b.0.1 first.0 second.0 in
-    let made : List BankSelection × List ℕ = (a.0.0 ∷ b.0.0, b.0.1) in
-    subst (λ (y : List BankSelection × List ℕ). Takes bytes (flat_map bank_text y.0) y.1 × (length y.0 ≡ suc n) × AreBanks y.0) (ok_is made x b.2) (both, ap suc second.1, (first.1, second.2))
-
-banks_again : (banks : List BankSelection) (rest : List ℕ) → AreBanks banks → banks_at (length banks) (banks_text banks ++ rest) ≡ Ok (banks, rest)
-unfolding banks_text
-banks_again [] rest are = refl
-banks_again (bank ∷ banks) rest are =
-    ap (banks_at (suc (length banks))) (append_assoc (bank_text bank) (flat_map bank_text banks) rest)
-    ∙ rw (bank_again bank (flat_map bank_text banks ++ rest) are.0, banks_again banks rest are.1) refl
-
 -- ---- a selection
 
 pub selection_takes : (bytes : List ℕ) (x : List BankSelection × List ℕ) → AreBytes bytes → selection_at bytes ≡ Ok x → (bytes ≡ selection_text x.0 ++ x.1) × IsSelection x.0
-unfolding selection_at selection_text
+unfolding selection_at selection_text banks_text
 selection_takes bytes x fits e =
-    let a = bind_ok (or_fault (number_at w32 bytes) (plain code.Insufficient)) (λ count. refused_if (ltb 16 count.0) (plain code.Size) >>= λ few. banks_at count.0 count.1) x e in
-    let b = bind_ok (refused_if (ltb 16 a.0.0) (plain code.Size)) (λ few. banks_at a.0.0 a.0.1) x a.2 in
+    let a = bind_ok (or_fault (number_at w32 bytes) (plain code.Insufficient)) (λ count. refused_if (ltb 16 count.0) (plain code.Size) >>= λ few. many_at bank_at count.0 count.1) x e in
+    let b = bind_ok (refused_if (ltb 16 a.0.0) (plain code.Size)) (λ few. many_at bank_at a.0.0 a.0.1) x a.2 in
     let few : a.0.0 ≤ 16 = ltb-false _ _ (passed (ltb 16 a.0.0) (plain code.Size) b.0 b.1) in
     let t0 = number_or_takes w32 (2 ^ 32) wide32 (plain code.Insufficient) bytes a.0 fits a.1 in
-    let t1 = banks_take a.0.0 a.0.1 x t0.0.rest_fits b.2 in
+    let t1 = many_taken bank_text IsBank bank_at bank_takes a.0.0 a.0.1 x t0.0.rest_fits b.2 in
     let both = Takes-then bytes (to_be_bytes w32 a.0.0) a.0.1 (banks_text x.0) x.1 t0.0 t1.0 in
     let counted : Takes bytes (to_be_bytes w32 (length x.0) ++ banks_text x.0) x.1 = subst (λ (n : ℕ). Takes bytes (to_be_bytes w32 n ++ banks_text x.0) x.1) (sym t1.1) both in
     (counted.parts, record { few = omega (arith, few, t1.1); each = t1.2 })
 
 pub selection_again : (banks : List BankSelection) (rest : List ℕ) → IsSelection banks → selection_at (selection_text banks ++ rest) ≡ Ok (banks, rest)
-unfolding selection_at selection_text
+unfolding selection_at selection_text banks_text
 selection_again banks rest is =
     let few : ltb 16 (length banks) ≡ false = le-ltb _ _ is.few in
     ap selection_at (append_assoc (to_be_bytes w32 (length banks)) (banks_text banks) rest)
-    ∙ rw (number_or_again w32 (2 ^ 32) wide32 (plain code.Insufficient) (length banks) (banks_text banks ++ rest) (let few' = is.few in omega arith), few, banks_again banks rest is.each) refl
+    ∙ rw (number_or_again w32 (2 ^ 32) wide32 (plain code.Insufficient) (length banks) (banks_text banks ++ rest) (let few' = is.few in omega arith), few, many_again bank_text IsBank bank_at bank_again banks rest is.each) refl

@@ -1,26 +1,12 @@
 -- Digests with their algorithms, one after another.
-use Rattle.std.proofs.Common.{◌≡◌, ℕ, suc, ◌+◌, ◌*◌, ◌<◌, ◌≤◌, List, [], ◌∷◌, ◌++◌, length, take, get_or, Result, Ok, Err, refl, ap, sym, ◌∙◌, append_assoc, arith, length-append}
+use Rattle.std.proofs.Common.{◌≡◌, ℕ, ◌+◌, ◌*◌, ◌<◌, ◌≤◌, List, [], ◌++◌, length, take, get_or, Result, refl, ap, sym, ◌∙◌, append_assoc, arith, length-append}
 use Rattle.std.proofs.lemmas.Grind.{common_steps}
 use Rattle.std.proofs.lemmas.List.{take_more}
 use Rattle.std.specs.Int.{w32, to_be_bytes}
-use Rattle.tpm_bytes.specs.Reading.{◌>>=◌}
 use Rattle.tpm_bytes.specs.Writing.{Puts}
 use Rattle.tpm_bytes.proofs.Putting.{put_fits}
 use Rattle.tpm_types.specs.declared.digest_values.DigestValue.{DigestValue}
-use Rattle.tpm_types.specs.declared.rc.Rc.{Rc}
-use Rattle.tpm_types.specs.DigestValues.{digest_value_at, digest_value_text, digest_values_text, values_at, values_text}
-use Rattle.tpm_types.proofs.BanksLemmas.{with_front, moved}
-
-pub value_more : (front : List DigestValue) (m n : ℕ) (x : DigestValue) (text rest : List ℕ) → m ≡ suc n → digest_value_at text ≡ Ok (x, rest) → with_front (front ++ x ∷ []) (values_at n rest) ≡ with_front front (values_at m text)
-value_more front m n x text rest e is =
-    moved front x (values_at n rest)
-    ∙ ap (λ (r : Result (DigestValue × List ℕ) Rc). with_front front (r >>= λ first. values_at n first.1 >>= λ others. Ok (first.0 ∷ others.0, others.1))) (sym is)
-    ∙ ap (λ k. with_front front (values_at k text)) (sym e)
-
-pub value_refused : (front : List DigestValue) (m n : ℕ) (fault : Rc) (text : List ℕ) → m ≡ suc n → digest_value_at text ≡ Err fault → with_front front (values_at m text) ≡ Err fault
-value_refused front m n fault text e is =
-    ap (λ k. with_front front (values_at k text)) e
-    ∙ ap (λ (r : Result (DigestValue × List ℕ) Rc). with_front front (r >>= λ first. values_at n first.1 >>= λ others. Ok (first.0 ∷ others.0, others.1))) is
+use Rattle.tpm_types.specs.DigestValues.{digest_value_text, digest_values_text, values_text}
 
 pub values_text-nil : values_text [] ≡ []
 unfolding values_text

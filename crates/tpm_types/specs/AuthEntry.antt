@@ -1,5 +1,6 @@
--- Entries of an authorization area. TPM 2.0 Library, Part 2, section 10.13.2 (TPMS_AUTH_COMMAND).
-use Rattle.std.specs.Prelude.{◌≡◌, ℕ, ◌+◌, ◌<◌, ◌≤◌, ◌^◌, ◌↔◌, List, ◌++◌, length, Result, Ok, IsOk, OnOk, OnErr}
+-- Entries of an authorization area. TPM 2.0 Library, Part 2, section 10.13.2 (TPMS_AUTH_COMMAND),
+-- and section 8.4 (TPMA_SESSION, its attributes).
+use Rattle.std.specs.Prelude.{◌≡◌, ℕ, ◌+◌, ◌<◌, ◌≤◌, ◌^◌, ◌==◌, ◌↔◌, not, bit_and, Bool, List, ◌++◌, length, Result, Ok, IsOk, OnOk, OnErr}
 use Rattle.std.specs.Int.{w8, w32, to_be_bytes}
 use Rattle.tpm_bytes.specs.Reading.{◌>>=◌, number_at, or_fault, sized_at}
 use Rattle.tpm_bytes.specs.Writing.{sized_text}
@@ -9,6 +10,10 @@ use Rattle.tpm_types.specs.declared.handle.Handle.{Handle}
 use Rattle.tpm_types.specs.declared.rc.Rc.{Rc}
 use Rattle.tpm_types.specs.declared.rc.ResponseCode.TheVariants as code
 use Rattle.tpm_types.specs.Rc.{plain}
+
+-- whether one of these bits of the attributes is set
+abbrev pub has_bits : ℕ → SessionAttributes → Bool
+has_bits bits attributes = not (bit_and attributes.octet bits == 0)
 
 -- an entry, wherever its bytes lie in memory
 pub record Entry : Type 0 where

@@ -1,8 +1,9 @@
--- Digests with their algorithms. TPM 2.0 Library, Part 2, section 10.3.2 (TPMT_HA) and section 10.9.6
--- (TPML_DIGEST_VALUES).
-use Rattle.std.specs.Prelude.{ℕ, zero, suc, nat_lt, List, [], ◌∷◌, ◌++◌, length, Result, Ok}
-use Rattle.std.specs.List.{flat_map}
+-- Digests with their algorithms. TPM 2.0 Library, Part 2, section 10.3.2 (TPMT_HA) and section
+-- 10.9.6 (TPML_DIGEST_VALUES).
+use Rattle.std.specs.Prelude.{◌≡◌, ℕ, ◌≤◌, nat_lt, List, ◌++◌, length, Result, Ok}
+use Rattle.std.specs.List.{flat_map, AllByRecursion}
 use Rattle.std.specs.Int.{w16, w32, to_be_bytes}
+use Rattle.tpm_bytes.specs.Many.{many_at}
 use Rattle.tpm_bytes.specs.Reading.{◌>>=◌, bytes_at, number_at, or_fault, refused_if}
 use Rattle.tpm_mac.specs.declared.algorithm.HashAlg as hash
 use Rattle.tpm_mac.specs.declared.algorithm.HashAlg.TheVariants as alg
@@ -31,6 +32,16 @@ values_text values = flat_map digest_value_text values
 unfoldable pub digest_values_text : List DigestValue → List ℕ
 digest_values_text values = to_be_bytes w32 (length values) ++ values_text values
 
+-- a digest is as long as its algorithm gives
+abbrev pub IsDigestValue : DigestValue → Type 0
+IsDigestValue (Sha1 digest) = length digest ≡ 20
+IsDigestValue (Sha256 digest) = length digest ≡ 32
+
+-- what has a text: at most two digests
+pub record IsDigestValues (values : List DigestValue) : Type 0 where
+  pub few : length values ≤ 2
+  pub each : AllByRecursion IsDigestValue values
+
 -- reading, with the first fault
 
 abbrev pub octets_at : ℕ → List ℕ → Result (List ℕ × List ℕ) Rc
@@ -49,15 +60,8 @@ digest_value_at text = do
   hash ← hash_at text
   digest_at hash.0 hash.1
 
-abbrev pub values_at : ℕ → List ℕ → Result (List DigestValue × List ℕ) Rc
-values_at zero text = Ok ([], text)
-values_at (suc count) text = do
-  first ← digest_value_at text
-  others ← values_at count first.1
-  Ok (first.0 ∷ others.0, others.1)
-
 unfoldable pub digest_values_at : List ℕ → Result (List DigestValue × List ℕ) Rc
 digest_values_at text = do
   count ← or_fault (number_at w32 text) (plain code.Insufficient)
   few ← refused_if (nat_lt 2 count.0) (plain code.Size)
-  values_at count.0 count.1
+  many_at digest_value_at count.0 count.1

@@ -1,8 +1,9 @@
 -- Selections of PCRs on the wire. TPM 2.0 Library, Part 2, section 10.6.2 (TPMS_PCR_SELECTION) and
 -- section 10.9.7 (TPML_PCR_SELECTION).
-use Rattle.std.specs.Prelude.{ℕ, zero, suc, ◌≤◌, ◌<◌, ◌^◌, ◌==◌, not, nat_lt, List, [], ◌∷◌, ◌++◌, length, Result, Ok}
-use Rattle.std.specs.List.{flat_map}
+use Rattle.std.specs.Prelude.{ℕ, ◌≤◌, ◌<◌, ◌^◌, ◌==◌, not, nat_lt, List, ◌++◌, length, Result, Ok}
+use Rattle.std.specs.List.{flat_map, AllByRecursion}
 use Rattle.std.specs.Int.{w8, w16, w32, to_be_bytes}
+use Rattle.tpm_bytes.specs.Many.{many_at}
 use Rattle.tpm_bytes.specs.Reading.{◌>>=◌, bytes_at, number_at, or_fault, refused_if}
 use Rattle.tpm_types.specs.declared.pcr_selection.BankSelection.{BankSelection}
 use Rattle.tpm_types.specs.declared.rc.Rc.{Rc}
@@ -22,15 +23,14 @@ banks_text banks = flat_map bank_text banks
 unfoldable pub selection_text : List BankSelection → List ℕ
 selection_text banks = to_be_bytes w32 (length banks) ++ banks_text banks
 
--- each bank selects among 24 PCRs
-abbrev pub AreBanks : List BankSelection → Type 0
-AreBanks [] = Unit {0}
-AreBanks (bank ∷ banks) = (bank.select < 2 ^ 24) × AreBanks banks
+-- a bank selects among 24 PCRs
+abbrev pub IsBank : BankSelection → Type 0
+IsBank bank = bank.select < 2 ^ 24
 
 -- what has a text: at most sixteen banks
 pub record IsSelection (banks : List BankSelection) : Type 0 where
   pub few : length banks ≤ 16
-  pub each : AreBanks banks
+  pub each : AllByRecursion IsBank banks
 
 -- reading, with the first fault
 
@@ -42,15 +42,8 @@ bank_at text = do
   octets ← or_fault (bytes_at 3 size.1) (plain code.Insufficient)
   Ok (record { hash = hash.0; select = select_of octets.0 }, octets.1)
 
-abbrev pub banks_at : ℕ → List ℕ → Result (List BankSelection × List ℕ) Rc
-banks_at zero text = Ok ([], text)
-banks_at (suc count) text = do
-  first ← bank_at text
-  others ← banks_at count first.1
-  Ok (first.0 ∷ others.0, others.1)
-
 unfoldable pub selection_at : List ℕ → Result (List BankSelection × List ℕ) Rc
 selection_at text = do
   count ← or_fault (number_at w32 text) (plain code.Insufficient)
   few ← refused_if (nat_lt 16 count.0) (plain code.Size)
-  banks_at count.0 count.1
+  many_at bank_at count.0 count.1

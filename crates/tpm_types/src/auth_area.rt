@@ -1,4 +1,4 @@
-ghost use Rattle.std.specs.Prelude.{◌≡◌, ◌≤◌, ◌<◌, length, map};
+ghost use Rattle.std.specs.Prelude.{map};
 ghost use Rattle.tpm_bytes.specs.Reading.{Reads};
 
 use crate::auth_entry::AuthEntry;

@@ -1,4 +1,4 @@
-ghost use Rattle.std.specs.Prelude.{◌≡◌, ℕ, ◌≤◌, ◌<◌, List, ◌++◌, length, Ok, IfOk};
+ghost use Rattle.std.specs.Prelude.{◌≡◌, ℕ, ◌<◌, List, ◌++◌, length, Ok, IfOk};
 ghost use Rattle.std.specs.Option.{SomeIff};
 ghost use Rattle.tpm_bytes.specs.Reading.{Reads};
 
@@ -13,6 +13,17 @@ use tpm_bytes::sink::{Full, Sink};
 #[derive(Clone, Copy, Debug, PartialEq, Eq, Default)]
 pub struct SessionAttributes {
     pub octet: u8,
+}
+
+impl SessionAttributes {
+    ghost use Rattle.tpm_types.specs.AuthEntry.{has_bits};
+
+    /// Whether one of these bits is set.
+    pub fn has_any(self, bits: u8) -> bool
+        ensures { result ≡ has_bits bits self }
+    {
+        self.octet & bits != 0
+    }
 }
 
 /// One entry of a command's authorization area: TPMS_AUTH_COMMAND (Part 2, section 10.13.2). The nonce

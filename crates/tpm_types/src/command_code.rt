@@ -1,55 +1,50 @@
-ghost use Rattle.std.specs.Prelude.{◌≡◌, ◌≤◌};
+ghost use Rattle.std.specs.Prelude.{◌≡◌, ◌==◌, IfSome};
 
-/// The commands that are served: TPM_CC of TPM 2.0 Library, Part 2, section 6.5.2.
+/// The commands that are served, ascending by number: TPM_CC of TPM 2.0 Library, Part 2, section
+/// 6.5.2.
 #[derive(Clone, Copy, Debug, PartialEq, Eq)]
 pub enum CommandCode {
-    PcrEvent,
-    PcrReset,
-    Startup,
-    GetRandom,
-    PcrRead,
-    PcrExtend,
+    PcrEvent = 0x13c,
+    PcrReset = 0x13d,
+    Startup = 0x144,
+    GetRandom = 0x17b,
+    PcrRead = 0x17e,
+    PcrExtend = 0x182,
 }
 
 impl CommandCode {
-    ghost use Rattle.tpm_types.specs.CommandCode.{code_named, code_number, handle_count};
+    ghost use Rattle.tpm_types.specs.CommandCode.{code_named, code_number};
+
+    /// All of them, ascending by number.
+    pub const ALL: [CommandCode; 6] = [
+        CommandCode::PcrEvent,
+        CommandCode::PcrReset,
+        CommandCode::Startup,
+        CommandCode::GetRandom,
+        CommandCode::PcrRead,
+        CommandCode::PcrExtend,
+    ];
 
     /// The number on the wire.
+    #[tactic(auto, unfolding(crate::specs::CommandCode::code_named))]
     pub fn number(self) -> u32
-        ensures { result ≡ code_number self }
+        ensures value { result ≡ code_number self }
+        // The number names the command.
+        ensures again { code_named result ≡ Some self }
     {
-        match self {
-            CommandCode::PcrEvent => 0x13c,
-            CommandCode::PcrReset => 0x13d,
-            CommandCode::Startup => 0x144,
-            CommandCode::GetRandom => 0x17b,
-            CommandCode::PcrRead => 0x17e,
-            CommandCode::PcrExtend => 0x182,
-        }
+        self as u32
     }
 
     /// The command of this number, if it is served.
+    #[tactic(auto, using(crate::proofs::Codes::codes), unfolding(crate::specs::CommandCode::code_named))]
     pub fn named(number: u32) -> Option<CommandCode>
-        ensures { result ≡ code_named number }
+        ensures value { result ≡ code_named number }
+        // It has this number.
+        ensures found { IfSome result (λ code. code_number code ≡ number) }
     {
-        match number {
-            0x13c => Some(CommandCode::PcrEvent),
-            0x13d => Some(CommandCode::PcrReset),
-            0x144 => Some(CommandCode::Startup),
-            0x17b => Some(CommandCode::GetRandom),
-            0x17e => Some(CommandCode::PcrRead),
-            0x182 => Some(CommandCode::PcrExtend),
-            _ => None,
-        }
-    }
-
-    /// How many handles stand behind the command's header.
-    pub fn handle_count(self) -> usize
-        ensures { result ≡ handle_count self }
-    {
-        match self {
-            CommandCode::Startup | CommandCode::GetRandom | CommandCode::PcrRead => 0,
-            CommandCode::PcrEvent | CommandCode::PcrReset | CommandCode::PcrExtend => 1,
-        }
+        CommandCode::ALL
+            .iter()
+            .copied()
+            .find(|code| code.number() == number)
     }
 }

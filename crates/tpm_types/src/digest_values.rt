@@ -1,12 +1,15 @@
-ghost use Rattle.std.specs.Prelude.{◌≡◌, ◌+◌, ◌*◌, ◌≤◌, ◌++◌, length, replicate};
+ghost use Rattle.std.specs.Prelude.{◌≡◌, ◌+◌, ◌*◌, ◌≤◌, ℕ, List, ◌++◌, length, replicate, Ok, IfOk};
 ghost use Rattle.tpm_bytes.specs.Reading.{Reads};
 ghost use Rattle.tpm_bytes.specs.Writing.{Puts};
-ghost use Rattle.tpm_types.specs.DigestValues.{digest_value_at, digest_value_text, digest_values_at, digest_values_text, values_at, values_text};
+ghost use Rattle.tpm_types.specs.declared.digest_values.DigestValue.{DigestValue};
+ghost use Rattle.tpm_types.specs.DigestValues.{IsDigestValues, digest_value_at, digest_value_text, digest_values_at, digest_values_text, values_text};
 
 use crate::algorithm::{hash_number, read_hash};
+use crate::grammar::bytes_fit;
 use crate::rc::{Rc, ResponseCode};
 use arrayvec::ArrayVec;
 use tpm_bytes::cursor::Cursor;
+use tpm_bytes::many::{Readable, read_many};
 use tpm_bytes::sink::{Full, Sink};
 use tpm_mac::HashAlg;
 
@@ -85,6 +88,20 @@ impl DigestValue {
     }
 }
 
+impl<'a> Readable<'a> for DigestValue {
+    type Fault = Rc;
+
+    ghost Seen = { DigestValue };
+
+    ghost seen = { λ value. value };
+
+    ghost at = { digest_value_at };
+
+    fn read(text: &mut Cursor<'a>) -> Result<DigestValue, Rc> {
+        DigestValue::read(text)
+    }
+}
+
 ghost use Rattle.tpm_types.specs.DigestValues.{octets_at};
 
 /// The next `N` bytes: INSUFFICIENT where they are cut.
@@ -101,11 +118,28 @@ fn read_octets<const N: usize>(text: &mut Cursor) -> Result<[u8; N], Rc>
 }
 
 impl DigestValues {
-    /// Reads a list of digests: INSUFFICIENT where it is cut, SIZE where it has over two, and the first
-    /// fault of a digest.
-    #[tactic(auto, unfolding(crate::specs::DigestValues::digest_values_at))]
+    /// Reads a list of digests: INSUFFICIENT where it is cut, SIZE where it has over two, and the
+    /// first fault of a digest.
     pub fn read(text: &mut Cursor) -> Result<DigestValues, Rc>
-        ensures { Reads (λ digests. digests.values.items) (digest_values_at text.old) text.old result text.new }
+        // Which digests or which fault it is.
+        ensures exact { Reads (λ digests. digests.values.items) (digest_values_at text.old)
+            text.old result text.new }
+        // What is read was spelled so.
+        ensures found { IfOk result (λ digests. IsDigestValues digests.values.items
+            × (text.old ≡ digest_values_text digests.values.items ++ text.new)) }
+        // What is spelled so is read.
+        ensures only { (values : List DigestValue) (rest : List ℕ) → IsDigestValues values
+            → text.old ≡ digest_values_text values ++ rest
+            → Reads (λ digests. digests.values.items) (Ok (values, rest)) text.old result text.new }
+    {
+        bytes_fit(text.rest());
+        DigestValues::read_fields(text)
+    }
+
+    #[tactic(auto, unfolding(crate::specs::DigestValues::digest_values_at))]
+    fn read_fields(text: &mut Cursor) -> Result<DigestValues, Rc>
+        ensures { Reads (λ digests. digests.values.items) (digest_values_at text.old)
+            text.old result text.new }
     {
         let mut ahead = Cursor::new(text.rest());
         let count = ahead
@@ -114,34 +148,32 @@ impl DigestValues {
         if count > MOST_DIGEST_VALUES {
             return Err(ResponseCode::Size.anywhere());
         }
-        let values = read_values(&mut ahead, count)?;
+        let values = read_many(&mut ahead, count as usize)?;
         *text = ahead;
         Ok(DigestValues { values })
     }
 
-    /// Writes the list at the end. The caller has room for the longest list, four bytes and twice an
-    /// algorithm and 32 bytes.
-    pub fn write<const N: usize>(&self, sink: &mut Sink<N>)
-        requires { length sink.old + 72 ≤ N }
-        ensures { sink.new ≡ sink.old ++ digest_values_text self.now.values.items }
+    /// Writes the list at the end, at most 72 bytes, or nothing where it does not fit.
+    pub fn write<const N: usize>(&self, sink: &mut Sink<N>) -> Result<(), Full>
+        ensures written { Puts N (digest_values_text self.now.values.items)
+            sink.old result sink.new }
+        ensures small { length (digest_values_text self.now.values.items) ≤ 72 }
+    {
+        let text = self.text();
+        sink.put(text.as_slice())
+    }
+
+    /// The text of the list, in the room for the longest: four bytes, and twice an algorithm and 32
+    /// bytes.
+    fn text(&self) -> Sink<72>
+        ensures { result ≡ digest_values_text self.now.values.items }
     {
         let values = self.values.as_slice();
-        let _ = sink.put_u32(values.len() as u32);
-        write_values(values, sink);
+        let mut text = Sink::new();
+        let _ = text.put_u32(values.len() as u32);
+        write_values(values, &mut text);
+        text
     }
-}
-
-fn read_values(text: &mut Cursor, count: u32) -> Result<ArrayVec<DigestValue, 2>, Rc>
-    requires { count ≤ 2 }
-    ensures { Reads (λ values. values.items) (values_at count text.old) text.old result text.new }
-{
-    let mut ahead = Cursor::new(text.rest());
-    let mut values = ArrayVec::new();
-    for _ in 0..count {
-        values.push(DigestValue::read(&mut ahead)?);
-    }
-    *text = ahead;
-    Ok(values)
 }
 
 fn write_values<const N: usize>(values: &[DigestValue], sink: &mut Sink<N>)

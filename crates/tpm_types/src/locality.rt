@@ -22,8 +22,10 @@ impl Locality {
         }
     }
 
+    /// Its number, 0 to 4.
     pub fn number(self) -> u8
-        ensures { result ≡ locality_number self }
+        ensures value { result ≡ locality_number self }
+        ensures small { result ≤ 4 }
     {
         self.number
     }

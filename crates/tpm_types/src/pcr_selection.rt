@@ -9,6 +9,7 @@ use crate::pcr::{PcrSelect, SELECT_SIZE};
 use crate::rc::{Rc, ResponseCode};
 use arrayvec::ArrayVec;
 use tpm_bytes::cursor::Cursor;
+use tpm_bytes::many::{Readable, read_many};
 use tpm_bytes::sink::{Full, Sink};
 use tpm_mac::HashAlg;
 
@@ -72,6 +73,22 @@ impl BankSelection {
     }
 }
 
+impl<'a> Readable<'a> for BankSelection {
+    ghost use Rattle.tpm_types.specs.PcrSelection.{bank_at};
+
+    type Fault = Rc;
+
+    ghost Seen = { BankSelection };
+
+    ghost seen = { λ bank. bank };
+
+    ghost at = { bank_at };
+
+    fn read(text: &mut Cursor<'a>) -> Result<BankSelection, Rc> {
+        BankSelection::read(text)
+    }
+}
+
 /// PCRs of up to sixteen banks, in the order in which they are asked for: TPML_PCR_SELECTION (Part 2,
 /// section 10.9.7).
 #[derive(Drop)]
@@ -110,7 +127,7 @@ impl PcrSelection {
         if count > MOST_BANKS {
             return Err(ResponseCode::Size.anywhere());
         }
-        let banks = read_banks(&mut ahead, count)?;
+        let banks = read_many(&mut ahead, count as usize)?;
         *text = ahead;
         Ok(PcrSelection { banks })
     }
@@ -131,20 +148,7 @@ impl PcrSelection {
     }
 }
 
-ghost use Rattle.tpm_types.specs.PcrSelection.{banks_at, banks_text};
-
-fn read_banks(text: &mut Cursor, count: u32) -> Result<ArrayVec<BankSelection, 16>, Rc>
-    requires { count ≤ 16 }
-    ensures { Reads (λ banks. banks.items) (banks_at count text.old) text.old result text.new }
-{
-    let mut ahead = Cursor::new(text.rest());
-    let mut banks = ArrayVec::new();
-    for _ in 0..count {
-        banks.push(BankSelection::read(&mut ahead)?);
-    }
-    *text = ahead;
-    Ok(banks)
-}
+ghost use Rattle.tpm_types.specs.PcrSelection.{banks_text};
 
 #[tactic(auto, using(crate::proofs::BanksLemmas::writing_banks))]
 fn write_banks<const N: usize>(banks: &[BankSelection], sink: &mut Sink<N>)

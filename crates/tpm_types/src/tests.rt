@@ -2,14 +2,20 @@
 //! device reads and answers is shown by the scripts under `tests/`.
 
 use crate::auth_entry::{AuthEntry, SessionAttributes};
+use crate::buffer::read_buffer;
 use crate::command_code::CommandCode;
+use crate::digest_list::DigestList;
 use crate::digest_values::{DigestValue, DigestValues};
 use crate::handle::Handle;
+use crate::handle_area::read_handles;
 use crate::pcr::PcrSelect;
 use crate::pcr_selection::{BankSelection, PcrSelection};
 use crate::rc::ResponseCode;
+use crate::shape::{HandleKind, ParameterKind};
+use crate::startup_type::StartupType;
 use crate::tag::Tag;
 use crate::whole_command::Command;
+use arrayvec::ArrayVec;
 use tpm_bytes::cursor::Cursor;
 use tpm_bytes::sink::{Full, Sink};
 use tpm_mac::HashAlg;
@@ -39,6 +45,71 @@ fn response_codes_have_places(rt: HostRuntime) {
     ] {
         assert_eq!(rt; rc.number(), number, "of {rc:?}");
     }
+}
+
+fn is_numbered(code: CommandCode, number: u32) -> bool {
+    code.number() == number && CommandCode::named(number) == Some(code)
+}
+
+#[test]
+fn commands_have_numbers(rt: HostRuntime) {
+    assert!(rt; is_numbered(CommandCode::PcrEvent, 0x13c));
+    assert!(rt; is_numbered(CommandCode::PcrReset, 0x13d));
+    assert!(rt; is_numbered(CommandCode::Startup, 0x144));
+    assert!(rt; is_numbered(CommandCode::GetRandom, 0x17b));
+    assert!(rt; is_numbered(CommandCode::PcrRead, 0x17e));
+    assert!(rt; is_numbered(CommandCode::PcrExtend, 0x182));
+    assert_eq!(rt; CommandCode::named(0x143), None);
+}
+
+#[test]
+fn commands_have_shapes(rt: HostRuntime) {
+    let event = CommandCode::PcrEvent.shape();
+    assert!(rt; event.allows_sessions && !event.sized_answer);
+    assert!(rt; event.parameters.iter().all(|kind| kind.is_sized()));
+    assert!(rt;
+        event
+            .handles
+            .iter()
+            .all(|rule| rule.kind.allows(Handle::NULL))
+    );
+    assert_eq!(rt; CommandCode::PcrEvent.handle_count(), 1);
+    assert_eq!(rt; CommandCode::PcrEvent.authorized_handles(), 1);
+    let startup = CommandCode::Startup.shape();
+    assert!(rt; startup.handles.is_empty() && !startup.allows_sessions);
+    assert!(rt; !HandleKind::Pcr.allows(Handle::NULL));
+    assert!(rt; !ParameterKind::U16.is_sized());
+}
+
+#[test]
+fn handles_are_read_by_their_rules(rt: HostRuntime) {
+    let mut text = Cursor::new(b"\x40\x00\x00\x07;");
+    let refused = read_handles(CommandCode::PcrReset, &mut text);
+    assert_eq!(rt;
+        refused.err(),
+        Some(ResponseCode::Value.anywhere().at_handle(1))
+    );
+    if let Ok(handles) = read_handles(CommandCode::PcrEvent, &mut text) {
+        assert_eq!(rt; handles.as_slice(), [Handle::NULL].as_slice());
+    }
+    assert_eq!(rt; text.rest(), b";".as_slice());
+}
+
+#[test]
+fn parameters_are_read(rt: HostRuntime) {
+    let mut text = Cursor::new(b"\x00\x01\x00\x02ab;");
+    assert_eq!(rt; StartupType::read(&mut text), Ok(StartupType::State));
+    assert_eq!(rt; read_buffer(&mut text, 2), Ok(b"ab".as_slice()));
+    assert_eq!(rt; text.rest(), b";".as_slice());
+    let mut long = Cursor::new(b"\x00\x03abc");
+    assert_eq!(rt;
+        read_buffer(&mut long, 2),
+        Err(ResponseCode::Size.anywhere())
+    );
+    assert_eq!(rt;
+        StartupType::read(&mut long),
+        Err(ResponseCode::Value.anywhere())
+    );
 }
 
 #[test]
@@ -103,6 +174,7 @@ fn an_entry_is_read_and_written(rt: HostRuntime) {
             }
         );
         assert_eq!(rt; entry.attributes, SessionAttributes { octet: 0x20 });
+        assert!(rt; entry.attributes.has_any(0x21) && !entry.attributes.has_any(0xdf));
         assert_eq!(rt; entry.nonce, b"\xaa\xbb".as_slice());
         assert_eq!(rt; entry.hmac, b"abc".as_slice());
         assert_eq!(rt; entry.text_len(), Some(14));
@@ -135,7 +207,20 @@ fn digests_are_read_and_written(rt: HostRuntime) {
             digests.values.as_slice(),
             [DigestValue::Sha1([1; 20]), DigestValue::Sha256([2; 32])].as_slice()
         );
-        digests.write(&mut sink);
+        assert_eq!(rt; digests.write(&mut sink), Ok(()));
+        assert_eq!(rt; digests.write(&mut sink), Err(Full));
     }
     assert_eq!(rt; sink.as_slice(), DIGESTS);
+}
+
+#[test]
+fn a_list_of_digests_is_written(rt: HostRuntime) {
+    let mut list = DigestList {
+        digests: ArrayVec::new(),
+    };
+    let mut sink: Sink<9> = Sink::new();
+    assert_eq!(rt; list.write(&mut sink), Ok(()));
+    list.digests.push(ArrayVec::new());
+    assert_eq!(rt; list.write(&mut sink), Err(Full));
+    assert_eq!(rt; sink.as_slice(), b"\x00\x00\x00\x00".as_slice());
 }

@@ -1,12 +1,12 @@
 ghost use Rattle.std.specs.Prelude.{◌≡◌, length};
-ghost use Rattle.tpm_types.specs.CommandCode.{handle_count};
+ghost use Rattle.tpm_types.specs.Shape.{handle_count};
 
 use crate::auth_entry::AuthEntry;
 use crate::command_code::CommandCode;
 use crate::handle::Handle;
 use arrayvec::ArrayVec;
 
-mod reading;
+pub mod reading;
 mod writing;
 
 /// A whole command (TPM 2.0 Library, Part 1, section 18): its handles are as many as its code has, and

@@ -4,10 +4,12 @@ use Rattle.std.specs.List.{range_with_len}
 use Rattle.std.specs.Io.KnownBytes.{Appends}
 use Rattle.hex.specs.Hex.{encode_lower}
 use Rattle.tpm_types.specs.Locality.{locality_number}
-use Rattle.tpm_machine.specs.Events.{Cycled}
-use Rattle.tpm_machine.specs.Record.{Record, manufactured}
+use Rattle.tpm_record.specs.ListKeep.{list_record}
+use Rattle.tpm_record.specs.Record.{Record, manufactured}
+use Rattle.tpm_record.specs.declared.list_keep.ListKeep.{ListKeep}
+use Rattle.tpm_machine.specs.Events.{Given, Cycled}
 use Rattle.tpm_machine.specs.State.{state_of}
-use Rattle.tpm_machine.specs.Step.{Stepped, commanded, step}
+use Rattle.tpm_machine.specs.Step.{Stepped, step}
 use Rattle.tpm_machine.specs.declared.machine.Machine.{Machine}
 use Rattle.tpmsim_script.specs.Line.{Said, Executes, SetsLocality, Waits, SetsEntropy, CyclesPower, DoesNothing, bytes_of, line_said, lines_of}
 use Rattle.tpmsim_script.specs.declared.script.Script.{Script}
@@ -21,8 +23,8 @@ pub record Playing : Type 0 where
   pub device : Record
 
 -- what the code's script and device mean
-abbrev pub playing : Script → Machine → Playing
-playing script machine = record { locality = locality_number script.locality; waited = script.waited; random = script.random; device = state_of machine }
+abbrev pub playing : Script → Machine ListKeep → Playing
+playing script machine = record { locality = locality_number script.locality; waited = script.waited; random = script.random; device = state_of list_record machine }
 
 -- at first locality 0, no time, random bytes that are all 0, and a new device
 unfoldable pub at_first : Playing
@@ -50,7 +52,7 @@ abbrev pub answered : Playing → Stepped → Effect
 answered p s = record { text = printed_response s.response; next = record p { waited = 0; device = s.after } }
 
 abbrev pub execute : Playing → List ℕ → Effect
-execute p buffer = answered p (commanded p.device buffer p.locality p.waited p.random)
+execute p buffer = answered p (step p.device (Given buffer p.locality p.waited p.random))
 
 abbrev pub wait : Playing → ℕ → Option Effect
 wait p milliseconds = if nat_lt (p.waited + milliseconds) (2 ^ 32) then Some (silent (record p { waited = p.waited + milliseconds })) else None

@@ -1,13 +1,12 @@
 ghost use Rattle.std.specs.Prelude.{◌≡◌, ◌+◌, ◌*◌, ◌≤◌, length, vec_len};
 ghost use Rattle.tpmsim_script.specs.Script.{printed_response};
+ghost use Rattle.tpm_machine.specs.declared.event.TheConstants.{RESPONSE_LIMIT};
 ghost use Rattle.tpmsim_script.specs.declared.answers.TheConstants.{CAPACITY};
 
 use std::alloc::{AllocError, Global};
 use std::io;
 use std::io::Write;
-
-/// How many bytes a response has at most.
-const RESPONSE_LIMIT: usize = 4_096;
+use tpm_machine::event::RESPONSE_LIMIT;
 
 /// How many bytes of text are held before they are written.
 const CAPACITY: usize = 65_536;

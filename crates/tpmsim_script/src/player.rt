@@ -15,12 +15,13 @@ use std::array;
 use std::io::Write;
 use tpm_machine::event::Event;
 use tpm_machine::machine::Machine;
+use tpm_record::list_keep::ListKeep;
 
 /// A device, and what the lines of a script so far say of its next command.
 #[derive(Drop)]
 pub struct Player {
     script: Script,
-    machine: Machine,
+    machine: Machine<ListKeep>,
     pub answers: Answers,
 }
 

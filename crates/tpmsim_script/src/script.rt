@@ -67,12 +67,8 @@ impl Script {
         ensures event { result ≡ Event.Command buffer.entry self.old.locality self.old.waited self.old.random }
         ensures time { self.new ≡ record self.old { waited = 0 } }
     {
-        Event::Command {
-            buffer,
-            locality: self.locality,
-            elapsed_ms: mem::take(&mut self.waited),
-            random: self.random,
-        }
+        let elapsed_ms = mem::take(&mut self.waited);
+        Event::of_command(buffer, self.locality, elapsed_ms, self.random)
     }
 }
 

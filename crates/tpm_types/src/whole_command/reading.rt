@@ -1,4 +1,4 @@
-ghost use Rattle.std.specs.Prelude.{◌≡◌, ℕ, ◌≤◌, [], length, map, Ok, IfOk};
+ghost use Rattle.std.specs.Prelude.{◌≡◌, ◌≤◌, [], length, map, Ok, IfOk};
 ghost use Rattle.tpm_bytes.specs.Reading.{Reads};
 ghost use Rattle.tpm_types.specs.AuthEntry.{entry_of};
 ghost use Rattle.tpm_types.specs.Command.{IsCommand, Whole, command_at, command_text, handles_at, sessions_at, whole_of};
@@ -67,7 +67,8 @@ fn read_handles(text: &mut Cursor, count: usize) -> Result<ArrayVec<Handle, 3>, 
     Ok(handles)
 }
 
-fn read_sessions<'a>(text: &mut Cursor<'a>, tag: Tag) -> Result<ArrayVec<AuthEntry<'a>, 3>, Rc>
+/// Reads the entries of the authorization area, which is there where the tag says so.
+pub fn read_sessions<'a>(text: &mut Cursor<'a>, tag: Tag) -> Result<ArrayVec<AuthEntry<'a>, 3>, Rc>
     ensures { Reads (λ entries. map entry_of entries.items) (sessions_at tag text.old) text.old result text.new }
 {
     match tag {

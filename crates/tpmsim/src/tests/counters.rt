@@ -1,31 +1,44 @@
 //! Time, Clock and the counts, which no command reads yet.
 
 use std::test::Fail;
-use tpm_machine::startup::startup;
-use tpm_machine::state::State;
+use tpm_machine::event::Event;
+use tpm_machine::machine::Machine;
+use tpm_record::keep::Keep;
+use tpm_record::list_keep::ListKeep;
+use tpm_types::locality::Locality;
+
+/// TPM2_Startup(CLEAR), so many milliseconds after the command before it.
+fn startup(elapsed_ms: u32) -> Event<'static> {
+    let buffer = b"\x80\x01\0\0\0\x0c\0\0\x01\x44\0\0";
+    Event::of_command(buffer, Locality::new(0).unwrap(), elapsed_ms, [0; 256])
+}
 
 #[test]
 fn a_power_cycle_ends_time_and_not_clock(rt: HostRuntime) -> Result<(), Fail> {
-    let mut state = State::manufactured();
-    state.tick(7);
-    assert_eq!(rt; (state.time, state.clock), (7, 7));
-    state.power_cycle();
-    state.tick(5);
-    assert_eq!(rt; (state.time, state.clock), (5, 12));
-    assert!(rt; startup(&mut state, b"\0\0").is_ok());
-    assert_eq!(rt; (state.reset_count, state.restart_count), (1, 0));
+    let mut machine: Machine<ListKeep> = Machine::manufacture(rt.alloc(), &[0; 256])?;
+    machine.execute(&startup(7));
+    machine.execute(&startup(5));
+    let fixed = machine.keep().fixed();
+    assert_eq!(rt; (fixed.time, fixed.clock, fixed.reset_count), (12, 12, 1));
+    machine.execute(&Event::PowerCycle);
+    machine.execute(&startup(3));
+    let fixed = machine.keep().fixed();
+    assert_eq!(rt; (fixed.time, fixed.clock, fixed.reset_count), (3, 15, 2));
+    assert!(rt; fixed.started && fixed.restart_count == 0);
     Ok(())
 }
 
 #[test]
 fn counters_stop_at_their_ends(rt: HostRuntime) -> Result<(), Fail> {
-    let mut state = State::manufactured();
-    state.time = u64::MAX - 8;
-    state.clock = u64::MAX - 6;
-    state.reset_count = u32::MAX;
-    state.tick(7);
-    assert_eq!(rt; (state.time, state.clock), (u64::MAX - 1, u64::MAX));
-    assert!(rt; startup(&mut state, b"\0\0").is_ok());
-    assert_eq!(rt; state.reset_count, u32::MAX);
+    let mut keep = ListKeep::empty(rt.alloc())?;
+    let fixed = keep.fixed_mut();
+    fixed.time = u64::MAX - 8;
+    fixed.clock = u64::MAX - 6;
+    fixed.reset_count = u32::MAX;
+    let mut machine = Machine::from_keep(keep);
+    machine.execute(&startup(7));
+    let fixed = machine.keep().fixed();
+    assert_eq!(rt; (fixed.time, fixed.clock), (u64::MAX - 1, u64::MAX));
+    assert_eq!(rt; fixed.reset_count, u32::MAX);
     Ok(())
 }

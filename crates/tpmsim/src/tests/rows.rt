@@ -4,6 +4,7 @@ use std::alloc::{AllocError, Global};
 use std::test::Fail;
 use tpm_machine::event::{Event, Outcome, Row};
 use tpm_machine::machine::Machine;
+use tpm_record::list_keep::ListKeep;
 use tpm_types::locality::Locality;
 
 const NO_SESSIONS: u16 = 0x8001;
@@ -93,12 +94,7 @@ fn check_of(alloc: Global, row: Row) -> Result<String, AllocError> {
 }
 
 fn command(buffer: &[u8]) -> Event {
-    Event::Command {
-        buffer,
-        locality: Locality::new(0).unwrap(),
-        elapsed_ms: 0,
-        random: [7; 256],
-    }
+    Event::of_command(buffer, Locality::new(0).unwrap(), 0, [7; 256])
 }
 
 #[test]
@@ -130,7 +126,7 @@ fn each_check_is_reported(rt: HostRuntime) -> Result<(), Fail> {
         case(SESSIONS, PCR_EVENT, &[PCR_17, PASSWORD, NO_DATA], "A1"),
         case(SESSIONS, PCR_EVENT, &[HANDLE_NULL, PASSWORD, NO_DATA], "ok"),
     ];
-    let mut machine = Machine::manufacture(rt.alloc(), &[0; 256])?;
+    let mut machine: Machine<ListKeep> = Machine::manufacture(rt.alloc(), &[0; 256])?;
     for case in &cases {
         let buffer = case.buffer(rt.alloc())?;
         let row = machine.execute(&command(buffer.as_slice())).row;
@@ -144,7 +140,7 @@ fn each_check_is_reported(rt: HostRuntime) -> Result<(), Fail> {
 
 #[test]
 fn a_length_is_checked_before_and_behind_the_tag(rt: HostRuntime) -> Result<(), Fail> {
-    let mut machine = Machine::manufacture(rt.alloc(), &[0; 256])?;
+    let mut machine: Machine<ListKeep> = Machine::manufacture(rt.alloc(), &[0; 256])?;
     let whole = [0x80, 1, 0, 0, 0, 11, 0, 0, 1, 0x7b];
     for (buffer, check) in [(&whole[..9], 1), (&whole, 3)] {
         let row = machine.execute(&command(buffer)).row;
@@ -162,7 +158,7 @@ fn a_run_tells_each_outcome_once(rt: HostRuntime) -> Result<(), Fail> {
         Event::PowerCycle,
         command(random.as_slice()),
     ];
-    let mut machine = Machine::manufacture(rt.alloc(), &[0; 256])?;
+    let mut machine: Machine<ListKeep> = Machine::manufacture(rt.alloc(), &[0; 256])?;
     let mut told = Vec::new(rt.alloc());
     let mut kept = true;
     machine.run(

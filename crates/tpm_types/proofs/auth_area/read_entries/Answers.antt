@@ -3,7 +3,8 @@ use Rattle.std.proofs.lemmas.Grind.{common_steps}
 use Rattle.std.proofs.lemmas.Bool.Decides.{nat_tests}
 use Rattle.std.proofs.lemmas.Result.{err_from_is_err_and}
 use Rattle.tpm_types.specs.AuthEntry.{entry_of}
-use Rattle.tpm_types.proofs.EntriesLemmas.{entry_more, entry_refused, no_entry_left, entry_too_many, map_push}
+use Rattle.tpm_bytes.proofs.Joining.{map_push}
+use Rattle.tpm_types.proofs.EntriesLemmas.{entry_more, entry_refused, no_entry_left, entry_too_many}
 use Rattle.tpm_types.proofs.auth_area.read_entries.Goals as goal
 use Rattle.tpm_types.proofs.auth_area.read_entries.Goals.{then-not-is_empty+in_ok-read, else-not-is_empty}
 

@@ -2,7 +2,9 @@ use Rattle.std.proofs.Common.{arith, refl, ◌≡◌, ◌+◌, ◌-◌, ◌∙�
 use Rattle.std.proofs.lemmas.Grind.{common_steps}
 use Rattle.std.proofs.lemmas.List.{length-map, drop_all}
 use Rattle.tpm_types.specs.DigestList.{digests_of}
-use Rattle.tpm_pcr.specs.Banks.{read_values, selected}
+use Rattle.std.specs.List.{flat_map}
+use Rattle.tpm_pcr.specs.Banks.{answered, read_values, selected, selected_values}
+use Rattle.tpm_pcr.proofs.OwnValues.{own_values}
 use Rattle.tpm_pcr.proofs.Reading.{answered_more, read_more, read_values-nil, room_after}
 use Rattle.tpm_pcr.proofs.banks.Banks.read.Goals as goal
 
@@ -31,3 +33,15 @@ returns-clause-values c =
     ∙ ap (λ l. digests_of c.loop-bank.values.items ++ l) (sym (ap (read_values c.args.self.now (8 - length c.loop-bank.values.items)) none ∙ read_values-nil c.args.self.now (8 - length c.loop-bank.values.items)))
     ∙ c.loop-bank.invariant.values
     ∙ ap (read_values c.args.self.now 8) c.as_slice-bank-items.ensures.value
+
+pub returns-clause-own : goal.returns-clause-own
+returns-clause-own c =
+    let items = c.as_slice-bank-items.result.now in
+    let room = 8 - length c.loop-bank.values.items in
+    let front = c.loop-bank.banks.items in
+    let none : drop c.loop-bank.bank-index items ≡ [] = drop_all c.loop-bank.bank-index items (omega arith) in
+    let answer : front ≡ answered 8 items = sym (append-nil _) ∙ ap (λ l. front ++ l) (sym (ap (answered room) none)) ∙ c.loop-bank.invariant.banks in
+    returns-clause-values c
+    ∙ ap (read_values c.args.self.now 8) (sym c.as_slice-bank-items.ensures.value)
+    ∙ sym (own_values c.args.self.now 8 items)
+    ∙ ap (flat_map (selected_values c.args.self.now)) (sym answer)

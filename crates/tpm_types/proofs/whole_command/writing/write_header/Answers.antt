@@ -9,5 +9,5 @@ pub returns : goal.returns
 unfolding header_text
 returns g c =
     let tag = subst (λ n. Puts g.row.N (to_be_bytes w16 n) c.args.sink.now c.put_u16.result c.put_u16.new.self) c.number.ensures c.put_u16.ensures in
-    let code = subst (λ n. Puts g.row.N (to_be_bytes w32 n) c.put_u32.new.self c.put_u32-2.result c.put_u32-2.new.self) c.number-2.ensures c.put_u32-2.ensures in
+    let code = subst (λ n. Puts g.row.N (to_be_bytes w32 n) c.put_u32.new.self c.put_u32-2.result c.put_u32-2.new.self) c.number-2.ensures.value c.put_u32-2.ensures in
     put_three g.row.N _ _ _ c.args.sink.now c.put_u16.new.self c.put_u32.new.self c.put_u32-2.new.self c.put_u16.result c.put_u32.result c.put_u32-2.result tag c.put_u32.ensures code (omega arith)

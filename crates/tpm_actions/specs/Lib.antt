@@ -1,0 +1,9 @@
+pub mod Request
+pub mod Rows
+pub mod PcrChange
+pub mod Startup
+pub mod GetRandom
+pub mod PcrRead
+pub mod PcrExtend
+pub mod PcrEvent
+pub mod PcrReset

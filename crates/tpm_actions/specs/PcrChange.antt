@@ -1,0 +1,24 @@
+-- What the commands that change PCRs share: a PCR is changed, and on TPM_RH_NULL nothing is checked or changed.
+use Rattle.std.specs.Prelude.{ℕ, Option, Some, None, Result, Ok, Err}
+use Rattle.tpm_pcr.specs.Values.{BankValues}
+use Rattle.tpm_pcr.specs.declared.changes.ChangeFault.{ChangeFault}
+use Rattle.tpm_pcr.specs.declared.changes.ChangeFault.TheVariants.{Locality, Failure}
+use Rattle.tpm_types.specs.declared.rc.ResponseCode.TheVariants as code
+use Rattle.tpm_types.specs.Rc.{plain}
+use Rattle.tpm_auth.specs.Refused.{refusal}
+use Rattle.tpm_auth.specs.declared.check.ActionCheck.TheVariants as action
+use Rattle.tpm_auth.specs.declared.check.Check.TheVariants as check
+use Rattle.tpm_auth.specs.declared.refused.Refused.{Refused}
+
+-- A1: the PCR may not be changed so from this locality; A2: the updates could not be counted
+abbrev pub change_refusal : ChangeFault → Refused
+change_refusal Locality = refusal (check.Action action.First) (plain code.Locality)
+change_refusal Failure = refusal (check.Action action.Second) (plain code.Failure)
+
+abbrev pub change_row : {X : Type 0} → Result X ChangeFault → Result X Refused
+change_row (Ok banks) = Ok banks
+change_row (Err fault) = Err (change_refusal fault)
+
+abbrev pub on_pcr : Option ℕ → BankValues → (ℕ → Result BankValues ChangeFault) → Result BankValues Refused
+on_pcr None banks change = Ok banks
+on_pcr (Some pcr) banks change = change_row (change pcr)

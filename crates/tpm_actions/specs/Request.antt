@@ -1,0 +1,32 @@
+-- What a command asks for, wherever its bytes lie in memory.
+use Rattle.std.specs.Prelude.{ℕ, List, [], ◌∷◌, Result, Ok, Err}
+use Rattle.tpm_types.specs.declared.handle.Handle.{Handle}
+use Rattle.tpm_types.specs.declared.rc.ResponseCode.TheVariants as code
+use Rattle.tpm_types.specs.Locality.{locality_number}
+use Rattle.tpm_types.specs.Rc.{plain}
+use Rattle.tpm_auth.specs.Refused.{refusal}
+use Rattle.tpm_auth.specs.declared.check.Check.TheVariants as check
+use Rattle.tpm_auth.specs.declared.refused.Refused.{Refused}
+use Rattle.tpm_actions.specs.declared.call.Call.{Call}
+
+-- its handles, as many as its shape has, the number of its locality, its plain parameters, and the event's 256 random
+-- bytes
+pub record Request : Type 0 where
+  pub handles : List Handle
+  pub locality : ℕ
+  pub parameters : List ℕ
+  pub random : List ℕ
+
+abbrev pub request_of : Call → Request
+request_of call = record {
+  handles = call.handles.now;
+  locality = locality_number call.locality;
+  parameters = call.parameters.now;
+  random = call.random.now;
+}
+
+-- the first handle of a command that has one; without one no row acts. That does not occur: a request has as many
+-- handles as its command's shape
+abbrev pub first_handle : List Handle → Result Handle Refused
+first_handle [] = Err (refusal check.Handles (plain code.Failure))
+first_handle (handle ∷ handles) = Ok handle

@@ -1,0 +1,45 @@
+-- TPM2_Startup. TPM 2.0 Library, Part 3, section 9.3.
+use Rattle.std.specs.Prelude.{◌+◌, ◌-◌, ◌^◌, min, true, Bool, false, [], None, Result, Ok}
+use Rattle.tpm_bytes.specs.Reading.{◌>>=◌, refused_if}
+use Rattle.tpm_types.specs.declared.rc.ResponseCode.TheVariants as code
+use Rattle.tpm_types.specs.declared.rc.Place.TheVariants as place
+use Rattle.tpm_types.specs.declared.startup_type.StartupType.{StartupType}
+use Rattle.tpm_types.specs.declared.startup_type.StartupType.TheVariants.{Clear, State}
+use Rattle.tpm_types.specs.Rc.{at, plain}
+use Rattle.tpm_types.specs.StartupType.{startup_type_at}
+use Rattle.tpm_record.specs.Record.{Record}
+use Rattle.tpm_auth.specs.declared.refused.Refused.{Refused}
+use Rattle.tpm_actions.specs.Request.{Request}
+use Rattle.tpm_record.specs.declared.fixed.Saved.{Saved}
+use Rattle.tpm_record.specs.declared.fixed.Saved.TheVariants.{Nothing}
+use Rattle.tpm_auth.specs.Refused.{refusal}
+use Rattle.tpm_auth.specs.declared.check.ActionCheck.TheVariants as action
+use Rattle.tpm_auth.specs.declared.check.Check.TheVariants as check
+use Rattle.tpm_actions.specs.Rows.{Success, all_read, parameter}
+
+-- whether a startup asks for a saved state that is not there; nothing is ever saved yet
+abbrev pub lacks_state : StartupType → Saved → Bool
+lacks_state Clear Nothing = false
+lacks_state State Nothing = true
+
+-- startupType; TPM2_Startup(CLEAR) where nothing was saved is a TPM Reset: there is one more of these, and none of the
+-- other startups since. The update counter begins at 0, and the count of resets stops at 2^32 - 1
+unfoldable pub startup_row : Record → Request → Result Success Refused
+startup_row r q = do
+  type ← parameter 1 (startup_type_at q.parameters)
+  ended ← all_read type.1
+  a1 ← refused_if (lacks_state type.0 r.fixed.saved) (refusal (check.Action action.First) (at (place.Parameter 1) (plain code.Value)))
+  Ok (record {
+    handle = None;
+    answer = [];
+    drawn = 0;
+    after = record r {
+      fixed = record r.fixed {
+        started = true;
+        saved = Nothing;
+        banks = record r.fixed.banks { update_count = 0 };
+        reset_count = min (r.fixed.reset_count + 1) (2 ^ 32 - 1);
+        restart_count = 0;
+      };
+    };
+  })

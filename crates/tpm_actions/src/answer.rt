@@ -1,0 +1,48 @@
+ghost use Rattle.std.specs.Prelude.{◌≡◌, ◌≤◌, [], None};
+
+use arrayvec::ArrayVec;
+use tpm_types::handle::Handle;
+
+/// The most bytes of a response's parameters: a TPM2B of 1,024 bytes (TPM2_NV_Read) is the longest of all
+/// commands. It is no more than that, since an answer is cleared and moved for each command.
+pub const ANSWER_LIMIT: usize = 1026;
+
+/// A response's parameters.
+pub type Parameters = ArrayVec<u8, ANSWER_LIMIT>;
+
+/// What a command that succeeded answers.
+#[derive(Drop)]
+pub struct Answer {
+    /// The handle of what it made, if it answers one.
+    pub handle: Option<Handle>,
+    pub parameters: Parameters,
+    /// How many random bytes it drew, from the front of the event's.
+    pub drawn: usize,
+    ghost few: { drawn ≤ 96 },
+}
+
+impl Answer {
+    /// These parameters, no handle, and no random bytes drawn.
+    #[inline(always)]
+    pub fn of(parameters: Parameters) -> Answer
+        ensures handle { result.handle ≡ None }
+        ensures parameters { result.parameters ≡ parameters }
+        ensures drawn { result.drawn ≡ 0 }
+    {
+        Answer {
+            handle: None,
+            parameters,
+            drawn: 0,
+        }
+    }
+
+    /// No parameters either.
+    #[inline(always)]
+    pub fn empty() -> Answer
+        ensures handle { result.handle ≡ None }
+        ensures parameters { result.parameters.items ≡ [] }
+        ensures drawn { result.drawn ≡ 0 }
+    {
+        Answer::of(ArrayVec::new())
+    }
+}

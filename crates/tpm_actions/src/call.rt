@@ -1,0 +1,33 @@
+ghost use Rattle.std.specs.Prelude.{◌≡◌};
+
+use tpm_auth::check::Check;
+use tpm_auth::refused::Refused;
+use tpm_types::handle::Handle;
+use tpm_types::locality::Locality;
+use tpm_types::rc::ResponseCode;
+
+/// What a command is called with, once the general checks and the authorization have passed.
+#[derive(Clone, Copy)]
+pub struct Call<'a> {
+    /// As many as the command's shape has.
+    pub handles: &'a [Handle],
+    pub locality: Locality,
+    /// The parameters, decrypted.
+    pub parameters: &'a [u8],
+    /// The event's random bytes.
+    pub random: &'a [u8; 256],
+}
+
+impl Call<'_> {
+    ghost use Rattle.tpm_actions.specs.Request.{first_handle};
+
+    /// The first handle of a command that has one.
+    pub fn first_handle(&self) -> Result<Handle, Refused>
+        ensures { result ≡ first_handle self.now.handles.now }
+    {
+        match self.handles {
+            [] => Err(Refused::by(Check::Handles, ResponseCode::Failure.anywhere())),
+            [first, ..] => Ok(*first),
+        }
+    }
+}

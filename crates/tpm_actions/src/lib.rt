@@ -1,0 +1,19 @@
+#![tactic(auto)]
+
+//! What each command does: a file a command, with one public call that reads its plain parameters,
+//! checks them, and changes the record last (TPM 2.0 Library, Part 3).
+//!
+//! A call takes the command's [`call::Call`] and gives its [`answer::Answer`] or the first refusal,
+//! which leaves the record. `specs/` has a row a command under the same name; each call is proved to be
+//! its row, for each way of keeping the record. It stands on tpm_record and tpm_auth.
+
+pub mod answer;
+pub mod call;
+pub mod get_random;
+mod pcr_change;
+pub mod pcr_event;
+pub mod pcr_extend;
+pub mod pcr_read;
+pub mod pcr_reset;
+mod reading;
+pub mod startup;

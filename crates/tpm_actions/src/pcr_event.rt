@@ -1,0 +1,50 @@
+ghost use Rattle.std.specs.Prelude.{◌≡◌};
+ghost use Rattle.tpm_types.specs.DigestValues.{digest_values_text};
+ghost use Rattle.tpm_actions.specs.PcrEvent.{pcr_event_row};
+ghost use Rattle.tpm_actions.specs.Request.{request_of};
+ghost use Rattle.tpm_actions.specs.Rows.{Acts};
+
+use crate::answer::{ANSWER_LIMIT, Answer, Parameters};
+use crate::call::Call;
+use crate::pcr_change::change_refusal;
+use crate::reading::{at_parameter, end};
+use tpm_auth::refused::Refused;
+use tpm_bytes::cursor::Cursor;
+use tpm_bytes::sink::Sink;
+use tpm_pcr::changes::event_digests;
+use tpm_record::keep::Keep;
+use tpm_types::buffer::read_buffer;
+use tpm_types::digest_values::DigestValues;
+
+/// The most bytes of an event's data.
+const MOST_EVENT: usize = 1024;
+
+fn digests_text(digests: &DigestValues) -> Parameters
+    ensures { result.items ≡ digest_values_text digests.now.values.items }
+{
+    let mut answer = Sink::<ANSWER_LIMIT>::new();
+    let _ = digests.write(&mut answer);
+    answer.into_bytes()
+}
+
+/// TPM2_PCR_Event: extends a PCR by the digests of the data, and answers them; on TPM_RH_NULL it answers them
+/// and nothing is checked or changed.
+#[tactic(auto, unfolding(crate::specs::PcrEvent::pcr_event_row))]
+pub fn pcr_event<K: Keep>(keep: &mut K, call: &Call) -> Result<Answer, Refused>
+    ensures { Acts (pcr_event_row (K.record_of keep.old) (request_of call.now)) (K.record_of keep.old) result (K.record_of keep.new) }
+{
+    let handle = call.first_handle()?;
+    let mut parameters = Cursor::new(call.parameters);
+    let event = read_buffer(&mut parameters, MOST_EVENT).map_err(|rc| at_parameter(1, rc))?;
+    end(&parameters)?;
+    let digests = match handle.pcr() {
+        Some(pcr) => {
+            let banks = &mut keep.fixed_mut().banks;
+            banks
+                .event(pcr, call.locality, event)
+                .map_err(change_refusal)?
+        }
+        None => event_digests(event),
+    };
+    Ok(Answer::of(digests_text(&digests)))
+}

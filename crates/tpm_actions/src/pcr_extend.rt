@@ -1,0 +1,31 @@
+ghost use Rattle.std.specs.Prelude.{◌≡◌};
+ghost use Rattle.tpm_actions.specs.PcrExtend.{pcr_extend_row};
+ghost use Rattle.tpm_actions.specs.Request.{request_of};
+ghost use Rattle.tpm_actions.specs.Rows.{Acts};
+
+use crate::answer::Answer;
+use crate::call::Call;
+use crate::pcr_change::change_refusal;
+use crate::reading::{at_parameter, end};
+use tpm_auth::refused::Refused;
+use tpm_bytes::cursor::Cursor;
+use tpm_record::keep::Keep;
+use tpm_types::digest_values::DigestValues;
+
+/// TPM2_PCR_Extend: extends a PCR by each digest in turn; on TPM_RH_NULL nothing is checked or changed.
+#[tactic(auto, unfolding(crate::specs::PcrExtend::pcr_extend_row))]
+pub fn pcr_extend<K: Keep>(keep: &mut K, call: &Call) -> Result<Answer, Refused>
+    ensures { Acts (pcr_extend_row (K.record_of keep.old) (request_of call.now)) (K.record_of keep.old) result (K.record_of keep.new) }
+{
+    let handle = call.first_handle()?;
+    let mut parameters = Cursor::new(call.parameters);
+    let digests = DigestValues::read(&mut parameters).map_err(|rc| at_parameter(1, rc))?;
+    end(&parameters)?;
+    if let Some(pcr) = handle.pcr() {
+        let banks = &mut keep.fixed_mut().banks;
+        banks
+            .extend(pcr, call.locality, &digests)
+            .map_err(change_refusal)?;
+    }
+    Ok(Answer::empty())
+}

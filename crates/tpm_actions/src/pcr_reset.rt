@@ -1,0 +1,26 @@
+ghost use Rattle.std.specs.Prelude.{◌≡◌};
+ghost use Rattle.tpm_actions.specs.PcrReset.{pcr_reset_row};
+ghost use Rattle.tpm_actions.specs.Request.{request_of};
+ghost use Rattle.tpm_actions.specs.Rows.{Acts};
+
+use crate::answer::Answer;
+use crate::call::Call;
+use crate::pcr_change::change_refusal;
+use crate::reading::end;
+use tpm_auth::refused::Refused;
+use tpm_bytes::cursor::Cursor;
+use tpm_record::keep::Keep;
+
+/// TPM2_PCR_Reset: makes a PCR zeros in both banks.
+#[tactic(auto, unfolding(crate::specs::PcrReset::pcr_reset_row))]
+pub fn pcr_reset<K: Keep>(keep: &mut K, call: &Call) -> Result<Answer, Refused>
+    ensures { Acts (pcr_reset_row (K.record_of keep.old) (request_of call.now)) (K.record_of keep.old) result (K.record_of keep.new) }
+{
+    let handle = call.first_handle()?;
+    end(&Cursor::new(call.parameters))?;
+    if let Some(pcr) = handle.pcr() {
+        let banks = &mut keep.fixed_mut().banks;
+        banks.reset(pcr, call.locality).map_err(change_refusal)?;
+    }
+    Ok(Answer::empty())
+}

@@ -1,0 +1,45 @@
+ghost use Rattle.std.specs.Prelude.{◌≡◌};
+ghost use Rattle.tpm_actions.specs.Request.{request_of};
+ghost use Rattle.tpm_actions.specs.Rows.{Acts};
+ghost use Rattle.tpm_actions.specs.Startup.{lacks_state, startup_row};
+
+use crate::answer::Answer;
+use crate::call::Call;
+use crate::reading::{at_parameter, end};
+use tpm_auth::check::{ActionCheck, Check};
+use tpm_auth::refused::Refused;
+use tpm_bytes::cursor::Cursor;
+use tpm_record::fixed::Saved;
+use tpm_record::keep::Keep;
+use tpm_types::rc::ResponseCode;
+use tpm_types::startup_type::StartupType;
+
+fn lacks_state(kind: StartupType, saved: Saved) -> bool
+    ensures { result ≡ lacks_state kind saved }
+{
+    match (kind, saved) {
+        (StartupType::Clear, Saved::Nothing) => false,
+        (StartupType::State, Saved::Nothing) => true,
+    }
+}
+
+/// TPM2_Startup: VALUE where it wants a saved state and there is none; else a TPM Reset.
+#[tactic(auto, unfolding(crate::specs::Startup::startup_row))]
+pub fn startup<K: Keep>(keep: &mut K, call: &Call) -> Result<Answer, Refused>
+    ensures { Acts (startup_row (K.record_of keep.old) (request_of call.now)) (K.record_of keep.old) result (K.record_of keep.new) }
+{
+    let mut parameters = Cursor::new(call.parameters);
+    let kind = StartupType::read(&mut parameters).map_err(|rc| at_parameter(1, rc))?;
+    end(&parameters)?;
+    let fixed = keep.fixed_mut();
+    if lacks_state(kind, fixed.saved) {
+        let rc = ResponseCode::Value.anywhere().at_parameter(1);
+        return Err(Refused::by(Check::Action(ActionCheck::First), rc));
+    }
+    fixed.started = true;
+    fixed.saved = Saved::Nothing;
+    fixed.banks.restart_update_count();
+    fixed.reset_count = fixed.reset_count.saturating_add(1);
+    fixed.restart_count = 0;
+    Ok(Answer::empty())
+}

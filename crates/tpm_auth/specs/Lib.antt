@@ -1,0 +1,4 @@
+pub mod Check
+pub mod Refused
+pub mod Entries
+pub mod Grant

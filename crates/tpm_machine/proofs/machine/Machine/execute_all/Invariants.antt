@@ -1,0 +1,16 @@
+use Rattle.std.proofs.Common.{drop, map}
+use denote.Param.Always.{always_mut}
+use Rattle.tpm_record.specs.Record.{Record}
+use Rattle.tpm_machine.specs.Events.{happening}
+use Rattle.tpm_machine.specs.Run.{Runs}
+use Rattle.tpm_machine.proofs.machine.Machine.execute_all.Given as goal
+
+-- if what is left runs from here, then all events run from the start
+abbrev pub invariant-loop-event : goal.invariant-loop-event
+invariant-loop-event g l =
+    let record_of = g.K.Keep.record_of in
+    let can = g.K.Keep.can_refuse in
+    record {
+      callable : always_mut g.F.FnMut l.tell;
+      joined : (new : Record) (q : _) → Runs g.F.FnMut can (record_of l.self.keep) l.tell (map happening (drop l.event-index l.events)) new q → Runs g.F.FnMut can (record_of l.fn.self.keep) l.fn.tell (map happening l.fn.events) new q;
+    }

@@ -1,0 +1,22 @@
+-- Sized buffers of a command. TPM 2.0 Library, Part 2, section 10.4 (TPM2B: a size of two bytes,
+-- and that many bytes), and Part 3, section 5.8 (parameter unmarshaling).
+use Rattle.std.specs.Prelude.{ℕ, List, Result, Ok, Err}
+use Rattle.tpm_bytes.specs.Reading.{sized_at}
+use Rattle.tpm_bytes.specs.declared.cursor.SizedFault.{SizedFault}
+use Rattle.tpm_bytes.specs.declared.cursor.SizedFault.TheVariants as fault
+use Rattle.tpm_types.specs.declared.rc.Rc.{Rc}
+use Rattle.tpm_types.specs.declared.rc.ResponseCode.TheVariants as code
+use Rattle.tpm_types.specs.Rc.{plain}
+
+-- a buffer over its limit is SIZE, whole or cut, and else a cut one is INSUFFICIENT
+abbrev pub sized_rc : SizedFault → Rc
+sized_rc fault.TooLong = plain code.Size
+sized_rc fault.Short = plain code.Insufficient
+
+abbrev pub or_sized_rc : {X : Type 0} → Result X SizedFault → Result X Rc
+or_sized_rc (Ok x) = Ok x
+or_sized_rc (Err fault) = Err (sized_rc fault)
+
+-- the bytes of a buffer of at most so many, and what is after it
+unfoldable pub buffer_at : ℕ → List ℕ → Result (List ℕ × List ℕ) Rc
+buffer_at limit text = or_sized_rc (sized_at limit text)

@@ -1,0 +1,91 @@
+-- Every fact of a command but its number and what it does. TPM 2.0 Library, Part 3, the tables of
+-- each command's own section: its handles and who authorizes them, its parameters, and whether it
+-- may have sessions.
+use Rattle.std.specs.Prelude.{ℕ, ◌==◌, ◌||◌, is_some, count_by, Bool, true, false, List, [], ◌∷◌, length, Some}
+use Rattle.tpm_types.specs.declared.command_code.CommandCode.{CommandCode}
+use Rattle.tpm_types.specs.declared.command_code.CommandCode.TheVariants as code
+use Rattle.tpm_types.specs.declared.handle.Handle.{Handle}
+use Rattle.tpm_types.specs.declared.shape.HandleKind.{HandleKind}
+use Rattle.tpm_types.specs.declared.shape.HandleKind.TheVariants as kind
+use Rattle.tpm_types.specs.declared.shape.HandleRule.{HandleRule}
+use Rattle.tpm_types.specs.declared.shape.ParameterKind.{ParameterKind}
+use Rattle.tpm_types.specs.declared.shape.ParameterKind.TheVariants as parameter
+use Rattle.tpm_types.specs.declared.shape.Role.TheVariants as role
+use Rattle.tpm_types.specs.declared.shape.Shape.{Shape}
+use Rattle.tpm_types.specs.Handle.{null_handle, pcr_of}
+
+-- whether a handle is of a kind: a PCR (TPMI_DH_PCR of Part 2, section 9), or that or TPM_RH_NULL
+abbrev pub is_of_kind : HandleKind → Handle → Bool
+is_of_kind kind.Pcr handle = is_some (pcr_of handle)
+is_of_kind kind.PcrOrNull handle = is_some (pcr_of handle) || handle.number == null_handle.number
+
+-- whether a parameter is a sized buffer (TPM2B of Part 2, section 10.4)
+abbrev pub is_sized : ParameterKind → Bool
+is_sized (parameter.Buffer most) = true
+is_sized parameter.StartupType = false
+is_sized parameter.U16 = false
+is_sized parameter.Selection = false
+is_sized parameter.Digests = false
+
+-- a shape, wherever its lists lie in memory: its handles and who authorizes each, its parameters, whether the first
+-- parameter of its answer is a sized buffer, whether a handle stands before these, whether it may have sessions, and
+-- whether it may want memory
+pub record Facts : Type 0 where
+  pub handles : List HandleRule
+  pub parameters : List ParameterKind
+  pub sized_answer : Bool
+  pub answers_handle : Bool
+  pub allows_sessions : Bool
+  pub grows : Bool
+
+abbrev pub facts_of : Shape → Facts
+facts_of s = record {
+  handles = s.handles.now;
+  parameters = s.parameters.now;
+  sized_answer = s.sized_answer;
+  answers_handle = s.answers_handle;
+  allows_sessions = s.allows_sessions;
+  grows = s.grows;
+}
+
+-- a handle that is authorized in the role of the user
+abbrev pub user : HandleKind → HandleRule
+user kind = record { kind = kind; role = Some role.User }
+
+-- no handle and no parameter; sessions are allowed
+abbrev pub plain_shape : Facts
+plain_shape = record {
+  handles = [];
+  parameters = [];
+  sized_answer = false;
+  answers_handle = false;
+  allows_sessions = true;
+  grows = false;
+}
+
+unfoldable pub shape_of : CommandCode → Facts
+shape_of code.PcrEvent = record plain_shape {
+  handles = user kind.PcrOrNull ∷ [];
+  parameters = parameter.Buffer 1024 ∷ [];
+}
+shape_of code.PcrReset = record plain_shape { handles = user kind.Pcr ∷ [] }
+shape_of code.Startup = record plain_shape {
+  parameters = parameter.StartupType ∷ [];
+  allows_sessions = false;
+}
+shape_of code.GetRandom = record plain_shape {
+  parameters = parameter.U16 ∷ [];
+  sized_answer = true;
+}
+shape_of code.PcrRead = record plain_shape { parameters = parameter.Selection ∷ [] }
+shape_of code.PcrExtend = record plain_shape {
+  handles = user kind.PcrOrNull ∷ [];
+  parameters = parameter.Digests ∷ [];
+}
+
+-- how many handles a command has, and how many of these need authorization
+abbrev pub handle_count : CommandCode → ℕ
+handle_count code = length (shape_of code).handles
+
+abbrev pub authorized_handles : CommandCode → ℕ
+authorized_handles code = count_by (λ rule. is_some rule.role) (shape_of code).handles

@@ -1,0 +1,17 @@
+ghost use Rattle.tpm_bytes.specs.Reading.{Reads};
+ghost use Rattle.tpm_types.specs.Buffer.{buffer_at};
+
+use crate::rc::{Rc, ResponseCode};
+use tpm_bytes::cursor::{Cursor, SizedFault};
+
+/// Reads a sized buffer of at most `limit` bytes (TPM2B of TPM 2.0 Library, Part 2, section 10.4):
+/// SIZE where it says that it has more, else INSUFFICIENT where it is cut.
+#[tactic(auto, unfolding(crate::specs::Buffer::buffer_at))]
+pub fn read_buffer<'a>(text: &mut Cursor<'a>, limit: usize) -> Result<&'a [u8], Rc>
+    ensures { Reads (λ buffer. buffer.now) (buffer_at limit text.old) text.old result text.new }
+{
+    text.sized(limit).map_err(|fault| match fault {
+        SizedFault::TooLong => ResponseCode::Size.anywhere(),
+        SizedFault::Short => ResponseCode::Insufficient.anywhere(),
+    })
+}

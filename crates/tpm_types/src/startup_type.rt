@@ -1,0 +1,33 @@
+ghost use Rattle.tpm_bytes.specs.Reading.{Reads};
+
+use crate::rc::{Rc, ResponseCode};
+use tpm_bytes::cursor::Cursor;
+
+/// With which state the device starts: TPM_SU of TPM 2.0 Library, Part 2, section 6.10.
+#[derive(Clone, Copy, Debug, PartialEq, Eq)]
+pub enum StartupType {
+    Clear,
+    State,
+}
+
+impl StartupType {
+    ghost use Rattle.tpm_types.specs.StartupType.{startup_type_at};
+
+    /// Reads a startup type: INSUFFICIENT where it is cut, VALUE where it is neither.
+    #[tactic(auto, unfolding(crate::specs::StartupType::startup_type_at))]
+    pub fn read(text: &mut Cursor) -> Result<StartupType, Rc>
+        ensures { Reads (λ kind. kind) (startup_type_at text.old) text.old result text.new }
+    {
+        let mut ahead = Cursor::new(text.rest());
+        let number = ahead
+            .u16()
+            .map_err(|_| ResponseCode::Insufficient.anywhere())?;
+        let kind = match number {
+            0 => StartupType::Clear,
+            1 => StartupType::State,
+            _ => return Err(ResponseCode::Value.anywhere()),
+        };
+        *text = ahead;
+        Ok(kind)
+    }
+}
