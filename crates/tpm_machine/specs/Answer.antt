@@ -17,7 +17,7 @@ framed tag code body = to_be_bytes w16 tag ++ to_be_bytes w32 (10 + length body)
 -- a refusal has no sessions; where the command's tag was bad it has a tag of its own, 00C4 (TPM_ST_RSP_COMMAND)
 abbrev pub refusal_tag : Check → ℕ
 refusal_tag check.Tag = 0xc4
-refusal_tag other = 0x8001
+refusal_tag _ = 0x8001
 
 -- ten bytes
 abbrev pub refusal_text : Refused → List ℕ
