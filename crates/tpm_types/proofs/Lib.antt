@@ -10,5 +10,6 @@ pub mod Laws
 pub mod HandleLemmas
 pub mod HeaderLaws
 pub mod CommandLaws
+pub mod CountedLaws
 pub mod ValuesLemmas
 pub mod ValuesLaws

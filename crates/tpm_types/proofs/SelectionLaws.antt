@@ -1,13 +1,11 @@
 -- Selections of PCRs: what is read was spelled so, and what is spelled so is read.
-use Rattle.std.proofs.Common.{◌≡◌, ℕ, zero, suc, ◌/◌, ◌%◌, ◌^◌, ◌<◌, ◌≤◌, Bool, true, false, ltb, List, [], ◌∷◌, ◌++◌, length, take, Ok, refl, sym, ap, subst, ◌∙◌, append_assoc, arith}
+use Rattle.std.proofs.Common.{◌≡◌, ℕ, zero, suc, ◌/◌, ◌%◌, ◌^◌, ◌<◌, Bool, true, false, List, [], ◌∷◌, ◌++◌, length, take, Ok, refl, sym, ap, subst, ◌∙◌, append_assoc, arith}
 use Rattle.std.specs.Prelude.{◌==◌, not}
 use Rattle.std.specs.Int.{w8, w16, w32, to_be_bytes, from_le_bytes, to_le_bytes}
-use Rattle.std.proofs.lemmas.Bool.{eqb-true, ltb-false, le-ltb}
+use Rattle.std.proofs.lemmas.Bool.{eqb-true}
 use Rattle.std.proofs.lemmas.Nat.{le_bytes_4, from_le_bytes-to_le_bytes_4}
-use Rattle.tpm_bytes.specs.Many.{many_at}
 use Rattle.tpm_bytes.specs.Reading.{◌>>=◌, bytes_at, number_at, or_fault, refused_if}
-use Rattle.tpm_bytes.proofs.Fields.{AreBytes, Takes, Takes-then, bind_ok, or_fault_ok, passed, bytes_take, bytes_again, number_or_takes, number_or_again, wide8, wide32, ok_is}
-use Rattle.tpm_bytes.proofs.Spelling.{many_again, many_taken}
+use Rattle.tpm_bytes.proofs.Fields.{AreBytes, Takes, Takes-then, bind_ok, or_fault_ok, passed, bytes_take, bytes_again, number_or_takes, number_or_again, wide8, ok_is}
 use Rattle.tpm_mac.specs.declared.algorithm.HashAlg.{HashAlg}
 use Rattle.tpm_types.specs.declared.pcr_selection.BankSelection.{BankSelection}
 use Rattle.tpm_types.specs.declared.rc.ResponseCode.TheVariants as code
@@ -15,6 +13,7 @@ use Rattle.tpm_types.specs.Rc.{plain}
 use Rattle.tpm_types.specs.Algorithm.{hash_at, hash_number}
 use Rattle.tpm_types.specs.Pcr.{select_of, select_text}
 use Rattle.tpm_types.specs.PcrSelection.{IsBank, IsSelection, bank_at, bank_text, banks_text, selection_at, selection_text}
+use Rattle.tpm_types.proofs.CountedLaws.{counted_again, counted_takes}
 use Rattle.tpm_types.proofs.HashLaws.{hash_again, hash_takes}
 
 -- a test of inequality that did not hold
@@ -85,18 +84,9 @@ bank_again bank rest small =
 pub selection_takes : (bytes : List ℕ) (x : List BankSelection × List ℕ) → AreBytes bytes → selection_at bytes ≡ Ok x → (bytes ≡ selection_text x.0 ++ x.1) × IsSelection x.0
 unfolding selection_at selection_text banks_text
 selection_takes bytes x fits e =
-    let a = bind_ok (or_fault (number_at w32 bytes) (plain code.Insufficient)) (λ count. refused_if (ltb 16 count.0) (plain code.Size) >>= λ few. many_at bank_at count.0 count.1) x e in
-    let b = bind_ok (refused_if (ltb 16 a.0.0) (plain code.Size)) (λ few. many_at bank_at a.0.0 a.0.1) x a.2 in
-    let few : a.0.0 ≤ 16 = ltb-false _ _ (passed (ltb 16 a.0.0) (plain code.Size) b.0 b.1) in
-    let t0 = number_or_takes w32 (2 ^ 32) wide32 (plain code.Insufficient) bytes a.0 fits a.1 in
-    let t1 = many_taken bank_text IsBank bank_at bank_takes a.0.0 a.0.1 x t0.0.rest_fits b.2 in
-    let both = Takes-then bytes (to_be_bytes w32 a.0.0) a.0.1 (banks_text x.0) x.1 t0.0 t1.0 in
-    let counted : Takes bytes (to_be_bytes w32 (length x.0) ++ banks_text x.0) x.1 = subst (λ (n : ℕ). Takes bytes (to_be_bytes w32 n ++ banks_text x.0) x.1) (sym t1.1) both in
-    (counted.parts, record { few = omega (arith, few, t1.1); each = t1.2 })
+    let t = counted_takes 16 bank_text IsBank bank_at bank_takes bytes x fits e in
+    (t.0, record { few = t.1; each = t.2 })
 
 pub selection_again : (banks : List BankSelection) (rest : List ℕ) → IsSelection banks → selection_at (selection_text banks ++ rest) ≡ Ok (banks, rest)
 unfolding selection_at selection_text banks_text
-selection_again banks rest is =
-    let few : ltb 16 (length banks) ≡ false = le-ltb _ _ is.few in
-    ap selection_at (append_assoc (to_be_bytes w32 (length banks)) (banks_text banks) rest)
-    ∙ rw (number_or_again w32 (2 ^ 32) wide32 (plain code.Insufficient) (length banks) (banks_text banks ++ rest) (let few' = is.few in omega arith), few, many_again bank_text IsBank bank_at bank_again banks rest is.each) refl
+selection_again banks rest is = counted_again 16 bank_text IsBank bank_at bank_again (omega arith) banks rest is.few is.each

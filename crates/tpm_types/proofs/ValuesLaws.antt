@@ -1,11 +1,8 @@
 -- Digests with their algorithms: what is read was spelled so, and what is spelled so is read.
-use Rattle.std.proofs.Common.{◌≡◌, ℕ, ◌^◌, ◌≤◌, false, ltb, List, ◌++◌, length, Ok, refl, sym, ap, subst, ◌∙◌, append_assoc, arith}
-use Rattle.std.specs.Int.{w16, w32, to_be_bytes}
-use Rattle.std.proofs.lemmas.Bool.{ltb-false, le-ltb}
-use Rattle.tpm_bytes.specs.Many.{many_at}
-use Rattle.tpm_bytes.specs.Reading.{◌>>=◌, bytes_at, number_at, or_fault, refused_if}
-use Rattle.tpm_bytes.proofs.Fields.{AreBytes, Takes, Takes-then, bind_ok, bytes_again, bytes_take, number_or_again, number_or_takes, ok_is, or_fault_ok, passed, wide32}
-use Rattle.tpm_bytes.proofs.Spelling.{many_again, many_taken}
+use Rattle.std.proofs.Common.{◌≡◌, ℕ, List, ◌++◌, Ok, refl, sym, ap, subst, ◌∙◌, append_assoc, arith}
+use Rattle.std.specs.Int.{w16, to_be_bytes}
+use Rattle.tpm_bytes.specs.Reading.{bytes_at}
+use Rattle.tpm_bytes.proofs.Fields.{AreBytes, Takes, Takes-then, bind_ok, bytes_again, bytes_take, ok_is, or_fault_ok}
 use Rattle.tpm_mac.specs.declared.algorithm.HashAlg.{HashAlg}
 use Rattle.tpm_mac.specs.declared.algorithm.HashAlg.TheVariants as alg
 use Rattle.tpm_types.specs.declared.digest_values.DigestValue.{DigestValue}
@@ -14,6 +11,7 @@ use Rattle.tpm_types.specs.declared.rc.ResponseCode.TheVariants as code
 use Rattle.tpm_types.specs.Algorithm.{hash_at, hash_number}
 use Rattle.tpm_types.specs.DigestValues.{IsDigestValue, IsDigestValues, digest_at, digest_of, digest_value_at, digest_value_text, digest_values_at, digest_values_text, hash_of_value, octets_at, values_text}
 use Rattle.tpm_types.specs.Rc.{plain}
+use Rattle.tpm_types.proofs.CountedLaws.{counted_again, counted_takes}
 use Rattle.tpm_types.proofs.HashLaws.{hash_again, hash_takes}
 
 -- ---- a digest
@@ -57,18 +55,9 @@ digest_value_again value rest is =
 pub digest_values_takes : (bytes : List ℕ) (x : List DigestValue × List ℕ) → AreBytes bytes → digest_values_at bytes ≡ Ok x → (bytes ≡ digest_values_text x.0 ++ x.1) × IsDigestValues x.0
 unfolding digest_values_at digest_values_text values_text
 digest_values_takes bytes x fits e =
-    let a = bind_ok (or_fault (number_at w32 bytes) (plain code.Insufficient)) (λ count. refused_if (ltb 2 count.0) (plain code.Size) >>= λ few. many_at digest_value_at count.0 count.1) x e in
-    let b = bind_ok (refused_if (ltb 2 a.0.0) (plain code.Size)) (λ few. many_at digest_value_at a.0.0 a.0.1) x a.2 in
-    let few : a.0.0 ≤ 2 = ltb-false _ _ (passed (ltb 2 a.0.0) (plain code.Size) b.0 b.1) in
-    let t0 = number_or_takes w32 (2 ^ 32) wide32 (plain code.Insufficient) bytes a.0 fits a.1 in
-    let t1 = many_taken digest_value_text IsDigestValue digest_value_at digest_value_takes a.0.0 a.0.1 x t0.0.rest_fits b.2 in
-    let both = Takes-then bytes (to_be_bytes w32 a.0.0) a.0.1 (values_text x.0) x.1 t0.0 t1.0 in
-    let counted : Takes bytes (to_be_bytes w32 (length x.0) ++ values_text x.0) x.1 = subst (λ (n : ℕ). Takes bytes (to_be_bytes w32 n ++ values_text x.0) x.1) (sym t1.1) both in
-    (counted.parts, record { few = omega (arith, few, t1.1); each = t1.2 })
+    let t = counted_takes 2 digest_value_text IsDigestValue digest_value_at digest_value_takes bytes x fits e in
+    (t.0, record { few = t.1; each = t.2 })
 
 pub digest_values_again : (values : List DigestValue) (rest : List ℕ) → IsDigestValues values → digest_values_at (digest_values_text values ++ rest) ≡ Ok (values, rest)
 unfolding digest_values_at digest_values_text values_text
-digest_values_again values rest is =
-    let few : ltb 2 (length values) ≡ false = le-ltb _ _ is.few in
-    ap digest_values_at (append_assoc (to_be_bytes w32 (length values)) (values_text values) rest)
-    ∙ rw (number_or_again w32 (2 ^ 32) wide32 (plain code.Insufficient) (length values) (values_text values ++ rest) (let few' = is.few in omega arith), few, many_again digest_value_text IsDigestValue digest_value_at digest_value_again values rest is.each) refl
+digest_values_again values rest is = counted_again 2 digest_value_text IsDigestValue digest_value_at digest_value_again (omega arith) values rest is.few is.each
