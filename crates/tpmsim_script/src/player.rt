@@ -52,7 +52,9 @@ impl Player {
     ) -> Result<(), LineFault>
         requires limit { length line.now ≤ 65536 }
         requires room { length line.now ≤ 2 * length room.old }
-        ensures { Did (perform_line (playing_of self.old) line.now) (printed (W.contents writer.old) self.old.answers) (playing_of self.old) result (printed (W.contents writer.new) self.new.answers) (playing_of self.new) }
+        ensures { Did (perform_line (playing_of self.old) line.now)
+            (printed (W.contents writer.old) self.old.answers) (playing_of self.old) result
+            (printed (W.contents writer.new) self.new.answers) (playing_of self.new) }
     {
         let said = Line::parse(line)?;
         self.perform(said, room, writer)
@@ -77,7 +79,9 @@ impl Player {
         writer: &mut W,
     ) -> Result<(), LineFault>
         requires { length (hex_of (said line)) ≤ 2 * length room.old }
-        ensures { Did (perform (playing_of self.old) (said line.entry)) (printed (W.contents writer.old) self.old.answers) (playing_of self.old) result (printed (W.contents writer.new) self.new.answers) (playing_of self.new) }
+        ensures { Did (perform (playing_of self.old) (said line.entry))
+            (printed (W.contents writer.old) self.old.answers) (playing_of self.old) result
+            (printed (W.contents writer.new) self.new.answers) (playing_of self.new) }
     {
         match line {
             Line::Command(digits) => self.execute(decode(digits, room)?, writer)?,
@@ -94,7 +98,9 @@ impl Player {
 
     /// Executes a command, and prints the response.
     fn execute<W: Write>(&mut self, buffer: &[u8], writer: &mut W) -> Result<(), LineFault>
-        ensures { Did (Some (execute (playing_of self.old) buffer.now)) (printed (W.contents writer.old) self.old.answers) (playing_of self.old) result (printed (W.contents writer.new) self.new.answers) (playing_of self.new) }
+        ensures { Did (Some (execute (playing_of self.old) buffer.now))
+            (printed (W.contents writer.old) self.old.answers) (playing_of self.old) result
+            (printed (W.contents writer.new) self.new.answers) (playing_of self.new) }
     {
         let outcome = self.machine.execute(&self.script.command(buffer));
         let response = outcome.response.as_slice();

@@ -74,7 +74,10 @@ impl Run {
     ) -> Result<(), ScriptFault>
         requires room { length room.old ≡ DECODED_LIMIT }
         requires agrees { Agrees (R.remaining reader.old) self.old.lines }
-        ensures { Ran (Plays (text_left (R.remaining reader.old) self.old.lines) (printed (W.contents writer.old) self.old.player.answers) (printed (W.contents writer.new) self.new.player.answers) (playing_of self.old.player) 1) result }
+        ensures { Ran (Plays (text_left (R.remaining reader.old) self.old.lines)
+            (printed (W.contents writer.old) self.old.player.answers)
+            (printed (W.contents writer.new) self.new.player.answers)
+            (playing_of self.old.player) 1) result }
     {
         for number in 1..SCRIPT_LINES + 1 {
             match self.next_line(reader, writer, number) {
