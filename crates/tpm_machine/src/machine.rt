@@ -138,8 +138,12 @@ impl<K: Keep> Machine<K> {
         text: &mut Sink<RESPONSE_LIMIT>,
     ) -> Row
         requires { text.old ≡ [] }
-        ensures answer { answer_of (state_of K.record_of self.old) (accepted (state_of K.record_of self.old) buffer.now (locality_number locality) random.now) ≡ record { response = text.new; row = result; after = state_of K.record_of self.new } }
-        ensures modest { IfOk (accepted (state_of K.record_of self.old) buffer.now (locality_number locality) random.now) IsModest }
+        ensures answer { answer_of (state_of K.record_of self.old)
+            (accepted (state_of K.record_of self.old) buffer.now (locality_number locality) random.now)
+            ≡ record { response = text.new; row = result; after = state_of K.record_of self.new } }
+        ensures modest { IfOk
+            (accepted (state_of K.record_of self.old) buffer.now (locality_number locality) random.now)
+            IsModest }
         ensures fits { length text.new ≤ 2081 }
     {
         let command = match decode(&self.keep, buffer) {

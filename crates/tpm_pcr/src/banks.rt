@@ -142,8 +142,13 @@ impl Banks {
         select: &mut PcrSelect,
         values: &mut ArrayVec<Digest, 8>,
     )
-        ensures select { select.new ≡ (if is_selected bank.now.select pcr && nat_lt (length values.old.items) 8 then with_pcr select.old pcr else select.old) }
-        ensures values { digests_of values.new.items ≡ (if is_selected bank.now.select pcr && nat_lt (length values.old.items) 8 then digests_of values.old.items ++ pcr_value self.now bank.now.hash pcr ∷ [] else digests_of values.old.items) }
+        ensures select { select.new
+            ≡ (if is_selected bank.now.select pcr && nat_lt (length values.old.items) 8
+            then with_pcr select.old pcr else select.old) }
+        ensures values { digests_of values.new.items
+            ≡ (if is_selected bank.now.select pcr && nat_lt (length values.old.items) 8
+            then digests_of values.old.items ++ pcr_value self.now bank.now.hash pcr ∷ []
+            else digests_of values.old.items) }
     {
         if bank.select.contains(pcr) && !values.is_full() {
             select.insert(pcr);
