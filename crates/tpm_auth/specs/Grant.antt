@@ -10,7 +10,7 @@ use Rattle.tpm_types.specs.declared.rc.ResponseCode.TheVariants as code
 use Rattle.tpm_types.specs.declared.rc.Place.TheVariants as place
 use Rattle.tpm_types.specs.AuthEntry.{Entry}
 use Rattle.tpm_types.specs.Command.{Whole}
-use Rattle.tpm_types.specs.Shape.{authorized_handles}
+use Rattle.tpm_types.specs.CommandCode.{authorized_handles}
 use Rattle.tpm_types.specs.Rc.{at, plain}
 use Rattle.tpm_record.specs.Entity.{auth_value_of}
 use Rattle.tpm_record.specs.Record.{Record}

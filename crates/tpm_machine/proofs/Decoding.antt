@@ -18,7 +18,8 @@ use Rattle.tpm_types.specs.Command.{Whole, command_at, handles_at, sessions_at, 
 use Rattle.tpm_types.specs.HandleArea.{allowed_handle_at, allowed_handles_at, handle_fault, numbered}
 use Rattle.tpm_types.specs.Header.{header_at}
 use Rattle.tpm_types.specs.Rc.{at, plain}
-use Rattle.tpm_types.specs.Shape.{is_of_kind, shape_of}
+use Rattle.tpm_types.specs.CommandCode.{shape_of}
+use Rattle.tpm_types.specs.Shape.{is_of_kind}
 use Rattle.tpm_record.specs.Record.{Record}
 use Rattle.tpm_auth.specs.Refused.{checked, refusal}
 use Rattle.tpm_auth.specs.declared.check.Check.{Check}

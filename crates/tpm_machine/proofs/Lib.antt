@@ -2,4 +2,3 @@ pub mod Running
 pub mod Refusals
 pub mod Answering
 pub mod Decoding
-pub mod Keeping

@@ -16,7 +16,7 @@ use Rattle.tpm_types.specs.CommandCode.{code_number}
 use Rattle.tpm_types.specs.HandleArea.{allowed_handles_at}
 use Rattle.tpm_types.specs.Header.{header_at, header_fault_rc}
 use Rattle.tpm_types.specs.Rc.{plain}
-use Rattle.tpm_types.specs.Shape.{authorized_handles, shape_of}
+use Rattle.tpm_types.specs.CommandCode.{authorized_handles, shape_of}
 use Rattle.tpm_record.specs.Record.{Record}
 use Rattle.tpm_auth.specs.Refused.{checked, refusal}
 use Rattle.tpm_auth.specs.declared.check.Check.{Check}
@@ -58,7 +58,7 @@ has_sessions Sessions = true
 -- G7: some commands may have no sessions, and one with a handle that needs authorization must have some
 unfoldable pub sessions_pass : CommandCode → Tag → Result (Unit {0}) Refused
 sessions_pass c tag = do
-  forbidden ← refused_if (has_sessions tag && not (shape_of c).allows_sessions) (refusal check.Sessions (plain code.AuthContext))
+  forbidden ← refused_if (has_sessions tag && (shape_of c).forbids_sessions) (refusal check.Sessions (plain code.AuthContext))
   refused_if (not (has_sessions tag) && nat_lt 0 (authorized_handles c)) (refusal check.Sessions (plain code.AuthMissing))
 
 -- G5 to the sizes of the area in G8: what stands behind the header

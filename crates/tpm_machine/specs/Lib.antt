@@ -7,5 +7,6 @@ pub mod State
 pub mod Run
 pub mod Safe
 pub use Rattle.tpm_record.specs.Record
+pub use Rattle.tpm_record.specs.IsRecord
 pub use Rattle.tpm_record.specs.Tick
 pub use Rattle.tpm_record.specs.Cycle

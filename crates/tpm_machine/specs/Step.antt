@@ -7,7 +7,7 @@ use Rattle.tpm_types.specs.declared.rc.ResponseCode.TheVariants as code
 use Rattle.tpm_types.specs.Command.{Whole}
 use Rattle.tpm_types.specs.CommandCode.{code_number}
 use Rattle.tpm_types.specs.Rc.{plain}
-use Rattle.tpm_types.specs.Shape.{shape_of}
+use Rattle.tpm_types.specs.CommandCode.{shape_of}
 use Rattle.tpm_record.specs.Cycle.{cycled}
 use Rattle.tpm_record.specs.Record.{Record}
 use Rattle.tpm_record.specs.Tick.{ticked}

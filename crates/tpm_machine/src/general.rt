@@ -60,7 +60,7 @@ fn check_sessions(code: CommandCode, tag: Tag) -> Result<(), Refused>
     ensures { result ≡ sessions_pass code tag }
 {
     let has_sessions = tag == Tag::Sessions;
-    if has_sessions && !code.shape().allows_sessions {
+    if has_sessions && code.shape().forbids_sessions {
         let rc = ResponseCode::AuthContext.anywhere();
         return Err(Refused::by(Check::Sessions, rc));
     }

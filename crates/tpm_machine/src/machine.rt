@@ -15,6 +15,7 @@ use std::alloc::Global;
 use tpm_bytes::sink::Sink;
 use tpm_record::cycle::power_cycle;
 use tpm_record::keep::{Keep, NoMemory};
+use tpm_record::record::read_widths;
 use tpm_record::tick::tick;
 use tpm_types::locality::Locality;
 
@@ -31,7 +32,9 @@ impl<K: Keep> Machine<K> {
         ensures state { IfOk result (λ machine. state_of K.record_of machine ≡ manufactured) }
         ensures is_record { IfOk result (λ machine. IsRecord (state_of K.record_of machine)) }
     {
-        Ok(Machine::from_keep(K::empty(alloc)?))
+        let keep = K::empty(alloc)?;
+        read_widths(&keep);
+        Ok(Machine::from_keep(keep))
     }
 
     /// The device whose state is kept so.
@@ -43,8 +46,10 @@ impl<K: Keep> Machine<K> {
 
     /// What keeps the device's state.
     pub fn keep(&self) -> &K
-        ensures { K.record_of result.now ≡ state_of K.record_of self.now }
+        ensures state { K.record_of result.now ≡ state_of K.record_of self.now }
+        ensures is_record { IsRecord (state_of K.record_of self.now) }
     {
+        read_widths(&self.keep);
         &self.keep
     }
 
@@ -56,8 +61,8 @@ impl<K: Keep> Machine<K> {
         // No command that is served grows anything, so each event is its step, however the state is kept.
         ensures exact { seen (state_of K.record_of self.new) result ≡ step (state_of K.record_of self.old) (happening event.now) }
 
-        // What holds of every record holds after each event: values of their sizes, numbers of their widths.
-        ensures kept { IsRecord (state_of K.record_of self.old) → IsRecord (state_of K.record_of self.new) }
+        // What holds of every record: values of their sizes, numbers of their widths.
+        ensures is_record { IsRecord (state_of K.record_of self.new) }
 
         // A refusal is ten bytes, and changes nothing but the time.
         ensures harmless { IsHarmless (state_of K.record_of self.old) (happening event.now) (seen (state_of K.record_of self.new) result) }
@@ -74,6 +79,7 @@ impl<K: Keep> Machine<K> {
     /// Executes one event. It is inlined, so that no whole response is copied.
     #[inline(always)]
     fn advance(&mut self, event: &Event) -> Outcome
+        ensures is_record { IsRecord (state_of K.record_of self.new) }
         ensures exact { seen (state_of K.record_of self.new) result ≡ step (state_of K.record_of self.old) (happening event.now) }
         ensures modest { AcceptsModestly (state_of K.record_of self.old) (happening event.now) }
         ensures fits { length result.response.items ≤ 2081 }
@@ -94,6 +100,7 @@ impl<K: Keep> Machine<K> {
                 self.command(buffer, *locality, random, &mut text)
             }
         };
+        read_widths(&self.keep);
         Outcome {
             response: text.into_bytes(),
             row,

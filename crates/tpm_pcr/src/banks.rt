@@ -5,6 +5,7 @@ ghost use Rattle.tpm_types.specs.DigestList.{digests_of};
 ghost use Rattle.std.specs.Prelude.{◌<◌, ◌^◌};
 ghost use Rattle.tpm_mac.specs.declared.algorithm.HashAlg.TheVariants.{Sha1, Sha256};
 ghost use Rattle.tpm_pcr.specs.Changes.{written};
+ghost use Rattle.tpm_pcr.specs.Values.{IsBank};
 ghost use Rattle.tpm_pcr.specs.Banks.{answered, new_banks, pcr_value, read_values, select_with, selected, selected_values};
 
 use arrayvec::ArrayVec;
@@ -23,6 +24,8 @@ pub struct Banks {
     sha1: [[u8; 20]; 24],
     sha256: [[u8; 32]; 24],
     update_count: u64,
+    ghost is_sha1: { IsBank 20 sha1 },
+    ghost is_sha256: { IsBank 32 sha256 },
 }
 
 impl Model for Banks {
@@ -42,6 +45,8 @@ pub struct PcrReading {
 }
 
 impl Banks {
+    ghost use Rattle.tpm_pcr.specs.Values.{IsBanks};
+
     /// The banks at manufacture and after a power cycle.
     #[tactic(auto, unfolding(crate::specs::Banks::all_pcrs, crate::specs::Banks::starting_values))]
     pub fn new() -> Banks
@@ -56,7 +61,9 @@ impl Banks {
 
     /// The update counter: how many bank values were written since the last TPM2_Startup.
     pub fn update_count(&self) -> u64
-        ensures { result ≡ self.now.update_count }
+        ensures value { result ≡ self.now.update_count }
+        // Each bank has 24 values of its digests' size.
+        ensures is_banks { IsBanks self.now }
     {
         self.update_count
     }

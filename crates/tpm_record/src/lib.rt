@@ -12,4 +12,5 @@ pub mod entity;
 pub mod fixed;
 pub mod keep;
 pub mod list_keep;
+pub mod record;
 pub mod tick;

@@ -14,7 +14,7 @@ use Rattle.tpm_types.specs.AuthArea.{area_text, entries_text}
 use Rattle.tpm_types.specs.AuthEntry.{Entry, IsEntry}
 use Rattle.tpm_types.specs.Command.{IsCommand, Whole, body_text, command_at, command_size, command_text, handle_text, handles_at, handles_text, or_rc, sessions_at, sessions_text, tag_for, whole_of}
 use Rattle.tpm_types.specs.Header.{header_at, header_text}
-use Rattle.tpm_types.specs.Shape.{handle_count}
+use Rattle.tpm_types.specs.CommandCode.{handle_count}
 use Rattle.tpm_types.proofs.EntryLaws.{area_again, area_takes}
 use Rattle.tpm_types.proofs.HandleLemmas.{handles_again, handles_take, handles_text-is, length-handles}
 use Rattle.tpm_types.proofs.HeaderLaws.{header_again, header_takes}

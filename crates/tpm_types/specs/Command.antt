@@ -17,7 +17,7 @@ use Rattle.tpm_types.specs.AuthArea.{area_at, area_text}
 use Rattle.tpm_types.specs.AuthEntry.{Entry, HasSizes, IsEntry, entry_of}
 use Rattle.tpm_types.specs.Header.{header_at, header_fault_rc, header_text}
 use Rattle.tpm_types.specs.Rc.{at, plain}
-use Rattle.tpm_types.specs.Shape.{handle_count}
+use Rattle.tpm_types.specs.CommandCode.{handle_count}
 
 -- a command, wherever its bytes lie in memory
 pub record Whole : Type 0 where

@@ -1,8 +1,11 @@
 -- The commands that are served. TPM 2.0 Library, Part 2, section 6.5.2 (TPM_CC).
-use Rattle.std.specs.Prelude.{ℕ, ◌==◌, List, [], ◌∷◌, Option}
+use Rattle.std.specs.Prelude.{ℕ, ◌==◌, is_some, count_by, true, List, [], ◌∷◌, length, Option}
 use Rattle.std.specs.List.{find}
 use Rattle.tpm_types.specs.declared.command_code.CommandCode.{CommandCode}
 use Rattle.tpm_types.specs.declared.command_code.CommandCode.TheVariants as code
+use Rattle.tpm_types.specs.declared.shape.HandleKind.TheVariants as kind
+use Rattle.tpm_types.specs.declared.shape.ParameterKind.TheVariants as parameter
+use Rattle.tpm_types.specs.Shape.{Facts, shape_with, user}
 
 abbrev pub code_number : CommandCode → ℕ
 code_number code.PcrEvent = 0x13c
@@ -26,3 +29,19 @@ all_codes =
 -- the command of a number, if it is served
 unfoldable pub code_named : ℕ → Option CommandCode
 code_named number = find (λ code. code_number code == number) all_codes
+
+-- every other fact of a command
+unfoldable pub shape_of : CommandCode → Facts
+shape_of code.PcrEvent = shape_with (user kind.PcrOrNull ∷ []) (parameter.Buffer 1024 ∷ [])
+shape_of code.PcrReset = shape_with (user kind.Pcr ∷ []) []
+shape_of code.Startup = record (shape_with [] (parameter.StartupType ∷ [])) { forbids_sessions = true }
+shape_of code.GetRandom = record (shape_with [] (parameter.U16 ∷ [])) { sized_answer = true }
+shape_of code.PcrRead = shape_with [] (parameter.Selection ∷ [])
+shape_of code.PcrExtend = shape_with (user kind.PcrOrNull ∷ []) (parameter.Digests ∷ [])
+
+-- how many handles a command has, and how many of these need authorization
+abbrev pub handle_count : CommandCode → ℕ
+handle_count code = length (shape_of code).handles
+
+abbrev pub authorized_handles : CommandCode → ℕ
+authorized_handles code = count_by (λ rule. is_some rule.role) (shape_of code).handles

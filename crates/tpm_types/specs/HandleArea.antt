@@ -12,7 +12,8 @@ use Rattle.tpm_types.specs.declared.rc.ResponseCode.{ResponseCode}
 use Rattle.tpm_types.specs.declared.rc.ResponseCode.TheVariants as code
 use Rattle.tpm_types.specs.declared.shape.HandleRule.{HandleRule}
 use Rattle.tpm_types.specs.Rc.{at, plain}
-use Rattle.tpm_types.specs.Shape.{is_of_kind, shape_of}
+use Rattle.tpm_types.specs.CommandCode.{shape_of}
+use Rattle.tpm_types.specs.Shape.{is_of_kind}
 
 abbrev pub numbered : ℕ → Handle
 numbered number = record { number = number }

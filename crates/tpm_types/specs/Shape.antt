@@ -2,8 +2,6 @@
 -- each command's own section: its handles and who authorizes them, its parameters, and whether it
 -- may have sessions.
 use Rattle.std.specs.Prelude.{ℕ, ◌==◌, ◌||◌, is_some, count_by, Bool, true, false, List, [], ◌∷◌, length, Some}
-use Rattle.tpm_types.specs.declared.command_code.CommandCode.{CommandCode}
-use Rattle.tpm_types.specs.declared.command_code.CommandCode.TheVariants as code
 use Rattle.tpm_types.specs.declared.handle.Handle.{Handle}
 use Rattle.tpm_types.specs.declared.shape.HandleKind.{HandleKind}
 use Rattle.tpm_types.specs.declared.shape.HandleKind.TheVariants as kind
@@ -28,14 +26,14 @@ is_sized parameter.Selection = false
 is_sized parameter.Digests = false
 
 -- a shape, wherever its lists lie in memory: its handles and who authorizes each, its parameters, whether the first
--- parameter of its answer is a sized buffer, whether a handle stands before these, whether it may have sessions, and
+-- parameter of its answer is a sized buffer, whether a handle stands before these, whether it may have no sessions, and
 -- whether it may want memory
 pub record Facts : Type 0 where
   pub handles : List HandleRule
   pub parameters : List ParameterKind
   pub sized_answer : Bool
   pub answers_handle : Bool
-  pub allows_sessions : Bool
+  pub forbids_sessions : Bool
   pub grows : Bool
 
 abbrev pub facts_of : Shape → Facts
@@ -44,7 +42,7 @@ facts_of s = record {
   parameters = s.parameters.now;
   sized_answer = s.sized_answer;
   answers_handle = s.answers_handle;
-  allows_sessions = s.allows_sessions;
+  forbids_sessions = s.forbids_sessions;
   grows = s.grows;
 }
 
@@ -52,40 +50,13 @@ facts_of s = record {
 abbrev pub user : HandleKind → HandleRule
 user kind = record { kind = kind; role = Some role.User }
 
--- no handle and no parameter; sessions are allowed
-abbrev pub plain_shape : Facts
-plain_shape = record {
-  handles = [];
-  parameters = [];
+-- a shape with these handles and parameters, of which none of the other facts holds
+abbrev pub shape_with : List HandleRule → List ParameterKind → Facts
+shape_with handles parameters = record {
+  handles = handles;
+  parameters = parameters;
   sized_answer = false;
   answers_handle = false;
-  allows_sessions = true;
+  forbids_sessions = false;
   grows = false;
 }
-
-unfoldable pub shape_of : CommandCode → Facts
-shape_of code.PcrEvent = record plain_shape {
-  handles = user kind.PcrOrNull ∷ [];
-  parameters = parameter.Buffer 1024 ∷ [];
-}
-shape_of code.PcrReset = record plain_shape { handles = user kind.Pcr ∷ [] }
-shape_of code.Startup = record plain_shape {
-  parameters = parameter.StartupType ∷ [];
-  allows_sessions = false;
-}
-shape_of code.GetRandom = record plain_shape {
-  parameters = parameter.U16 ∷ [];
-  sized_answer = true;
-}
-shape_of code.PcrRead = record plain_shape { parameters = parameter.Selection ∷ [] }
-shape_of code.PcrExtend = record plain_shape {
-  handles = user kind.PcrOrNull ∷ [];
-  parameters = parameter.Digests ∷ [];
-}
-
--- how many handles a command has, and how many of these need authorization
-abbrev pub handle_count : CommandCode → ℕ
-handle_count code = length (shape_of code).handles
-
-abbrev pub authorized_handles : CommandCode → ℕ
-authorized_handles code = count_by (λ rule. is_some rule.role) (shape_of code).handles

@@ -1,7 +1,7 @@
 ghost use Rattle.std.specs.Prelude.{◌≡◌, IfOk, length};
 ghost use Rattle.tpm_bytes.specs.Reading.{Reads};
 ghost use Rattle.tpm_types.specs.HandleArea.{allowed_handle_at, allowed_handles_at};
-ghost use Rattle.tpm_types.specs.Shape.{handle_count};
+ghost use Rattle.tpm_types.specs.CommandCode.{handle_count};
 
 use crate::command_code::CommandCode;
 use crate::handle::Handle;

@@ -1,6 +1,5 @@
-ghost use Rattle.std.specs.Prelude.{◌≡◌, ◌≤◌, length};
+ghost use Rattle.std.specs.Prelude.{◌≡◌};
 
-use crate::command_code::CommandCode;
 use crate::handle::Handle;
 
 /// What a handle of a command may be, after the types of TPM 2.0 Library, Part 2, section 9.
@@ -82,100 +81,8 @@ pub struct Shape {
     pub sized_answer: bool,
     /// Whether a handle stands before the answer's parameters.
     pub answers_handle: bool,
-    pub allows_sessions: bool,
+    /// Whether it may have no authorization area.
+    pub forbids_sessions: bool,
     /// Whether the command may want memory that is not there.
     pub grows: bool,
-}
-
-const USER_PCR: HandleRule = HandleRule {
-    kind: HandleKind::Pcr,
-    role: Some(Role::User),
-};
-
-const USER_PCR_OR_NULL: HandleRule = HandleRule {
-    kind: HandleKind::PcrOrNull,
-    role: Some(Role::User),
-};
-
-impl CommandCode {
-    ghost use Rattle.tpm_types.specs.Shape.{authorized_handles, facts_of, handle_count, shape_of};
-
-    /// What is known of the command. Each arm is a whole literal: one that takes fields from a
-    /// constant costs the check several times as much.
-    #[tactic(auto, unfolding(crate::specs::Shape::shape_of))]
-    pub fn shape(self) -> Shape
-        ensures value { facts_of result ≡ shape_of self }
-        ensures few { length result.handles.now ≤ 3 }
-    {
-        match self {
-            CommandCode::PcrEvent => Shape {
-                handles: &[USER_PCR_OR_NULL],
-                parameters: &[ParameterKind::Buffer(1024)],
-                sized_answer: false,
-                answers_handle: false,
-                allows_sessions: true,
-                grows: false,
-            },
-            CommandCode::PcrReset => Shape {
-                handles: &[USER_PCR],
-                parameters: &[],
-                sized_answer: false,
-                answers_handle: false,
-                allows_sessions: true,
-                grows: false,
-            },
-            CommandCode::Startup => Shape {
-                handles: &[],
-                parameters: &[ParameterKind::StartupType],
-                sized_answer: false,
-                answers_handle: false,
-                allows_sessions: false,
-                grows: false,
-            },
-            CommandCode::GetRandom => Shape {
-                handles: &[],
-                parameters: &[ParameterKind::U16],
-                sized_answer: true,
-                answers_handle: false,
-                allows_sessions: true,
-                grows: false,
-            },
-            CommandCode::PcrRead => Shape {
-                handles: &[],
-                parameters: &[ParameterKind::Selection],
-                sized_answer: false,
-                answers_handle: false,
-                allows_sessions: true,
-                grows: false,
-            },
-            CommandCode::PcrExtend => Shape {
-                handles: &[USER_PCR_OR_NULL],
-                parameters: &[ParameterKind::Digests],
-                sized_answer: false,
-                answers_handle: false,
-                allows_sessions: true,
-                grows: false,
-            },
-        }
-    }
-
-    /// How many handles stand behind the command's header.
-    pub fn handle_count(self) -> usize
-        ensures value { result ≡ handle_count self }
-        ensures few { result ≤ 3 }
-    {
-        self.shape().handles.len()
-    }
-
-    /// How many of them need authorization.
-    pub fn authorized_handles(self) -> usize
-        ensures value { result ≡ authorized_handles self }
-        ensures within { result ≤ handle_count self }
-    {
-        self.shape()
-            .handles
-            .iter()
-            .filter(|rule| rule.role.is_some())
-            .count()
-    }
 }

@@ -65,7 +65,7 @@ fn commands_have_numbers(rt: HostRuntime) {
 #[test]
 fn commands_have_shapes(rt: HostRuntime) {
     let event = CommandCode::PcrEvent.shape();
-    assert!(rt; event.allows_sessions && !event.sized_answer);
+    assert!(rt; !event.forbids_sessions && !event.sized_answer);
     assert!(rt; event.parameters.iter().all(|kind| kind.is_sized()));
     assert!(rt;
         event
@@ -76,7 +76,7 @@ fn commands_have_shapes(rt: HostRuntime) {
     assert_eq!(rt; CommandCode::PcrEvent.handle_count(), 1);
     assert_eq!(rt; CommandCode::PcrEvent.authorized_handles(), 1);
     let startup = CommandCode::Startup.shape();
-    assert!(rt; startup.handles.is_empty() && !startup.allows_sessions);
+    assert!(rt; startup.handles.is_empty() && startup.forbids_sessions);
     assert!(rt; !HandleKind::Pcr.allows(Handle::NULL));
     assert!(rt; !ParameterKind::U16.is_sized());
 }

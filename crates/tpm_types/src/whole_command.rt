@@ -1,5 +1,5 @@
 ghost use Rattle.std.specs.Prelude.{◌≡◌, length};
-ghost use Rattle.tpm_types.specs.Shape.{handle_count};
+ghost use Rattle.tpm_types.specs.CommandCode.{handle_count};
 
 use crate::auth_entry::AuthEntry;
 use crate::command_code::CommandCode;
