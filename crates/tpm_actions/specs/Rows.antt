@@ -35,5 +35,5 @@ pub record Success : Type 0 where
 
 -- A command did what its row says; a refusal changes nothing.
 abbrev pub Acts : Result Success Refused → Record → Result Answer Refused → Record → Type 0
-Acts row old (Ok a) new = row ≡ Ok (record { handle = a.handle; answer = a.parameters.items; drawn = a.drawn; after = new })
+Acts row old (Ok a) new = row ≡ Ok (record { handle = a.handle; answer = a.parameters; drawn = a.drawn; after = new })
 Acts row old (Err e) new = (row ≡ Err e) × (new ≡ old)

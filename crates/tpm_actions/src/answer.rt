@@ -1,6 +1,6 @@
 ghost use Rattle.std.specs.Prelude.{◌≡◌, ◌≤◌, [], None};
 
-use arrayvec::ArrayVec;
+use tpm_bytes::sink::Sink;
 use tpm_types::handle::Handle;
 
 /// The most bytes of a response's parameters: a TPM2B of 1,024 bytes (TPM2_NV_Read) is the longest of all
@@ -8,7 +8,7 @@ use tpm_types::handle::Handle;
 pub const ANSWER_LIMIT: usize = 1026;
 
 /// A response's parameters.
-pub type Parameters = ArrayVec<u8, ANSWER_LIMIT>;
+pub type Parameters = Sink<ANSWER_LIMIT>;
 
 /// What a command that succeeded answers.
 #[derive(Drop)]
@@ -22,27 +22,18 @@ pub struct Answer {
 }
 
 impl Answer {
-    /// These parameters, no handle, and no random bytes drawn.
+    /// No handle, no parameters, and no random bytes drawn. A command writes its parameters into it, so that
+    /// none are copied.
     #[inline(always)]
-    pub fn of(parameters: Parameters) -> Answer
+    pub fn empty() -> Answer
         ensures handle { result.handle ≡ None }
-        ensures parameters { result.parameters ≡ parameters }
+        ensures parameters { result.parameters ≡ [] }
         ensures drawn { result.drawn ≡ 0 }
     {
         Answer {
             handle: None,
-            parameters,
+            parameters: Sink::new(),
             drawn: 0,
         }
-    }
-
-    /// No parameters either.
-    #[inline(always)]
-    pub fn empty() -> Answer
-        ensures handle { result.handle ≡ None }
-        ensures parameters { result.parameters.items ≡ [] }
-        ensures drawn { result.drawn ≡ 0 }
-    {
-        Answer::of(ArrayVec::new())
     }
 }

@@ -1,30 +1,17 @@
-ghost use Rattle.std.specs.Prelude.{◌≡◌, ◌≤◌, None, take, min};
-ghost use Rattle.tpm_bytes.specs.Writing.{sized_text};
 ghost use Rattle.tpm_actions.specs.GetRandom.{get_random_row};
 ghost use Rattle.tpm_actions.specs.Request.{request_of};
 ghost use Rattle.tpm_actions.specs.Rows.{Acts};
 
-use crate::answer::{ANSWER_LIMIT, Answer, Parameters};
+use crate::answer::Answer;
 use crate::call::Call;
 use crate::reading::{at_parameter, end};
 use tpm_auth::refused::Refused;
 use tpm_bytes::cursor::Cursor;
-use tpm_bytes::sink::Sink;
 use tpm_record::keep::Keep;
 use tpm_types::rc::ResponseCode;
 
 /// The most bytes that one call answers.
 const MOST_RANDOM: usize = 32;
-
-/// The first `count` random bytes as a sized buffer.
-fn random_bytes(count: usize, random: &[u8; 256]) -> Parameters
-    requires { count ≤ 32 }
-    ensures { result.items ≡ sized_text (take count random.now) }
-{
-    let mut answer = Sink::<ANSWER_LIMIT>::new();
-    let _ = answer.put_sized(&random[..count]);
-    answer.into_bytes()
-}
 
 /// TPM2_GetRandom: as many random bytes as are asked for, at most 32.
 #[tactic(auto, unfolding(crate::specs::GetRandom::get_random_row))]
@@ -37,9 +24,9 @@ pub fn get_random<K: Keep>(_keep: &mut K, call: &Call) -> Result<Answer, Refused
         .map_err(|_| at_parameter(1, ResponseCode::Insufficient.anywhere()))?;
     end(&parameters)?;
     let count = usize::from(requested).min(MOST_RANDOM);
-    Ok(Answer {
-        handle: None,
-        parameters: random_bytes(count, call.random),
-        drawn: count,
-    })
+    let mut answer = Answer::empty();
+    let random = call.random;
+    let _ = answer.parameters.put_sized(&random[..count]);
+    answer.drawn = count;
+    Ok(answer)
 }

@@ -1,31 +1,19 @@
-ghost use Rattle.std.specs.Prelude.{◌≡◌};
-ghost use Rattle.tpm_types.specs.DigestValues.{digest_values_text};
 ghost use Rattle.tpm_actions.specs.PcrEvent.{pcr_event_row};
 ghost use Rattle.tpm_actions.specs.Request.{request_of};
 ghost use Rattle.tpm_actions.specs.Rows.{Acts};
 
-use crate::answer::{ANSWER_LIMIT, Answer, Parameters};
+use crate::answer::Answer;
 use crate::call::Call;
 use crate::pcr_change::change_refusal;
 use crate::reading::{at_parameter, end};
 use tpm_auth::refused::Refused;
 use tpm_bytes::cursor::Cursor;
-use tpm_bytes::sink::Sink;
 use tpm_pcr::changes::event_digests;
 use tpm_record::keep::Keep;
 use tpm_types::buffer::read_buffer;
-use tpm_types::digest_values::DigestValues;
 
 /// The most bytes of an event's data.
 const MOST_EVENT: usize = 1024;
-
-fn digests_text(digests: &DigestValues) -> Parameters
-    ensures { result.items ≡ digest_values_text digests.now.values.items }
-{
-    let mut answer = Sink::<ANSWER_LIMIT>::new();
-    let _ = digests.write(&mut answer);
-    answer.into_bytes()
-}
 
 /// TPM2_PCR_Event: extends a PCR by the digests of the data, and answers them; on TPM_RH_NULL it answers them
 /// and nothing is checked or changed.
@@ -46,5 +34,7 @@ pub fn pcr_event<K: Keep>(keep: &mut K, call: &Call) -> Result<Answer, Refused>
         }
         None => event_digests(event),
     };
-    Ok(Answer::of(digests_text(&digests)))
+    let mut answer = Answer::empty();
+    let _ = digests.write(&mut answer.parameters);
+    Ok(answer)
 }

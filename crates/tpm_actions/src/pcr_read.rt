@@ -1,4 +1,4 @@
-ghost use Rattle.std.specs.Prelude.{◌≡◌, ◌++◌, ◌%◌, ◌^◌};
+ghost use Rattle.std.specs.Prelude.{◌≡◌, ◌++◌, ◌%◌, ◌^◌, []};
 ghost use Rattle.std.specs.Int.{w32, to_be_bytes};
 ghost use Rattle.tpm_types.specs.DigestList.{digest_list_text, digests_of};
 ghost use Rattle.tpm_types.specs.PcrSelection.{selection_text};
@@ -6,25 +6,25 @@ ghost use Rattle.tpm_actions.specs.PcrRead.{pcr_read_row};
 ghost use Rattle.tpm_actions.specs.Request.{request_of};
 ghost use Rattle.tpm_actions.specs.Rows.{Acts};
 
-use crate::answer::{ANSWER_LIMIT, Answer, Parameters};
+use crate::answer::{Answer, Parameters};
 use crate::call::Call;
 use crate::reading::{at_parameter, end};
 use tpm_auth::refused::Refused;
 use tpm_bytes::cursor::Cursor;
-use tpm_bytes::sink::Sink;
 use tpm_pcr::banks::PcrReading;
 use tpm_record::keep::Keep;
 use tpm_types::pcr_selection::PcrSelection;
 
-/// The answer's text: the counter's low 32 bits, the selection, the values.
-fn reading_text(update_count: u64, reading: &PcrReading) -> Parameters
-    ensures { result.items ≡ to_be_bytes w32 (update_count % 2 ^ 32) ++ selection_text reading.now.selection.banks.items ++ digest_list_text (digests_of reading.now.values.digests.items) }
+/// Writes the counter's low 32 bits, the selection, the values.
+fn write_reading(update_count: u64, reading: &PcrReading, answer: &mut Parameters)
+    requires { answer.old ≡ [] }
+    ensures { answer.new ≡ to_be_bytes w32 (update_count % 2 ^ 32)
+        ++ selection_text reading.now.selection.banks.items
+        ++ digest_list_text (digests_of reading.now.values.digests.items) }
 {
-    let mut answer = Sink::<ANSWER_LIMIT>::new();
     let _ = answer.put_u32((update_count % (1 << 32)) as u32);
-    let _ = reading.selection.write(&mut answer);
-    let _ = reading.values.write(&mut answer);
-    answer.into_bytes()
+    let _ = reading.selection.write(answer);
+    let _ = reading.values.write(answer);
 }
 
 /// TPM2_PCR_Read: the update counter, and the values of the first eight PCRs of a selection, with the
@@ -38,5 +38,7 @@ pub fn pcr_read<K: Keep>(keep: &mut K, call: &Call) -> Result<Answer, Refused>
     end(&parameters)?;
     let banks = &keep.fixed().banks;
     let reading = banks.read(&selection);
-    Ok(Answer::of(reading_text(banks.update_count(), &reading)))
+    let mut answer = Answer::empty();
+    write_reading(banks.update_count(), &reading, &mut answer.parameters);
+    Ok(answer)
 }

@@ -56,7 +56,7 @@ abbrev pub Accepts : Result Accepted Refused → Whole → Record → Result Ans
 Accepts a c old (Ok answer) new = a ≡ Ok (record {
   command = c;
   grants = grants_of c;
-  success = record { handle = answer.handle; answer = answer.parameters.items; drawn = answer.drawn; after = new };
+  success = record { handle = answer.handle; answer = answer.parameters; drawn = answer.drawn; after = new };
 })
 Accepts a c old (Err e) new = (a ≡ Err e) × (new ≡ old)
 

@@ -93,7 +93,7 @@ fn write_handle(handle: Option<Handle>, text: &mut Sink<RESPONSE_LIMIT>)
 pub fn write_success(entries: &[AuthEntry], answer: &Answer, text: &mut Sink<RESPONSE_LIMIT>)
     requires few { length entries.now ≤ 3 }
     requires empty { text.old ≡ [] }
-    ensures text { text.new ≡ success_text (map entry_of entries.now) answer.now.handle answer.now.parameters.items }
+    ensures text { text.new ≡ success_text (map entry_of entries.now) answer.now.handle answer.now.parameters }
     ensures fits { length text.new ≤ 2081 }
 {
     match entries {
@@ -108,7 +108,7 @@ pub fn write_success(entries: &[AuthEntry], answer: &Answer, text: &mut Sink<RES
 
 fn write_plain(answer: &Answer, text: &mut Sink<RESPONSE_LIMIT>)
     requires empty { text.old ≡ [] }
-    ensures text { text.new ≡ framed 0x8001 0 (handle_answer answer.now.handle ++ answer.now.parameters.items) }
+    ensures text { text.new ≡ framed 0x8001 0 (handle_answer answer.now.handle ++ answer.now.parameters) }
     ensures fits { length text.new ≤ 2062 }
 {
     let parameters = answer.parameters.as_slice();
@@ -121,7 +121,7 @@ fn write_plain(answer: &Answer, text: &mut Sink<RESPONSE_LIMIT>)
 fn write_with_sessions(answer: &Answer, area: &[u8], text: &mut Sink<RESPONSE_LIMIT>)
     requires empty { text.old ≡ [] }
     requires area { length area.now ≤ AREA_LIMIT }
-    ensures text { text.new ≡ framed 0x8002 0 (handle_answer answer.now.handle ++ to_be_bytes w32 (length answer.now.parameters.items) ++ answer.now.parameters.items ++ area.now) }
+    ensures text { text.new ≡ framed 0x8002 0 (handle_answer answer.now.handle ++ to_be_bytes w32 (length answer.now.parameters) ++ answer.now.parameters ++ area.now) }
     ensures fits { length text.new ≤ 2081 }
 {
     let parameters = answer.parameters.as_slice();
