@@ -1,7 +1,8 @@
--- What stands at the front of a text: some bytes, a number, a sized buffer. TPM 2.0 Library, Part 1 (numbers on the
--- wire are big-endian), and Part 2, section 10.4 (TPM2B: a size of two bytes, and that many bytes). A reading gives the
--- value and what is after it.
-use Rattle.std.specs.Prelude.{◌≡◌, ℕ, List, length, take, drop, nat_lt, Bool, true, false, if◌then◌else◌, Result, Ok, Err}
+-- What stands at the front of a text: some bytes, a number, a sized buffer. TPM 2.0 Library, Part 1
+-- (numbers on the wire are big-endian), and Part 2, section 10.4 (TPM2B: a size of two bytes, and
+-- that many bytes). A reading gives the value and what is after it.
+use Rattle.std.specs.Prelude.{◌≡◌, ℕ, nat_lt, Bool, true, false, if◌then◌else◌}
+use Rattle.std.specs.Prelude.{List, length, take, drop, Result, Ok, Err}
 use Rattle.std.specs.Int.{Width, w16, byte_len, from_be_bytes}
 use Rattle.tpm_bytes.specs.declared.cursor.Short.{Short}
 use Rattle.tpm_bytes.specs.declared.cursor.SizedFault.{SizedFault}
@@ -27,7 +28,9 @@ too_short = record {}
 
 -- the first bytes, and what is after them
 abbrev pub bytes_at : ℕ → List ℕ → Result (List ℕ × List ℕ) Short
-bytes_at count text = if nat_lt (length text) count then Err too_short else Ok (take count text, drop count text)
+bytes_at count text =
+    if nat_lt (length text) count then Err too_short
+    else Ok (take count text, drop count text)
 
 -- a number, and what is after it
 abbrev pub number_at : Width → List ℕ → Result (ℕ × List ℕ) Short
@@ -35,14 +38,17 @@ number_at width text =
     if nat_lt (length text) (byte_len width) then Err too_short
     else Ok (from_be_bytes width (take (byte_len width) text), drop (byte_len width) text)
 
--- the bytes of a sized buffer, and what is after it: too long where its size is over the limit, whether its bytes are
--- there or not, and else short where they are not
+-- the bytes of a sized buffer, and what is after it: too long where its size is over the limit,
+-- whether its bytes are there or not, and else short where they are not
 abbrev pub sized_at : ℕ → List ℕ → Result (List ℕ × List ℕ) SizedFault
 sized_at limit text = do
   size ← or_fault (number_at w16 text) fault.Short
   if nat_lt limit size.0 then Err fault.TooLong else or_fault (bytes_at size.0 size.1) fault.Short
 
--- A read of old gave result and left new: the value and the rest that the definition gives, or its fault and old.
-abbrev pub Reads : {X Y E : Type 0} → (X → Y) → Result (Y × List ℕ) E → List ℕ → Result X E → List ℕ → Type 0
+-- A read of old gave result and left new: the value and the rest that the definition gives, or its
+-- fault and old.
+abbrev pub Reads : {X Y E : Type 0}
+    → (X → Y) → Result (Y × List ℕ) E
+    → List ℕ → Result X E → List ℕ → Type 0
 Reads view read old (Ok x) new = read ≡ Ok (view x, new)
 Reads view read old (Err e) new = (read ≡ Err e) × (new ≡ old)

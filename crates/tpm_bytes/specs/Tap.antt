@@ -1,5 +1,6 @@
 -- What a tap tells of the device behind it.
-use Rattle.std.specs.Prelude.{ℕ, ◌+◌, ◌-◌, ◌^◌, ◌==◌, min, Bool, true, Result, Ok, Err, if◌then◌else◌}
+use Rattle.std.specs.Prelude.{ℕ, ◌+◌, ◌-◌, ◌^◌, ◌==◌, min}
+use Rattle.std.specs.Prelude.{Bool, true, Result, Ok, Err, if◌then◌else◌}
 use Rattle.tpm_bytes.specs.declared.tap.Tap.{Tap}
 
 -- whether the device failed or ended, and how many of its reads gave bytes
@@ -14,7 +15,8 @@ marks_of tap = record { failed = tap.failed; ended = tap.ended; reads = tap.read
 abbrev pub device_of : {D : Type 0} → Tap D → D
 device_of tap = tap.device
 
--- the marks after a read into a buffer of this length; the reads that gave bytes are counted up to 2^64 - 1
+-- the marks after a read into a buffer of this length; the reads that gave bytes are counted up to
+-- 2^64 - 1
 abbrev pub after_read : {E : Type 0} → Marks → Result ℕ E → ℕ → Marks
 after_read marks (Err e) room = record marks { failed = true }
 after_read marks (Ok count) room =

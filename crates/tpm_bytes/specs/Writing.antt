@@ -1,12 +1,14 @@
 -- What a write to a buffer of fixed capacity does: all of a text at the end, or nothing.
-use Rattle.std.specs.Prelude.{◌≡◌, ℕ, ◌+◌, ◌≤◌, ◌<◌, ◌^◌, ◌↔◌, List, ◌++◌, length, Result, IsOk, OnOk, OnErr}
+use Rattle.std.specs.Prelude.{◌≡◌, ℕ, ◌+◌, ◌≤◌, ◌<◌, ◌^◌, ◌↔◌, List, ◌++◌, length}
+use Rattle.std.specs.Prelude.{Result, IsOk, OnOk, OnErr}
 use Rattle.std.specs.Int.{w16, to_be_bytes}
 
 -- a sized buffer (TPM 2.0 Library, Part 2, section 10.4): the size of the bytes, then the bytes
 abbrev pub sized_text : List ℕ → List ℕ
 sized_text bytes = to_be_bytes w16 (length bytes) ++ bytes
 
--- A write of text into a buffer of this capacity: all of it at the end exactly where it fits, else nothing.
+-- A write of text into a buffer of this capacity: all of it at the end exactly where it fits, else
+-- nothing.
 abbrev pub Puts : {E : Type 0} → ℕ → List ℕ → List ℕ → Result (Unit {0}) E → List ℕ → Type 0
 Puts capacity text old result new =
     (IsOk result ↔ (length old + length text ≤ capacity))

@@ -1,11 +1,11 @@
 #![tactic(auto)]
 
-//! The bytes of a text: a [`cursor::Cursor`] reads them, [`many`] has the readers of things that stand
-//! one after another, a [`sink::Sink`] of fixed capacity takes bytes, and a [`tap::Tap`] tells what a
-//! reader or a writer of them did.
+//! The bytes of a text: a [`cursor::Cursor`] reads them, [`many`] has the readers of things that
+//! stand one after another, a [`sink::Sink`] of fixed capacity takes bytes, and a [`tap::Tap`]
+//! tells what a reader or a writer of them did.
 //!
-//! Numbers are big-endian, as everywhere in a TPM's buffers (TPM 2.0 Library, Part 2, section 3.2). A
-//! refused read or write changes nothing, and no call here takes memory.
+//! Numbers are big-endian, as everywhere in a TPM's buffers (TPM 2.0 Library, Part 2, section 3.2).
+//! A refused read or write changes nothing, and no call here takes memory.
 
 pub mod cursor;
 pub mod many;

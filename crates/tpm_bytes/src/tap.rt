@@ -67,8 +67,11 @@ impl<D: Read> Tap<D> {
     /// One read of the device.
     pub fn read(&mut self, buffer: &mut [u8]) -> io::Result<usize>
         ensures bound { ReadsAtMost result buffer.new }
-        ensures bytes { ReadConsumes (D.remaining (device_of self.old)) (D.remaining (device_of self.new)) result buffer.new }
-        ensures marks { marks_of self.new ≡ after_read (marks_of self.old) result (length buffer.old) }
+        ensures bytes { ReadConsumes
+            (D.remaining (device_of self.old)) (D.remaining (device_of self.new))
+            result buffer.new }
+        ensures marks { marks_of self.new
+            ≡ after_read (marks_of self.old) result (length buffer.old) }
     {
         let room = buffer.len();
         let outcome = self.device.read(buffer);
@@ -89,8 +92,11 @@ impl<D: Write> Tap<D> {
     /// One write to the device.
     pub fn write(&mut self, piece: &[u8]) -> io::Result<usize>
         ensures bound { WritesAtMost result piece.now }
-        ensures bytes { WriteAppends (D.contents (device_of self.old)) (D.contents (device_of self.new)) result piece.now }
-        ensures marks { marks_of self.new ≡ after_write (marks_of self.old) result (length piece.now) }
+        ensures bytes { WriteAppends
+            (D.contents (device_of self.old)) (D.contents (device_of self.new))
+            result piece.now }
+        ensures marks { marks_of self.new
+            ≡ after_write (marks_of self.old) result (length piece.now) }
     {
         let outcome = self.device.write(piece);
         match &outcome {
