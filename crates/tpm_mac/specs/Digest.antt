@@ -1,5 +1,5 @@
--- Digests of whole messages, by the definitions of the hash crates (FIPS 180-4). A message is a list
--- of bytes.
+-- Digests of whole messages, by the definitions of the hash crates (FIPS 180-4). A message is a
+-- list of bytes.
 use Rattle.std.specs.Prelude.{ℕ, List}
 use Rattle.std.specs.Borrow.{Bor}
 use Rattle.std.specs.List.{flat_map}

@@ -1,5 +1,6 @@
 -- HMAC (FIPS 198-1) over whole texts. Keys, texts and digests are lists of bytes.
-use Rattle.std.specs.Prelude.{ℕ, ◌-◌, List, ◌++◌, bit_xor, if◌then◌else◌, length, map, nat_lt, replicate}
+use Rattle.std.specs.Prelude.{ℕ, ◌-◌, bit_xor, if◌then◌else◌, nat_lt}
+use Rattle.std.specs.Prelude.{List, ◌++◌, length, map, replicate}
 use Rattle.tpm_mac.specs.Digest.{hash_of}
 use Rattle.tpm_mac.specs.declared.algorithm.HashAlg.{HashAlg}
 

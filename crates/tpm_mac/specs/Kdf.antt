@@ -1,5 +1,5 @@
--- The key derivation KDFa: SP 800-108, 5.1 (counter mode, 32-bit counter first, HMAC as the PRF), as
--- TCG TPM 2.0 Library Part 1, 11.4.10.2 fills it in.
+-- The key derivation KDFa: SP 800-108, 5.1 (counter mode, 32-bit counter first, HMAC as the PRF),
+-- as TCG TPM 2.0 Library Part 1, 11.4.10.2 fills it in.
 use Rattle.std.specs.Prelude.{ℕ, ◌+◌, ◌*◌, ◌/◌, ◌%◌, min, List, [], ◌∷◌, ◌++◌, take}
 use Rattle.std.specs.Int.{to_be_bytes, w32}
 use Rattle.std.specs.List.{flat_map, range_with_len}
@@ -7,8 +7,8 @@ use Rattle.tpm_mac.specs.Digest.{digest_size}
 use Rattle.tpm_mac.specs.Hmac.{hmac_of}
 use Rattle.tpm_mac.specs.declared.algorithm.HashAlg.{HashAlg}
 
--- the text of block i: i ++ Label ++ 00 ++ Context ++ L, where Context is contextU ++ contextV and L
--- is the number of bits that is asked for (SP 800-108, 5.1)
+-- the text of block i: i ++ Label ++ 00 ++ Context ++ L, where Context is contextU ++ contextV and
+-- L is the number of bits that is asked for (SP 800-108, 5.1)
 abbrev pub kdfa_text : (label context_u context_v : List ℕ) (bits i : ℕ) → List ℕ
 kdfa_text label context_u context_v bits i =
     to_be_bytes w32 i ++ label ++ 0 ∷ [] ++ context_u ++ context_v ++ to_be_bytes w32 bits

@@ -1,6 +1,7 @@
 //! The key derivation KDFa (TCG TPM 2.0 Library Part 1, 11.4.10.2).
 
-ghost use Rattle.std.specs.Prelude.{◌≡◌, ◌+◌, ◌-◌, ◌^◌, ◌<◌, ◌≤◌, [], ◌∷◌, ◌++◌, drop, length, take};
+ghost use Rattle.std.specs.Prelude.{◌≡◌, ◌+◌, ◌-◌, ◌^◌, ◌<◌, ◌≤◌};
+ghost use Rattle.std.specs.Prelude.{[], ◌∷◌, ◌++◌, drop, length, take};
 ghost use Rattle.tpm_mac.specs.Digest.{digest_size};
 ghost use Rattle.tpm_mac.specs.Hmac.{hmac_under};
 ghost use Rattle.tpm_mac.specs.Kdf.{kdfa_of};
@@ -9,8 +10,9 @@ use crate::algorithm::HashAlg;
 use crate::digests::Digest;
 use crate::mac::{BlockKey, block_key, hmac_with};
 
-/// Fills `out` with the bytes that KDFa derives from the key for the label and the two contexts. The
-/// number of bits that is asked for is eight times the length of `out`, and has to fit into 32 bits.
+/// Fills `out` with the bytes that KDFa derives from the key for the label and the two contexts.
+/// The number of bits that is asked for is eight times the length of `out`, and has to fit into
+/// 32 bits.
 #[tactic(auto, unfolding(crate::specs::Kdf::kdfa_of))]
 pub fn kdfa(
     alg: HashAlg,
