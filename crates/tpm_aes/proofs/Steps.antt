@@ -6,7 +6,7 @@ use Rattle.std.proofs.lemmas.List.Edits.{fill_by_more, map_over_more}
 use Rattle.std.proofs.lemmas.List.FromFn.{fill_by_all, get_or-map-range_with_len}
 use Rattle.std.specs.Int.{bit_at}
 use Rattle.tpm_aes.proofs.AllBytes.{times-three, times-two}
-use Rattle.tpm_aes.specs.Cipher.{expanded_key, mix_column, mix_columns, next_round_key, round_key, shift_rows, state_after, sub_bytes, word_of, xored}
+use Rattle.tpm_aes.specs.Cipher.{expanded_key, mix_column, mix_columns, next_round_key, round_key, shift_rows, state_after, sub_bytes, word_of, xor_of}
 use Rattle.tpm_aes.specs.Field.{sub_byte, times_power, times_terms, times_x}
 
 -- one more power of x
@@ -72,13 +72,13 @@ unfolding round_key
 round_key_more key n = rw (add-one n) refl
 
 -- the state of no round
-pub state_after_none : (key block : List ℕ) → state_after key block 0 ≡ xored block (round_key key 0)
+pub state_after_none : (key block : List ℕ) → state_after key block 0 ≡ xor_of block (round_key key 0)
 unfolding state_after
 state_after_none key block = refl
 
 -- the state after one more round
 pub state_after_more : (key block : List ℕ) (n : ℕ) → state_after key block (n + 1)
-    ≡ xored (mix_columns (shift_rows (sub_bytes (state_after key block n)))) (round_key key (n + 1))
+    ≡ xor_of (mix_columns (shift_rows (sub_bytes (state_after key block n)))) (round_key key (n + 1))
 unfolding state_after
 state_after_more key block n = rw (add-one n) refl
 

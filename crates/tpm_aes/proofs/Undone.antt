@@ -6,21 +6,21 @@ use Rattle.std.proofs.Math.Seq.{take-add}
 use Rattle.std.specs.Int.Bits.{xor_assoc, xor_self, xor_zero_r}
 use Rattle.tpm_aes.proofs.TextBlocks.{block_count-covers, block_count-inside, length-block_at, pieces_to, pieces_to-add-one, pieces_to-suc, pieces_to-zero}
 use Rattle.tpm_aes.specs.Cfb.{block_at, block_before, block_count, cfb_decrypt_of, cfb_encrypt_of, cipher_block, plain_block}
-use Rattle.tpm_aes.specs.Cipher.{encrypted, xored}
+use Rattle.tpm_aes.specs.Cipher.{aes_of, xor_of}
 
 -- no more bytes than the first list has
-length-xored : (xs ys : List ℕ) → length (xored xs ys) ≤ length xs
-length-xored [] ys = omega arith
-length-xored (x ∷ xs) [] = omega arith
-length-xored (x ∷ xs) (y ∷ ys) = omega (arith, length-xored xs ys)
+length-xor_of : (xs ys : List ℕ) → length (xor_of xs ys) ≤ length xs
+length-xor_of [] ys = omega arith
+length-xor_of (x ∷ xs) [] = omega arith
+length-xor_of (x ∷ xs) (y ∷ ys) = omega (arith, length-xor_of xs ys)
 
 -- what is added twice is gone, where it covers the bytes
-xored-twice : (xs ys : List ℕ) → length (xored xs ys) ≡ length xs → xored (xored xs ys) ys ≡ xs
-xored-twice [] ys whole = refl
-xored-twice (x ∷ xs) [] whole = absurd (omega arith)
-xored-twice (x ∷ xs) (y ∷ ys) whole =
+xor_of-twice : (xs ys : List ℕ) → length (xor_of xs ys) ≡ length xs → xor_of (xor_of xs ys) ys ≡ xs
+xor_of-twice [] ys whole = refl
+xor_of-twice (x ∷ xs) [] whole = absurd (omega arith)
+xor_of-twice (x ∷ xs) (y ∷ ys) whole =
     let byte : bit_xor (bit_xor x y) y ≡ x = xor_assoc x y y ∙ ap (bit_xor x) (xor_self y) ∙ xor_zero_r x in
-    ap (λ (k : ℕ). k ∷ xored (xored xs ys) ys) byte ∙ ap (λ (t : List ℕ). x ∷ t) (xored-twice xs ys (omega arith))
+    ap (λ (k : ℕ). k ∷ xor_of (xor_of xs ys) ys) byte ∙ ap (λ (t : List ℕ). x ∷ t) (xor_of-twice xs ys (omega arith))
 
 -- the bytes of one more piece
 length-more : (piece : ℕ → List ℕ) (n : ℕ) → length (pieces_to piece (n + 1)) ≡ length (pieces_to piece n) + length (piece n)
@@ -87,7 +87,7 @@ pieces_to-block_at text (suc n) =
 
 -- C(i + 1)
 pub cipher_block_more : (key iv text : List ℕ) (i : ℕ) → cipher_block key iv text (i + 1)
-    ≡ xored (block_at text i) (encrypted key (cipher_block key iv text i))
+    ≡ xor_of (block_at text i) (aes_of key (cipher_block key iv text i))
 unfolding cipher_block
 cipher_block_more key iv text i = rw (add-one i) refl
 
@@ -117,7 +117,7 @@ cfb_undone key iv text whole =
     let cipher : List ℕ = cfb_encrypt_of key iv text in
     let n : ℕ = block_count text in
     let short : (i : ℕ) → length (piece i) ≤ length (block_at text i) =
-    λ i. rw (cipher_block_more key iv text i) (length-xored (block_at text i) (encrypted key (cipher_block key iv text i))) in
+    λ i. rw (cipher_block_more key iv text i) (length-xor_of (block_at text i) (aes_of key (cipher_block key iv text i))) in
     let sizes : (i : ℕ) → i ≤ n → length (pieces_to piece i) ≡ min (16 * i) (length text) =
     λ i low. length-pieces_whole piece text short (n - i) i (omega arith) whole in
     let at : (i : ℕ) → i < n → block_at cipher i ≡ piece i =
@@ -134,10 +134,10 @@ cfb_undone key iv text whole =
     let each : (i : ℕ) → i < n → plain_block key iv cipher i ≡ block_at text i =
     λ i low.
     let sum = cipher_block_more key iv text i in
-    ap (λ (b : List ℕ). xored b (encrypted key (block_before iv cipher i))) (at i low ∙ sum)
-    ∙ ap (λ (b : List ℕ). xored (xored (block_at text i) (encrypted key (cipher_block key iv text i))) (encrypted key b))
+    ap (λ (b : List ℕ). xor_of b (aes_of key (block_before iv cipher i))) (at i low ∙ sum)
+    ∙ ap (λ (b : List ℕ). xor_of (xor_of (block_at text i) (aes_of key (cipher_block key iv text i))) (aes_of key b))
     (block_before-cipher key iv text cipher i (λ j h. at j (omega arith)))
-    ∙ xored-twice (block_at text i) (encrypted key (cipher_block key iv text i)) (ap length (sym sum) ∙ full i low) in
+    ∙ xor_of-twice (block_at text i) (aes_of key (cipher_block key iv text i)) (ap length (sym sum) ∙ full i low) in
     let count : block_count cipher ≡ n = ap (λ (k : ℕ). k / 16 + min 1 (k % 16)) whole in
     ap (pieces_to (plain_block key iv cipher)) count
     ∙ pieces_to-same (plain_block key iv cipher) (block_at text) n each

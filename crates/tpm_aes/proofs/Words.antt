@@ -1,7 +1,7 @@
 -- Lists of bytes, of four and of any number.
 use Rattle.std.proofs.Common.{◌≡◌, ℕ, suc, zero, ◌+◌, ◌<◌, ◌≤◌, List, [], ◌∷◌, ◌++◌, add-one, ap, arith, bit_xor, drop, length, refl, slice_index_or, slice_set, take, ◌∙◌}
 use Rattle.std.proofs.lemmas.List.{append-nil}
-use Rattle.tpm_aes.specs.Cipher.{xored}
+use Rattle.tpm_aes.specs.Cipher.{xor_of}
 
 -- a list of four elements before another
 pub word_before : (word rest : List ℕ) → length word ≡ 4
@@ -26,7 +26,7 @@ words_joined a b c d at4 bt4 ct4 dt4 =
 
 -- the first i bytes of a list with others added
 abbrev pub xored_front : List ℕ → List ℕ → ℕ → List ℕ
-xored_front old other i = xored (take i old) (take i other) ++ drop i old
+xored_front old other i = xor_of (take i old) (take i other) ++ drop i old
 
 -- byte i is not changed yet
 get_or-xored_front : (old other : List ℕ) (i : ℕ) → i < length old → length old ≤ length other
@@ -56,7 +56,7 @@ xored_more old other bytes i within fits so_far =
 
 -- all bytes are added
 pub xored_all : (old other : List ℕ) (n : ℕ) → n ≡ length old → length old ≤ length other
-    → xored_front old other n ≡ xored old other
+    → xored_front old other n ≡ xor_of old other
 xored_all [] other zero whole fits = refl
 xored_all [] other (suc n) whole fits = absurd (omega arith)
 xored_all (x ∷ xs) [] n whole fits = absurd (omega arith)

@@ -1,8 +1,8 @@
--- Cipher feedback with segments of 128 bits (SP 800-38A, 6.3) under AES-128. Texts are lists of bytes;
--- their blocks of sixteen bytes are counted from 0, and the last may be shorter.
+-- Cipher feedback with segments of 128 bits (SP 800-38A, 6.3) under AES-128. Texts are lists of
+-- bytes; their blocks of sixteen bytes are counted from 0, and the last may be shorter.
 use Rattle.std.specs.Prelude.{ℕ, zero, suc, ◌+◌, ◌*◌, ◌/◌, ◌%◌, min, List, drop, length, take}
 use Rattle.std.specs.List.{flat_map, range_with_len}
-use Rattle.tpm_aes.specs.Cipher.{encrypted, xored}
+use Rattle.tpm_aes.specs.Cipher.{aes_of, xor_of}
 
 -- block i of a text
 abbrev pub block_at : List ℕ → ℕ → List ℕ
@@ -16,7 +16,7 @@ block_count text = length text / 16 + min 1 (length text % 16)
 unfoldable pub cipher_block : (key iv plain : List ℕ) → ℕ → List ℕ
 cipher_block key iv plain zero = iv
 cipher_block key iv plain (suc i) =
-    xored (block_at plain i) (encrypted key (cipher_block key iv plain i))
+    xor_of (block_at plain i) (aes_of key (cipher_block key iv plain i))
 
 -- the plain text encrypted: C(1), C(2) and so on
 abbrev pub cfb_encrypt_of : (key iv plain : List ℕ) → List ℕ
@@ -31,7 +31,7 @@ block_before iv cipher (suc i) = block_at cipher i
 -- P(i + 1) = C(i + 1) xor E(C(i))
 abbrev pub plain_block : (key iv cipher : List ℕ) → ℕ → List ℕ
 plain_block key iv cipher i =
-    xored (block_at cipher i) (encrypted key (block_before iv cipher i))
+    xor_of (block_at cipher i) (aes_of key (block_before iv cipher i))
 
 -- the cipher text decrypted: P(1), P(2) and so on
 abbrev pub cfb_decrypt_of : (key iv cipher : List ℕ) → List ℕ

@@ -1,14 +1,16 @@
 -- AES-128 (FIPS 197) in the direction of encryption. A block, a state and a round key are lists of
--- sixteen bytes, column after column: row r of column c is byte r + 4 * c (3.4). A word is a column.
-use Rattle.std.specs.Prelude.{ℕ, zero, suc, ◌+◌, ◌-◌, ◌*◌, ◌/◌, ◌%◌, List, [], ◌∷◌, ◌++◌, bit_xor, map, slice_index}
+-- sixteen bytes, column after column: row r of column c is byte r + 4 * c (3.4). A word is a
+-- column.
+use Rattle.std.specs.Prelude.{ℕ, zero, suc, ◌+◌, ◌-◌, ◌*◌, ◌/◌, ◌%◌, bit_xor}
+use Rattle.std.specs.Prelude.{List, [], ◌∷◌, ◌++◌, map, slice_index}
 use Rattle.std.specs.List.{flat_map, range_with_len}
 use Rattle.tpm_aes.specs.Field.{sub_byte, times, times_power}
 
 -- the bytes of one list xor those of another, as many as the shorter has (5.1.4, AddRoundKey)
-abbrev pub xored : List ℕ → List ℕ → List ℕ
-xored [] ys = []
-xored (x ∷ xs) [] = []
-xored (x ∷ xs) (y ∷ ys) = bit_xor x y ∷ xored xs ys
+abbrev pub xor_of : List ℕ → List ℕ → List ℕ
+xor_of [] ys = []
+xor_of (x ∷ xs) [] = []
+xor_of (x ∷ xs) (y ∷ ys) = bit_xor x y ∷ xor_of xs ys
 
 -- word c of a block
 abbrev pub word_of : List ℕ → ℕ → List ℕ
@@ -39,20 +41,23 @@ mix_column s =
 unfoldable pub mix_columns : List ℕ → List ℕ
 mix_columns state = flat_map (λ c. mix_column (word_of state c)) (range_with_len 0 4)
 
+-- RotWord: the word turned left by a byte (5.2)
+abbrev pub rot_word : List ℕ → List ℕ
+rot_word word =
+    slice_index word 1 ∷ slice_index word 2 ∷ slice_index word 3 ∷ slice_index word 0 ∷ []
+
 -- SubWord(RotWord(w)) xor Rcon[n], for the last word w of the round key before round n (5.2)
 unfoldable pub scheduled_word : ℕ → List ℕ → List ℕ
 scheduled_word n word =
-    xored
-    (map sub_byte (slice_index word 1 ∷ slice_index word 2 ∷ slice_index word 3 ∷ slice_index word 0 ∷ []))
-    (times_power 1 (n - 1) ∷ 0 ∷ 0 ∷ 0 ∷ [])
+    xor_of (map sub_byte (rot_word word)) (times_power 1 (n - 1) ∷ 0 ∷ 0 ∷ 0 ∷ [])
 
 -- the key of round n from that of the round before (5.2)
 unfoldable pub next_round_key : ℕ → List ℕ → List ℕ
 next_round_key n key =
-    let w0 : List ℕ = xored (word_of key 0) (scheduled_word n (word_of key 3)) in
-    let w1 : List ℕ = xored (word_of key 1) w0 in
-    let w2 : List ℕ = xored (word_of key 2) w1 in
-    let w3 : List ℕ = xored (word_of key 3) w2 in
+    let w0 : List ℕ = xor_of (word_of key 0) (scheduled_word n (word_of key 3)) in
+    let w1 : List ℕ = xor_of (word_of key 1) w0 in
+    let w2 : List ℕ = xor_of (word_of key 2) w1 in
+    let w3 : List ℕ = xor_of (word_of key 3) w2 in
     w0 ++ (w1 ++ (w2 ++ w3))
 
 -- the key of round n (5.2)
@@ -66,11 +71,11 @@ expanded_key key = map (round_key key) (range_with_len 0 11)
 
 -- the state after round n, for n below 10 (5.1)
 unfoldable pub state_after : List ℕ → List ℕ → ℕ → List ℕ
-state_after key block zero = xored block (round_key key 0)
+state_after key block zero = xor_of block (round_key key 0)
 state_after key block (suc n) =
-    xored (mix_columns (shift_rows (sub_bytes (state_after key block n)))) (round_key key (suc n))
+    xor_of (mix_columns (shift_rows (sub_bytes (state_after key block n)))) (round_key key (suc n))
 
 -- the block encrypted: ten rounds, of which the last mixes no columns (5.1)
-unfoldable pub encrypted : (key block : List ℕ) → List ℕ
-encrypted key block =
-    xored (shift_rows (sub_bytes (state_after key block 9))) (round_key key 10)
+unfoldable pub aes_of : (key block : List ℕ) → List ℕ
+aes_of key block =
+    xor_of (shift_rows (sub_bytes (state_after key block 9))) (round_key key 10)

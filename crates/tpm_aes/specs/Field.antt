@@ -1,6 +1,8 @@
--- The field GF(2^8) of AES: polynomials over GF(2) of degree below 8, modulo x^8 + x^4 + x^3 + x + 1
--- (FIPS 197, 4). A polynomial is a byte, whose bit i is the coefficient of x^i; a sum is an xor.
-use Rattle.std.specs.Prelude.{ℕ, zero, suc, ◌+◌, ◌*◌, ◌%◌, ◌^◌, ◌==◌, bit_xor, if◌then◌else◌, map, nat_lt, sum, unwrap_or}
+-- The field GF(2^8) of AES: polynomials over GF(2) of degree below 8, modulo
+-- x^8 + x^4 + x^3 + x + 1 (FIPS 197, 4). A polynomial is a byte, whose bit i is the coefficient of
+-- x^i; a sum is an xor.
+use Rattle.std.specs.Prelude.{ℕ, zero, suc, ◌+◌, ◌*◌, ◌%◌, ◌^◌, ◌==◌, bit_xor, nat_lt}
+use Rattle.std.specs.Prelude.{if◌then◌else◌, map, sum, unwrap_or}
 use Rattle.std.specs.Int.{bit_at}
 use Rattle.std.specs.List.{find, range_with_len}
 

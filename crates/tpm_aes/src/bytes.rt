@@ -1,7 +1,7 @@
 //! Blocks, their words, and sums of bytes.
 
 ghost use Rattle.std.specs.Prelude.{◌≡◌, ◌<◌, ◌≤◌, ◌++◌, length};
-ghost use Rattle.tpm_aes.specs.Cipher.{word_of, xored};
+ghost use Rattle.tpm_aes.specs.Cipher.{word_of, xor_of};
 
 /// Sixteen bytes, column after column: row r of column c is byte r + 4 c (FIPS 197, 3.4).
 pub(crate) type Block = [u8; 16];
@@ -39,7 +39,7 @@ pub(crate) fn block_of(first: Word, second: Word, third: Word, fourth: Word) -> 
 /// Adds the front of `other` to the bytes.
 pub(crate) fn xor_with(bytes: &mut [u8], other: &[u8])
     requires { length bytes.old ≤ length other.now }
-    ensures { bytes.new ≡ xored bytes.old other.now }
+    ensures { bytes.new ≡ xor_of bytes.old other.now }
 {
     for index in 0..bytes.len() {
         bytes[index] ^= other[index];

@@ -1,7 +1,7 @@
 //! The cipher of one key (FIPS 197, 5.1).
 
 ghost use Rattle.std.specs.Prelude.{◌≡◌, [], List, ℕ, length, slice_index_or};
-ghost use Rattle.tpm_aes.specs.Cipher.{encrypted, expanded_key};
+ghost use Rattle.tpm_aes.specs.Cipher.{aes_of, expanded_key};
 
 use crate::bytes::Block;
 use crate::field::times_x;
@@ -20,7 +20,8 @@ impl Model for Aes128 {
 
     ghost view = { λ cipher. slice_index_or cipher.round_keys 0 [] };
 
-    ghost invariant = { λ cipher. cipher.round_keys ≡ expanded_key (slice_index_or cipher.round_keys 0 []) };
+    ghost invariant = { λ cipher. cipher.round_keys
+        ≡ expanded_key (slice_index_or cipher.round_keys 0 []) };
 }
 
 impl Aes128 {
@@ -39,7 +40,7 @@ impl Aes128 {
 
     /// The block encrypted (FIPS 197, 5.1).
     pub fn block(&self, block: &[u8; 16]) -> [u8; 16]
-        ensures { result ≡ encrypted self.now block.now }
+        ensures { result ≡ aes_of self.now block.now }
     {
         let mut state = add_round_key(block, &self.round_keys[0]);
         for round in 1..10 {

@@ -2,7 +2,7 @@
 
 ghost use Rattle.std.specs.Prelude.{◌≡◌, ◌≤◌, length};
 ghost use Rattle.tpm_aes.specs.Cfb.{cfb_decrypt_of, cfb_encrypt_of};
-ghost use Rattle.tpm_aes.specs.Cipher.{encrypted, xored};
+ghost use Rattle.tpm_aes.specs.Cipher.{aes_of, xor_of};
 
 use crate::bytes::{Block, xor_with};
 use crate::cipher::Aes128;
@@ -39,7 +39,7 @@ impl Aes128 {
     /// Encrypts a block, or the short last one, and feeds back a whole block.
     fn encrypt_block(&self, feedback: &mut Block, text: &mut [u8])
         requires { length text.old ≤ 16 }
-        ensures value { text.new ≡ xored text.old (encrypted self.now feedback.old) }
+        ensures value { text.new ≡ xor_of text.old (aes_of self.now feedback.old) }
         ensures fed_back { length text.old ≡ 16 → feedback.new ≡ text.new }
     {
         xor_with(text, &self.block(feedback));
@@ -49,7 +49,7 @@ impl Aes128 {
     /// Decrypts a block, or the short last one, and feeds back a whole block.
     fn decrypt_block(&self, feedback: &mut Block, text: &mut [u8])
         requires { length text.old ≤ 16 }
-        ensures value { text.new ≡ xored text.old (encrypted self.now feedback.old) }
+        ensures value { text.new ≡ xor_of text.old (aes_of self.now feedback.old) }
         ensures fed_back { length text.old ≡ 16 → feedback.new ≡ text.old }
     {
         let key_stream = self.block(feedback);

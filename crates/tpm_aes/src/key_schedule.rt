@@ -1,7 +1,7 @@
 //! The key expansion (FIPS 197, 5.2).
 
 ghost use Rattle.std.specs.Prelude.{◌≡◌, ℕ, ◌-◌, ◌≤◌};
-ghost use Rattle.tpm_aes.specs.Cipher.{next_round_key, scheduled_word, xored};
+ghost use Rattle.tpm_aes.specs.Cipher.{next_round_key, scheduled_word, xor_of};
 ghost use Rattle.tpm_aes.specs.Field.{times_power};
 
 use crate::bytes::{Block, Word, block_of, word_at, xor_with};
@@ -20,7 +20,8 @@ pub(crate) fn next_round_key(key: &Block, constant: u8) -> Block
     block_of(first, second, third, fourth)
 }
 
-/// The word turned left by a byte, each byte through the S-box, and the constant of the round added.
+/// The word turned left by a byte, each byte through the S-box, and the constant of the round
+/// added.
 fn scheduled_word(word: Word, constant: u8) -> Word
     ensures { (n : ℕ) → constant ≡ times_power 1 (n - 1) → result ≡ scheduled_word n word }
 {
@@ -34,7 +35,7 @@ fn scheduled_word(word: Word, constant: u8) -> Word
 }
 
 fn xor_words(word: Word, other: &Word) -> Word
-    ensures { result ≡ xored word other.now }
+    ensures { result ≡ xor_of word other.now }
 {
     let mut sum = word;
     xor_with(&mut sum, other);

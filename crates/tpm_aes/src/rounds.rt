@@ -1,7 +1,7 @@
 //! The steps of a round (FIPS 197, 5.1).
 
 ghost use Rattle.std.specs.Prelude.{◌≡◌};
-ghost use Rattle.tpm_aes.specs.Cipher.{mix_column, mix_columns, shift_rows, sub_bytes, xored};
+ghost use Rattle.tpm_aes.specs.Cipher.{mix_column, mix_columns, shift_rows, sub_bytes, xor_of};
 
 use crate::bytes::{Block, Word, block_of, word_at, xor_with};
 use crate::field::{sub_byte, times_x};
@@ -58,7 +58,7 @@ fn mix_column(column: Word) -> Word
 
 /// The state with a round key added.
 pub(crate) fn add_round_key(state: &Block, key: &Block) -> Block
-    ensures { result ≡ xored state.now key.now }
+    ensures { result ≡ xor_of state.now key.now }
 {
     let mut sum = *state;
     xor_with(&mut sum, key);

@@ -1,12 +1,12 @@
 use Rattle.std.proofs.Common.{◌≡◌, [], ℕ, ◌+◌, ◌-◌, ◌∙◌, ap, arith, sym}
 use Rattle.tpm_aes.proofs.Steps.{round_key_at, state_after_more, state_after_none}
 use Rattle.tpm_aes.proofs.cipher.Aes128.block.Goals as goal
-use Rattle.tpm_aes.specs.Cipher.{encrypted, state_after, xored}
+use Rattle.tpm_aes.specs.Cipher.{aes_of, state_after, xor_of}
 
 pub loop-round-init : goal.loop-round-init
 loop-round-init c =
     let key = round_key_at c.self.inside.round_keys c.args.self.now c.self.view_is c.self.invariant 0 (omega arith) [] in
-    c.add_round_key-state.ensures ∙ ap (xored c.args.block.now) key ∙ sym (state_after_none c.args.self.now c.args.block.now)
+    c.add_round_key-state.ensures ∙ ap (xor_of c.args.block.now) key ∙ sym (state_after_none c.args.self.now c.args.block.now)
 
 pub loop-round-preserved : goal.loop-round-preserved
 loop-round-preserved c =
@@ -18,7 +18,7 @@ loop-round-preserved c =
     rw next (cc)
 
 pub returns : goal.returns
-unfolding encrypted
+unfolding aes_of
 returns c =
     let key = round_key_at c.self.inside.round_keys c.args.self.now c.self.view_is c.self.invariant 10 (omega arith) [] in
     let nine : c.loop-round.round - 1 ≡ 9 = omega arith in

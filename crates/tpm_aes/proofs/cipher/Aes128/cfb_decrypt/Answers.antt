@@ -2,7 +2,7 @@ use Rattle.std.proofs.Common.{◌≡◌, ℕ, ◌+◌, ◌-◌, ◌*◌, ◌<◌
 use Rattle.tpm_aes.proofs.TextBlocks.{block_left, done_to_all, done_to_more, done_to_none, length-block_at, pieces_to}
 use Rattle.tpm_aes.proofs.cipher.Aes128.cfb_decrypt.Goals as goal
 use Rattle.tpm_aes.specs.Cfb.{block_at, block_before, plain_block}
-use Rattle.tpm_aes.specs.Cipher.{encrypted, xored}
+use Rattle.tpm_aes.specs.Cipher.{aes_of, xor_of}
 
 pub loop-index-init : goal.loop-index-init
 loop-index-init c = (done_to_none _ c.args.text.now, λ _. refl)
@@ -22,8 +22,8 @@ loop-index-preserved c =
     block_left piece text now i (16 * i) end c.loop-index.invariant.0 refl (omega arith) stop in
     let part : c.decrypt_block.new.text ≡ piece i =
     c.decrypt_block.ensures.value
-    ∙ ap (λ (b : List ℕ). xored b (encrypted key c.loop-index.feedback)) left
-    ∙ ap (λ (b : List ℕ). xored (block_at text i) (encrypted key b)) (c.loop-index.invariant.1 (omega arith)) in
+    ∙ ap (λ (b : List ℕ). xor_of b (aes_of key c.loop-index.feedback)) left
+    ∙ ap (λ (b : List ℕ). xor_of (block_at text i) (aes_of key b)) (c.loop-index.invariant.1 (omega arith)) in
     let size : length c.decrypt_block.new.text ≡ end - 16 * i =
     omega (arith, c.decrypt_block.auto.text, ap length left, length-block_at text i) in (
       done_to_more piece text now _ c.decrypt_block.new.text i (16 * i) end c.loop-index.invariant.0

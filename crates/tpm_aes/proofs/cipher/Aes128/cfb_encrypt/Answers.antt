@@ -3,7 +3,7 @@ use Rattle.tpm_aes.proofs.TextBlocks.{block_left, done_to_all, done_to_more, don
 use Rattle.tpm_aes.proofs.Undone.{cfb_undone, cipher_block_more, cipher_block_none, cipher_piece}
 use Rattle.tpm_aes.proofs.cipher.Aes128.cfb_encrypt.Goals as goal
 use Rattle.tpm_aes.specs.Cfb.{block_at, cfb_decrypt_of, cfb_encrypt_of}
-use Rattle.tpm_aes.specs.Cipher.{encrypted, xored}
+use Rattle.tpm_aes.specs.Cipher.{aes_of, xor_of}
 
 pub loop-index-init : goal.loop-index-init
 loop-index-init c =
@@ -24,8 +24,8 @@ loop-index-preserved c =
     block_left piece text now i (16 * i) end c.loop-index.invariant.0 refl (omega arith) stop in
     let part : c.encrypt_block.new.text ≡ piece i =
     c.encrypt_block.ensures.value
-    ∙ ap (λ (b : List ℕ). xored b (encrypted key c.loop-index.feedback)) left
-    ∙ ap (λ (b : List ℕ). xored (block_at text i) (encrypted key b)) (c.loop-index.invariant.1 (omega arith))
+    ∙ ap (λ (b : List ℕ). xor_of b (aes_of key c.loop-index.feedback)) left
+    ∙ ap (λ (b : List ℕ). xor_of (block_at text i) (aes_of key b)) (c.loop-index.invariant.1 (omega arith))
     ∙ sym (cipher_block_more key iv text i) in
     let size : length c.encrypt_block.new.text ≡ end - 16 * i =
     omega (arith, c.encrypt_block.auto.text, ap length left, length-block_at text i) in (
