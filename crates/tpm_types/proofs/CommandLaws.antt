@@ -12,16 +12,16 @@ use Rattle.tpm_types.specs.declared.tag.Tag.TheVariants.{NoSessions, Sessions}
 use Rattle.tpm_types.specs.declared.whole_command.Command.{Command}
 use Rattle.tpm_types.specs.AuthArea.{area_text, entries_text}
 use Rattle.tpm_types.specs.AuthEntry.{Entry, IsEntry}
-use Rattle.tpm_types.specs.Command.{IsCommand, Whole, body_text, command_at, command_size, command_text, handle_text, handles_at, handles_text, or_rc, sessions_at, sessions_text, tag_for, whole_of}
+use Rattle.tpm_types.specs.Command.{IsCommand, Whole, body_text, command_at, command_size, command_text, handle_text, handles_at, handles_text, header_or_rc, sessions_at, sessions_text, tag_for, whole_of}
 use Rattle.tpm_types.specs.Header.{header_at, header_text}
 use Rattle.tpm_types.specs.CommandCode.{handle_count}
 use Rattle.tpm_types.proofs.EntryLaws.{area_again, area_takes}
 use Rattle.tpm_types.proofs.HandleLemmas.{handles_again, handles_take, handles_text-is, length-handles}
 use Rattle.tpm_types.proofs.HeaderLaws.{header_again, header_takes}
 
-or_rc_ok : {A : Type 0} (r : Result A HeaderFault) (x : A) → or_rc r ≡ Ok x → r ≡ Ok x
-or_rc_ok (Ok y) x e = cc
-or_rc_ok (Err f) x e = absurd cc
+header_or_rc_ok : {A : Type 0} (r : Result A HeaderFault) (x : A) → header_or_rc r ≡ Ok x → r ≡ Ok x
+header_or_rc_ok (Ok y) x e = cc
+header_or_rc_ok (Err f) x e = absurd cc
 
 -- ---- the authorization area, where there are sessions
 
@@ -70,10 +70,10 @@ length-body c =
 pub command_takes : (bytes : List ℕ) (x : Whole × List ℕ) → AreBytes bytes → command_at bytes ≡ Ok x → IsCommand x.0 × (bytes ≡ command_text x.0) × (x.1 ≡ [])
 unfolding command_at
 command_takes bytes x fits e =
-    let a = bind_ok (or_rc (header_at bytes)) (λ header. handles_at 1 (handle_count header.0.code) header.1 >>= λ handles. sessions_at header.0.tag handles.1 >>= λ entries. Ok (record { code = header.0.code; handles = handles.0; entries = entries.0; parameters = entries.1 }, [])) x e in
+    let a = bind_ok (header_or_rc (header_at bytes)) (λ header. handles_at 1 (handle_count header.0.code) header.1 >>= λ handles. sessions_at header.0.tag handles.1 >>= λ entries. Ok (record { code = header.0.code; handles = handles.0; entries = entries.0; parameters = entries.1 }, [])) x e in
     let b = bind_ok (handles_at 1 (handle_count a.0.0.code) a.0.1) (λ handles. sessions_at a.0.0.tag handles.1 >>= λ entries. Ok (record { code = a.0.0.code; handles = handles.0; entries = entries.0; parameters = entries.1 }, [])) x a.2 in
     let d = bind_ok (sessions_at a.0.0.tag b.0.1) (λ entries. Ok (record { code = a.0.0.code; handles = b.0.0; entries = entries.0; parameters = entries.1 }, [])) x b.2 in
-    let h = header_takes bytes a.0 fits (or_rc_ok (header_at bytes) a.0 a.1) in
+    let h = header_takes bytes a.0 fits (header_or_rc_ok (header_at bytes) a.0 a.1) in
     let t1 = handles_take (handle_count a.0.0.code) 1 a.0.1 b.0 h.text.rest_fits b.1 in
     let t2 = sessions_take a.0.0.tag b.0.1 d.0 t1.0.rest_fits d.1 in
     let whole : Whole = record { code = a.0.0.code; handles = b.0.0; entries = d.0.0; parameters = d.0.1 } in

@@ -1,5 +1,7 @@
--- Authorization areas. TPM 2.0 Library, Part 1, section 18.6: authorizationSize, and one to three entries.
-use Rattle.std.specs.Prelude.{◌≡◌, ℕ, zero, suc, nat_lt, List, [], ◌∷◌, ◌++◌, length, map, Result, Ok, Err}
+-- Authorization areas. TPM 2.0 Library, Part 1, section 18.6: authorizationSize, and one to three
+-- entries.
+use Rattle.std.specs.Prelude.{◌≡◌, ℕ, zero, suc, nat_lt}
+use Rattle.std.specs.Prelude.{List, [], ◌∷◌, ◌++◌, length, map, Result, Ok, Err}
 use Rattle.std.specs.List.{flat_map}
 use Rattle.std.specs.Int.{w32, to_be_bytes}
 use Rattle.tpm_bytes.specs.Reading.{◌>>=◌, bytes_at, number_at, or_fault, refused_if}

@@ -1,6 +1,7 @@
 -- Entries of an authorization area. TPM 2.0 Library, Part 2, section 10.13.2 (TPMS_AUTH_COMMAND),
 -- and section 8.4 (TPMA_SESSION, its attributes).
-use Rattle.std.specs.Prelude.{◌≡◌, ℕ, ◌+◌, ◌<◌, ◌≤◌, ◌^◌, ◌==◌, ◌↔◌, not, bit_and, Bool, List, ◌++◌, length, Result, Ok, IsOk, OnOk, OnErr}
+use Rattle.std.specs.Prelude.{◌≡◌, ℕ, ◌+◌, ◌<◌, ◌≤◌, ◌^◌, ◌==◌, ◌↔◌, not, bit_and, Bool}
+use Rattle.std.specs.Prelude.{List, ◌++◌, length, Result, Ok, IsOk, OnOk, OnErr}
 use Rattle.std.specs.Int.{w8, w32, to_be_bytes}
 use Rattle.tpm_bytes.specs.Reading.{◌>>=◌, number_at, or_fault, sized_at}
 use Rattle.tpm_bytes.specs.Writing.{sized_text}
@@ -23,12 +24,18 @@ pub record Entry : Type 0 where
   pub hmac : List ℕ
 
 abbrev pub entry_of : AuthEntry → Entry
-entry_of e = record { session = e.session; nonce = e.nonce.now; attributes = e.attributes; hmac = e.hmac.now }
+entry_of e = record {
+  session = e.session;
+  nonce = e.nonce.now;
+  attributes = e.attributes;
+  hmac = e.hmac.now;
+}
 
 -- the session's handle, the nonce, the attributes, and the HMAC or password
 abbrev pub entry_text : Entry → List ℕ
 entry_text e =
-    to_be_bytes w32 e.session.number ++ sized_text e.nonce ++ to_be_bytes w8 e.attributes.octet ++ sized_text e.hmac
+    to_be_bytes w32 e.session.number ++ sized_text e.nonce
+    ++ to_be_bytes w8 e.attributes.octet ++ sized_text e.hmac
 
 -- what has a text: each number fits its field
 pub record IsEntry (e : Entry) : Type 0 where
@@ -48,11 +55,21 @@ entry_at text = do
   nonce ← or_fault (sized_at 0xffff session.1) (plain code.Authsize)
   attributes ← or_fault (number_at w8 nonce.1) (plain code.Authsize)
   hmac ← or_fault (sized_at 0xffff attributes.1) (plain code.Authsize)
-  Ok (record { session = record { number = session.0 }; nonce = nonce.0; attributes = record { octet = attributes.0 }; hmac = hmac.0 }, hmac.1)
+  Ok (
+    record {
+      session = record { number = session.0 };
+      nonce = nonce.0;
+      attributes = record { octet = attributes.0 };
+      hmac = hmac.0;
+    },
+    hmac.1,
+  )
 
 -- A write of an entry: all of its text at the end exactly where it has one that fits, else nothing.
 abbrev pub PutsEntry : {E : Type 0} → ℕ → Entry → List ℕ → Result (Unit {0}) E → List ℕ → Type 0
 PutsEntry capacity e old result new =
-    (IsOk result ↔ ((length e.nonce < 2 ^ 16) × (length e.hmac < 2 ^ 16) × (length old + (9 + length e.nonce + length e.hmac) ≤ capacity)))
+    (IsOk result
+    ↔ ((length e.nonce < 2 ^ 16) × (length e.hmac < 2 ^ 16)
+    × (length old + (9 + length e.nonce + length e.hmac) ≤ capacity)))
     × OnOk result (new ≡ old ++ entry_text e)
     × OnErr result (new ≡ old)

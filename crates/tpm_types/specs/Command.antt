@@ -1,6 +1,8 @@
--- Whole commands. TPM 2.0 Library, Part 1, sections 18.2 to 18.6: the header, the handles, with sessions
--- the authorization area, and the parameters.
-use Rattle.std.specs.Prelude.{◌≡◌, ℕ, zero, suc, ◌+◌, ◌<◌, ◌≤◌, ◌^◌, ◌↔◌, List, [], ◌∷◌, ◌++◌, length, map, Result, Ok, Err, IsOk, OnOk, OnErr}
+-- Whole commands. TPM 2.0 Library, Part 1, sections 18.2 to 18.6: the header, the handles, with
+-- sessions the authorization area, and the parameters.
+use Rattle.std.specs.Prelude.{◌≡◌, ℕ, zero, suc, ◌+◌, ◌<◌, ◌≤◌, ◌^◌, ◌↔◌}
+use Rattle.std.specs.Prelude.{List, [], ◌∷◌, ◌++◌, length, map}
+use Rattle.std.specs.Prelude.{Result, Ok, Err, IsOk, OnOk, OnErr}
 use Rattle.std.specs.List.{flat_map, AllByRecursion}
 use Rattle.std.specs.Int.{w32, to_be_bytes}
 use Rattle.tpm_bytes.specs.Reading.{◌>>=◌, number_at, or_fault}
@@ -27,7 +29,12 @@ pub record Whole : Type 0 where
   pub parameters : List ℕ
 
 abbrev pub whole_of : Command → Whole
-whole_of c = record { code = c.code; handles = c.handles.items; entries = map entry_of c.entries.items; parameters = c.parameters.now }
+whole_of c = record {
+  code = c.code;
+  handles = c.handles.items;
+  entries = map entry_of c.entries.items;
+  parameters = c.parameters.now;
+}
 
 -- with entries it has sessions
 abbrev pub tag_for : List Entry → Tag
@@ -64,7 +71,8 @@ pub record HasText (c : Whole) : Type 0 where
 abbrev pub IsHandle : Handle → Type 0
 IsHandle handle = handle.number < 2 ^ 32
 
--- what has a text that is read: as many handles as its code has, at most three entries, at most 4,096 bytes
+-- what has a text that is read: as many handles as its code has, at most three entries, at most
+-- 4,096 bytes
 pub record IsCommand (c : Whole) : Type 0 where
   pub handle_count : length c.handles ≡ handle_count c.code
   pub handles : AllByRecursion IsHandle c.handles
@@ -86,20 +94,29 @@ abbrev pub sessions_at : Tag → List ℕ → Result (List Entry × List ℕ) Rc
 sessions_at NoSessions text = Ok ([], text)
 sessions_at Sessions text = area_at text
 
--- a header's fault as its response code
-abbrev pub or_rc : {A : Type 0} → Result A HeaderFault → Result A Rc
-or_rc (Ok x) = Ok x
-or_rc (Err fault) = Err (header_fault_rc fault)
+-- the header, or its fault as a response code
+abbrev pub header_or_rc : {A : Type 0} → Result A HeaderFault → Result A Rc
+header_or_rc (Ok x) = Ok x
+header_or_rc (Err fault) = Err (header_fault_rc fault)
 
 -- a command is a whole text, of which its parameters are the end
 unfoldable pub command_at : List ℕ → Result (Whole × List ℕ) Rc
 command_at text = do
-  header ← or_rc (header_at text)
+  header ← header_or_rc (header_at text)
   handles ← handles_at 1 (handle_count header.0.code) header.1
   entries ← sessions_at header.0.tag handles.1
-  Ok (record { code = header.0.code; handles = handles.0; entries = entries.0; parameters = entries.1 }, [])
+  Ok (
+    record {
+      code = header.0.code;
+      handles = handles.0;
+      entries = entries.0;
+      parameters = entries.1;
+    },
+    [],
+  )
 
--- A write of a command: all of its text at the end exactly where it has one that fits, else nothing.
+-- A write of a command: all of its text at the end exactly where it has one that fits, else
+-- nothing.
 abbrev pub PutsCommand : {E : Type 0} → ℕ → Whole → List ℕ → Result (Unit {0}) E → List ℕ → Type 0
 PutsCommand capacity c old result new =
     (IsOk result ↔ (HasText c × (length old + command_size c ≤ capacity)))

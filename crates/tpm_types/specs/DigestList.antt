@@ -1,4 +1,5 @@
--- Lists of digests. TPM 2.0 Library, Part 2, section 10.9.5 (TPML_DIGEST): how many, and each as a sized buffer.
+-- Lists of digests. TPM 2.0 Library, Part 2, section 10.9.5 (TPML_DIGEST): how many, and each as a
+-- sized buffer.
 use Rattle.std.specs.Prelude.{ℕ, List, ◌++◌, length, map}
 use Rattle.std.specs.List.{flat_map}
 use Rattle.std.specs.Int.{w32, to_be_bytes}

@@ -1,5 +1,6 @@
 -- A command's header: tag, commandSize, commandCode. TPM 2.0 Library, Part 1, section 18.2.
-use Rattle.std.specs.Prelude.{ℕ, ◌==◌, ◌||◌, not, nat_lt, List, ◌++◌, length, drop, take, Result, Ok, ok_or}
+use Rattle.std.specs.Prelude.{ℕ, ◌==◌, ◌||◌, not, nat_lt}
+use Rattle.std.specs.Prelude.{List, ◌++◌, length, drop, take, Result, Ok, ok_or}
 use Rattle.std.specs.Int.{w16, w32, from_be_bytes, to_be_bytes}
 use Rattle.tpm_bytes.specs.Reading.{◌>>=◌, refused_if}
 use Rattle.tpm_types.specs.declared.command.Header.{Header}
@@ -21,7 +22,8 @@ header_fault_rc fault.Code = plain code.CommandCode
 
 -- the header of a command of this length
 unfoldable pub header_text : Tag → ℕ → CommandCode → List ℕ
-header_text tag size code = to_be_bytes w16 (tag_number tag) ++ to_be_bytes w32 size ++ to_be_bytes w32 (code_number code)
+header_text tag size code =
+    to_be_bytes w16 (tag_number tag) ++ to_be_bytes w32 size ++ to_be_bytes w32 (code_number code)
 
 -- the three fields of a buffer of ten bytes or more
 abbrev pub tag_field : List ℕ → ℕ

@@ -1,5 +1,5 @@
--- Localities zero to four. TPM 2.0 Library, Part 2, section 8.5 (TPMA_LOCALITY has a bit for each); the extended
--- localities from 32 on are left out.
+-- Localities zero to four. TPM 2.0 Library, Part 2, section 8.5 (TPMA_LOCALITY has a bit for each);
+-- the extended localities from 32 on are left out.
 use Rattle.std.specs.Prelude.{◌≡◌, ℕ, ◌≤◌, ◌<◌, Option, Some, None}
 use Rattle.tpm_types.specs.declared.locality.Locality.{Locality}
 

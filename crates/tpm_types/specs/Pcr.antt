@@ -1,6 +1,8 @@
--- PCRs and which of them are selected. TPM 2.0 Library, Part 2, sections 10.6.1 and 10.6.2: PCR n is bit
--- n mod 8 of octet n div 8, that is bit n of the octets as one number whose first octet is the lowest.
-use Rattle.std.specs.Prelude.{◌≡◌, ℕ, ◌≤◌, ◌<◌, ◌^◌, ◌==◌, bit_or, Bool, List, [], ◌∷◌, ◌++◌, take, Option, Some, None}
+-- PCRs and which of them are selected. TPM 2.0 Library, Part 2, sections 10.6.1 and 10.6.2: PCR n
+-- is bit n mod 8 of octet n div 8, that is bit n of the octets as one number whose first octet is
+-- the lowest.
+use Rattle.std.specs.Prelude.{◌≡◌, ℕ, ◌≤◌, ◌<◌, ◌^◌, ◌==◌, bit_or, Bool}
+use Rattle.std.specs.Prelude.{List, [], ◌∷◌, ◌++◌, take, Option, Some, None}
 use Rattle.std.specs.Int.{w32, bit_at, from_le_bytes, to_le_bytes}
 use Rattle.tpm_types.specs.declared.pcr.PcrIndex.{PcrIndex}
 
@@ -9,7 +11,8 @@ abbrev pub SomePcr : ℕ → Option PcrIndex → Type 0
 SomePcr number (Some pcr) = (number < 24) × (pcr ≡ number)
 SomePcr number None = 24 ≤ number
 
--- the number that three octets stand for, with a fourth of zero to fill 32 bits, and the octets of a number
+-- the number that three octets stand for, with a fourth of zero to fill 32 bits, and the octets of
+-- a number
 abbrev pub select_of : List ℕ → ℕ
 select_of octets = from_le_bytes w32 (octets ++ 0 ∷ [])
 

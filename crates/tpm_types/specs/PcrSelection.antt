@@ -14,7 +14,8 @@ use Rattle.tpm_types.specs.Rc.{plain}
 
 -- a bank's selection: its hash algorithm, the number of octets, and these
 unfoldable pub bank_text : BankSelection → List ℕ
-bank_text bank = to_be_bytes w16 (hash_number bank.hash) ++ to_be_bytes w8 3 ++ select_text bank.select
+bank_text bank =
+    to_be_bytes w16 (hash_number bank.hash) ++ to_be_bytes w8 3 ++ select_text bank.select
 
 unfoldable pub banks_text : List BankSelection → List ℕ
 banks_text banks = flat_map bank_text banks

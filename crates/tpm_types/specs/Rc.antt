@@ -1,4 +1,5 @@
--- Response codes on the wire. TPM 2.0 Library, Part 2, sections 6.6.2 (how a place is added) and 6.6.3 (the codes).
+-- Response codes on the wire. TPM 2.0 Library, Part 2, sections 6.6.2 (how a place is added) and
+-- 6.6.3 (the codes).
 use Rattle.std.specs.Prelude.{ℕ, ◌+◌, ◌*◌}
 use Rattle.tpm_types.specs.declared.rc.ResponseCode.{ResponseCode}
 use Rattle.tpm_types.specs.declared.rc.ResponseCode.TheVariants as code

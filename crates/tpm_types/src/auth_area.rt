@@ -26,7 +26,8 @@ impl<'a> AuthArea<'a> {
     /// entry is cut or a fourth one.
     #[tactic(auto, unfolding(crate::specs::AuthArea::area_at))]
     pub fn read(text: &mut Cursor<'a>) -> Result<AuthArea<'a>, Rc>
-        ensures { Reads (λ area. map entry_of area.entries.items) (area_at text.old) text.old result text.new }
+        ensures { Reads (λ area. map entry_of area.entries.items) (area_at text.old)
+            text.old result text.new }
     {
         let cut = ResponseCode::Authsize.anywhere();
         let mut ahead = Cursor::new(text.rest());

@@ -26,8 +26,8 @@ impl SessionAttributes {
     }
 }
 
-/// One entry of a command's authorization area: TPMS_AUTH_COMMAND (Part 2, section 10.13.2). The nonce
-/// and the HMAC (or password) have any length that their sizes can say.
+/// One entry of a command's authorization area: TPMS_AUTH_COMMAND (Part 2, section 10.13.2). The
+/// nonce and the HMAC (or password) have any length that their sizes can say.
 #[derive(Clone, Copy, Default)]
 pub struct AuthEntry<'a> {
     pub session: Handle,
@@ -37,7 +37,8 @@ pub struct AuthEntry<'a> {
 }
 
 impl<'a> AuthEntry<'a> {
-    ghost use Rattle.tpm_types.specs.AuthEntry.{Entry, HasSizes, IsEntry, PutsEntry, entry_at, entry_of, entry_text};
+    ghost use Rattle.tpm_types.specs.AuthEntry.{Entry, HasSizes, IsEntry, PutsEntry};
+    ghost use Rattle.tpm_types.specs.AuthEntry.{entry_at, entry_of, entry_text};
 
     /// Reads an entry: AUTHSIZE where it is cut.
     pub fn read(text: &mut Cursor<'a>) -> Result<AuthEntry<'a>, Rc>
@@ -47,7 +48,8 @@ impl<'a> AuthEntry<'a> {
         ensures found { IfOk result (λ entry. IsEntry (entry_of entry)
             × (text.old ≡ entry_text (entry_of entry) ++ text.new)) }
         // What is spelled so is read.
-        ensures only { (entry : Entry) (rest : List ℕ) → IsEntry entry → text.old ≡ entry_text entry ++ rest
+        ensures only { (entry : Entry) (rest : List ℕ) → IsEntry entry
+            → text.old ≡ entry_text entry ++ rest
             → Reads entry_of (Ok (entry, rest)) text.old result text.new }
     {
         bytes_fit(text.rest());
@@ -76,7 +78,8 @@ impl<'a> AuthEntry<'a> {
     /// How many bytes the entry's text has, where it has one.
     #[tactic(auto, using(crate::proofs::EntryLaws::entry_sizes))]
     pub fn text_len(&self) -> Option<usize>
-        ensures { SomeIff result (HasSizes (entry_of self.now)) (length (entry_text (entry_of self.now))) }
+        ensures { SomeIff result (HasSizes (entry_of self.now))
+            (length (entry_text (entry_of self.now))) }
     {
         let (nonce, hmac) = (self.nonce.len(), self.hmac.len());
         if nonce > 0xffff || hmac > 0xffff {

@@ -2,7 +2,8 @@ ghost use Rattle.std.specs.Prelude.{◌≡◌, ◌+◌, ◌*◌, ◌≤◌, ℕ,
 ghost use Rattle.tpm_bytes.specs.Reading.{Reads};
 ghost use Rattle.tpm_bytes.specs.Writing.{Puts};
 ghost use Rattle.tpm_types.specs.declared.digest_values.DigestValue.{DigestValue};
-ghost use Rattle.tpm_types.specs.DigestValues.{IsDigestValues, digest_value_at, digest_value_text, digest_values_at, digest_values_text, values_text};
+ghost use Rattle.tpm_types.specs.DigestValues.{IsDigestValues, digest_value_at, digest_value_text};
+ghost use Rattle.tpm_types.specs.DigestValues.{digest_values_at, digest_values_text, values_text};
 
 use crate::algorithm::{hash_number, read_hash};
 use crate::grammar::bytes_fit;

@@ -89,8 +89,8 @@ impl<'a> Readable<'a> for BankSelection {
     }
 }
 
-/// PCRs of up to sixteen banks, in the order in which they are asked for: TPML_PCR_SELECTION (Part 2,
-/// section 10.9.7).
+/// PCRs of up to sixteen banks, in the order in which they are asked for: TPML_PCR_SELECTION
+/// (Part 2, section 10.9.7).
 #[derive(Drop)]
 pub struct PcrSelection {
     pub banks: ArrayVec<BankSelection, 16>,
@@ -104,13 +104,16 @@ impl PcrSelection {
     /// the first fault of a bank.
     pub fn read(text: &mut Cursor) -> Result<PcrSelection, Rc>
         // Which value or which fault it is.
-        ensures exact { Reads (λ selection. selection.banks.items) (selection_at text.old) text.old result text.new }
+        ensures exact { Reads (λ selection. selection.banks.items) (selection_at text.old)
+            text.old result text.new }
         // What is read was spelled so.
         ensures found { IfOk result (λ selection. IsSelection selection.banks.items
             × (text.old ≡ selection_text selection.banks.items ++ text.new)) }
         // What is spelled so is read.
-        ensures only { (banks : List BankSelection) (rest : List ℕ) → IsSelection banks → text.old ≡ selection_text banks ++ rest
-            → Reads (λ selection. selection.banks.items) (Ok (banks, rest)) text.old result text.new }
+        ensures only { (banks : List BankSelection) (rest : List ℕ) → IsSelection banks
+            → text.old ≡ selection_text banks ++ rest
+            → Reads (λ selection. selection.banks.items) (Ok (banks, rest))
+            text.old result text.new }
     {
         bytes_fit(text.rest());
         PcrSelection::read_fields(text)
@@ -118,7 +121,8 @@ impl PcrSelection {
 
     #[tactic(auto, unfolding(crate::specs::PcrSelection::selection_at))]
     fn read_fields(text: &mut Cursor) -> Result<PcrSelection, Rc>
-        ensures { Reads (λ selection. selection.banks.items) (selection_at text.old) text.old result text.new }
+        ensures { Reads (λ selection. selection.banks.items) (selection_at text.old)
+            text.old result text.new }
     {
         let mut ahead = Cursor::new(text.rest());
         let count = ahead

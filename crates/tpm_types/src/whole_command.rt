@@ -9,8 +9,9 @@ use arrayvec::ArrayVec;
 pub mod reading;
 mod writing;
 
-/// A whole command (TPM 2.0 Library, Part 1, section 18): its handles are as many as its code has, and
-/// its tag is that of sessions exactly where it has entries. The parameters are its other bytes.
+/// A whole command (TPM 2.0 Library, Part 1, section 18): its handles are as many as its code has,
+/// and its tag is that of sessions exactly where it has entries. The parameters are its other
+/// bytes.
 #[derive(Drop)]
 pub struct Command<'a> {
     pub code: CommandCode,

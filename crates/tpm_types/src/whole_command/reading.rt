@@ -1,7 +1,8 @@
 ghost use Rattle.std.specs.Prelude.{◌≡◌, ◌≤◌, [], length, map, Ok, IfOk};
 ghost use Rattle.tpm_bytes.specs.Reading.{Reads};
 ghost use Rattle.tpm_types.specs.AuthEntry.{entry_of};
-ghost use Rattle.tpm_types.specs.Command.{IsCommand, Whole, command_at, command_text, handles_at, sessions_at, whole_of};
+ghost use Rattle.tpm_types.specs.Command.{IsCommand, Whole, command_at, command_text};
+ghost use Rattle.tpm_types.specs.Command.{handles_at, sessions_at, whole_of};
 
 use crate::auth_area::AuthArea;
 use crate::auth_entry::AuthEntry;
@@ -51,7 +52,8 @@ impl<'a> Command<'a> {
 
 fn read_handles(text: &mut Cursor, count: usize) -> Result<ArrayVec<Handle, 3>, Rc>
     requires { count ≤ 3 }
-    ensures exact { Reads (λ handles. handles.items) (handles_at 1 count text.old) text.old result text.new }
+    ensures exact { Reads (λ handles. handles.items) (handles_at 1 count text.old)
+        text.old result text.new }
     ensures count { IfOk result (λ handles. length handles.items ≡ count) }
 {
     let mut ahead = Cursor::new(text.rest());
@@ -69,7 +71,8 @@ fn read_handles(text: &mut Cursor, count: usize) -> Result<ArrayVec<Handle, 3>, 
 
 /// Reads the entries of the authorization area, which is there where the tag says so.
 pub fn read_sessions<'a>(text: &mut Cursor<'a>, tag: Tag) -> Result<ArrayVec<AuthEntry<'a>, 3>, Rc>
-    ensures { Reads (λ entries. map entry_of entries.items) (sessions_at tag text.old) text.old result text.new }
+    ensures { Reads (λ entries. map entry_of entries.items) (sessions_at tag text.old)
+        text.old result text.new }
 {
     match tag {
         Tag::NoSessions => Ok(ArrayVec::new()),

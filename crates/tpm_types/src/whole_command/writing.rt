@@ -3,7 +3,8 @@ ghost use Rattle.std.specs.List.{AllByRecursion};
 ghost use Rattle.std.specs.Option.{SomeIff};
 ghost use Rattle.tpm_types.specs.AuthArea.{entries_text};
 ghost use Rattle.tpm_types.specs.AuthEntry.{HasSizes, entry_of};
-ghost use Rattle.tpm_types.specs.Command.{HasText, PutsCommand, command_size, handles_text, sessions_text, tag_for, whole_of};
+ghost use Rattle.tpm_types.specs.Command.{HasText, PutsCommand, command_size, handles_text};
+ghost use Rattle.tpm_types.specs.Command.{sessions_text, tag_for, whole_of};
 ghost use Rattle.tpm_types.specs.Header.{header_text};
 
 use crate::auth_entry::AuthEntry;
@@ -61,7 +62,8 @@ impl Command<'_> {
 /// How many bytes the entries' texts have, where each entry has one.
 fn entries_len(entries: &[AuthEntry]) -> Option<usize>
     requires { length entries.now ≤ 3 }
-    ensures value { SomeIff result (AllByRecursion HasSizes (map entry_of entries.now)) (length (entries_text (map entry_of entries.now))) }
+    ensures value { SomeIff result (AllByRecursion HasSizes (map entry_of entries.now))
+        (length (entries_text (map entry_of entries.now))) }
     ensures small { IfSome result (λ bytes. bytes ≤ 3 * 131_079) }
 {
     let mut bytes = 0;
@@ -74,7 +76,8 @@ fn entries_len(entries: &[AuthEntry]) -> Option<usize>
 /// The same with the area's size, which stands there only where entries do.
 fn sessions_len(entries: &[AuthEntry]) -> Option<usize>
     requires { length entries.now ≤ 3 }
-    ensures value { SomeIff result (AllByRecursion HasSizes (map entry_of entries.now)) (length (sessions_text (map entry_of entries.now))) }
+    ensures value { SomeIff result (AllByRecursion HasSizes (map entry_of entries.now))
+        (length (sessions_text (map entry_of entries.now))) }
     ensures small { IfSome result (λ bytes. bytes ≤ 4 + 3 * 131_079) }
 {
     if entries.is_empty() {
