@@ -6,7 +6,7 @@ use Rattle.std.proofs.lemmas.List.{append-nil, drop-replicate, drop_all, length-
 use Rattle.std.proofs.lemmas.List.Edits.{map_over_more}
 use Rattle.std.proofs.Math.Seq.{take-append-add}
 use Rattle.std.specs.List.{range_with_len}
-use Rattle.tpm_mac.specs.Hmac.{masked}
+use Rattle.tpm_mac.specs.Hmac.{masked_key}
 
 -- a front that is written over zeros
 pub zeros_overwritten : (zeros bytes written : List ℕ) → zeros ≡ replicate 64 0 → written ≡ bytes
@@ -17,8 +17,8 @@ zeros_overwritten zeros bytes written blank same =
 
 -- one more byte of a key is masked
 pub masked_more : (key bytes : List ℕ) (pad i : ℕ) → i < length key
-    → bytes ≡ masked pad (take i key) ++ drop i key
-    → slice_set bytes i (bit_xor (slice_index_or bytes i 0) pad) ≡ masked pad (take (i + 1) key) ++ drop (i + 1) key
+    → bytes ≡ masked_key pad (take i key) ++ drop i key
+    → slice_set bytes i (bit_xor (slice_index_or bytes i 0) pad) ≡ masked_key pad (take (i + 1) key) ++ drop (i + 1) key
 masked_more key bytes pad i within so_far =
     let size : length bytes ≡ length key =
     omega (arith, simp (length-append, length-map, length-drop, length-take-le i key (omega arith)) at (ap length so_far)) in

@@ -19,5 +19,5 @@ digest_size Sha1 = 20
 digest_size Sha256 = 32
 
 -- the parts as one text, in their order
-abbrev pub joined : List (Bor (List ℕ)) → List ℕ
-joined parts = flat_map (λ part. part.now) parts
+abbrev pub joined_text : List (Bor (List ℕ)) → List ℕ
+joined_text parts = flat_map (λ part. part.now) parts

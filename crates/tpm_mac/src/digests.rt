@@ -3,7 +3,7 @@
 ghost use Rattle.std.specs.Prelude.{◌≡◌, ◌++◌, length};
 ghost use Rattle.sha1.specs.Sha1.{sha1};
 ghost use Rattle.sha2.specs.Sha256.{sha256};
-ghost use Rattle.tpm_mac.specs.Digest.{digest_size, hash_of, joined};
+ghost use Rattle.tpm_mac.specs.Digest.{digest_size, hash_of, joined_text};
 
 use crate::algorithm::HashAlg;
 use arrayvec::ArrayVec;
@@ -15,7 +15,7 @@ pub type Digest = ArrayVec<u8, 32>;
 
 /// The digest of the parts joined. No part is copied.
 pub fn digest_parts(alg: HashAlg, parts: &[&[u8]]) -> Digest
-    ensures value { result.items ≡ hash_of alg (joined parts.now) }
+    ensures value { result.items ≡ hash_of alg (joined_text parts.now) }
     ensures size { length result.items ≡ digest_size alg }
 {
     digest_after(alg, &[], parts)
@@ -23,7 +23,7 @@ pub fn digest_parts(alg: HashAlg, parts: &[&[u8]]) -> Digest
 
 /// The digest of a first part and of the parts that follow it.
 pub(crate) fn digest_after(alg: HashAlg, first: &[u8], parts: &[&[u8]]) -> Digest
-    ensures value { result.items ≡ hash_of alg (first.now ++ joined parts.now) }
+    ensures value { result.items ≡ hash_of alg (first.now ++ joined_text parts.now) }
     ensures size { length result.items ≡ digest_size alg }
 {
     let mut digest = ArrayVec::new();
@@ -36,7 +36,7 @@ pub(crate) fn digest_after(alg: HashAlg, first: &[u8], parts: &[&[u8]]) -> Diges
 }
 
 fn sha1_after(first: &[u8], parts: &[&[u8]]) -> [u8; 20]
-    ensures { result ≡ sha1 (first.now ++ joined parts.now) }
+    ensures { result ≡ sha1 (first.now ++ joined_text parts.now) }
 {
     let mut hasher = Sha1::new();
     hasher.update(first);
@@ -47,7 +47,7 @@ fn sha1_after(first: &[u8], parts: &[&[u8]]) -> [u8; 20]
 }
 
 fn sha256_after(first: &[u8], parts: &[&[u8]]) -> [u8; 32]
-    ensures { result ≡ sha256 (first.now ++ joined parts.now) }
+    ensures { result ≡ sha256 (first.now ++ joined_text parts.now) }
 {
     let mut hasher = Sha256::new();
     hasher.update(first);

@@ -1,8 +1,8 @@
 //! HMAC (FIPS 198-1) of a text that comes in parts.
 
 ghost use Rattle.std.specs.Prelude.{◌≡◌, ◌-◌, ◌≤◌, ◌++◌, length, replicate};
-ghost use Rattle.tpm_mac.specs.Digest.{digest_size, joined};
-ghost use Rattle.tpm_mac.specs.Hmac.{hmac_of, hmac_under, masked, padded_key};
+ghost use Rattle.tpm_mac.specs.Digest.{digest_size, joined_text};
+ghost use Rattle.tpm_mac.specs.Hmac.{hmac_of, hmac_under, masked_key, padded_key};
 
 use crate::algorithm::HashAlg;
 use crate::digests::{Digest, digest_after, digest_parts};
@@ -22,7 +22,7 @@ pub(crate) type BlockKey = [u8; BLOCK_SIZE];
 /// The HMAC of the parts joined, under a key of any length. No part is copied.
 #[tactic(auto, unfolding(crate::specs::Hmac::hmac_of))]
 pub fn hmac_parts(alg: HashAlg, key: &[u8], parts: &[&[u8]]) -> Digest
-    ensures value { result.items ≡ hmac_of alg key.now (joined parts.now) }
+    ensures value { result.items ≡ hmac_of alg key.now (joined_text parts.now) }
     ensures size { length result.items ≡ digest_size alg }
 {
     hmac_with(alg, &block_key(alg, key), parts)
@@ -31,7 +31,7 @@ pub fn hmac_parts(alg: HashAlg, key: &[u8], parts: &[&[u8]]) -> Digest
 /// The HMAC of the parts joined, under a key that is as long as a block already.
 #[tactic(auto, unfolding(crate::specs::Hmac::hmac_under))]
 pub(crate) fn hmac_with(alg: HashAlg, key: &BlockKey, parts: &[&[u8]]) -> Digest
-    ensures value { result.items ≡ hmac_under alg key.now (joined parts.now) }
+    ensures value { result.items ≡ hmac_under alg key.now (joined_text parts.now) }
     ensures size { length result.items ≡ digest_size alg }
 {
     let inner = digest_after(alg, &mask(key, INNER_PAD), parts);
@@ -61,7 +61,7 @@ fn zero_padded(bytes: &[u8]) -> BlockKey
 
 /// Each byte of the key, masked with the pad.
 fn mask(key: &BlockKey, pad: u8) -> BlockKey
-    ensures { result ≡ masked pad key.now }
+    ensures { result ≡ masked_key pad key.now }
 {
     let mut block = *key;
     for byte in &mut block {
