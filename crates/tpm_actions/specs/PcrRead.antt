@@ -4,7 +4,7 @@ use Rattle.std.specs.Int.{w32, to_be_bytes}
 use Rattle.tpm_bytes.specs.Reading.{◌>>=◌}
 use Rattle.tpm_types.specs.DigestList.{digest_list_text}
 use Rattle.tpm_types.specs.PcrSelection.{selection_at, selection_text}
-use Rattle.tpm_pcr.specs.Banks.{answered, read_values}
+use Rattle.tpm_pcr.specs.Banks.{answer_selection, read_values}
 use Rattle.tpm_record.specs.Record.{Record}
 use Rattle.tpm_auth.specs.declared.refused.Refused.{Refused}
 use Rattle.tpm_actions.specs.Request.{Request}
@@ -19,7 +19,7 @@ pcr_read_row r q = do
     handle = None;
     answer =
         to_be_bytes w32 (r.fixed.banks.update_count % 2 ^ 32)
-        ++ selection_text (answered 8 selection.0)
+        ++ selection_text (answer_selection 8 selection.0)
         ++ digest_list_text (read_values r.fixed.banks 8 selection.0);
     drawn = 0;
     after = r;

@@ -9,7 +9,7 @@ use Rattle.std.specs.List.{flat_map}
 use Rattle.tpm_pcr.specs.Values.{BankValues}
 use Rattle.tpm_types.specs.declared.pcr_selection.BankSelection.{BankSelection}
 use Rattle.tpm_types.specs.Pcr.{is_selected, with_pcr}
-use Rattle.tpm_pcr.specs.Banks.{all_pcrs, answered, pcr_value, pcrs_below, read_values, select_with, selected, selected_values}
+use Rattle.tpm_pcr.specs.Banks.{all_pcrs, answer_selection, pcr_value, pcrs_below, read_values, select_with, selected_pcrs, selected_values}
 use Rattle.tpm_pcr.proofs.Reading.{chosen_more, read_values-nil, take-append}
 
 -- a PCR is selected once it is added, and no other one changes
@@ -64,20 +64,20 @@ just_first p room (suc n) =
     subst (λ l. SelectsJust (suc n) (select_with l) l) (sym is) (just_one_more n (take room (filter p (pcrs_below n))) _ (just_first p room n))
 
 -- the first few PCRs of a bank's selection, selected again
-pub selected_first : (room : ℕ) (bank : BankSelection) → selected (record bank { select = select_with (take room (selected bank)) }) ≡ take room (selected bank)
-unfolding selected all_pcrs
+pub selected_first : (room : ℕ) (bank : BankSelection) → selected_pcrs (record bank { select = select_with (take room (selected_pcrs bank)) }) ≡ take room (selected_pcrs bank)
+unfolding selected_pcrs all_pcrs
 selected_first room bank = (just_first (is_selected bank.select) room 24).0
 
-first_values : (all : BankValues) (room : ℕ) (bank : BankSelection) → selected_values all (record bank { select = select_with (take room (selected bank)) }) ≡ take room (selected_values all bank)
-first_values all room bank = ap (map (pcr_value all bank.hash)) (selected_first room bank) ∙ sym (take-map (pcr_value all bank.hash) room (selected bank))
+first_values : (all : BankValues) (room : ℕ) (bank : BankSelection) → selected_values all (record bank { select = select_with (take room (selected_pcrs bank)) }) ≡ take room (selected_values all bank)
+first_values all room bank = ap (map (pcr_value all bank.hash)) (selected_first room bank) ∙ sym (take-map (pcr_value all bank.hash) room (selected_pcrs bank))
 
 -- the values of the answered selection
-pub own_values : (all : BankValues) (room : ℕ) (banks : List BankSelection) → flat_map (selected_values all) (answered room banks) ≡ read_values all room banks
+pub own_values : (all : BankValues) (room : ℕ) (banks : List BankSelection) → flat_map (selected_values all) (answer_selection room banks) ≡ read_values all room banks
 unfolding read_values
 own_values all room [] = sym (read_values-nil all room)
 own_values all room (bank ∷ banks) =
-    let after = room - length (selected bank) in
-    ap (λ (l : List (List ℕ)). l ++ flat_map (selected_values all) (answered after banks)) (first_values all room bank)
+    let after = room - length (selected_pcrs bank) in
+    ap (λ (l : List (List ℕ)). l ++ flat_map (selected_values all) (answer_selection after banks)) (first_values all room bank)
     ∙ ap (λ (l : List (List ℕ)). take room (selected_values all bank) ++ l) (own_values all after banks)
-    ∙ ap (λ n. take room (selected_values all bank) ++ take (room - n) (flat_map (selected_values all) banks)) (sym (length-map (selected bank) (pcr_value all bank.hash)))
+    ∙ ap (λ n. take room (selected_values all bank) ++ take (room - n) (flat_map (selected_values all) banks)) (sym (length-map (selected_pcrs bank) (pcr_value all bank.hash)))
     ∙ sym (take-append room (selected_values all bank) (flat_map (selected_values all) banks))

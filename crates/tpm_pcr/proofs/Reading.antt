@@ -9,7 +9,7 @@ use Rattle.std.specs.List.{flat_map}
 use Rattle.tpm_pcr.specs.Values.{BankValues}
 use Rattle.tpm_types.specs.declared.pcr_selection.BankSelection.{BankSelection}
 use Rattle.tpm_types.specs.Pcr.{is_selected, with_pcr}
-use Rattle.tpm_pcr.specs.Banks.{all_pcrs, answered, pcr_value, pcrs_below, read_values, select_with, selected, selected_values}
+use Rattle.tpm_pcr.specs.Banks.{all_pcrs, answer_selection, pcr_value, pcrs_below, read_values, select_with, selected_pcrs, selected_values}
 
 lt_true : (a b : ℕ) → nat_lt a b ≡ true → a < b
 lt_true a b e = grind (arith, nat_tests)
@@ -90,9 +90,9 @@ values_count p f n old count front values before after so =
     ∙ rw (length-map, length-take, before) refl
 
 -- all PCRs that are selected are those below 24
-pub selected-is : (bank : BankSelection) (n : ℕ) → n ≡ 24 → selected bank ≡ filter (is_selected bank.select) (pcrs_below n)
-unfolding selected all_pcrs
-selected-is bank n e = rw e refl
+pub selected_pcrs-is : (bank : BankSelection) (n : ℕ) → n ≡ 24 → selected_pcrs bank ≡ filter (is_selected bank.select) (pcrs_below n)
+unfolding selected_pcrs all_pcrs
+selected_pcrs-is bank n e = rw e refl
 
 take_within : {X : Type 0} (room : ℕ) (xs ys : List X) → room ≤ length xs → take room (xs ++ ys) ≡ take room xs ++ take (room - length xs) ys
 take_within room xs ys fits =
@@ -118,23 +118,23 @@ pub room_after : (old new k : ℕ) → new ≡ old + min (8 - old) k → 8 - new
 room_after old new k e = omega arith
 
 -- one bank more is answered, and what is left is answered behind it
-pub answered_more : (room after i : ℕ) (banks front : List BankSelection) (bank : BankSelection) (select : ℕ) → i < length banks → bank ≡ get_or banks i bank → select ≡ select_with (take room (selected bank)) → after ≡ room - length (selected bank) → (front ++ record bank { select = select } ∷ []) ++ answered after (drop (i + 1) banks) ≡ front ++ answered room (drop i banks)
+pub answered_more : (room after i : ℕ) (banks front : List BankSelection) (bank : BankSelection) (select : ℕ) → i < length banks → bank ≡ get_or banks i bank → select ≡ select_with (take room (selected_pcrs bank)) → after ≡ room - length (selected_pcrs bank) → (front ++ record bank { select = select } ∷ []) ++ answer_selection after (drop (i + 1) banks) ≡ front ++ answer_selection room (drop i banks)
 answered_more room after i banks front bank select below is kept left =
     append_assoc front _ _
     ∙ ap (λ (l : List BankSelection). front ++ l) (
-    ap (λ n. record bank { select = select } ∷ answered n (drop (i + 1) banks)) left
-    ∙ ap (λ n. record bank { select = n } ∷ answered (room - length (selected bank)) (drop (i + 1) banks)) kept
-    ∙ ap (λ (b : BankSelection). answered room (b ∷ drop (i + 1) banks)) is
-    ∙ sym (ap (answered room) (drop_more banks i bank below))
+    ap (λ n. record bank { select = select } ∷ answer_selection n (drop (i + 1) banks)) left
+    ∙ ap (λ n. record bank { select = n } ∷ answer_selection (room - length (selected_pcrs bank)) (drop (i + 1) banks)) kept
+    ∙ ap (λ (b : BankSelection). answer_selection room (b ∷ drop (i + 1) banks)) is
+    ∙ sym (ap (answer_selection room) (drop_more banks i bank below))
     )
 
 -- its values are read, and what is left is read behind them
-pub read_more : (all : BankValues) (room after i : ℕ) (banks : List BankSelection) (bank : BankSelection) (front : List (List ℕ)) → i < length banks → bank ≡ get_or banks i bank → after ≡ room - length (selected bank) → (front ++ take room (selected_values all bank)) ++ read_values all after (drop (i + 1) banks) ≡ front ++ read_values all room (drop i banks)
+pub read_more : (all : BankValues) (room after i : ℕ) (banks : List BankSelection) (bank : BankSelection) (front : List (List ℕ)) → i < length banks → bank ≡ get_or banks i bank → after ≡ room - length (selected_pcrs bank) → (front ++ take room (selected_values all bank)) ++ read_values all after (drop (i + 1) banks) ≡ front ++ read_values all room (drop i banks)
 unfolding read_values
 read_more all room after i banks bank front below is left =
     append_assoc front _ _
     ∙ ap (λ (l : List (List ℕ)). front ++ l) (
-    ap (λ n. take room (selected_values all bank) ++ take n (flat_map (selected_values all) (drop (i + 1) banks))) (left ∙ ap (λ n. room - n) (sym (length-map (selected bank) (pcr_value all bank.hash))))
+    ap (λ n. take room (selected_values all bank) ++ take n (flat_map (selected_values all) (drop (i + 1) banks))) (left ∙ ap (λ n. room - n) (sym (length-map (selected_pcrs bank) (pcr_value all bank.hash))))
     ∙ sym (take-append room (selected_values all bank) (flat_map (selected_values all) (drop (i + 1) banks)))
     ∙ ap (λ (b : BankSelection). take room (flat_map (selected_values all) (b ∷ drop (i + 1) banks))) is
     ∙ sym (ap (λ l. take room (flat_map (selected_values all) l)) (drop_more banks i bank below))

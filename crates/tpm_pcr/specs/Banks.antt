@@ -1,6 +1,7 @@
--- PCR banks. TPM 2.0 Library, Part 1, section 17, and Part 3, section 22.4 (TPM2_PCR_Read); how many PCRs there are and
--- what each starts with, as in the PC Client Platform TPM Profile.
-use Rattle.std.specs.Prelude.{ℕ, zero, suc, ◌-◌, nat_le, ◌&&◌, if◌then◌else◌, List, [], ◌∷◌, ◌++◌, length, take, map, filter, fold, replicate, slice_index_or}
+-- PCR banks. TPM 2.0 Library, Part 1, section 17, and Part 3, section 22.4 (TPM2_PCR_Read); how
+-- many PCRs there are and what each starts with, as in the PC Client Platform TPM Profile.
+use Rattle.std.specs.Prelude.{ℕ, zero, suc, ◌-◌, nat_le, ◌&&◌, if◌then◌else◌, List, [], ◌∷◌, ◌++◌}
+use Rattle.std.specs.Prelude.{length, take, map, filter, fold, replicate, slice_index_or}
 use Rattle.std.specs.List.{flat_map}
 use Rattle.tpm_mac.specs.declared.algorithm.HashAlg.{HashAlg}
 use Rattle.tpm_mac.specs.declared.algorithm.HashAlg.TheVariants.{Sha1, Sha256}
@@ -20,14 +21,16 @@ all_pcrs = pcrs_below 24
 
 -- a PCR starts with all ones from 17 to 22, until a dynamic launch, and else with zeros
 abbrev pub starting_value : HashAlg → ℕ → List ℕ
-starting_value bank pcr = replicate (digest_size bank) (if nat_le 17 pcr && nat_le pcr 22 then 0xff else 0)
+starting_value bank pcr =
+    replicate (digest_size bank) (if nat_le 17 pcr && nat_le pcr 22 then 0xff else 0)
 
 unfoldable pub starting_values : HashAlg → List (List ℕ)
 starting_values bank = map (starting_value bank) all_pcrs
 
 -- the banks at manufacture and after a power cycle
 abbrev pub new_banks : BankValues
-new_banks = record { sha1 = starting_values Sha1; sha256 = starting_values Sha256; update_count = 0 }
+new_banks =
+    record { sha1 = starting_values Sha1; sha256 = starting_values Sha256; update_count = 0 }
 
 abbrev pub bank_values : BankValues → HashAlg → List (List ℕ)
 bank_values banks Sha1 = banks.sha1
@@ -39,11 +42,11 @@ pcr_value banks bank pcr = slice_index_or (bank_values banks bank) pcr []
 -- what TPM2_PCR_Read answers
 
 -- the PCRs that a bank's selection names, ascending, and their values
-unfoldable pub selected : BankSelection → List ℕ
-selected bank = filter (is_selected bank.select) all_pcrs
+unfoldable pub selected_pcrs : BankSelection → List ℕ
+selected_pcrs bank = filter (is_selected bank.select) all_pcrs
 
 abbrev pub selected_values : BankValues → BankSelection → List (List ℕ)
-selected_values banks bank = map (pcr_value banks bank.hash) (selected bank)
+selected_values banks bank = map (pcr_value banks bank.hash) (selected_pcrs bank)
 
 -- the number that selects just these PCRs: from none on, each of them added
 abbrev pub select_with : List ℕ → ℕ
@@ -53,9 +56,11 @@ select_with pcrs = fold with_pcr 0 pcrs
 unfoldable pub read_values : BankValues → ℕ → List BankSelection → List (List ℕ)
 read_values banks room selection = take room (flat_map (selected_values banks) selection)
 
--- the selection of just the values that read_values gives: each bank keeps the first PCRs that there is room for, and
--- takes that room, down to none, from the banks behind it; a bank with none left stays in the list
-abbrev pub answered : ℕ → List BankSelection → List BankSelection
-answered room [] = []
-answered room (bank ∷ selection) =
-    record bank { select = select_with (take room (selected bank)) } ∷ answered (room - length (selected bank)) selection
+-- the selection of just the values that read_values gives: each bank keeps the first PCRs that
+-- there is room for, and takes that room, down to none, from the banks behind it; a bank with none
+-- left stays in the list
+abbrev pub answer_selection : ℕ → List BankSelection → List BankSelection
+answer_selection room [] = []
+answer_selection room (bank ∷ selection) =
+    record bank { select = select_with (take room (selected_pcrs bank)) }
+    ∷ answer_selection (room - length (selected_pcrs bank)) selection

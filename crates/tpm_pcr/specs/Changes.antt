@@ -1,7 +1,10 @@
--- How PCRs change. TPM 2.0 Library, Part 3, sections 22.2 (TPM2_PCR_Extend), 22.3 (TPM2_PCR_Event) and 22.8
--- (TPM2_PCR_Reset). Which PCR is for what is the PC Client Platform TPM Profile's (section on PCR attributes); from
--- where each changes is this device's own, a simplification of that profile, and so is that each value counts.
-use Rattle.std.specs.Prelude.{◌≡◌, ℕ, ◌+◌, ◌-◌, ◌^◌, ◌==◌, not, nat_lt, nat_le, if◌then◌else◌, Bool, true, false, List, [], ◌∷◌, ◌++◌, length, fold, replicate, slice_set, Result, Ok, Err}
+-- How PCRs change. TPM 2.0 Library, Part 3, sections 22.2 (TPM2_PCR_Extend), 22.3 (TPM2_PCR_Event)
+-- and 22.8 (TPM2_PCR_Reset). Which PCR is for what is the PC Client Platform TPM Profile's (section
+-- on PCR attributes); from where each changes is this device's own, a simplification of that
+-- profile, and so is that each value counts.
+use Rattle.std.specs.Prelude.{◌≡◌, ℕ, ◌+◌, ◌-◌, ◌^◌, ◌==◌, not, nat_lt, nat_le, if◌then◌else◌}
+use Rattle.std.specs.Prelude.{Bool, true, false, List, [], ◌∷◌, ◌++◌, length, fold}
+use Rattle.std.specs.Prelude.{replicate, slice_set, Result, Ok, Err}
 use Rattle.tpm_bytes.specs.Reading.{◌>>=◌, refused_if}
 use Rattle.tpm_mac.specs.declared.algorithm.HashAlg.{HashAlg}
 use Rattle.tpm_mac.specs.declared.algorithm.HashAlg.TheVariants as alg
@@ -17,8 +20,8 @@ use Rattle.tpm_pcr.specs.declared.changes.ChangeFault.TheVariants as fault
 use Rattle.tpm_pcr.specs.declared.changes.PcrUse.{PcrUse}
 use Rattle.tpm_pcr.specs.declared.changes.PcrUse.TheVariants.{Static, Debug, Dynamic, Application}
 
--- 0 to 15 measure the start of the platform, 16 is for debugging, 17 to 22 measure a dynamic launch, and 23
--- is the applications'
+-- 0 to 15 measure the start of the platform, 16 is for debugging, 17 to 22 measure a dynamic
+-- launch, and 23 is the applications'
 abbrev pub use_of : ℕ → PcrUse
 use_of pcr =
     if nat_lt pcr 16 then Static
@@ -41,28 +44,34 @@ may_reset Dynamic locality = locality == 4
 may_reset Application locality = true
 
 -- the banks with another value of a PCR in one of them, which counts as an update
-abbrev pub written : HashAlg → ℕ → List ℕ → BankValues → BankValues
-written alg.Sha1 pcr value banks = record banks { sha1 = slice_set banks.sha1 pcr value; update_count = banks.update_count + 1 }
-written alg.Sha256 pcr value banks = record banks { sha256 = slice_set banks.sha256 pcr value; update_count = banks.update_count + 1 }
+abbrev pub with_value : HashAlg → ℕ → List ℕ → BankValues → BankValues
+with_value alg.Sha1 pcr value banks = record banks {
+  sha1 = slice_set banks.sha1 pcr value;
+  update_count = banks.update_count + 1;
+}
+with_value alg.Sha256 pcr value banks = record banks {
+  sha256 = slice_set banks.sha256 pcr value;
+  update_count = banks.update_count + 1;
+}
 
 -- a PCR extended by a digest: the hash of its value followed by the digest
-unfoldable pub extended : ℕ → BankValues → DigestValue → BankValues
-extended pcr banks digest =
+unfoldable pub with_extension : ℕ → BankValues → DigestValue → BankValues
+with_extension pcr banks digest =
     let hash = hash_of_value digest in
-    written hash pcr (hash_of hash (pcr_value banks hash pcr ++ digest_of digest)) banks
+    with_value hash pcr (hash_of hash (pcr_value banks hash pcr ++ digest_of digest)) banks
 
--- a change of so many values is refused where the PCR's locality forbids it, and where the count of updates
--- would pass 2^64 - 1
-abbrev pub allowed : Bool → ℕ → BankValues → Result (Unit {0}) ChangeFault
-allowed may updates banks = do
+-- a change of so many values is refused where the PCR's locality forbids it, and where the count of
+-- updates would pass 2^64 - 1
+abbrev pub change_check : Bool → ℕ → BankValues → Result (Unit {0}) ChangeFault
+change_check may updates banks = do
   locality ← refused_if (not may) fault.Locality
   refused_if (nat_lt (2 ^ 64 - 1) (banks.update_count + updates)) fault.Failure
 
 -- TPM2_PCR_Extend: by each digest in turn
 unfoldable pub extend_of : ℕ → ℕ → List DigestValue → BankValues → Result BankValues ChangeFault
 extend_of pcr locality digests banks = do
-  passed ← allowed (may_extend (use_of pcr) locality) (length digests) banks
-  Ok (fold (extended pcr) banks digests)
+  passed ← change_check (may_extend (use_of pcr) locality) (length digests) banks
+  Ok (fold (with_extension pcr) banks digests)
 
 -- TPM2_PCR_Event: by the digests of the data, one for each bank
 abbrev pub event_digests : List ℕ → List DigestValue
@@ -71,15 +80,17 @@ event_digests event = Sha1 (hash_of alg.Sha1 event) ∷ Sha256 (hash_of alg.Sha2
 -- TPM2_PCR_Reset: zeros in both banks
 unfoldable pub reset_of : ℕ → ℕ → BankValues → Result BankValues ChangeFault
 reset_of pcr locality banks = do
-  passed ← allowed (may_reset (use_of pcr) locality) 2 banks
-  Ok (written alg.Sha256 pcr (replicate 32 0) (written alg.Sha1 pcr (replicate 20 0) banks))
+  passed ← change_check (may_reset (use_of pcr) locality) 2 banks
+  Ok (with_value alg.Sha256 pcr (replicate 32 0) (with_value alg.Sha1 pcr (replicate 20 0) banks))
 
 -- A change did what it should; a refusal changes nothing.
-abbrev pub Changes : Result BankValues ChangeFault → BankValues → Result (Unit {0}) ChangeFault → BankValues → Type 0
+abbrev pub Changes : Result BankValues ChangeFault
+    → BankValues → Result (Unit {0}) ChangeFault → BankValues → Type 0
 Changes change old (Ok u) new = change ≡ Ok new
 Changes change old (Err e) new = (change ≡ Err e) × (new ≡ old)
 
 -- The same of a change that answers digests.
-abbrev pub Answers : List DigestValue → Result BankValues ChangeFault → BankValues → Result DigestValues ChangeFault → BankValues → Type 0
+abbrev pub Answers : List DigestValue → Result BankValues ChangeFault
+    → BankValues → Result DigestValues ChangeFault → BankValues → Type 0
 Answers digests change old (Ok answer) new = (change ≡ Ok new) × (answer.values.items ≡ digests)
 Answers digests change old (Err e) new = (change ≡ Err e) × (new ≡ old)

@@ -1,12 +1,13 @@
-ghost use Rattle.std.specs.Prelude.{◌≡◌, ◌-◌, [], ◌∷◌, ◌++◌, ◌&&◌, nat_lt, if◌then◌else◌, length, take, replicate};
+ghost use Rattle.std.specs.Prelude.{◌≡◌, ◌-◌, [], ◌∷◌, ◌++◌, ◌&&◌, nat_lt, if◌then◌else◌};
+ghost use Rattle.std.specs.Prelude.{◌<◌, ◌^◌, length, take, replicate};
 ghost use Rattle.std.specs.List.{flat_map};
 ghost use Rattle.tpm_types.specs.Pcr.{is_selected, with_pcr};
 ghost use Rattle.tpm_types.specs.DigestList.{digests_of};
-ghost use Rattle.std.specs.Prelude.{◌<◌, ◌^◌};
 ghost use Rattle.tpm_mac.specs.declared.algorithm.HashAlg.TheVariants.{Sha1, Sha256};
-ghost use Rattle.tpm_pcr.specs.Changes.{written};
+ghost use Rattle.tpm_pcr.specs.Changes.{with_value};
 ghost use Rattle.tpm_pcr.specs.Values.{IsBank};
-ghost use Rattle.tpm_pcr.specs.Banks.{answered, new_banks, pcr_value, read_values, select_with, selected, selected_values};
+ghost use Rattle.tpm_pcr.specs.Banks.{answer_selection, new_banks, pcr_value, read_values};
+ghost use Rattle.tpm_pcr.specs.Banks.{select_with, selected_pcrs, selected_values};
 
 use arrayvec::ArrayVec;
 use std::marker::Model;
@@ -33,7 +34,8 @@ impl Model for Banks {
 
     ghost Value = { BankValues };
 
-    ghost view = { λ b. record { sha1 = b.sha1; sha256 = b.sha256; update_count = b.update_count } };
+    ghost view = { λ b.
+        record { sha1 = b.sha1; sha256 = b.sha256; update_count = b.update_count } };
 }
 
 /// What a read of PCRs answers: their values in the order of the selection, at most eight, and the
@@ -71,7 +73,7 @@ impl Banks {
     /// Writes a PCR's value in the SHA-1 bank.
     pub(crate) fn write_sha1(&mut self, pcr: PcrIndex, value: [u8; 20])
         requires { self.old.update_count < 2 ^ 64 - 1 }
-        ensures { self.new ≡ written Sha1 pcr value self.old }
+        ensures { self.new ≡ with_value Sha1 pcr value self.old }
     {
         self.sha1[usize::from(pcr.number())] = value;
         self.update_count += 1;
@@ -80,7 +82,7 @@ impl Banks {
     /// Writes a PCR's value in the SHA-256 bank.
     pub(crate) fn write_sha256(&mut self, pcr: PcrIndex, value: [u8; 32])
         requires { self.old.update_count < 2 ^ 64 - 1 }
-        ensures { self.new ≡ written Sha256 pcr value self.old }
+        ensures { self.new ≡ with_value Sha256 pcr value self.old }
     {
         self.sha256[usize::from(pcr.number())] = value;
         self.update_count += 1;
@@ -110,8 +112,10 @@ impl Banks {
 impl Banks {
     /// Reads the PCRs of a selection, the first eight of them (Part 3, section 22.4).
     pub fn read(&self, selection: &PcrSelection) -> PcrReading
-        ensures selection { result.selection.banks.items ≡ answered 8 selection.now.banks.items }
-        ensures values { digests_of result.values.digests.items ≡ read_values self.now 8 selection.now.banks.items }
+        ensures selection { result.selection.banks.items
+            ≡ answer_selection 8 selection.now.banks.items }
+        ensures values { digests_of result.values.digests.items
+            ≡ read_values self.now 8 selection.now.banks.items }
         ensures own { digests_of result.values.digests.items
             ≡ flat_map (selected_values self.now) result.selection.banks.items }
     {
@@ -128,10 +132,14 @@ impl Banks {
         }
     }
 
-    /// Reads the PCRs of one bank's selection while there is room, and answers the selection of these.
+    /// Reads the PCRs of one bank's selection while there is room, and answers the selection of
+    /// these.
     fn read_bank(&self, bank: &BankSelection, values: &mut ArrayVec<Digest, 8>) -> PcrSelect
-        ensures select { result ≡ select_with (take (8 - length values.old.items) (selected bank.now)) }
-        ensures values { digests_of values.new.items ≡ digests_of values.old.items ++ take (8 - length values.old.items) (selected_values self.now bank.now) }
+        ensures select { result
+            ≡ select_with (take (8 - length values.old.items) (selected_pcrs bank.now)) }
+        ensures values { digests_of values.new.items
+            ≡ digests_of values.old.items
+            ++ take (8 - length values.old.items) (selected_values self.now bank.now) }
     {
         let mut select = PcrSelect::none();
         for number in 0..PCR_COUNT {
@@ -164,7 +172,8 @@ impl Banks {
     }
 }
 
-/// What each PCR starts with: `high` for 17 to 22, until a dynamic launch, and `low` for the others.
+/// What each PCR starts with: `high` for 17 to 22, until a dynamic launch, and `low` for the
+/// others.
 fn starting_values<T: Copy>(low: T, high: T) -> [T; 24]
     ensures { result ≡ replicate 17 low ++ replicate 6 high ++ low ∷ [] }
 {

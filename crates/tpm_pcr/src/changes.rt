@@ -1,9 +1,12 @@
-ghost use Rattle.std.specs.Prelude.{◌≡◌, ◌+◌, ◌-◌, ◌<◌, ◌^◌, ◌++◌, List, ℕ, [], ◌∷◌, fold, length, replicate};
+ghost use Rattle.std.specs.Prelude.{◌≡◌, ◌+◌, ◌-◌, ◌<◌, ◌^◌, ◌++◌};
+ghost use Rattle.std.specs.Prelude.{List, ℕ, [], ◌∷◌, fold, length, replicate};
 ghost use Rattle.tpm_mac.specs.Digest.{digest_size, hash_of};
 ghost use Rattle.tpm_types.specs.DigestValues.{digest_of, hash_of_value};
 ghost use Rattle.tpm_types.specs.Locality.{locality_number};
 ghost use Rattle.tpm_pcr.specs.Banks.{pcr_value};
-ghost use Rattle.tpm_pcr.specs.Changes.{Answers, Changes, allowed, event_digests, extend_of, extended, may_extend, may_reset, reset_of, use_of, written};
+ghost use Rattle.tpm_pcr.specs.Changes.{Answers, Changes, change_check, event_digests, extend_of};
+ghost use Rattle.tpm_pcr.specs.Changes.{may_extend, may_reset, reset_of, use_of};
+ghost use Rattle.tpm_pcr.specs.Changes.{with_extension, with_value};
 
 use crate::banks::Banks;
 use arrayvec::ArrayVec;
@@ -89,7 +92,7 @@ fn hash_of_two<'a>(hash: HashAlg, first: &'a [u8], second: &'a [u8]) -> Digest
 
 fn check(banks: &Banks, may: bool, updates: u64) -> Result<(), ChangeFault>
     requires { updates < 2 ^ 32 }
-    ensures { result ≡ allowed may updates banks.now }
+    ensures { result ≡ change_check may updates banks.now }
 {
     if !may {
         return Err(ChangeFault::Locality);
@@ -101,8 +104,8 @@ fn check(banks: &Banks, may: bool, updates: u64) -> Result<(), ChangeFault>
 }
 
 impl Banks {
-    /// Extends a PCR by each digest in turn (TPM2_PCR_Extend): Locality where its locality forbids that,
-    /// then Failure where the updates could not be counted.
+    /// Extends a PCR by each digest in turn (TPM2_PCR_Extend): Locality where its locality forbids
+    /// that, then Failure where the updates could not be counted.
     #[tactic(auto, unfolding(crate::specs::Changes::extend_of))]
     pub fn extend(
         &mut self,
@@ -110,7 +113,9 @@ impl Banks {
         locality: Locality,
         digests: &DigestValues,
     ) -> Result<(), ChangeFault>
-        ensures { Changes (extend_of pcr (locality_number locality) digests.now.values.items self.old) self.old result self.new }
+        ensures { Changes
+            (extend_of pcr (locality_number locality) digests.now.values.items self.old)
+            self.old result self.new }
     {
         let values = digests.values.as_slice();
         check(
@@ -122,26 +127,29 @@ impl Banks {
         Ok(())
     }
 
-    /// Extends a PCR by the digests of the data (TPM2_PCR_Event), and answers these; the refusals are those
-    /// of `extend`.
+    /// Extends a PCR by the digests of the data (TPM2_PCR_Event), and answers these; the refusals
+    /// are those of `extend`.
     pub fn event(
         &mut self,
         pcr: PcrIndex,
         locality: Locality,
         event: &[u8],
     ) -> Result<DigestValues, ChangeFault>
-        ensures { Answers (event_digests event.now) (extend_of pcr (locality_number locality) (event_digests event.now) self.old) self.old result self.new }
+        ensures { Answers (event_digests event.now)
+            (extend_of pcr (locality_number locality) (event_digests event.now) self.old)
+            self.old result self.new }
     {
         let digests = event_digests(event);
         self.extend(pcr, locality, &digests)?;
         Ok(digests)
     }
 
-    /// Makes a PCR zeros in both banks (TPM2_PCR_Reset): Locality where its locality forbids that, then
-    /// Failure where the updates could not be counted.
+    /// Makes a PCR zeros in both banks (TPM2_PCR_Reset): Locality where its locality forbids that,
+    /// then Failure where the updates could not be counted.
     #[tactic(auto, unfolding(crate::specs::Changes::reset_of))]
     pub fn reset(&mut self, pcr: PcrIndex, locality: Locality) -> Result<(), ChangeFault>
-        ensures { Changes (reset_of pcr (locality_number locality) self.old) self.old result self.new }
+        ensures { Changes (reset_of pcr (locality_number locality) self.old)
+            self.old result self.new }
     {
         check(self, PcrUse::of(pcr).may_reset(locality), 2)?;
         self.write_sha1(pcr, [0; 20]);
@@ -151,17 +159,17 @@ impl Banks {
 
     fn extend_all(&mut self, pcr: PcrIndex, digests: &[DigestValue])
         requires { self.old.update_count + length digests.now < 2 ^ 64 }
-        ensures { self.new ≡ fold (extended pcr) self.old digests.now }
+        ensures { self.new ≡ fold (with_extension pcr) self.old digests.now }
     {
         for digest in digests {
             self.extend_by(pcr, digest);
         }
     }
 
-    #[tactic(auto, unfolding(crate::specs::Changes::extended))]
+    #[tactic(auto, unfolding(crate::specs::Changes::with_extension))]
     fn extend_by(&mut self, pcr: PcrIndex, digest: &DigestValue)
         requires { self.old.update_count < 2 ^ 64 - 1 }
-        ensures { self.new ≡ extended pcr self.old digest.now }
+        ensures { self.new ≡ with_extension pcr self.old digest.now }
     {
         let old = self.value(digest.hash(), pcr);
         let value = hash_of_two(digest.hash(), old.as_slice(), digest.digest());

@@ -1,11 +1,11 @@
 use Rattle.std.proofs.Common.{◌≡◌, ◌+◌, ◌<◌, ◌^◌, fold, length, take}
-use Rattle.tpm_pcr.specs.Changes.{extended}
+use Rattle.tpm_pcr.specs.Changes.{with_extension}
 use Rattle.tpm_pcr.proofs.banks.Banks.extend_all.Given as goal
 
 -- the digests so far are taken in, and each counted
 abbrev pub invariant-loop-digest : goal.invariant-loop-digest
 invariant-loop-digest l = record {
-  so_far : l.self ≡ fold (extended l.pcr) l.fn.self (take l.digest-index l.digests);
+  so_far : l.self ≡ fold (with_extension l.pcr) l.fn.self (take l.digest-index l.digests);
   counted : l.self.update_count ≡ l.fn.self.update_count + l.digest-index;
   room : l.fn.self.update_count + length l.digests < 2 ^ 64;
 }

@@ -1,6 +1,6 @@
 use Rattle.std.proofs.Common.{◌≡◌, ◌-◌, ◌++◌, length, drop}
 use Rattle.tpm_types.specs.DigestList.{digests_of}
-use Rattle.tpm_pcr.specs.Banks.{answered, read_values}
+use Rattle.tpm_pcr.specs.Banks.{answer_selection, read_values}
 use Rattle.tpm_pcr.proofs.banks.Banks.read.Given as goal
 
 -- what is read so far, and what is left to read, are what there was to read
@@ -9,7 +9,7 @@ invariant-loop-bank l =
     let left = drop l.bank-index l.bank-items in
     let room = 8 - length l.values.items in
     record {
-      banks : l.banks.items ++ answered room left ≡ answered 8 l.bank-items;
+      banks : l.banks.items ++ answer_selection room left ≡ answer_selection 8 l.bank-items;
       values : digests_of l.values.items ++ read_values l.self room left ≡ read_values l.self 8 l.bank-items;
       count : length l.banks.items ≡ l.bank-index;
     }

@@ -3,7 +3,7 @@ use Rattle.std.proofs.lemmas.List.{length-map, take-map}
 use Rattle.tpm_types.specs.Pcr.{is_selected}
 use Rattle.tpm_types.specs.DigestList.{digests_of}
 use Rattle.tpm_pcr.specs.Banks.{pcr_value, pcrs_below}
-use Rattle.tpm_pcr.proofs.Reading.{select_step, selected-is, values_count, values_step}
+use Rattle.tpm_pcr.proofs.Reading.{select_step, selected_pcrs-is, values_count, values_step}
 use Rattle.tpm_pcr.proofs.banks.Banks.read_bank.Goals as goal
 
 pub loop-number-preserved : goal.loop-number-preserved
@@ -25,9 +25,9 @@ loop-number-preserved c =
 pub returns-clause-select : goal.returns-clause-select
 returns-clause-select c =
     let done : c.loop-number.number ≡ 24 = omega arith in
-    rw (selected-is c.args.bank.now c.loop-number.number done) c.loop-number.invariant.select
+    rw (selected_pcrs-is c.args.bank.now c.loop-number.number done) c.loop-number.invariant.select
 
 pub returns-clause-values : goal.returns-clause-values
 returns-clause-values c =
     let done : c.loop-number.number ≡ 24 = omega arith in
-    rw (selected-is c.args.bank.now c.loop-number.number done, take-map) c.loop-number.invariant.values
+    rw (selected_pcrs-is c.args.bank.now c.loop-number.number done, take-map) c.loop-number.invariant.values
