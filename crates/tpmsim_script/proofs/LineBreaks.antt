@@ -9,7 +9,7 @@ use Rattle.std.proofs.lemmas.List.Quantifiers.{position-Some}
 use Rattle.std.proofs.lemmas.List.Sums.{fails_before_first}
 use Rattle.std.specs.Io.KnownBytes.{Keeps, prepend_known}
 use Rattle.tpmsim_script.specs.Line.{lines_of}
-use Rattle.tpmsim_script.specs.Lines.{BeginsTooLong, Finds, IsUnbroken, line_of, rest_of, stopped_at}
+use Rattle.tpmsim_script.specs.Lines.{BeginsTooLong, Finds, IsUnbroken, line_of, next_at, rest_of}
 use Rattle.tpmsim_script.specs.declared.lines.Lines.{Lines}
 
 -- whether a byte ends a line
@@ -123,7 +123,7 @@ rest_behind bytes from count end h =
 
 -- what stands next where no 0a was read
 pub stopped_finds : (old new : Lines) (ended : Bool) (line : List ℕ) → old.ended ≡ ended → line_of new ≡ line → line_of new ≡ line_of old ++ rest_of old → rest_of new ≡ []
-    → IsUnbroken (line_of old) → position is_break (rest_of old) ≡ None → Finds old (stopped_at ended line) new
+    → IsUnbroken (line_of old) → position is_break (rest_of old) ≡ None → Finds old (next_at ended line) new
 stopped_finds old new false line e l whole behind h none = (whole, behind, subst IsUnbroken (sym whole) (found_more (line_of old) (rest_of old) h none), e)
 stopped_finds old new true [] e l whole behind h none = (sym whole ∙ l, behind, e)
 stopped_finds old new true (byte ∷ line) e l whole behind h none = λ more follows.

@@ -8,7 +8,7 @@ use Rattle.std.specs.Prelude.{Err}
 use Rattle.tpmsim_script.specs.Run.{NextFound, UnlessFailed, Ran}
 use Rattle.tpmsim_script.specs.declared.fault.ScriptFault.{ScriptFault}
 use Rattle.tpmsim_script.specs.declared.fault.ScriptFault.TheVariants.{Line, Read, Write, NoMemory}
-use Rattle.tpmsim_script.specs.Script.{Output, Playing, Plays, Effect, going_on, perform_line, play}
+use Rattle.tpmsim_script.specs.Script.{Output, Playing, Plays, Effect, output_with, perform_line, play}
 
 -- what was appended in turns, the first of which may have kept what was there
 appended : (a b c d : Option (List ℕ)) (first more : List ℕ) → Keeps a b → Appends b c first → Appends c d more → Appends a d (first ++ more)
@@ -32,7 +32,7 @@ went_on (Some text) None old held mid new p number line did bad t k e a h = absu
 went_on (Some text) (Some rest) old held mid new p number line did bad t k e a h =
     let after : Output = play did.next (number + 1) (lines_of rest) in
     let whole : play p number (lines_of text) ≡ record { text = did.text ++ after.text; bad = after.bad } =
-    ap (play p number) t ∙ ap (λ d. going_on d number (λ next. play next (number + 1) (lines_of rest))) e in
+    ap (play p number) t ∙ ap (λ d. output_with d number (λ next. play next (number + 1) (lines_of rest))) e in
     let P : Output → Type 0 = λ played. Appends old new played.text × (played.bad ≡ bad) in
     subst P (sym whole) (appended old held mid new did.text after.text k a h.0, h.1)
 
@@ -48,7 +48,7 @@ stopped : (text line : List ℕ) (rest : List (List ℕ)) (old new : Option (Lis
     → Plays (Some text) old new p number (Some number)
 stopped text line rest old new p number t e k =
     let whole : play p number (lines_of text) ≡ record { text = []; bad = Some number } =
-    ap (play p number) t ∙ ap (λ d. going_on d number (λ next. play next (number + 1) rest)) e in
+    ap (play p number) t ∙ ap (λ d. output_with d number (λ next. play next (number + 1) rest)) e in
     let P : Output → Type 0 = λ played. Appends old new played.text × (played.bad ≡ Some number) in
     subst P (sym whole) (kept old new k, refl)
 

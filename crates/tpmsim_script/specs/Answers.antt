@@ -4,9 +4,9 @@ use Rattle.std.specs.Io.KnownBytes.{append_known}
 use Rattle.tpmsim_script.specs.declared.answers.Answers.{Answers}
 
 -- the text that is not written yet
-abbrev pub pending : Answers → List ℕ
-pending answers = take answers.used answers.text.items
+abbrev pub backlog : Answers → List ℕ
+backlog answers = take answers.used answers.text.items
 
--- what the writer holds, where that is known, and behind it what is pending
-abbrev pub printed : Option (List ℕ) → Answers → Option (List ℕ)
-printed contents answers = append_known contents (pending answers)
+-- what the writer holds, where that is known, and behind it the backlog
+abbrev pub printout : Option (List ℕ) → Answers → Option (List ℕ)
+printout contents answers = append_known contents (backlog answers)

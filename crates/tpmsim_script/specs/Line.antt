@@ -1,5 +1,7 @@
 -- What a line of a script says, and how a text falls into lines.
-use Rattle.std.specs.Prelude.{ℕ, ◌+◌, ◌^◌, ◌==◌, ◌&&◌, nat_le, nat_lt, nat_eq, Bool, List, [], ◌∷◌, length, take, drop, codes, Option, Some, None, Result, Ok, Err, ◌≡◌, option_map, option_and_then, if◌then◌else◌}
+use Rattle.std.specs.Prelude.{◌≡◌, ℕ, ◌+◌, ◌^◌, ◌==◌, ◌&&◌, nat_le, nat_lt, nat_eq, if◌then◌else◌}
+use Rattle.std.specs.Prelude.{Bool, List, [], ◌∷◌, length, take, drop, codes, Result, Ok, Err}
+use Rattle.std.specs.Prelude.{Option, Some, None, option_map, option_and_then}
 use Rattle.std.specs.List.{list_all, onto_first, position}
 use Rattle.std.specs.Char.{digit_value}
 use Rattle.std.specs.Result.{result_ok}
@@ -10,36 +12,39 @@ use Rattle.tpm_types.specs.Locality.{locality_number}
 use Rattle.tpmsim_script.specs.declared.line.Line as declared
 use Rattle.tpmsim_script.specs.declared.line.Line.TheVariants as code
 
--- the lines of a text, without the 0a that ends each of them but the last, which need not end with one; behind a 0a at the
--- end there is no line
+-- the lines of a text, without the 0a that ends each of them but the last, which need not end with
+-- one; behind a 0a at the end there is no line
 abbrev pub lines_of : List ℕ → List (List ℕ)
 lines_of [] = []
 lines_of (byte ∷ text) = if byte == 10 then [] ∷ lines_of text else onto_first byte (lines_of text)
 
--- What a line says: a command or entropy, whose hex is not looked at here; the locality of later commands; the
--- milliseconds before the next one; a power cycle; or nothing.
-pub data Said : Type 0 where
-  Executes : (digits : List ℕ) → Said
-  SetsLocality : (number : ℕ) → Said
-  Waits : (milliseconds : ℕ) → Said
-  SetsEntropy : (digits : List ℕ) → Said
-  CyclesPower : Said
-  DoesNothing : Said
+-- What a line says: a command or entropy, whose hex is not looked at here; the locality of later
+-- commands; the milliseconds before the next one; a power cycle; or nothing.
+pub data Meaning : Type 0 where
+  Executes : (digits : List ℕ) → Meaning
+  SetsLocality : (number : ℕ) → Meaning
+  Waits : (milliseconds : ℕ) → Meaning
+  SetsEntropy : (digits : List ℕ) → Meaning
+  CyclesPower : Meaning
+  DoesNothing : Meaning
 
 abbrev pub is_word : List ℕ → List ℕ → Bool
 is_word word text = pointwise nat_eq text word
 
--- the bytes that hex digits write, of either case; None of an odd number of them, and of other characters
+-- the bytes that hex digits write, of either case; None of an odd number of them, and of other
+-- characters
 abbrev pub bytes_of : List ℕ → Option (List ℕ)
 bytes_of digits = result_ok (decode_of digits)
 
 abbrev pub is_digit : ℕ → Bool
 is_digit digit = nat_lt (digit_value digit) 10
 
--- the number below 2^32 that decimal digits write: at least one of them, leading zeros allowed; None of any other text
+-- the number below 2^32 that decimal digits write: at least one of them, leading zeros allowed;
+-- None of any other text
 abbrev pub decimal_of : List ℕ → Option ℕ
 decimal_of digits =
-    if nat_lt 0 (length digits) && list_all is_digit digits && nat_lt (digits_value 10 digits) (2 ^ 32)
+    if nat_lt 0 (length digits) && list_all is_digit digits
+    && nat_lt (digits_value 10 digits) (2 ^ 32)
     then Some (digits_value 10 digits) else None
 
 -- a locality's number, 0 to 4
@@ -47,43 +52,46 @@ abbrev pub locality_of : ℕ → Option ℕ
 locality_of number = if nat_le number 4 then Some number else None
 
 -- what a line of one word says
-unfoldable pub said_alone : List ℕ → Option Said
-said_alone word =
+unfoldable pub meaning_alone : List ℕ → Option Meaning
+meaning_alone word =
     if is_word (codes "cmd") word then Some (Executes [])
     else if is_word (codes "power") word then Some CyclesPower
     else None
 
 -- what a word says with what stands behind its space
-unfoldable pub said_with : List ℕ → List ℕ → Option Said
-said_with word argument =
+unfoldable pub meaning_with : List ℕ → List ℕ → Option Meaning
+meaning_with word argument =
     if is_word (codes "cmd") word then Some (Executes argument)
-    else if is_word (codes "loc") word then option_map SetsLocality (option_and_then locality_of (decimal_of argument))
+    else if is_word (codes "loc") word
+    then option_map SetsLocality (option_and_then locality_of (decimal_of argument))
     else if is_word (codes "wait") word then option_map Waits (decimal_of argument)
     else if is_word (codes "entropy") word then Some (SetsEntropy argument)
     else None
 
 -- what a text says whose first space, if it has one, stands at this place, and ends the word
-abbrev pub said_by : Option ℕ → List ℕ → Option Said
-said_by None text = said_alone text
-said_by (Some space) text = said_with (take space text) (drop (space + 1) text)
+abbrev pub meaning_by : Option ℕ → List ℕ → Option Meaning
+meaning_by None text = meaning_alone text
+meaning_by (Some space) text = meaning_with (take space text) (drop (space + 1) text)
 
--- what a line says; None where it is bad. An empty line, and one that begins with #, is good and does nothing
-unfoldable pub line_said : List ℕ → Option Said
-line_said [] = Some DoesNothing
-line_said (first ∷ text) =
-    if first == 35 then Some DoesNothing else said_by (position (λ byte. byte == 32) (first ∷ text)) (first ∷ text)
+-- what a line says; None where it is bad. An empty line, and one that begins with #, is good and
+-- does nothing
+unfoldable pub line_meaning : List ℕ → Option Meaning
+line_meaning [] = Some DoesNothing
+line_meaning (first ∷ text) =
+    if first == 35 then Some DoesNothing
+    else meaning_by (position (λ byte. byte == 32) (first ∷ text)) (first ∷ text)
 
 -- what the code's reading of a line means
-abbrev pub said : declared.Line → Said
-said (code.Command digits) = Executes digits.now
-said (code.Locality locality) = SetsLocality (locality_number locality)
-said (code.Wait milliseconds) = Waits milliseconds
-said (code.Entropy digits) = SetsEntropy digits.now
-said code.PowerCycle = CyclesPower
-said code.Nothing = DoesNothing
+abbrev pub meaning_of : declared.Line → Meaning
+meaning_of (code.Command digits) = Executes digits.now
+meaning_of (code.Locality locality) = SetsLocality (locality_number locality)
+meaning_of (code.Wait milliseconds) = Waits milliseconds
+meaning_of (code.Entropy digits) = SetsEntropy digits.now
+meaning_of code.PowerCycle = CyclesPower
+meaning_of code.Nothing = DoesNothing
 
 -- the hex digits that a line holds, not decoded; none of another line
-abbrev pub hex_of : Said → List ℕ
+abbrev pub hex_of : Meaning → List ℕ
 hex_of (Executes digits) = digits
 hex_of (SetsEntropy digits) = digits
 hex_of other = []

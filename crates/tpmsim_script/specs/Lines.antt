@@ -1,5 +1,6 @@
 -- What the buffer of a script's lines holds.
-use Rattle.std.specs.Prelude.{◌≡◌, ℕ, ◌==◌, ◌<◌, Bool, true, false, List, [], ◌∷◌, ◌++◌, length, Option, Some, None}
+use Rattle.std.specs.Prelude.{◌≡◌, ℕ, ◌==◌, ◌<◌, Bool, true, false}
+use Rattle.std.specs.Prelude.{List, [], ◌∷◌, ◌++◌, length, Option, Some, None}
 use Rattle.std.specs.List.{All, slice_range}
 use Rattle.std.specs.Io.KnownBytes.{IsAtEnd, prepend_known}
 use Rattle.tpmsim_script.specs.Line.{lines_of}
@@ -20,10 +21,10 @@ abbrev pub IsUnbroken : List ℕ → Type 0
 IsUnbroken bytes = All (λ byte. (byte == 10) ≡ false) bytes
 
 -- what stands next behind the last byte that was read
-abbrev pub stopped_at : Bool → List ℕ → Next
-stopped_at false line = Incomplete
-stopped_at true [] = End
-stopped_at true (byte ∷ line) = Line
+abbrev pub next_at : Bool → List ℕ → Next
+next_at false line = Incomplete
+next_at true [] = End
+next_at true (byte ∷ line) = Line
 
 -- what more the reader may give: nothing where it has ended
 abbrev pub MayFollow : Lines → List ℕ → Type 0
@@ -31,21 +32,28 @@ MayFollow lines more = lines.ended ≡ true → more ≡ []
 
 -- A text's first line has more than 65,536 bytes.
 abbrev pub BeginsTooLong : List ℕ → Type 0
-BeginsTooLong text = (line : List ℕ) × (rest : List (List ℕ)) × (lines_of text ≡ line ∷ rest) × (65536 < length line)
+BeginsTooLong text =
+    (line : List ℕ) × (rest : List (List ℕ))
+    × (lines_of text ≡ line ∷ rest) × (65536 < length line)
 
--- What was found: whatever the reader gives yet, the next line is this, or is too long, or is not whole yet, or there is
--- none.
+-- What was found: whatever the reader gives yet, the next line is this, or is too long, or is not
+-- whole yet, or there is none.
 abbrev pub Finds : Lines → Next → Lines → Type 0
-Finds old Line new = (more : List ℕ) → MayFollow old more → lines_of (line_of old ++ (rest_of old ++ more)) ≡ line_of new ∷ lines_of (rest_of new ++ more)
+Finds old Line new = (more : List ℕ) → MayFollow old more
+    → lines_of (line_of old ++ (rest_of old ++ more))
+    ≡ line_of new ∷ lines_of (rest_of new ++ more)
 Finds old TooLong new = (more : List ℕ) → BeginsTooLong (line_of old ++ (rest_of old ++ more))
-Finds old Incomplete new = (line_of new ≡ line_of old ++ rest_of old) × (rest_of new ≡ []) × IsUnbroken (line_of new) × (old.ended ≡ false)
+Finds old Incomplete new =
+    (line_of new ≡ line_of old ++ rest_of old) × (rest_of new ≡ [])
+    × IsUnbroken (line_of new) × (old.ended ≡ false)
 Finds old End new = (line_of old ++ rest_of old ≡ []) × (rest_of new ≡ []) × (old.ended ≡ true)
 
 -- A buffer that says that its reader has ended is right.
 abbrev pub Agrees : Option (List ℕ) → Lines → Type 0
 Agrees remaining lines = lines.ended ≡ true → IsAtEnd remaining
 
--- what is left of a script behind the line that was found last, where it is known what the reader gives
+-- what is left of a script behind the line that was found last, where it is known what the reader
+-- gives
 abbrev pub text_left : Option (List ℕ) → Lines → Option (List ℕ)
 text_left remaining lines = prepend_known (rest_of lines) remaining
 

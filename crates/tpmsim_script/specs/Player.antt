@@ -9,9 +9,13 @@ use Rattle.tpmsim_script.specs.declared.player.Player.{Player}
 abbrev pub playing_of : Player → Playing
 playing_of player = playing player.script player.machine
 
--- A line had this effect, and printed its text, from known bytes to known ones; or it is bad, and did and printed nothing.
--- Of a writer that failed nothing is said.
-abbrev pub Did : Option Effect → Option (List ℕ) → Playing → Result (Unit {0}) LineFault → Option (List ℕ) → Playing → Type 0
-Did line old before (Ok done) new after = (effect : Effect) × (line ≡ Some effect) × Appends old new effect.text × (after ≡ effect.next)
+-- A line had this effect, and printed its text, from known bytes to known ones; or it is bad, and
+-- did and printed nothing. Of a writer that failed nothing is said.
+abbrev pub Did : Option Effect
+    → Option (List ℕ) → Playing
+    → Result (Unit {0}) LineFault → Option (List ℕ) → Playing → Type 0
+Did line old before (Ok done) new after =
+    (effect : Effect) × (line ≡ Some effect)
+    × Appends old new effect.text × (after ≡ effect.next)
 Did line old before (Err Bad) new after = (line ≡ None) × (new ≡ old) × (after ≡ before)
 Did line old before (Err Write) new after = Unit {0}

@@ -1,5 +1,8 @@
--- What a script prints: a device plays the script's lines in order, and the response to each command is a line of hex.
-use Rattle.std.specs.Prelude.{◌≡◌, ℕ, ◌+◌, ◌%◌, ◌^◌, ◌&&◌, nat_le, nat_lt, List, [], ◌∷◌, ◌++◌, length, map, replicate, slice_index, Option, Some, None, option_map, option_and_then, if◌then◌else◌}
+-- What a script prints: a device plays the script's lines in order, and the response to each
+-- command is a line of hex.
+use Rattle.std.specs.Prelude.{◌≡◌, ℕ, ◌+◌, ◌%◌, ◌^◌, ◌&&◌, nat_le, nat_lt, if◌then◌else◌}
+use Rattle.std.specs.Prelude.{List, [], ◌∷◌, ◌++◌, length, map, replicate, slice_index}
+use Rattle.std.specs.Prelude.{Option, Some, None, option_map, option_and_then}
 use Rattle.std.specs.List.{range_with_len}
 use Rattle.std.specs.Io.KnownBytes.{Appends}
 use Rattle.hex.specs.Hex.{encode_lower}
@@ -11,11 +14,12 @@ use Rattle.tpm_machine.specs.Events.{Given, Cycled}
 use Rattle.tpm_machine.specs.State.{state_of}
 use Rattle.tpm_machine.specs.Step.{Stepped, step}
 use Rattle.tpm_machine.specs.declared.machine.Machine.{Machine}
-use Rattle.tpmsim_script.specs.Line.{Said, Executes, SetsLocality, Waits, SetsEntropy, CyclesPower, DoesNothing, bytes_of, line_said, lines_of}
+use Rattle.tpmsim_script.specs.Line.{Meaning, Executes, SetsLocality, Waits, SetsEntropy}
+use Rattle.tpmsim_script.specs.Line.{CyclesPower, DoesNothing, bytes_of, line_meaning, lines_of}
 use Rattle.tpmsim_script.specs.declared.script.Script.{Script}
 
--- A script that is being played: the locality of its commands, the sum of the waits since the last one, across power
--- cycles, the random bytes of each, and the device.
+-- A script that is being played: the locality of its commands, the sum of the waits since the last
+-- one, across power cycles, the random bytes of each, and the device.
 pub record Playing : Type 0 where
   pub locality : ℕ
   pub waited : ℕ
@@ -24,7 +28,12 @@ pub record Playing : Type 0 where
 
 -- what the code's script and device mean
 abbrev pub playing : Script → Machine ListKeep → Playing
-playing script machine = record { locality = locality_number script.locality; waited = script.waited; random = script.random; device = state_of list_record machine }
+playing script machine = record {
+  locality = locality_number script.locality;
+  waited = script.waited;
+  random = script.random;
+  device = state_of list_record machine;
+}
 
 -- at first locality 0, no time, random bytes that are all 0, and a new device
 unfoldable pub at_first : Playing
@@ -32,7 +41,8 @@ at_first = record { locality = 0; waited = 0; random = replicate 256 0; device =
 
 -- the 256 random bytes that these bytes make, over and over
 unfoldable pub repeated : List ℕ → List ℕ
-repeated entropy = map (λ place. slice_index entropy (place % length entropy)) (range_with_len 0 256)
+repeated entropy =
+    map (λ place. slice_index entropy (place % length entropy)) (range_with_len 0 256)
 
 -- what a line does: what it prints, and how the script goes on
 pub record Effect : Type 0 where
@@ -44,37 +54,46 @@ abbrev pub printed_response : List ℕ → List ℕ
 printed_response response = encode_lower response ++ 10 ∷ []
 
 -- a line that prints nothing
-abbrev pub silent : Playing → Effect
-silent p = record { text = []; next = p }
+abbrev pub silence : Playing → Effect
+silence p = record { text = []; next = p }
 
 -- what a command with this outcome does
-abbrev pub answered : Playing → Stepped → Effect
-answered p s = record { text = printed_response s.response; next = record p { waited = 0; device = s.after } }
+abbrev pub answer : Playing → Stepped → Effect
+answer p s = record {
+  text = printed_response s.response;
+  next = record p { waited = 0; device = s.after };
+}
 
 abbrev pub execute : Playing → List ℕ → Effect
-execute p buffer = answered p (step p.device (Given buffer p.locality p.waited p.random))
+execute p buffer = answer p (step p.device (Given buffer p.locality p.waited p.random))
 
 abbrev pub wait : Playing → ℕ → Option Effect
-wait p milliseconds = if nat_lt (p.waited + milliseconds) (2 ^ 32) then Some (silent (record p { waited = p.waited + milliseconds })) else None
+wait p milliseconds =
+    if nat_lt (p.waited + milliseconds) (2 ^ 32)
+    then Some (silence (record p { waited = p.waited + milliseconds })) else None
 
 -- 1 to 256 bytes
 abbrev pub set_entropy : Playing → List ℕ → Option Effect
-set_entropy p entropy = if nat_lt 0 (length entropy) && nat_le (length entropy) 256 then Some (silent (record p { random = repeated entropy })) else None
+set_entropy p entropy =
+    if nat_lt 0 (length entropy) && nat_le (length entropy) 256
+    then Some (silence (record p { random = repeated entropy })) else None
 
 -- what is said, performed; None where it cannot be
-abbrev pub perform : Playing → Said → Option Effect
+abbrev pub perform : Playing → Meaning → Option Effect
 perform p (Executes digits) = option_map (execute p) (bytes_of digits)
-perform p (SetsLocality number) = Some (silent (record p { locality = number }))
+perform p (SetsLocality number) = Some (silence (record p { locality = number }))
 perform p (Waits milliseconds) = wait p milliseconds
 perform p (SetsEntropy digits) = option_and_then (set_entropy p) (bytes_of digits)
-perform p CyclesPower = Some (silent (record p { device = (step p.device Cycled).after }))
-perform p DoesNothing = Some (silent p)
+perform p CyclesPower = Some (silence (record p { device = (step p.device Cycled).after }))
+perform p DoesNothing = Some (silence p)
 
 -- what a line does; None where it is bad, as every line of over 65,536 bytes is
 unfoldable pub perform_line : Playing → List ℕ → Option Effect
-perform_line p line = if nat_le (length line) 65536 then option_and_then (perform p) (line_said line) else None
+perform_line p line =
+    if nat_le (length line) 65536 then option_and_then (perform p) (line_meaning line) else None
 
--- what a script prints, and the number of its first bad line, if there is one, behind which nothing is done
+-- what a script prints, and the number of its first bad line, if there is one, behind which nothing
+-- is done
 pub record Output : Type 0 where
   pub text : List ℕ
   pub bad : Option ℕ
@@ -82,18 +101,23 @@ pub record Output : Type 0 where
 abbrev pub output_before : List ℕ → Output → Output
 output_before text p = record { text = text ++ p.text; bad = p.bad }
 
-abbrev pub going_on : Option Effect → ℕ → (Playing → Output) → Output
-going_on None number rest = record { text = []; bad = Some number }
-going_on (Some printed) number rest = output_before printed.text (rest printed.next)
+abbrev pub output_with : Option Effect → ℕ → (Playing → Output) → Output
+output_with None number rest = record { text = []; bad = Some number }
+output_with (Some effect) number rest = output_before effect.text (rest effect.next)
 
 -- the lines from this number on
 abbrev pub play : Playing → ℕ → List (List ℕ) → Output
 play p number [] = record { text = []; bad = None }
-play p number (line ∷ lines) = going_on (perform_line p line) number (λ next. play next (number + 1) lines)
+play p number (line ∷ lines) =
+    output_with (perform_line p line) number (λ next. play next (number + 1) lines)
 
--- A run wrote, behind what the writer held (old), what the lines of the text print when they are played from p on, the
--- first of them under this number; and bad is the number of the first bad one, if there is one. Nothing is said where it
--- is not known what the reader gives, and nothing of the writing where it is not known what the writer holds.
-abbrev pub Plays : Option (List ℕ) → Option (List ℕ) → Option (List ℕ) → Playing → ℕ → Option ℕ → Type 0
+-- A run wrote, behind what the writer held (old), what the lines of the text print when they are
+-- played from p on, the first of them under this number; and bad is the number of the first bad
+-- one, if there is one. Nothing is said where it is not known what the reader gives, and nothing of
+-- the writing where it is not known what the writer holds.
+abbrev pub Plays : Option (List ℕ) → Option (List ℕ) → Option (List ℕ)
+    → Playing → ℕ → Option ℕ → Type 0
 Plays None old new p number bad = Unit {0}
-Plays (Some text) old new p number bad = Appends old new (play p number (lines_of text)).text × ((play p number (lines_of text)).bad ≡ bad)
+Plays (Some text) old new p number bad =
+    Appends old new (play p number (lines_of text)).text
+    × ((play p number (lines_of text)).bad ≡ bad)

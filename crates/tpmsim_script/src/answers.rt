@@ -23,10 +23,10 @@ pub struct Answers {
 impl Answers {
     ghost use Rattle.std.specs.Prelude.{◌++◌, [], IfOk, OnOk};
     ghost use Rattle.std.specs.Io.KnownBytes.{Appends, Keeps};
-    ghost use Rattle.tpmsim_script.specs.Answers.{pending, printed};
+    ghost use Rattle.tpmsim_script.specs.Answers.{backlog, printout};
 
     pub fn new(alloc: Global) -> Result<Answers, AllocError>
-        ensures { IfOk result (λ answers. pending answers ≡ []) }
+        ensures { IfOk result (λ answers. backlog answers ≡ []) }
     {
         let text = vec![in alloc; 0u8; CAPACITY]?;
         Ok(Answers { text, used: 0 })
@@ -35,7 +35,10 @@ impl Answers {
     /// Adds a line. It may stay in memory until [`Answers::flush`].
     pub fn put<W: Write>(&mut self, writer: &mut W, response: &[u8]) -> io::Result<()>
         requires { length response.now ≤ RESPONSE_LIMIT }
-        ensures { OnOk result (Appends (printed (W.contents writer.old) self.old) (printed (W.contents writer.new) self.new) (printed_response response.now)) }
+        ensures { OnOk result (Appends
+            (printout (W.contents writer.old) self.old)
+            (printout (W.contents writer.new) self.new)
+            (printed_response response.now)) }
     {
         if CAPACITY - self.used <= 2 * response.len() {
             self.write(writer)?;
@@ -46,7 +49,7 @@ impl Answers {
 
     fn hold(&mut self, response: &[u8])
         requires { self.old.used + 2 * length response.now + 1 ≤ CAPACITY }
-        ensures { pending self.new ≡ pending self.old ++ printed_response response.now }
+        ensures { backlog self.new ≡ backlog self.old ++ printed_response response.now }
     {
         let end = self.used + 2 * response.len() + 1;
         print(response, &mut self.text[self.used..end]);
@@ -55,8 +58,10 @@ impl Answers {
 
     /// Writes all lines so far. Those that an error cut off are not written again.
     pub fn flush<W: Write>(&mut self, writer: &mut W) -> io::Result<()>
-        ensures empty { OnOk result (pending self.new ≡ []) }
-        ensures printed { OnOk result (Keeps (printed (W.contents writer.old) self.old) (printed (W.contents writer.new) self.new)) }
+        ensures empty { OnOk result (backlog self.new ≡ []) }
+        ensures printed { OnOk result (Keeps
+            (printout (W.contents writer.old) self.old)
+            (printout (W.contents writer.new) self.new)) }
     {
         if self.used == 0 {
             return Ok(());
@@ -67,7 +72,9 @@ impl Answers {
 
     fn write<W: Write>(&mut self, writer: &mut W) -> io::Result<()>
         ensures empty { self.new.used ≡ 0 }
-        ensures printed { OnOk result (Keeps (printed (W.contents writer.old) self.old) (printed (W.contents writer.new) self.new)) }
+        ensures printed { OnOk result (Keeps
+            (printout (W.contents writer.old) self.old)
+            (printout (W.contents writer.new) self.new)) }
     {
         let used = self.used;
         self.used = 0;

@@ -1,7 +1,10 @@
-ghost use Rattle.std.specs.Prelude.{◌≡◌, ◌+◌, ◌*◌, ◌==◌, ◌≤◌, [], length, IfOk, option_and_then, option_map};
+ghost use Rattle.std.specs.Prelude.{◌≡◌, ◌+◌, ◌*◌, ◌==◌, ◌≤◌, [], length};
+ghost use Rattle.std.specs.Prelude.{IfOk, option_and_then, option_map};
 ghost use Rattle.std.specs.List.{position};
 ghost use Rattle.tpm_types.specs.Locality.{locality_number};
-ghost use Rattle.tpmsim_script.specs.Line.{Tells, bytes_of, decimal_of, hex_of, is_word, line_said, locality_of, said, said_alone, said_by, said_with};
+ghost use Rattle.tpmsim_script.specs.Line.{Tells, bytes_of, decimal_of, hex_of, is_word};
+ghost use Rattle.tpmsim_script.specs.Line.{line_meaning, locality_of, meaning_of};
+ghost use Rattle.tpmsim_script.specs.Line.{meaning_alone, meaning_by, meaning_with};
 
 use std::str;
 use tpm_types::locality::Locality;
@@ -29,10 +32,10 @@ pub struct BadLine;
 
 impl<'a> Line<'a> {
     /// Reads a line, given without its 0a. Hex is not looked at yet: [`decode`] does that.
-    #[tactic(auto, unfolding(crate::specs::Line::line_said), using(crate::proofs::SaidLemmas::said_by_words))]
+    #[tactic(auto, unfolding(crate::specs::Line::line_meaning), using(crate::proofs::SaidLemmas::said_by_words))]
     pub fn parse(text: &'a [u8]) -> Result<Line<'a>, BadLine>
-        ensures said { Tells said result (line_said text.now) }
-        ensures short { IfOk result (λ line. length (hex_of (said line)) ≤ length text.now) }
+        ensures meaning { Tells meaning_of result (line_meaning text.now) }
+        ensures short { IfOk result (λ line. length (hex_of (meaning_of line)) ≤ length text.now) }
     {
         if text.is_empty() || text[0] == b'#' {
             return Ok(Line::Nothing);
@@ -42,8 +45,9 @@ impl<'a> Line<'a> {
 
     /// A line that begins with a word, which the first space ends.
     fn by_words(text: &'a [u8]) -> Result<Line<'a>, BadLine>
-        ensures said { Tells said result (said_by (position (λ byte. byte == 32) text.now) text.now) }
-        ensures short { IfOk result (λ line. length (hex_of (said line)) ≤ length text.now) }
+        ensures meaning { Tells meaning_of result
+            (meaning_by (position (λ byte. byte == 32) text.now) text.now) }
+        ensures short { IfOk result (λ line. length (hex_of (meaning_of line)) ≤ length text.now) }
     {
         match place_of(b' ', text) {
             None => Line::alone(text),
@@ -52,10 +56,10 @@ impl<'a> Line<'a> {
     }
 
     /// A line of one word.
-    #[tactic(auto, unfolding(crate::specs::Line::said_alone))]
+    #[tactic(auto, unfolding(crate::specs::Line::meaning_alone))]
     fn alone(word: &'a [u8]) -> Result<Line<'a>, BadLine>
-        ensures said { Tells said result (said_alone word.now) }
-        ensures short { IfOk result (λ line. hex_of (said line) ≡ []) }
+        ensures meaning { Tells meaning_of result (meaning_alone word.now) }
+        ensures short { IfOk result (λ line. hex_of (meaning_of line) ≡ []) }
     {
         if is_word("cmd", word) {
             Ok(Line::Command(&[]))
@@ -67,10 +71,11 @@ impl<'a> Line<'a> {
     }
 
     /// A word, and what stands behind its space.
-    #[tactic(auto, unfolding(crate::specs::Line::said_with))]
+    #[tactic(auto, unfolding(crate::specs::Line::meaning_with))]
     fn with(word: &'a [u8], argument: &'a [u8]) -> Result<Line<'a>, BadLine>
-        ensures said { Tells said result (said_with word.now argument.now) }
-        ensures short { IfOk result (λ line. length (hex_of (said line)) ≤ length argument.now) }
+        ensures meaning { Tells meaning_of result (meaning_with word.now argument.now) }
+        ensures short { IfOk result
+            (λ line. length (hex_of (meaning_of line)) ≤ length argument.now) }
     {
         if is_word("cmd", word) {
             Ok(Line::Command(argument))
@@ -111,7 +116,8 @@ pub fn decode<'a>(digits: &[u8], room: &'a mut [u8]) -> Result<&'a [u8], BadLine
 }
 
 fn locality(digits: &[u8]) -> Option<Locality>
-    ensures { option_map locality_number result ≡ option_and_then locality_of (decimal_of digits.now) }
+    ensures { option_map locality_number result
+        ≡ option_and_then locality_of (decimal_of digits.now) }
 {
     let number = u8::try_from(decimal(digits)?).ok()?;
     Locality::new(number)

@@ -48,9 +48,11 @@ pub struct Lines {
 }
 
 impl Lines {
-    ghost use Rattle.std.specs.Prelude.{◌+◌, ◌<◌, ◌==◌, ◌++◌, [], false, take, drop, length, IfOk, OnOk, OnErr};
+    ghost use Rattle.std.specs.Prelude.{◌+◌, ◌<◌, ◌==◌, ◌++◌, [], false, take, drop, length};
+    ghost use Rattle.std.specs.Prelude.{IfOk, OnOk, OnErr};
     ghost use Rattle.std.specs.Io.KnownBytes.{Consumes};
-    ghost use Rattle.tpmsim_script.specs.Lines.{Agrees, Finds, IsUnbroken, line_of, rest_of, stopped_at};
+    ghost use Rattle.tpmsim_script.specs.Lines.{Agrees, Finds, IsUnbroken};
+    ghost use Rattle.tpmsim_script.specs.Lines.{line_of, next_at, rest_of};
 
     pub fn new(alloc: Global) -> Result<Lines, AllocError>
         ensures { IfOk result (λ lines. (rest_of lines ≡ []) × (lines.ended ≡ false)) }
@@ -104,7 +106,8 @@ impl Lines {
     fn take(&mut self, count: usize, past: usize) -> Result<(), TooLong>
         requires count { count ≤ past }
         requires past { past ≤ length (rest_of self.old) }
-        ensures line { OnOk result (line_of self.new ≡ line_of self.old ++ take count (rest_of self.old)) }
+        ensures line { OnOk result
+            (line_of self.new ≡ line_of self.old ++ take count (rest_of self.old)) }
         ensures rest { OnOk result (rest_of self.new ≡ drop past (rest_of self.old)) }
         ensures long { OnErr result (LINE_LIMIT < length (line_of self.old) + count) }
         ensures ended { self.new.ended ≡ self.old.ended }
@@ -119,7 +122,8 @@ impl Lines {
     fn take_rest(&mut self) -> Result<(), TooLong>
         ensures line { OnOk result (line_of self.new ≡ line_of self.old ++ rest_of self.old) }
         ensures rest { OnOk result (rest_of self.new ≡ []) }
-        ensures long { OnErr result (LINE_LIMIT < length (line_of self.old) + length (rest_of self.old)) }
+        ensures long { OnErr result
+            (LINE_LIMIT < length (line_of self.old) + length (rest_of self.old)) }
         ensures ended { self.new.ended ≡ self.old.ended }
     {
         let count = self.filled - self.next;
@@ -128,7 +132,7 @@ impl Lines {
 
     /// What stands next where all bytes that were read belong to the line.
     fn stopped(&self) -> Next
-        ensures { result ≡ stopped_at self.now.ended (line_of self.now) }
+        ensures { result ≡ next_at self.now.ended (line_of self.now) }
     {
         if !self.ended {
             Next::Incomplete
@@ -143,7 +147,8 @@ impl Lines {
     pub fn fill<R: Read>(&mut self, reader: &mut R) -> io::Result<()>
         requires { rest_of self.old ≡ [] }
         ensures line { line_of self.new ≡ line_of self.old }
-        ensures more { OnOk result (Consumes (R.remaining reader.old) (R.remaining reader.new) (rest_of self.new)) }
+        ensures more { OnOk result
+            (Consumes (R.remaining reader.old) (R.remaining reader.new) (rest_of self.new)) }
         ensures agrees { OnOk result (Agrees (R.remaining reader.new) self.new) }
         ensures ended { OnOk result (self.new.ended ≡ (length (rest_of self.new) == 0)) }
         ensures none { OnErr result (rest_of self.new ≡ []) }

@@ -1,7 +1,7 @@
 ghost use Rattle.std.specs.Prelude.{◌≡◌, ◌*◌, ◌+◌, ◌≤◌, [], length, IfOk, OnOk, OnErr};
 ghost use Rattle.std.specs.Io.KnownBytes.{Keeps};
-ghost use Rattle.tpmsim_script.specs.Answers.{pending, printed};
-ghost use Rattle.tpmsim_script.specs.Line.{hex_of, said};
+ghost use Rattle.tpmsim_script.specs.Answers.{backlog, printout};
+ghost use Rattle.tpmsim_script.specs.Line.{hex_of, meaning_of};
 ghost use Rattle.tpmsim_script.specs.Player.{Did, playing_of};
 ghost use Rattle.tpmsim_script.specs.Script.{at_first, execute, perform, perform_line, set_entropy};
 
@@ -30,7 +30,7 @@ impl Player {
     pub fn new(alloc: Global) -> Result<Player, ScriptFault>
         ensures fault { OnErr result (result ≡ Err ScriptFault.NoMemory) }
         ensures playing { IfOk result (λ player. playing_of player ≡ at_first) }
-        ensures answers { IfOk result (λ player. pending player.answers ≡ []) }
+        ensures answers { IfOk result (λ player. backlog player.answers ≡ []) }
     {
         let answers = Answers::new(alloc)?;
         let machine = Machine::manufacture(alloc, &array::from_fn(|place| place as u8))?;
@@ -53,8 +53,8 @@ impl Player {
         requires limit { length line.now ≤ 65536 }
         requires room { length line.now ≤ 2 * length room.old }
         ensures { Did (perform_line (playing_of self.old) line.now)
-            (printed (W.contents writer.old) self.old.answers) (playing_of self.old) result
-            (printed (W.contents writer.new) self.new.answers) (playing_of self.new) }
+            (printout (W.contents writer.old) self.old.answers) (playing_of self.old) result
+            (printout (W.contents writer.new) self.new.answers) (playing_of self.new) }
     {
         let said = Line::parse(line)?;
         self.perform(said, room, writer)
@@ -64,8 +64,10 @@ impl Player {
     pub fn flush<W: Write>(&mut self, writer: &mut W) -> Result<(), ScriptFault>
         ensures fault { OnErr result (result ≡ Err ScriptFault.Write) }
         ensures playing { playing_of self.new ≡ playing_of self.old }
-        ensures empty { OnOk result (pending self.new.answers ≡ []) }
-        ensures printed { OnOk result (Keeps (printed (W.contents writer.old) self.old.answers) (printed (W.contents writer.new) self.new.answers)) }
+        ensures empty { OnOk result (backlog self.new.answers ≡ []) }
+        ensures printed { OnOk result (Keeps
+            (printout (W.contents writer.old) self.old.answers)
+            (printout (W.contents writer.new) self.new.answers)) }
     {
         self.answers.flush(writer).map_err(|_| ScriptFault::Write)
     }
@@ -78,10 +80,10 @@ impl Player {
         room: &mut [u8],
         writer: &mut W,
     ) -> Result<(), LineFault>
-        requires { length (hex_of (said line)) ≤ 2 * length room.old }
-        ensures { Did (perform (playing_of self.old) (said line.entry))
-            (printed (W.contents writer.old) self.old.answers) (playing_of self.old) result
-            (printed (W.contents writer.new) self.new.answers) (playing_of self.new) }
+        requires { length (hex_of (meaning_of line)) ≤ 2 * length room.old }
+        ensures { Did (perform (playing_of self.old) (meaning_of line.entry))
+            (printout (W.contents writer.old) self.old.answers) (playing_of self.old) result
+            (printout (W.contents writer.new) self.new.answers) (playing_of self.new) }
     {
         match line {
             Line::Command(digits) => self.execute(decode(digits, room)?, writer)?,
@@ -99,8 +101,8 @@ impl Player {
     /// Executes a command, and prints the response.
     fn execute<W: Write>(&mut self, buffer: &[u8], writer: &mut W) -> Result<(), LineFault>
         ensures { Did (Some (execute (playing_of self.old) buffer.now))
-            (printed (W.contents writer.old) self.old.answers) (playing_of self.old) result
-            (printed (W.contents writer.new) self.new.answers) (playing_of self.new) }
+            (printout (W.contents writer.old) self.old.answers) (playing_of self.old) result
+            (printout (W.contents writer.new) self.new.answers) (playing_of self.new) }
     {
         let outcome = self.machine.execute(&self.script.command(buffer));
         let response = outcome.response.as_slice();

@@ -1,6 +1,6 @@
 ghost use Rattle.std.specs.Prelude.{◌≡◌, [], false, length, vec_len, IfOk, OnOk, OnErr};
 ghost use Rattle.std.specs.Io.KnownBytes.{Keeps};
-ghost use Rattle.tpmsim_script.specs.Answers.{pending, printed};
+ghost use Rattle.tpmsim_script.specs.Answers.{backlog, printout};
 ghost use Rattle.tpmsim_script.specs.Lines.{Agrees, line_of, rest_of, text_left};
 ghost use Rattle.tpmsim_script.specs.Player.{playing_of};
 ghost use Rattle.tpmsim_script.specs.Run.{NextFound, UnlessFailed, Ran};
@@ -28,7 +28,8 @@ pub fn run_script<R: Read, W: Write>(
     writer: &mut W,
 ) -> Result<(), ScriptFault>
     // What is written is what the script prints, to its end or up to its first bad line.
-    ensures played { Ran (Plays (R.remaining reader.old) (W.contents writer.old) (W.contents writer.new) at_first 1) result }
+    ensures played { Ran (Plays (R.remaining reader.old)
+        (W.contents writer.old) (W.contents writer.new) at_first 1) result }
 {
     let mut run = Run::new(alloc)?;
     let mut room = room(alloc)?;
@@ -57,7 +58,7 @@ impl Run {
         ensures playing { IfOk result (λ run. playing_of run.player ≡ at_first) }
         ensures lines { IfOk result (λ run. rest_of run.lines ≡ []) }
         ensures ended { IfOk result (λ run. run.lines.ended ≡ false) }
-        ensures answers { IfOk result (λ run. pending run.player.answers ≡ []) }
+        ensures answers { IfOk result (λ run. backlog run.player.answers ≡ []) }
     {
         Ok(Run {
             lines: Lines::new(alloc)?,
@@ -65,7 +66,8 @@ impl Run {
         })
     }
 
-    /// Runs the lines, to the end of the script or to a fault. What they write in hex goes to `room`.
+    /// Runs the lines, to the end of the script or to a fault. What they write in hex goes to
+    /// `room`.
     fn lines<R: Read, W: Write>(
         &mut self,
         reader: &mut R,
@@ -75,8 +77,8 @@ impl Run {
         requires room { length room.old ≡ DECODED_LIMIT }
         requires agrees { Agrees (R.remaining reader.old) self.old.lines }
         ensures { Ran (Plays (text_left (R.remaining reader.old) self.old.lines)
-            (printed (W.contents writer.old) self.old.player.answers)
-            (printed (W.contents writer.new) self.new.player.answers)
+            (printout (W.contents writer.old) self.old.player.answers)
+            (printout (W.contents writer.new) self.new.player.answers)
             (playing_of self.old.player) 1) result }
     {
         for number in 1..SCRIPT_LINES + 1 {
@@ -106,9 +108,13 @@ impl Run {
     ) -> Result<bool, ScriptFault>
         requires { Agrees (R.remaining reader.old) self.old.lines }
         ensures played { playing_of self.new.player ≡ playing_of self.old.player }
-        ensures found { NextFound number (text_left (R.remaining reader.old) self.old.lines) result (line_of self.new.lines) (text_left (R.remaining reader.new) self.new.lines) }
+        ensures found { NextFound number
+            (text_left (R.remaining reader.old) self.old.lines) result (line_of self.new.lines)
+            (text_left (R.remaining reader.new) self.new.lines) }
         ensures agrees { OnOk result (Agrees (R.remaining reader.new) self.new.lines) }
-        ensures printed { UnlessFailed result (Keeps (printed (W.contents writer.old) self.old.player.answers) (printed (W.contents writer.new) self.new.player.answers)) }
+        ensures printed { UnlessFailed result (Keeps
+            (printout (W.contents writer.old) self.old.player.answers)
+            (printout (W.contents writer.new) self.new.player.answers)) }
     {
         self.lines.next();
         for _ in 0..u64::MAX {

@@ -1,4 +1,5 @@
-ghost use Rattle.std.specs.Prelude.{◌≡◌, ◌+◌, ◌≤◌, ◌<◌, ◌^◌, ◌↔◌, length, replicate, IsOk, OnOk, OnErr};
+ghost use Rattle.std.specs.Prelude.{◌≡◌, ◌+◌, ◌≤◌, ◌<◌, ◌^◌, ◌↔◌, length, replicate};
+ghost use Rattle.std.specs.Prelude.{IsOk, OnOk, OnErr};
 ghost use Rattle.tpm_types.specs.Locality.{locality_number};
 ghost use Rattle.tpmsim_script.specs.Script.{repeated};
 
@@ -42,7 +43,8 @@ impl Script {
     /// Lets time pass, in all up to 2^32 - 1 milliseconds between two commands.
     pub fn wait(&mut self, milliseconds: u32) -> Result<(), BadLine>
         ensures fits { IsOk result ↔ (self.old.waited + milliseconds < 2 ^ 32) }
-        ensures ok { OnOk result (self.new ≡ record self.old { waited = self.old.waited + milliseconds }) }
+        ensures ok { OnOk result
+            (self.new ≡ record self.old { waited = self.old.waited + milliseconds }) }
         ensures err { OnErr result (self.new ≡ self.old) }
     {
         self.waited = self.waited.checked_add(milliseconds).ok_or(BadLine)?;
@@ -51,7 +53,8 @@ impl Script {
 
     /// Sets what the random bytes repeat: 1 to 256 bytes.
     pub fn set_entropy(&mut self, entropy: &[u8]) -> Result<(), BadLine>
-        ensures fits { IsOk result ↔ ((0 < length entropy.now) × (length entropy.now ≤ RANDOM_BYTES)) }
+        ensures fits { IsOk result
+            ↔ ((0 < length entropy.now) × (length entropy.now ≤ RANDOM_BYTES)) }
         ensures ok { OnOk result (self.new ≡ record self.old { random = repeated entropy.now }) }
         ensures err { OnErr result (self.new ≡ self.old) }
     {
@@ -64,7 +67,8 @@ impl Script {
 
     /// The event of this command, now.
     pub fn command<'a>(&mut self, buffer: &'a [u8]) -> Event<'a>
-        ensures event { result ≡ Event.Command buffer.entry self.old.locality self.old.waited self.old.random }
+        ensures event { result
+            ≡ Event.Command buffer.entry self.old.locality self.old.waited self.old.random }
         ensures time { self.new ≡ record self.old { waited = 0 } }
     {
         let elapsed_ms = mem::take(&mut self.waited);

@@ -1,8 +1,8 @@
-use Rattle.tpmsim_script.specs.Answers.{pending}
+use Rattle.tpmsim_script.specs.Answers.{backlog}
 use Rattle.tpmsim_script.proofs.Written.{written}
 use Rattle.tpmsim_script.proofs.answers.Answers.write.Goals as goal
 
 pub returns-clause-printed : goal.returns-clause-printed
 returns-clause-printed g c =
     let contents = g.W.Write.contents in
-    written (contents c.args.writer.now) (contents c.write_all.new.self) (pending c.args.self.now) (rw c.deref.ensures.value at c.in_ok-write_all.ensures.bytes)
+    written (contents c.args.writer.now) (contents c.write_all.new.self) (backlog c.args.self.now) (rw c.deref.ensures.value at c.in_ok-write_all.ensures.bytes)

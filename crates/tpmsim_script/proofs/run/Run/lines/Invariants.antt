@@ -1,5 +1,5 @@
 use Rattle.std.proofs.Common.{ℕ, List, Option}
-use Rattle.tpmsim_script.specs.Answers.{printed}
+use Rattle.tpmsim_script.specs.Answers.{printout}
 use Rattle.tpmsim_script.specs.Lines.{Agrees, text_left}
 use Rattle.tpmsim_script.specs.Player.{playing_of}
 use Rattle.tpmsim_script.specs.Script.{Plays}
@@ -12,7 +12,7 @@ invariant-loop-number g l =
     let contents = g.W.Write.contents in
     record {
       whole : (new : Option (List ℕ)) (bad : Option ℕ)
-          → Plays (text_left (remaining l.reader) l.self.lines) (printed (contents l.writer) l.self.player.answers) new (playing_of l.self.player) l.number bad
-          → Plays (text_left (remaining l.fn.reader) l.fn.self.lines) (printed (contents l.fn.writer) l.fn.self.player.answers) new (playing_of l.fn.self.player) 1 bad;
+          → Plays (text_left (remaining l.reader) l.self.lines) (printout (contents l.writer) l.self.player.answers) new (playing_of l.self.player) l.number bad
+          → Plays (text_left (remaining l.fn.reader) l.fn.self.lines) (printout (contents l.fn.writer) l.fn.self.player.answers) new (playing_of l.fn.self.player) 1 bad;
       agrees : Agrees (remaining l.reader) l.self.lines;
     }

@@ -1,6 +1,6 @@
 use Rattle.std.proofs.Common.{◌≡◌, ◌++◌}
 use Rattle.std.specs.Io.KnownBytes.{Keeps, prepend_known}
-use Rattle.tpmsim_script.specs.Answers.{printed}
+use Rattle.tpmsim_script.specs.Answers.{printout}
 use Rattle.tpmsim_script.specs.Lines.{Agrees, IsUnbroken, line_of, rest_of, text_left}
 use Rattle.tpmsim_script.specs.Player.{playing_of}
 use Rattle.tpmsim_script.proofs.run.Run.next_line.Given as goal
@@ -13,5 +13,5 @@ invariant-loop g l =
       unbroken : IsUnbroken (line_of l.self.lines);
       text : Keeps (text_left (g.R.Read.remaining l.fn.reader) l.fn.self.lines) (prepend_known (line_of l.self.lines ++ rest_of l.self.lines) (g.R.Read.remaining l.reader));
       agrees : Agrees (g.R.Read.remaining l.reader) l.self.lines;
-      printed : Keeps (printed (g.W.Write.contents l.fn.writer) l.fn.self.player.answers) (printed (g.W.Write.contents l.writer) l.self.player.answers);
+      printed : Keeps (printout (g.W.Write.contents l.fn.writer) l.fn.self.player.answers) (printout (g.W.Write.contents l.writer) l.self.player.answers);
     }
