@@ -15,7 +15,8 @@ abbrev pub fault_or : Fault → ErrorKind → Fault
 fault_or otherwise OutOfMemory = Memory
 fault_or otherwise _ = otherwise
 
--- the fault of words that clap refuses for this reason: memory ran out, or they are none of the program's
+-- the fault of words that clap refuses for this reason: memory ran out, or they are none of the
+-- program's
 abbrev pub fault_of_words : clap.ErrorKind → Fault
 fault_of_words refused.OutOfMemory = Memory
 fault_of_words _ = Usage
@@ -26,7 +27,8 @@ fault_of Read = File
 fault_of Write = File
 fault_of NoMemory = Memory
 
--- the exit status: 2 where what was asked for makes no sense, 3 where a file, a stream or memory refused it
+-- the exit status: 2 where what was asked for makes no sense, 3 where a file, a stream or memory
+-- refused it
 abbrev pub status_of : Fault → ℕ
 status_of Usage = 2
 status_of (ScriptLine number) = 2

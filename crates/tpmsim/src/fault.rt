@@ -31,7 +31,8 @@ impl Fault {
         }
     }
 
-    /// The exit status: 2 where what was asked for makes no sense, 3 where a file, a stream or memory refused it.
+    /// The exit status: 2 where what was asked for makes no sense, 3 where a file, a stream or
+    /// memory refused it.
     pub fn status(self) -> u8
         ensures { result ≡ status_of self }
     {
