@@ -24,6 +24,15 @@ HANDLE = (14, "within its handle", "INSUFFICIENT/h1")
 AREA = (27, "within the authorization area", "AUTHSIZE")
 
 STARTUP = command(frames.STARTUP, number(0, 2))
+
+# A session that is bound to nothing, and so has neither a key nor an hmac.
+SESSION = 0x0200_0000
+BY_SESSION = [entry(SESSION, nonce=bytes(16))]
+HANDLES, PARAMETERS = frames.start_auth_session(bytes(16), aes=True)
+START = command(
+    frames.START_AUTH_SESSION, b"".join(number(it, 4) for it in HANDLES) + PARAMETERS
+)
+
 COMMANDS = [
     (
         "TPM2_Startup(CLEAR)",
@@ -71,6 +80,38 @@ COMMANDS = [
         "TPM2_PCR_Reset of PCR 16",
         on_handle(frames.PCR_RESET, 16),
         [HANDLE, AREA],
+        "SUCCESS",
+    ),
+    (
+        'TPM2_HierarchyChangeAuth to "abc"',
+        on_handle(frames.HIERARCHY_CHANGE_AUTH, frames.RH_OWNER, sized(b"abc")),
+        [HANDLE, AREA, (32, "within newAuth", "INSUFFICIENT/p1")],
+        "SUCCESS",
+    ),
+    (
+        "TPM2_StartAuthSession",
+        START,
+        [
+            (14, "within tpmKey", "INSUFFICIENT/h1"),
+            (18, "within bind", "INSUFFICIENT/h2"),
+            (36, "within nonceCaller", "INSUFFICIENT/p1"),
+            (38, "within encryptedSalt", "INSUFFICIENT/p2"),
+            (39, "before sessionType", "INSUFFICIENT/p3"),
+            (45, "within symmetric", "INSUFFICIENT/p4"),
+            (47, "within authHash", "INSUFFICIENT/p5"),
+        ],
+        "SUCCESS",
+    ),
+    (
+        "TPM2_PCR_Reset by that session",
+        on_handle(frames.PCR_RESET, 16, b"", BY_SESSION),
+        [HANDLE, (43, "within the authorization area", "AUTHSIZE")],
+        "SUCCESS",
+    ),
+    (
+        "TPM2_FlushContext",
+        command(frames.FLUSH_CONTEXT, number(SESSION, 4)),
+        [(14, "within flushHandle", "INSUFFICIENT/p1")],
         "SUCCESS",
     ),
     (

@@ -6,8 +6,8 @@
 
 The comment above a command, or above a few of them, names what must come: `: SUCCESS`, or a
 response code with its number, as in `: VALUE/p1 (1C4)`. It holds up to the next comment or empty
-line. A refusal is that code in ten bytes, and the comment is believed; what a success answers is
-computed by device.py.
+line. What is answered is computed by device.py; where the comment names another outcome, that is a
+fault, and nothing is written.
 """
 
 import pathlib
@@ -24,7 +24,7 @@ RANDOM_BYTES = 256
 
 
 def wanted_of(comment):
-    """What a comment says must come: None for a success, else a response code."""
+    """What a comment says must come: None for a success, else the name of a response code."""
     named = [it for it in WANTED.findall(comment) if it[0].partition("/")[0] in OUTCOMES]
     if len(named) != 1:
         raise ValueError(f"the comment names {len(named)} outcomes:{comment}")
@@ -34,12 +34,13 @@ def wanted_of(comment):
     code = frames.code_of(name)
     if shown != f"{code:03X}":
         raise ValueError(f"{name} is {code:03X}, and not {shown or 'without a number'}")
-    return code
+    return name
 
 
 def responses_of(script):
     """The responses that a script prints, up to its end or to a line of no known word."""
-    device, random, comment, in_comment = Device(), bytes(RANDOM_BYTES), "", False
+    device, locality, random = Device(), 0, bytes(RANDOM_BYTES)
+    comment, in_comment = "", False
     for line in script.splitlines():
         word, _, argument = line.partition(" ")
         if line.startswith("#"):
@@ -47,15 +48,19 @@ def responses_of(script):
         elif word == "":
             comment = ""
         elif word == "cmd":
-            code = wanted_of(comment)
-            buffer = bytes.fromhex(argument)
-            yield device.succeed(buffer, random) if code is None else frames.refusal(code)
+            wanted = wanted_of(comment)
+            response, refused = device.execute(bytes.fromhex(argument), locality, random)
+            if refused != wanted:
+                raise ValueError(f"it is {refused or 'a success'}, which is not said:{comment}")
+            yield response
+        elif word == "loc":
+            locality = int(argument)
         elif word == "entropy":
             entropy = bytes.fromhex(argument)
             random = (entropy * RANDOM_BYTES)[:RANDOM_BYTES]
         elif word == "power":
             device.power_cycle()
-        elif word not in ("loc", "wait"):
+        elif word != "wait":
             return
         in_comment = line.startswith("#")
 

@@ -2,22 +2,36 @@
 
 NO_SESSIONS, SESSIONS, BAD_TAG_ANSWER = 0x8001, 0x8002, 0x00C4
 
-PCR_EVENT, PCR_RESET, STARTUP = 0x13C, 0x13D, 0x144
+HIERARCHY_CHANGE_AUTH, PCR_EVENT, PCR_RESET, STARTUP = 0x129, 0x13C, 0x13D, 0x144
+FLUSH_CONTEXT, START_AUTH_SESSION = 0x165, 0x176
 GET_RANDOM, PCR_READ, PCR_EXTEND = 0x17B, 0x17E, 0x182
 
-RS_PW, RH_NULL = 0x4000_0009, 0x4000_0007
-SHA1, SHA256 = 0x0004, 0x000B
+RH_OWNER, RH_NULL, RS_PW = 0x4000_0001, 0x4000_0007, 0x4000_0009
+RH_LOCKOUT, RH_ENDORSEMENT, RH_PLATFORM = 0x4000_000A, 0x4000_000B, 0x4000_000C
 
-CONTINUE_SESSION = 0x01
+# The first byte of a handle that is not permanent says what it is.
+NV, HMAC_SESSION, POLICY_SESSION, TRANSIENT, PERSISTENT = 0x01, 0x02, 0x03, 0x80, 0x81
 
-# The response codes of docs/TABLE.md (Part 2, section 6.6.3), without their places.
+SHA1, AES, SHA256, ALG_NULL, CFB = 0x0004, 0x0006, 0x000B, 0x0010, 0x0043
+AES_KEY_BITS = 128
+
+# What a session is for, and attributes of its entries (Part 2, section 8.4).
+SE_HMAC, SE_POLICY, SE_TRIAL = 0x00, 0x01, 0x03
+CONTINUE_SESSION, AUDIT_EXCLUSIVE, AUDIT_RESET = 0x01, 0x02, 0x04
+RESERVED, DECRYPT, ENCRYPT, AUDIT = 0x18, 0x20, 0x40, 0x80
+
+# The response codes of docs/TABLE.md (Part 2, section 6.6.3), without their places; MEMORY, which no
+# script can ask for, is left out.
 CODES = {
     "BAD_TAG": 0x01E,
     "ATTRIBUTES": 0x082,
     "HASH": 0x083,
     "VALUE": 0x084,
+    "MODE": 0x089,
     "HANDLE": 0x08B,
+    "AUTH_FAIL": 0x08E,
     "SIZE": 0x095,
+    "SYMMETRIC": 0x096,
     "INSUFFICIENT": 0x09A,
     "RESERVED_BITS": 0x0A1,
     "BAD_AUTH": 0x0A2,
@@ -28,7 +42,10 @@ CODES = {
     "COMMAND_CODE": 0x143,
     "AUTHSIZE": 0x144,
     "AUTH_CONTEXT": 0x145,
+    "SESSION_MEMORY": 0x903,
     "LOCALITY": 0x907,
+    "REFERENCE_H0": 0x910,
+    "REFERENCE_H1": 0x911,
     "REFERENCE_S0": 0x918,
     "REFERENCE_S1": 0x919,
     "REFERENCE_S2": 0x91A,
@@ -74,6 +91,21 @@ def on_handle(code, handle, parameters=b"", entries=None):
     return command(code, number(handle, 4) + text + parameters, SESSIONS)
 
 
+def symmetric(aes):
+    """What a session encrypts by: AES-128 in mode CFB, or nothing."""
+    if not aes:
+        return number(ALG_NULL, 2)
+    return number(AES, 2) + number(AES_KEY_BITS, 2) + number(CFB, 2)
+
+
+def start_auth_session(
+    nonce, bind=RH_NULL, algorithm=SHA256, aes=False, tpm_key=RH_NULL, salt=b"", kind=SE_HMAC
+):
+    """The handles of TPM2_StartAuthSession and its parameters."""
+    parameters = sized(nonce) + sized(salt) + number(kind, 1)
+    return [tpm_key, bind], parameters + symmetric(aes) + number(algorithm, 2)
+
+
 def selection(*banks):
     """A selection of PCRs: for each bank its hash algorithm and the numbers of its PCRs."""
     text = number(len(banks), 4)
@@ -97,12 +129,19 @@ def refusal(code):
     return number(tag, 2) + number(10, 4) + number(code, 4)
 
 
-def success(answer, entries):
-    """A success; with entries, each is answered by an empty nonce, continueSession and no HMAC."""
-    if entries == 0:
-        return number(NO_SESSIONS, 2) + number(10 + len(answer), 4) + number(0, 4) + answer
-    body = number(len(answer), 4) + answer + entries * bytes([0, 0, CONTINUE_SESSION, 0, 0])
-    return number(SESSIONS, 2) + number(10 + len(body), 4) + number(0, 4) + body
+def success(answer, entries=None, handle=b""):
+    """A success, of the handle that is answered, if any, the parameters, and with sessions the
+    answers to the entries."""
+    if entries is None:
+        tag, body = NO_SESSIONS, handle + answer
+    else:
+        tag, body = SESSIONS, handle + number(len(answer), 4) + answer + b"".join(entries)
+    return number(tag, 2) + number(10 + len(body), 4) + number(0, 4) + body
+
+
+def entry_answer(nonce=b"", attributes=CONTINUE_SESSION, hmac=b""):
+    """What answers an entry; with nothing given, a password."""
+    return sized(nonce) + number(attributes, 1) + sized(hmac)
 
 
 def code_of(name):

@@ -7,3 +7,6 @@ pub mod PcrRead
 pub mod PcrExtend
 pub mod PcrEvent
 pub mod PcrReset
+pub mod HierarchyChangeAuth
+pub mod FlushContext
+pub mod StartAuthSession

@@ -30,3 +30,8 @@ request_of call = record {
 abbrev pub first_handle : List Handle → Result Handle Refused
 first_handle [] = Err (refusal check.Handles (plain code.Failure))
 first_handle (handle ∷ handles) = Ok handle
+
+-- and the second of a command that has two
+abbrev pub second_handle : List Handle → Result Handle Refused
+second_handle (first ∷ handle ∷ handles) = Ok handle
+second_handle handles = Err (refusal check.Handles (plain code.Failure))

@@ -1,5 +1,5 @@
 -- What rows of the table are made of: a row gives a success or the first refusal.
-use Rattle.std.specs.Prelude.{◌≡◌, ℕ, ◌==◌, not, List, length, Option, Result, Ok, Err}
+use Rattle.std.specs.Prelude.{◌≡◌, ℕ, ◌==◌, not, Bool, true, List, length, Option, Result, Ok, Err}
 use Rattle.tpm_bytes.specs.Reading.{refused_if}
 use Rattle.tpm_types.specs.declared.handle.Handle.{Handle}
 use Rattle.tpm_types.specs.declared.rc.Rc.{Rc}
@@ -37,3 +37,18 @@ pub record Success : Type 0 where
 abbrev pub Acts : Result Success Refused → Record → Result Answer Refused → Record → Type 0
 Acts row old (Ok a) new = row ≡ Ok (record { handle = a.handle; answer = a.parameters; drawn = a.drawn; after = new })
 Acts row old (Err e) new = (row ≡ Err e) × (new ≡ old)
+
+-- want of memory, M
+abbrev pub memory_refused : Refused
+memory_refused = refusal check.Memory (plain code.Memory)
+
+-- The refusal is the row's; or memory was refused, where it can be, in place of its success.
+abbrev pub RefusesOrStarves : Bool → Result Success Refused → Refused → Type 0
+RefusesOrStarves can (Err refused) e = e ≡ refused
+RefusesOrStarves can (Ok s) e = (can ≡ true) × (e ≡ memory_refused)
+
+-- A command that grows something did what its row says, or was refused memory; a refusal changes nothing.
+abbrev pub ActsIfRoom : Bool → Result Success Refused → Record → Result Answer Refused → Record → Type 0
+ActsIfRoom can row old (Ok a) new =
+    row ≡ Ok (record { handle = a.handle; answer = a.parameters; drawn = a.drawn; after = new })
+ActsIfRoom can row old (Err e) new = (new ≡ old) × RefusesOrStarves can row e

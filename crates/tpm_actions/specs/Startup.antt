@@ -1,5 +1,5 @@
 -- TPM2_Startup. TPM 2.0 Library, Part 3, section 9.3.
-use Rattle.std.specs.Prelude.{◌+◌, ◌-◌, ◌^◌, min, true, Bool, false, [], None, Result, Ok}
+use Rattle.std.specs.Prelude.{ℕ, ◌+◌, ◌-◌, ◌^◌, min, true, Bool, false, List, [], take, drop, None, Result, Ok}
 use Rattle.tpm_bytes.specs.Reading.{◌>>=◌, refused_if}
 use Rattle.tpm_types.specs.declared.rc.ResponseCode.TheVariants as code
 use Rattle.tpm_types.specs.declared.rc.Place.TheVariants as place
@@ -7,6 +7,9 @@ use Rattle.tpm_types.specs.declared.startup_type.StartupType.{StartupType}
 use Rattle.tpm_types.specs.declared.startup_type.StartupType.TheVariants.{Clear, State}
 use Rattle.tpm_types.specs.Rc.{at, plain}
 use Rattle.tpm_types.specs.StartupType.{startup_type_at}
+use Rattle.tpm_types.specs.declared.handle.HierarchyAuth.TheVariants as auth
+use Rattle.tpm_record.specs.declared.hierarchy.Hierarchies.{Hierarchies}
+use Rattle.tpm_record.specs.Entity.{with_hierarchy_auth}
 use Rattle.tpm_record.specs.Record.{Record}
 use Rattle.tpm_auth.specs.declared.refused.Refused.{Refused}
 use Rattle.tpm_actions.specs.Request.{Request}
@@ -22,6 +25,13 @@ abbrev pub lacks_state : StartupType → Saved → Bool
 lacks_state Clear Nothing = false
 lacks_state State Nothing = true
 
+-- the hierarchies after a TPM Reset: platformAuth is empty, and the null hierarchy has a new seed and a new proof, the
+-- first 64 random bytes (Part 1, sections 14.3 and 14.4)
+abbrev pub reset_hierarchies : Hierarchies → List ℕ → Hierarchies
+reset_hierarchies h random = record (with_hierarchy_auth h auth.Platform []) {
+  null = record { seed = take 32 random; proof = take 32 (drop 32 random) };
+}
+
 -- startupType; TPM2_Startup(CLEAR) where nothing was saved is a TPM Reset: there is one more of these, and none of the
 -- other startups since. The update counter begins at 0, and the count of resets stops at 2^32 - 1
 unfoldable pub startup_row : Record → Request → Result Success Refused
@@ -32,11 +42,12 @@ startup_row r q = do
   Ok (record {
     handle = None;
     answer = [];
-    drawn = 0;
+    drawn = 64;
     after = record r {
       fixed = record r.fixed {
         started = true;
         saved = Nothing;
+        hierarchies = reset_hierarchies r.fixed.hierarchies q.random;
         banks = record r.fixed.banks { update_count = 0 };
         reset_count = min (r.fixed.reset_count + 1) (2 ^ 32 - 1);
         restart_count = 0;

@@ -19,7 +19,7 @@ pub struct Call<'a> {
 }
 
 impl Call<'_> {
-    ghost use Rattle.tpm_actions.specs.Request.{first_handle};
+    ghost use Rattle.tpm_actions.specs.Request.{first_handle, second_handle};
 
     /// The first handle of a command that has one.
     pub fn first_handle(&self) -> Result<Handle, Refused>
@@ -28,6 +28,16 @@ impl Call<'_> {
         match self.handles {
             [] => Err(Refused::by(Check::Handles, ResponseCode::Failure.anywhere())),
             [first, ..] => Ok(*first),
+        }
+    }
+
+    /// The second handle of a command that has two.
+    pub fn second_handle(&self) -> Result<Handle, Refused>
+        ensures { result ≡ second_handle self.now.handles.now }
+    {
+        match self.handles {
+            [_, second, ..] => Ok(*second),
+            _ => Err(Refused::by(Check::Handles, ResponseCode::Failure.anywhere())),
         }
     }
 }

@@ -9,11 +9,14 @@
 
 pub mod answer;
 pub mod call;
+pub mod flush_context;
 pub mod get_random;
+pub mod hierarchy_change_auth;
 mod pcr_change;
 pub mod pcr_event;
 pub mod pcr_extend;
 pub mod pcr_read;
 pub mod pcr_reset;
 mod reading;
+pub mod start_auth_session;
 pub mod startup;

@@ -1,5 +1,5 @@
 ghost use Rattle.std.specs.Prelude.{◌≡◌};
-ghost use Rattle.tpm_actions.specs.Rows.{all_read, parameter_refusal};
+ghost use Rattle.tpm_actions.specs.Rows.{all_read, memory_refused, parameter_refusal};
 
 use tpm_auth::check::Check;
 use tpm_auth::refused::Refused;
@@ -22,4 +22,11 @@ pub fn end(parameters: &Cursor) -> Result<(), Refused>
     } else {
         Err(Refused::by(Check::Parameters, ResponseCode::Size.anywhere()))
     }
+}
+
+/// The refusal where memory was refused.
+pub fn memory_refused() -> Refused
+    ensures { result ≡ memory_refused }
+{
+    Refused::by(Check::Memory, ResponseCode::Memory.anywhere())
 }

@@ -1,7 +1,7 @@
 ghost use Rattle.std.specs.Prelude.{◌≡◌};
 ghost use Rattle.tpm_actions.specs.Request.{request_of};
 ghost use Rattle.tpm_actions.specs.Rows.{Acts};
-ghost use Rattle.tpm_actions.specs.Startup.{lacks_state, startup_row};
+ghost use Rattle.tpm_actions.specs.Startup.{lacks_state, reset_hierarchies, startup_row};
 
 use crate::answer::Answer;
 use crate::call::Call;
@@ -10,9 +10,26 @@ use tpm_auth::check::{ActionCheck, Check};
 use tpm_auth::refused::Refused;
 use tpm_bytes::cursor::Cursor;
 use tpm_record::fixed::Saved;
+use tpm_record::hierarchy::{Hierarchies, Secrets};
 use tpm_record::keep::Keep;
+use tpm_types::auth_value::AuthValue;
+use tpm_types::handle::HierarchyAuth;
 use tpm_types::rc::ResponseCode;
 use tpm_types::startup_type::StartupType;
+
+/// How many random bytes a TPM Reset draws: a seed and a proof.
+const RESET_DRAWS: usize = 64;
+
+/// Empties platformAuth, and gives the null hierarchy a new seed and a new proof.
+fn reset_hierarchies(hierarchies: &mut Hierarchies, random: &[u8; 256])
+    ensures { hierarchies.new ≡ reset_hierarchies hierarchies.old random.now }
+{
+    hierarchies.set_auth_value(HierarchyAuth::Platform, AuthValue::empty());
+    let (mut seed, mut proof) = ([0; 32], [0; 32]);
+    seed.copy_from_slice(&random[..32]);
+    proof.copy_from_slice(&random[32..64]);
+    hierarchies.null = Secrets { seed, proof };
+}
 
 fn lacks_state(kind: StartupType, saved: Saved) -> bool
     ensures { result ≡ lacks_state kind saved }
@@ -38,8 +55,11 @@ pub fn startup<K: Keep>(keep: &mut K, call: &Call) -> Result<Answer, Refused>
     }
     fixed.started = true;
     fixed.saved = Saved::Nothing;
+    reset_hierarchies(&mut fixed.hierarchies, call.random);
     fixed.banks.restart_update_count();
     fixed.reset_count = fixed.reset_count.saturating_add(1);
     fixed.restart_count = 0;
-    Ok(Answer::empty())
+    let mut answer = Answer::empty();
+    answer.drawn = RESET_DRAWS;
+    Ok(answer)
 }

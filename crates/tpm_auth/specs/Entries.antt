@@ -1,39 +1,94 @@
--- The entries of an authorization area, each for itself. TPM 2.0 Library, Part 3, section 5.5 (session area validation).
-use Rattle.std.specs.Prelude.{ℕ, ◌+◌, ◌==◌, ◌||◌, nat_lt, List, [], ◌∷◌, length, if◌then◌else◌, Result, Ok, Err}
+-- The entries of an authorization area, each for itself. TPM 2.0 Library, Part 3, section 5.5 (session area validation),
+-- and Part 1, section 21.2 (which sessions encrypt).
+use Rattle.std.specs.Prelude.{ℕ, ◌+◌, ◌==◌, ◌||◌, ◌&&◌, not, nat_lt, Bool, true, false, List, [], ◌∷◌, ◌++◌, length, if◌then◌else◌, Option, is_none, Result, Ok, Err}
+use Rattle.std.specs.List.{list_any}
+use Rattle.std.specs.Option.{option_map_or}
 use Rattle.tpm_bytes.specs.Reading.{◌>>=◌, refused_if}
+use Rattle.tpm_session.specs.declared.session.Session.{Session}
+use Rattle.tpm_session.specs.Sessions.{session_at}
+use Rattle.tpm_types.specs.declared.command_code.CommandCode.{CommandCode}
 use Rattle.tpm_types.specs.declared.handle.SessionKind.{SessionKind}
-use Rattle.tpm_types.specs.declared.handle.SessionKind.TheVariants.{Password, Session, Other}
+use Rattle.tpm_types.specs.declared.handle.SessionKind.TheVariants as kind
 use Rattle.tpm_types.specs.declared.rc.Rc.{Rc}
+use Rattle.tpm_types.specs.declared.rc.ResponseCode.{ResponseCode}
 use Rattle.tpm_types.specs.declared.rc.ResponseCode.TheVariants as code
 use Rattle.tpm_types.specs.declared.rc.Place.TheVariants as place
+use Rattle.tpm_types.specs.declared.symmetric.SymmetricDefinition.{SymmetricDefinition}
+use Rattle.tpm_types.specs.declared.symmetric.SymmetricDefinition.TheVariants as symmetric
 use Rattle.tpm_types.specs.AuthEntry.{Entry, has_bits}
+use Rattle.tpm_types.specs.CommandCode.{authorized_handles, has_sized_parameter, shape_of}
 use Rattle.tpm_types.specs.Handle.{session_kind}
 use Rattle.tpm_types.specs.Rc.{at, plain}
+use Rattle.tpm_record.specs.Record.{Record}
+
+-- a fault of entry n
+abbrev pub entry_fault : ℕ → ResponseCode → Rc
+entry_fault n fault = at (place.Session n) (plain fault)
+
+-- the session that an entry names
+abbrev pub session_of : Record → Entry → Option Session
+session_of r e = session_at r.sessions e.session
+
+abbrev pub is_password : Entry → Bool
+is_password e = e.session.number == 0x4000_0009
+
+-- the attributes decrypt (bit 5) and encrypt (bit 6): the session decrypts the command's first parameter, or encrypts
+-- the response's
+abbrev pub decrypts : Entry → Bool
+decrypts e = has_bits 0x20 e.attributes
+
+abbrev pub encrypts : Entry → Bool
+encrypts e = has_bits 0x40 e.attributes
 
 -- the code for a session that is not there, in entry n
 abbrev pub reference_of : ℕ → Rc
 reference_of n = plain (if n == 1 then code.ReferenceS0 else (if n == 2 then code.ReferenceS1 else code.ReferenceS2))
 
--- whether there is what an entry's handle names: a password always is, and no session is yet
-abbrev pub kind_passes : ℕ → SessionKind → Result (Unit {0}) Rc
-kind_passes n Other = Err (at (place.Session n) (plain code.Value))
-kind_passes n Session = Err (reference_of n)
-kind_passes n Password = Ok tt
+-- whether there is what an entry's handle names: a password always is
+abbrev pub kind_passes : Record → ℕ → Entry → SessionKind → Result (Unit {0}) Rc
+kind_passes r n e kind.Other = Err (entry_fault n code.Value)
+kind_passes r n e kind.Session = refused_if (is_none (session_of r e)) (reference_of n)
+kind_passes r n e kind.Password = Ok tt
 
--- entry n of a command with so many handles that need authorization: the sizes, the handle, that it authorizes
--- something, the reserved bits 3 and 4, and the bits that a password may not have: auditExclusive 1,
--- auditReset 2, decrypt 5, encrypt 6, audit 7
-unfoldable pub entry_passes : ℕ → ℕ → Entry → Result (Unit {0}) Rc
-entry_passes authorized n e = do
-  sizes ← refused_if (nat_lt 32 (length e.nonce) || nat_lt 32 (length e.hmac)) (at (place.Session n) (plain code.Size))
-  kind ← kind_passes n (session_kind e.session)
-  authorizes ← refused_if (nat_lt authorized n) (at (place.Session n) (plain code.Handle))
-  reserved ← refused_if (has_bits 0x18 e.attributes) (at (place.Session n) (plain code.ReservedBits))
-  refused_if (has_bits 0xe6 e.attributes) (at (place.Session n) (plain code.Attributes))
+-- whether entry n names a session for the second time, or is a password that authorizes nothing
+abbrev pub is_misplaced : CommandCode → ℕ → List Entry → Entry → Bool
+is_misplaced c n before e =
+    if is_password e then nat_lt (authorized_handles c) n
+    else list_any (λ earlier. earlier.session.number == e.session.number) before
 
--- each entry, from the n-th on
-abbrev pub entries_pass : ℕ → ℕ → List Entry → Result (Unit {0}) Rc
-entries_pass authorized n [] = Ok tt
-entries_pass authorized n (e ∷ es) = do
-  this ← entry_passes authorized n e
-  entries_pass authorized (n + 1) es
+-- auditExclusive (1), auditReset (2) or audit (7); decrypt or encrypt on a password, for the second time, or where the
+-- first parameter of the command or of its answer is no sized buffer
+abbrev pub has_wrong_attributes : CommandCode → List Entry → Entry → Bool
+has_wrong_attributes c before e =
+    has_bits 0x86 e.attributes
+    || is_password e && has_bits 0x60 e.attributes
+    || decrypts e && (list_any decrypts before || not (has_sized_parameter c))
+    || encrypts e && (list_any encrypts before || not (shape_of c).sized_answer)
+
+abbrev is_null : SymmetricDefinition → Bool
+is_null symmetric.Null = true
+is_null symmetric.Aes128Cfb = false
+
+-- decrypt or encrypt by a session that has no symmetric algorithm
+abbrev pub lacks_cipher : Record → Entry → Bool
+lacks_cipher r e =
+    has_bits 0x60 e.attributes && option_map_or (λ (s : Session). is_null s.symmetric) (session_of r e) false
+
+-- an entry behind these others of its command: the sizes of its nonce and HMAC, its session, the reserved bits 3 and 4,
+-- the other attributes, the session's algorithm
+unfoldable pub entry_passes : Record → CommandCode → List Entry → Entry → Result (Unit {0}) Rc
+entry_passes r c before e = do
+  let n : ℕ = length before + 1
+  sizes ← refused_if (nat_lt 32 (length e.nonce) || nat_lt 32 (length e.hmac)) (entry_fault n code.Size)
+  kind ← kind_passes r n e (session_kind e.session)
+  misplaced ← refused_if (is_misplaced c n before e) (entry_fault n code.Handle)
+  reserved ← refused_if (has_bits 0x18 e.attributes) (entry_fault n code.ReservedBits)
+  attributes ← refused_if (has_wrong_attributes c before e) (entry_fault n code.Attributes)
+  refused_if (lacks_cipher r e) (entry_fault n code.Symmetric)
+
+-- each entry in order
+abbrev pub entries_pass : Record → CommandCode → (before entries : List Entry) → Result (Unit {0}) Rc
+entries_pass r c before [] = Ok tt
+entries_pass r c before (e ∷ es) = do
+  this ← entry_passes r c before e
+  entries_pass r c (before ++ e ∷ []) es

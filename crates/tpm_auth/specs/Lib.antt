@@ -1,4 +1,5 @@
 pub mod Check
 pub mod Refused
 pub mod Entries
+pub mod Hashes
 pub mod Grant

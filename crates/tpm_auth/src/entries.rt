@@ -1,22 +1,47 @@
-ghost use Rattle.std.specs.Prelude.{◌≡◌, ◌≤◌, length, map};
+ghost use Rattle.std.specs.Prelude.{◌≡◌, ◌+◌, ◌≤◌, ◌==◌, [], length, map};
+ghost use Rattle.std.specs.List.{list_any};
 ghost use Rattle.tpm_types.specs.AuthEntry.{entry_of};
-ghost use Rattle.tpm_auth.specs.Entries.{entries_pass, entry_passes, kind_passes, reference_of};
+ghost use Rattle.tpm_types.specs.Handle.{session_kind};
+ghost use Rattle.tpm_auth.specs.Entries.{decrypts, encrypts, entries_pass, entry_passes, has_wrong_attributes, is_misplaced, kind_passes, lacks_cipher, reference_of};
 
+use tpm_record::keep::Keep;
 use tpm_types::auth_entry::AuthEntry;
-use tpm_types::handle::SessionKind;
+use tpm_types::command_code::CommandCode;
+use tpm_types::handle::{Handle, SessionKind};
 use tpm_types::rc::{Rc, ResponseCode};
+use tpm_types::symmetric::SymmetricDefinition;
 
 /// The most bytes that an entry's nonce or HMAC may have.
 const MOST_DIGEST: usize = 32;
 
+/// The attribute by which a session decrypts the command's first parameter.
+const DECRYPT: u8 = 0x20;
+
+/// The attribute by which a session encrypts the response's first parameter.
+const ENCRYPT: u8 = 0x40;
+
 /// The reserved bits of the session attributes, 3 and 4.
 const RESERVED: u8 = 0x18;
 
-/// The bits that a password may not have: auditExclusive, auditReset, decrypt, encrypt and audit.
-const NOT_FOR_PASSWORDS: u8 = 0xe6;
+/// The attributes of audit sessions, which are not served: auditExclusive, auditReset and audit.
+const AUDIT: u8 = 0x86;
+
+/// Whether the entry's session decrypts the command's first parameter.
+pub fn decrypts(entry: &AuthEntry) -> bool
+    ensures { result ≡ decrypts (entry_of entry.now) }
+{
+    entry.attributes.has_any(DECRYPT)
+}
+
+/// Whether the entry's session encrypts the response's first parameter.
+pub fn encrypts(entry: &AuthEntry) -> bool
+    ensures { result ≡ encrypts (entry_of entry.now) }
+{
+    entry.attributes.has_any(ENCRYPT)
+}
 
 /// The code for an absent session in this entry.
-fn reference(number: u8) -> Rc
+pub fn reference_of(number: u8) -> Rc
     ensures { result ≡ reference_of number }
 {
     match number {
@@ -26,46 +51,122 @@ fn reference(number: u8) -> Rc
     }
 }
 
-fn check_kind(number: u8, kind: SessionKind) -> Result<(), Rc>
-    ensures { result ≡ kind_passes number kind }
+fn check_kind<K: Keep>(keep: &K, number: u8, entry: &AuthEntry) -> Result<(), Rc>
+    ensures { result ≡ kind_passes (K.record_of keep.now) number (entry_of entry.now)
+        (session_kind entry.now.session) }
 {
-    match kind {
+    match entry.session.session_kind() {
         SessionKind::Other => Err(ResponseCode::Value.anywhere().at_session(number)),
-        SessionKind::Session => Err(reference(number)),
+        SessionKind::Session => match keep.sessions().get(entry.session) {
+            Some(_) => Ok(()),
+            None => Err(reference_of(number)),
+        },
         SessionKind::Password => Ok(()),
     }
 }
 
-#[tactic(auto, unfolding(crate::specs::Entries::entry_passes))]
-fn check_entry(authorized: usize, number: u8, entry: &AuthEntry) -> Result<(), Rc>
-    ensures { result ≡ entry_passes authorized number (entry_of entry.now) }
+/// Whether one of these entries names the session.
+fn names_session(entries: &[AuthEntry], session: Handle) -> bool
+    ensures { result ≡ list_any (λ earlier. earlier.session.number == session.number)
+        (map entry_of entries.now) }
 {
+    match entries {
+        [first, others @ ..] => {
+            first.session.number == session.number || names_session(others, session)
+        }
+        [] => false,
+    }
+}
+
+/// Whether one of these entries decrypts.
+pub fn any_decrypts(entries: &[AuthEntry]) -> bool
+    ensures { result ≡ list_any decrypts (map entry_of entries.now) }
+{
+    match entries {
+        [first, others @ ..] => decrypts(first) || any_decrypts(others),
+        [] => false,
+    }
+}
+
+fn any_encrypts(entries: &[AuthEntry]) -> bool
+    ensures { result ≡ list_any encrypts (map entry_of entries.now) }
+{
+    match entries {
+        [first, others @ ..] => encrypts(first) || any_encrypts(others),
+        [] => false,
+    }
+}
+
+fn is_misplaced(code: CommandCode, number: u8, before: &[AuthEntry], entry: &AuthEntry) -> bool
+    ensures { result ≡ is_misplaced code number (map entry_of before.now) (entry_of entry.now) }
+{
+    if entry.session == Handle::PASSWORD {
+        code.authorized_handles() < usize::from(number)
+    } else {
+        names_session(before, entry.session)
+    }
+}
+
+fn has_wrong_attributes(code: CommandCode, before: &[AuthEntry], entry: &AuthEntry) -> bool
+    ensures { result ≡ has_wrong_attributes code (map entry_of before.now) (entry_of entry.now) }
+{
+    let is_password = entry.session == Handle::PASSWORD;
+    entry.attributes.has_any(AUDIT)
+        || is_password && entry.attributes.has_any(DECRYPT | ENCRYPT)
+        || decrypts(entry) && (any_decrypts(before) || !code.has_sized_parameter())
+        || encrypts(entry) && (any_encrypts(before) || !code.shape().sized_answer)
+}
+
+fn lacks_cipher<K: Keep>(keep: &K, entry: &AuthEntry) -> bool
+    ensures { result ≡ lacks_cipher (K.record_of keep.now) (entry_of entry.now) }
+{
+    if !entry.attributes.has_any(DECRYPT | ENCRYPT) {
+        return false;
+    }
+    match keep.sessions().get(entry.session) {
+        Some(session) => session.symmetric == SymmetricDefinition::Null,
+        None => false,
+    }
+}
+
+#[tactic(auto, unfolding(crate::specs::Entries::entry_passes))]
+fn check_entry<K: Keep>(
+    keep: &K,
+    code: CommandCode,
+    before: &[AuthEntry],
+    entry: &AuthEntry,
+) -> Result<(), Rc>
+    requires { length before.now ≤ 2 }
+    ensures { result ≡ entry_passes (K.record_of keep.now) code (map entry_of before.now)
+        (entry_of entry.now) }
+{
+    let number = before.len() as u8 + 1;
     if entry.nonce.len() > MOST_DIGEST || entry.hmac.len() > MOST_DIGEST {
         return Err(ResponseCode::Size.anywhere().at_session(number));
     }
-    check_kind(number, entry.session.session_kind())?;
-    if authorized < usize::from(number) {
+    check_kind(keep, number, entry)?;
+    if is_misplaced(code, number, before, entry) {
         return Err(ResponseCode::Handle.anywhere().at_session(number));
     }
     if entry.attributes.has_any(RESERVED) {
         return Err(ResponseCode::ReservedBits.anywhere().at_session(number));
     }
-    if entry.attributes.has_any(NOT_FOR_PASSWORDS) {
+    if has_wrong_attributes(code, before, entry) {
         return Err(ResponseCode::Attributes.anywhere().at_session(number));
+    }
+    if lacks_cipher(keep, entry) {
+        return Err(ResponseCode::Symmetric.anywhere().at_session(number));
     }
     Ok(())
 }
 
-/// Checks each entry of a command with so many handles that need authorization; the first fault is
-/// answered.
-pub fn check_entries(authorized: usize, entries: &[AuthEntry]) -> Result<(), Rc>
+/// Checks each entry of a command for itself; the first fault is answered.
+pub fn check_entries<K: Keep>(keep: &K, code: CommandCode, entries: &[AuthEntry]) -> Result<(), Rc>
     requires { length entries.now ≤ 3 }
-    ensures { result ≡ entries_pass authorized 1 (map entry_of entries.now) }
+    ensures { result ≡ entries_pass (K.record_of keep.now) code [] (map entry_of entries.now) }
 {
-    let mut number = 1;
-    for entry in entries {
-        check_entry(authorized, number, entry)?;
-        number += 1;
+    for index in 0..entries.len() {
+        check_entry(keep, code, &entries[..index], &entries[index])?;
     }
     Ok(())
 }

@@ -1,19 +1,27 @@
-ghost use Rattle.std.specs.Prelude.{◌≡◌, ◌==◌, ◌+◌, ◌≤◌, nat_eq, IfOk, length, map};
+ghost use Rattle.std.specs.Prelude.{◌≡◌, ◌==◌, ◌+◌, ◌≤◌, nat_eq, [], IfOk, length, map};
 ghost use Rattle.std.specs.Cmp.Lexicographic.{pointwise};
 ghost use Rattle.std.specs.List.{list_all};
+ghost use Rattle.tpm_bytes.specs.Reading.{sized_at};
 ghost use Rattle.tpm_types.specs.AuthEntry.{entry_of};
 ghost use Rattle.tpm_types.specs.Command.{whole_of};
-ghost use Rattle.tpm_auth.specs.Grant.{IsGranted, authorize, grant, grants_of, grants_pass, is_password_of};
+ghost use Rattle.tpm_record.specs.Entity.{name_of};
+ghost use Rattle.tpm_auth.specs.Grant.{IsGranted, authorize, grant, grants_of, grants_pass, hashed_command, is_cut, is_password_of, password_grant};
 
 use crate::check::Check;
-use crate::entries::check_entries;
+use crate::entries::{any_decrypts, check_entries, reference_of};
+use crate::hashes::CommandHashes;
 use crate::refused::Refused;
-use tpm_record::entity::auth_value_of;
+use crate::session_grant::{check_of, check_session, failure};
+use arrayvec::ArrayVec;
+use tpm_bytes::cursor::Cursor;
+use tpm_name::Name;
+use tpm_record::entity::{auth_value_of, name_of, protection_of};
 use tpm_record::keep::Keep;
+use tpm_session::session::Protection;
 use tpm_types::auth_entry::AuthEntry;
-use tpm_types::handle::Handle;
+use tpm_types::handle::{Handle, SessionKind};
 use tpm_types::locality::Locality;
-use tpm_types::rc::{Rc, ResponseCode};
+use tpm_types::rc::ResponseCode;
 use tpm_types::whole_command::Command;
 
 /// What the entries of a command authorize: the n-th entry the n-th of these handles, and an entry
@@ -46,41 +54,103 @@ fn is_password_of(value: &[u8], password: &[u8]) -> bool
     is_same(front, value) && is_zeros(rest)
 }
 
-/// Checks that an entry of this number authorizes a handle: BAD_AUTH where the password is another.
-#[tactic(auto, unfolding(crate::specs::Grant::grant))]
-fn check_grant<K: Keep>(keep: &K, number: u8, handle: Handle, entry: &AuthEntry) -> Result<(), Rc>
-    ensures { result ≡ grant (K.record_of keep.now) number handle (entry_of entry.now) }
+/// Checks that the entry of this number is a password for the handle that it authorizes.
+#[tactic(auto, unfolding(crate::specs::Grant::password_grant))]
+fn check_password<K: Keep>(
+    keep: &K,
+    number: u8,
+    used: Option<Handle>,
+    entry: &AuthEntry,
+) -> Result<(), Refused>
+    ensures { result ≡ password_grant (K.record_of keep.now) number used (entry_of entry.now) }
 {
-    if is_password_of(auth_value_of(keep, handle), entry.hmac) {
+    let (value, protection) = match used {
+        Some(handle) => (auth_value_of(keep, handle), protection_of(handle)),
+        None => (&[][..], Protection::None),
+    };
+    if is_password_of(value, entry.hmac) {
         Ok(())
     } else {
-        Err(ResponseCode::BadAuth.anywhere().at_session(number))
+        Err(failure(check_of(used), number, protection))
     }
 }
 
-/// Checks each handle by the entry of its place, of which the first has this number; the first handle
-/// that is not authorized is answered.
+/// Checks the entry of this number, which authorizes this handle, or none.
+#[tactic(auto, unfolding(crate::specs::Grant::grant))]
+fn check_grant<K: Keep>(
+    keep: &K,
+    command: &Command,
+    hashes: &mut CommandHashes,
+    number: u8,
+    used: Option<Handle>,
+    entry: &AuthEntry,
+) -> Result<(), Refused>
+    requires { hashes.old ≡ hashed_command (K.record_of keep.now) (whole_of command.now) }
+    ensures value { result ≡ grant (K.record_of keep.now) (whole_of command.now) number used
+        (entry_of entry.now) }
+    ensures same { hashes.new ≡ hashes.old }
+{
+    match entry.session.session_kind() {
+        SessionKind::Password => check_password(keep, number, used, entry),
+        SessionKind::Session => match keep.sessions().get(entry.session) {
+            Some(session) => check_session(keep, command, hashes, number, used, entry, session),
+            None => Err(Refused::by(Check::Entries, reference_of(number))),
+        },
+        SessionKind::Other => {
+            let rc = ResponseCode::Value.anywhere().at_session(number);
+            Err(Refused::by(Check::Entries, rc))
+        }
+    }
+}
+
+/// Checks each handle by the entry of its place, of which the first has this number, and then the other
+/// entries; the first that fails is answered.
 fn check_grants<K: Keep>(
     keep: &K,
+    command: &Command,
+    hashes: &mut CommandHashes,
     number: u8,
     handles: &[Handle],
     entries: &[AuthEntry],
-) -> Result<(), Rc>
-    requires { number + length handles.now ≤ 255 }
-    ensures { result ≡ grants_pass (K.record_of keep.now) number handles.now (map entry_of entries.now) }
+) -> Result<(), Refused>
+    requires hashed { hashes.old ≡ hashed_command (K.record_of keep.now) (whole_of command.now) }
+    requires few { number + length entries.now ≤ 255 }
+    ensures { result ≡ grants_pass (K.record_of keep.now) (whole_of command.now) number handles.now
+        (map entry_of entries.now) }
 {
-    let [handle, handles @ ..] = handles else {
-        return Ok(());
-    };
     let [entry, entries @ ..] = entries else {
         return Ok(());
     };
-    check_grant(keep, number, *handle, entry)?;
-    check_grants(keep, number + 1, handles, entries)
+    let (used, handles) = match handles {
+        [handle, others @ ..] => (Some(*handle), others),
+        [] => (None, handles),
+    };
+    check_grant(keep, command, hashes, number, used, entry)?;
+    check_grants(keep, command, hashes, number + 1, handles, entries)
+}
+
+/// Whether the first parameter, a sized buffer, is not all there.
+fn is_cut(parameters: &[u8]) -> bool
+    ensures { result ≡ is_cut (sized_at 0xffff parameters.now) }
+{
+    Cursor::new(parameters).sized(0xffff).is_err()
+}
+
+/// The Names of a command's handles.
+fn names_of<K: Keep>(keep: &K, handles: &[Handle]) -> ArrayVec<Name, 3>
+    requires { length handles.now ≤ 3 }
+    ensures { result.items ≡ map (name_of (K.record_of keep.now)) handles.now }
+{
+    let mut names = ArrayVec::new();
+    for handle in handles {
+        names.push(name_of(keep, *handle));
+    }
+    names
 }
 
 /// Checks the entries of a command, and by them the handles that need authorization: first each
-/// entry for itself, then that there are enough, then each handle.
+/// entry for itself, then that there are enough, then each handle and each other entry, and last that
+/// what a session decrypts is there.
 #[tactic(auto, unfolding(crate::specs::Grant::authorize))]
 pub fn authorize<'a, K: Keep>(
     keep: &K,
@@ -93,11 +163,18 @@ pub fn authorize<'a, K: Keep>(
     let entries = command.entries.as_slice();
     let count = command.code.authorized_handles();
     let handles = &command.handles.as_slice()[..count];
-    check_entries(count, entries).map_err(|rc| Refused::by(Check::Entries, rc))?;
+    check_entries(keep, command.code, entries).map_err(|rc| Refused::by(Check::Entries, rc))?;
     if entries.len() < count {
         let rc = ResponseCode::AuthMissing.anywhere();
         return Err(Refused::by(Check::Entries, rc));
     }
-    check_grants(keep, 1, handles, entries).map_err(|rc| Refused::by(Check::Authorization, rc))?;
+    let names = names_of(keep, command.handles.as_slice());
+    let code = command.code.number();
+    let mut hashes = CommandHashes::new(code, names.as_slice(), command.parameters);
+    check_grants(keep, command, &mut hashes, 1, handles, entries)?;
+    if any_decrypts(entries) && is_cut(command.parameters) {
+        let rc = ResponseCode::Insufficient.anywhere().at_parameter(1);
+        return Err(Refused::by(Check::Others, rc));
+    }
     Ok(Grants { handles })
 }

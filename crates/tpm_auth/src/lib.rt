@@ -9,6 +9,8 @@
 //! tpm_record, and promises the definitions of `specs/` for each way of keeping the record.
 
 pub mod check;
-mod entries;
+pub mod entries;
 pub mod grant;
+mod hashes;
 pub mod refused;
+pub mod session_grant;

@@ -1,7 +1,50 @@
--- The header of a response that has nothing behind it.
-use Rattle.std.proofs.Common.{◌≡◌, ℕ, List, [], ◌++◌, ap, append-nil}
+-- The header of a response that has nothing behind it, and the response to a command that has entries.
+use Rattle.std.proofs.Common.{arith, ◌≡◌, ◌≤◌, ℕ, List, [], ◌∷◌, ◌++◌, drop, length, Option, ap, append-nil, refl, sym, ◌∙◌}
 use Rattle.std.specs.Int.{w16, w32, to_be_bytes}
-use Rattle.tpm_machine.specs.Answer.{framed}
+use Rattle.tpm_types.specs.declared.handle.Handle.{Handle}
+use Rattle.tpm_types.specs.AuthEntry.{Entry}
+use Rattle.tpm_types.specs.Command.{Whole}
+use Rattle.tpm_record.specs.Record.{Record}
+use Rattle.tpm_actions.specs.Rows.{Success}
+use Rattle.tpm_machine.specs.Answer.{answer_to, framed, handle_answer, success_text}
+use Rattle.tpm_machine.specs.Entries.{entries_answer, entries_ended, entries_rolled}
+use Rattle.tpm_machine.specs.Parameters.{encrypted_answer}
 
 pub framed_alone : (tag code : ℕ) → framed tag code [] ≡ to_be_bytes w16 tag ++ to_be_bytes w32 10 ++ to_be_bytes w32 code
 framed_alone tag code = ap (λ (l : List ℕ). to_be_bytes w16 tag ++ to_be_bytes w32 10 ++ l) (append-nil (to_be_bytes w32 code))
+
+-- the response to a command that has entries
+success_some : (entries : List Entry) (handle : Option Handle) (answer area : List ℕ) → 1 ≤ length entries → success_text entries handle answer area ≡ framed 0x8002 0 (handle_answer handle ++ to_be_bytes w32 (length answer) ++ answer ++ area)
+unfolding success_text
+success_some [] handle answer area some = absurd (let none : ⊥ = omega arith in none)
+success_some (entry ∷ entries) handle answer area some = refl
+
+-- its three passes, and then its text
+answered_by : (c : Whole) (handles : List Handle) (s : Success) (random : List ℕ) (mid after : Record) (left parameters area text : List ℕ) → 1 ≤ length c.entries
+    → entries_rolled s.after c.entries (drop s.drawn random) ≡ record { after = mid; left = left }
+    → parameters ≡ encrypted_answer mid handles c.entries s.answer
+    → area ≡ entries_answer mid c.code parameters handles c.entries
+    → text ≡ framed 0x8002 0 (handle_answer s.handle ++ to_be_bytes w32 (length parameters) ++ parameters ++ area)
+    → after ≡ entries_ended mid c.entries
+    → record { response = text; after = after } ≡ answer_to c handles s random
+unfolding answer_to
+answered_by c handles s random mid after left parameters area text some rolled encrypted answered spelled ended =
+    let texts : text ≡ success_text c.entries s.handle parameters area = spelled ∙ sym (success_some c.entries s.handle parameters area some) in
+    rw (rolled, ← encrypted, ← answered) (λ i. record { response = texts i; after = ended i })
+
+-- the same of what stands in its variables
+pub answered_with : (c : Whole) (handles : List Handle) (s : Success) (random : List ℕ) (mid after : Record) (entries : List Entry) (used : List Handle) (draws left plain parameters sent area text : List ℕ) → 1 ≤ length c.entries
+    → entries ≡ c.entries → used ≡ handles → draws ≡ drop s.drawn random → plain ≡ s.answer → sent ≡ parameters
+    → entries_rolled s.after entries draws ≡ record { after = mid; left = left }
+    → parameters ≡ encrypted_answer mid used entries plain
+    → area ≡ entries_answer mid c.code sent used entries
+    → text ≡ framed 0x8002 0 (handle_answer s.handle ++ to_be_bytes w32 (length sent) ++ sent ++ area)
+    → after ≡ entries_ended mid entries
+    → record { response = text; after = after } ≡ answer_to c handles s random
+answered_with c handles s random mid after entries used draws left plain parameters sent area text some entered granted drawn planned whole rolled encrypted answered spelled ended =
+    answered_by c handles s random mid after left sent area text some
+    (rw (← entered, ← drawn) rolled)
+    (rw (← entered, ← granted, ← planned) (whole ∙ encrypted))
+    (rw (← entered, ← granted) answered)
+    spelled
+    (rw (← entered) ended)

@@ -1,6 +1,13 @@
 -- What the general checks decode is what the whole buffer spells.
-use Rattle.std.proofs.Common.{◌≡◌, ℕ, not, List, [], ◌∷◌, ◌+◌, length, Result, Ok, Err, IfOk, ap, ◌∙◌}
+use Rattle.std.proofs.Common.{arith, refl, sym, cond, Bool, true, false, Some, None, ◌≤◌, ◌*◌, ◌≡◌, ℕ, not, List, [], ◌∷◌, ◌+◌, length, Result, Ok, Err, IfOk, ap, ◌∙◌}
+use Rattle.std.proofs.lemmas.Bool.{false≢true}
+use Rattle.std.specs.Prelude.{◌||◌}
+use Rattle.std.specs.List.{list_any}
 use Rattle.std.specs.Int.{w32}
+use Rattle.tpm_bytes.proofs.Fields.{AreBytes}
+use Rattle.tpm_types.proofs.CommandLaws.{command_size-is, command_takes, length-body}
+use Rattle.tpm_auth.specs.Entries.{decrypts}
+use Rattle.tpm_machine.specs.Parameters.{decrypted_by, plain_parameters}
 use Rattle.tpm_bytes.specs.Many.{each_at}
 use Rattle.tpm_bytes.specs.Reading.{◌>>=◌, number_at, or_fault, refused_if}
 use Rattle.tpm_bytes.proofs.Fields.{bind_ok, ok_is}
@@ -14,18 +21,19 @@ use Rattle.tpm_types.specs.declared.rc.Place.TheVariants as place
 use Rattle.tpm_types.specs.declared.shape.HandleRule.{HandleRule}
 use Rattle.tpm_types.specs.AuthEntry.{Entry}
 use Rattle.tpm_types.specs.declared.whole_command.Command.{Command}
-use Rattle.tpm_types.specs.Command.{Whole, command_at, handles_at, sessions_at, whole_of}
-use Rattle.tpm_types.specs.HandleArea.{allowed_handle_at, allowed_handles_at, handle_fault, numbered}
+use Rattle.tpm_types.specs.Command.{Whole, body_text, command_at, command_size, handles_at, sessions_at, sessions_text, whole_of}
+use Rattle.tpm_types.specs.HandleArea.{allowed_handle_at, handle_fault, numbered}
 use Rattle.tpm_types.specs.Header.{header_at}
 use Rattle.tpm_types.specs.Rc.{at, plain}
 use Rattle.tpm_types.specs.CommandCode.{shape_of}
 use Rattle.tpm_types.specs.Shape.{is_of_kind}
+use Rattle.tpm_record.specs.Entity.{absence_rc, is_present}
 use Rattle.tpm_record.specs.Record.{Record}
 use Rattle.tpm_auth.specs.Refused.{checked, refusal}
 use Rattle.tpm_auth.specs.declared.check.Check.{Check}
 use Rattle.tpm_auth.specs.declared.check.Check.TheVariants as check
 use Rattle.tpm_auth.specs.declared.refused.Refused.{Refused}
-use Rattle.tpm_machine.specs.General.{Decodes, body_of, both_or_neither, general, in_command, in_header, is_startup, sessions_pass}
+use Rattle.tpm_machine.specs.General.{Decodes, present_handle_at, present_handles_at, body_of, both_or_neither, general, in_command, in_header, is_startup, sessions_pass}
 use Rattle.tpm_machine.specs.declared.general.Refusal.{Refusal}
 
 checked_ok : {X : Type 0} (check : Check) (x : Result X Rc) (y : X) → checked check x ≡ Ok y → x ≡ Ok y
@@ -51,13 +59,21 @@ handle_reads n rule text y e =
     let made : Handle × List ℕ = (numbered a.0.0, a.0.1) in
     a.1 ∙ ap (λ (z : Handle × List ℕ). let r : Result (ℕ × List ℕ) Rc = Ok (z.0.number, z.1) in r) (ok_is {E = Rc} made y b.2)
 
+-- and that it is there says nothing of how it is spelled
+present_reads : (r : Record) (n : ℕ) (rule : HandleRule) (text : List ℕ) (y : Handle × List ℕ) → present_handle_at r n rule text ≡ Ok y → allowed_handle_at n rule text ≡ Ok y
+unfolding present_handle_at
+present_reads r n rule text y e =
+    let a = bind_ok (allowed_handle_at n rule text) (λ handle. refused_if (not (is_present r handle.0)) (absence_rc n handle.0) >>= λ present. Ok handle) y e in
+    let b = bind_ok (refused_if (not (is_present r a.0.0)) (absence_rc n a.0.0)) (λ present. Ok a.0) y a.2 in
+    a.1 ∙ ap (λ (z : Handle × List ℕ). let r : Result (Handle × List ℕ) Rc = Ok z in r) (ok_is {E = Rc} a.0 y b.2)
+
 -- handles as rules want them are as many handles as there are rules
-handles_read : (n : ℕ) (rules : List HandleRule) (text : List ℕ) (y : List Handle × List ℕ) → each_at allowed_handle_at n rules text ≡ Ok y → handles_at n (length rules) text ≡ Ok y
-handles_read n [] text y e = e
-handles_read n (rule ∷ rules) text y e =
-    let a = bind_ok (allowed_handle_at n rule text) (λ first. each_at allowed_handle_at (n + 1) rules first.1 >>= λ others. Ok (first.0 ∷ others.0, others.1)) y e in
-    let b = bind_ok (each_at allowed_handle_at (n + 1) rules a.0.1) (λ others. Ok (a.0.0 ∷ others.0, others.1)) y a.2 in
-    rw (handle_reads n rule text a.0 a.1, handles_read (n + 1) rules a.0.1 b.0 b.1) b.2
+handles_read : (r : Record) (n : ℕ) (rules : List HandleRule) (text : List ℕ) (y : List Handle × List ℕ) → each_at (present_handle_at r) n rules text ≡ Ok y → handles_at n (length rules) text ≡ Ok y
+handles_read r n [] text y e = e
+handles_read r n (rule ∷ rules) text y e =
+    let a = bind_ok (present_handle_at r n rule text) (λ first. each_at (present_handle_at r) (n + 1) rules first.1 >>= λ others. Ok (first.0 ∷ others.0, others.1)) y e in
+    let b = bind_ok (each_at (present_handle_at r) (n + 1) rules a.0.1) (λ others. Ok (a.0.0 ∷ others.0, others.1)) y a.2 in
+    rw (handle_reads n rule text a.0 (present_reads r n rule text a.0 a.1), handles_read r (n + 1) rules a.0.1 b.0 b.1) b.2
 
 -- what the general checks decode is the command that is read, and nothing is left behind it
 general_reads : (r : Record) (buffer : List ℕ) (c : Whole) → general r buffer ≡ Ok c → command_at buffer ≡ Ok (c, [])
@@ -71,17 +87,42 @@ general_reads r buffer c e =
     let made : List Handle × List ℕ → List Entry × List ℕ → Whole = λ handles entries. record { code = number; handles = handles.0; entries = entries.0; parameters = entries.1 } in
     let entries_in : List Handle × List ℕ → Result Whole Refused = λ handles. checked check.Entries (sessions_at tag handles.1) >>= λ entries. Ok (made handles entries) in
     let behind_handles : List Handle × List ℕ → Result Whole Refused = λ handles. sessions_pass number tag >>= λ g7. entries_in handles in
-    let handles_in = checked check.Handles (allowed_handles_at number text) in
+    let handles_in = checked check.Handles (present_handles_at r number text) in
     let g5 = bind_ok (refused_if (both_or_neither r.fixed.started (is_startup number)) (refusal check.Started (plain code.Initialize))) (λ g5. handles_in >>= behind_handles) c body in
     let handles = bind_ok handles_in behind_handles c g5.2 in
     let g7 = bind_ok (sessions_pass number tag) (λ g7. entries_in handles.0) c handles.2 in
     let entries = bind_ok (checked check.Entries (sessions_at tag handles.0.1)) (λ entries. Ok (made handles.0 entries)) c g7.2 in
     rw (
       header_ok (header_at buffer) h.0 h.1,
-      handles_read 1 (shape_of number).handles text handles.0 (checked_ok check.Handles (allowed_handles_at number text) handles.0 handles.1),
+      handles_read r 1 (shape_of number).handles text handles.0 (checked_ok check.Handles (present_handles_at r number text) handles.0 handles.1),
       checked_ok check.Entries (sessions_at tag handles.0.1) entries.0 entries.1,
     ) (ap (λ (z : Whole). let done : Result (Whole × List ℕ) Rc = Ok (z, []) in done) (ok_is {E = Refused} (made handles.0 entries.0) c entries.2))
 
 pub decodes_reads : (r : Record) (buffer : List ℕ) (result : Result Command Refusal) → Decodes (general r buffer) result → IfOk result (λ command. command_at buffer ≡ Ok (whole_of command, []))
 decodes_reads r buffer (Ok command) decoded = general_reads r buffer (whole_of command) decoded
 decodes_reads r buffer (Err e) decoded = tt
+
+short_of : (c : Whole) → command_size c ≤ 4096 → length c.parameters ≤ 4096
+short_of c small =
+    let size : command_size c ≡ 10 + length (body_text c) = command_size-is c in
+    let body : length (body_text c) ≡ 4 * length c.handles + length (sessions_text c.entries) + length c.parameters = length-body c in
+    omega (arith, size, body)
+
+-- and its parameters are no longer than a whole buffer
+pub decodes_short : (r : Record) (buffer : List ℕ) (result : Result Command Refusal) → AreBytes buffer → Decodes (general r buffer) result → IfOk result (λ command. length command.parameters.now ≤ 4096)
+decodes_short r buffer (Ok command) fits decoded =
+    short_of (whole_of command) (command_takes buffer (whole_of command, []) fits (general_reads r buffer (whole_of command) decoded)).0.size
+decodes_short r buffer (Err e) fits decoded = tt
+
+-- where nothing decrypts, the plain parameters are those that were sent
+
+not_decrypted : (first others : Bool) (by_first by_others text : List ℕ) → (first || others) ≡ false → (others ≡ false → by_others ≡ text) → cond first by_first by_others ≡ text
+not_decrypted true others by_first by_others text none rest = absurd (false≢true (sym none))
+not_decrypted false others by_first by_others text none rest = rest none
+
+pub plain_as_sent : (r : Record) (handles : List Handle) (entries : List Entry) (text : List ℕ) → list_any decrypts entries ≡ false → plain_parameters r handles entries text ≡ text
+plain_as_sent r handles [] text none = refl
+plain_as_sent r [] (e ∷ es) text none =
+    not_decrypted (decrypts e) (list_any decrypts es) (decrypted_by r None e text) (plain_parameters r [] es text) text none (λ others. plain_as_sent r [] es text others)
+plain_as_sent r (handle ∷ handles) (e ∷ es) text none =
+    not_decrypted (decrypts e) (list_any decrypts es) (decrypted_by r (Some handle) e text) (plain_parameters r handles es text) text none (λ others. plain_as_sent r handles es text others)

@@ -2,3 +2,4 @@ pub mod Running
 pub mod Refusals
 pub mod Answering
 pub mod Decoding
+pub mod Accepting

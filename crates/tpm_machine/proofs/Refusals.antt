@@ -1,29 +1,67 @@
 -- A refusal is ten bytes, and changes nothing but the time.
-use Rattle.std.proofs.Common.{◌≡◌, ◌≢◌, length, Bool, Result, Ok, Err, refl, inl}
+use Rattle.std.proofs.Common.{◌≡◌, ◌≢◌, ℕ, List, length, Bool, true, false, cond, Result, Ok, Err, refl, ap, sym, ◌∙◌}
+use Rattle.std.proofs.lemmas.Bool.{false≢true}
+use Rattle.tpm_types.specs.Command.{Whole}
+use Rattle.tpm_types.specs.CommandCode.{code_number, shape_of}
 use Rattle.tpm_record.specs.Record.{Record}
 use Rattle.tpm_record.specs.Tick.{ticked}
+use Rattle.tpm_auth.specs.declared.refused.Refused.{Refused}
 use Rattle.tpm_auth.specs.declared.refused.Counted.{Counted}
+use Rattle.tpm_auth.specs.declared.refused.Counted.TheVariants as counted
 use Rattle.tpm_machine.specs.Events.{Happening, Given, Cycled}
+use Rattle.tpm_machine.specs.General.{in_command}
 use Rattle.tpm_machine.specs.Safe.{IsHarmless}
-use Rattle.tpm_machine.specs.Step.{Accepted, Stepped, Steps, accepted, answer_of, counted_in, step}
+use Rattle.tpm_machine.specs.Step.{Accepted, Answers, RefusesOrStarves, Stepped, Steps, refusal_step, accepted, answer_of, counted_in, starved, starved_answer, step, step_where, success_step}
 use Rattle.tpm_machine.specs.declared.general.Refusal.{Refusal}
 
 -- the same of a record whose time has passed
 abbrev LeavesRecord : Record → Stepped → Type 0
 LeavesRecord r x = x.row.check ≢ 0 → (length x.response ≡ 10) × (counted : Counted) × (x.after ≡ counted_in counted r)
 
-answer_leaves : (r : Record) (a : Result Accepted Refusal) → LeavesRecord r (answer_of r a)
-answer_leaves r (Ok a) refused = absurd (refused refl)
-answer_leaves r (Err e) refused = (refl, e.refused.counted, refl)
+answer_leaves : (r : Record) (random : List ℕ) (a : Result Accepted Refusal) → LeavesRecord r (answer_of r random a)
+answer_leaves r random (Ok a) refused = absurd (refused refl)
+answer_leaves r random (Err e) refused = (refl, e.refused.counted, refl)
 
-step_harmless : (r : Record) (event : Happening) → IsHarmless r event (step r event)
-step_harmless r (Given buffer locality elapsed random) =
-    answer_leaves (ticked r elapsed) (accepted (ticked r elapsed) buffer locality random)
-step_harmless r Cycled = λ refused. absurd (refused refl)
+-- MEMORY is such a refusal too
+starved_leaves : (grows : Bool) (r : Record) (random : List ℕ) (a : Accepted) → LeavesRecord r (cond grows (starved r a.command) (success_step a random))
+starved_leaves true r random a refused = (refl, counted.None, refl)
+starved_leaves false r random a refused = absurd (refused refl)
 
-pub step_harmless_seen : (r : Record) (event : Happening) (x : Stepped) → x ≡ step r event → IsHarmless r event x
-step_harmless_seen r event x e = rw e (step_harmless r event)
+starved_answer_leaves : (r : Record) (random : List ℕ) (a : Result Accepted Refusal) → LeavesRecord r (starved_answer r random a)
+starved_answer_leaves r random (Ok a) refused = starved_leaves (shape_of a.command.code).grows r random a refused
+starved_answer_leaves r random (Err e) refused = (refl, e.refused.counted, refl)
 
--- what is exactly the step is the step, whether memory can be refused or not
+step_harmless : (refused : Bool) (r : Record) (event : Happening) → IsHarmless r event (step_where refused r event)
+step_harmless false r (Given buffer locality elapsed random) =
+    answer_leaves (ticked r elapsed) random (accepted (ticked r elapsed) buffer locality random)
+step_harmless false r Cycled = λ refused. absurd (refused refl)
+step_harmless true r (Given buffer locality elapsed random) =
+    starved_answer_leaves (ticked r elapsed) random (accepted (ticked r elapsed) buffer locality random)
+step_harmless true r Cycled = λ refused. absurd (refused refl)
+
+pub steps_harmless : (can : Bool) (r : Record) (event : Happening) (x : Stepped) → Steps can r event x → IsHarmless r event x
+steps_harmless can r event x (refused, only, is) = rw is (step_harmless refused r event)
+
+-- what is exactly the step is a step to which no memory was refused
 pub steps_exactly : (can : Bool) (r : Record) (event : Happening) (x : Stepped) → x ≡ step r event → Steps can r event x
-steps_exactly can r event x e = inl e
+steps_exactly can r event x e = (false, λ t. absurd (false≢true t), e)
+
+-- and an answer that is exactly the command's
+pub answers_exactly : (can : Bool) (r : Record) (random : List ℕ) (a : Result Accepted Refusal) (x : Stepped) → x ≡ answer_of r random a → Answers can r random a x
+answers_exactly can r random a x e = (false, λ t. absurd (false≢true t), e)
+
+starved_grows : (grows : Bool) (r : Record) (random : List ℕ) (a : Accepted) → grows ≡ true → starved r a.command ≡ cond grows (starved r a.command) (success_step a random)
+starved_grows true r random a e = refl
+starved_grows false r random a e = absurd (false≢true e)
+
+-- a command that was refused, or was refused memory
+pub refused_answers : (can : Bool) (r : Record) (random : List ℕ) (c : Whole) (a : Result Accepted Refused) (e : Refused) → RefusesOrStarves can c a e → Answers can r random (in_command c.code a) (refusal_step r (record { code = code_number c.code; refused = e }))
+refused_answers can r random c (Err refused) e is =
+    (false, λ t. absurd (false≢true t), ap (λ (f : Refused). refusal_step r (record { code = code_number c.code; refused = f })) is)
+refused_answers can r random c (Ok a) e (may, same, grows, is) = (
+  true,
+  λ t. may,
+  ap (λ (f : Refused). refusal_step r (record { code = code_number c.code; refused = f })) is
+      ∙ ap (starved r) (sym same)
+      ∙ starved_grows (shape_of a.command.code).grows r random a (ap (λ (w : Whole). (shape_of w.code).grows) same ∙ grows),
+)

@@ -1,5 +1,5 @@
 -- Runs, from the back.
-use Rattle.std.proofs.Common.{◌≡◌, ◌+◌, ◌<◌, ℕ, List, [], ◌∷◌, length, map, drop, get_or, Bool, false, Bor, ⊎_elim, ap, sym, ◌∙◌}
+use Rattle.std.proofs.Common.{◌≡◌, ◌+◌, ◌<◌, ℕ, List, [], ◌∷◌, length, map, drop, get_or, Bool, true, false, Bor, refl, ap, sym, ◌∙◌}
 use Rattle.std.proofs.lemmas.Bool.{false≢true}
 use Rattle.std.proofs.lemmas.List.{drop_more}
 use Rattle.std.specs.Fn.{Mut, CalledAt}
@@ -17,7 +17,8 @@ run_more can old mid new q events i event outcome below is steps kept called res
 
 -- where no memory can be refused, an event is its step
 exactly : (can : Bool) (old : Record) (event : Happening) (x : Stepped) → can ≡ false → Steps can old event x → x ≡ step old event
-exactly can old event x cannot steps = ⊎_elim (λ e. e) (λ s. absurd (false≢true (sym cannot ∙ s.0))) steps
+exactly can old event x cannot (false, only, is) = is
+exactly can old event x cannot (true, only, is) = absurd (false≢true (sym cannot ∙ only refl))
 
 -- and a run leads where the steps lead
 pub runs_lead : {F : Type 0} (g : Mut F (Bor Outcome × Unit {0}) (Unit {0})) (can : Bool) (old : Record) (p : F) (events : List Happening) (new : Record) (q : F) → Runs g can old p events new q → can ≡ false → new ≡ after_all old events

@@ -1,11 +1,15 @@
 -- What is answered. TPM 2.0 Library, Part 1, section 18 (command and response structures).
-use Rattle.std.specs.Prelude.{ℕ, ◌+◌, List, [], ◌∷◌, ◌++◌, length, Option, Some, None}
-use Rattle.std.specs.List.{flat_map}
+use Rattle.std.specs.Prelude.{ℕ, ◌+◌, List, [], ◌∷◌, ◌++◌, length, drop, Option, Some, None}
 use Rattle.std.specs.Int.{w16, w32, to_be_bytes}
 use Rattle.tpm_types.specs.declared.handle.Handle.{Handle}
 use Rattle.tpm_types.specs.AuthEntry.{Entry}
-use Rattle.tpm_types.specs.Command.{handle_text}
+use Rattle.tpm_types.specs.Command.{Whole, handle_text}
 use Rattle.tpm_types.specs.Rc.{rc_number}
+use Rattle.tpm_record.specs.Record.{Record}
+use Rattle.tpm_actions.specs.declared.answer.Answer.{Answer}
+use Rattle.tpm_actions.specs.Rows.{Success}
+use Rattle.tpm_machine.specs.Entries.{Drawn, entries_answer, entries_ended, entries_rolled}
+use Rattle.tpm_machine.specs.Parameters.{encrypted_answer}
 use Rattle.tpm_auth.specs.declared.check.Check.{Check}
 use Rattle.tpm_auth.specs.declared.check.Check.TheVariants as check
 use Rattle.tpm_auth.specs.declared.refused.Refused.{Refused}
@@ -23,19 +27,32 @@ refusal_tag _ = 0x8001
 abbrev pub refusal_text : Refused → List ℕ
 refusal_text e = framed (refusal_tag e.check) (rc_number e.rc) []
 
--- the answer to a password entry: no nonce, continueSession, no HMAC (TPMS_AUTH_RESPONSE, Part 2, section 10.13.3)
-abbrev pub entry_answer : Entry → List ℕ
-entry_answer entry = 0 ∷ 0 ∷ 1 ∷ 0 ∷ 0 ∷ []
-
 abbrev pub handle_answer : Option Handle → List ℕ
 handle_answer None = []
 handle_answer (Some handle) = handle_text handle
 
 -- the handle of what was made, if there is one, and the parameters; with sessions their size stands before the
--- parameters, and behind them what answers each of the command's entries
-unfoldable pub success_text : List Entry → Option Handle → List ℕ → List ℕ
-success_text [] handle answer = framed 0x8001 0 (handle_answer handle ++ answer)
-success_text (entry ∷ entries) handle answer =
-    framed 0x8002 0 (
-    handle_answer handle ++ to_be_bytes w32 (length answer) ++ answer ++ flat_map entry_answer (entry ∷ entries)
-    )
+-- parameters, and behind them what answers the command's entries
+unfoldable pub success_text : List Entry → Option Handle → (answer area : List ℕ) → List ℕ
+success_text [] handle answer area = framed 0x8001 0 (handle_answer handle ++ answer)
+success_text (entry ∷ entries) handle answer area =
+    framed 0x8002 0 (handle_answer handle ++ to_be_bytes w32 (length answer) ++ answer ++ area)
+
+-- a response, and the record behind it
+pub record Answered : Type 0 where
+  pub response : List ℕ
+  pub after : Record
+
+-- what answers a success of a command, whose entries in order authorized these handles: behind its effect new nonces are
+-- drawn, then its parameters are encrypted where that is asked for, then each entry is answered, and then sessions end
+unfoldable pub answer_to : Whole → List Handle → Success → List ℕ → Answered
+answer_to c handles s random =
+    let drawn : Drawn = entries_rolled s.after c.entries (drop s.drawn random) in
+    let answer : List ℕ = encrypted_answer drawn.after handles c.entries s.answer in
+    record {
+      response = success_text c.entries s.handle answer (entries_answer drawn.after c.code answer handles c.entries);
+      after = entries_ended drawn.after c.entries;
+    }
+
+abbrev pub success_of : Answer → Record → Success
+success_of a after = record { handle = a.handle; answer = a.parameters; drawn = a.drawn; after = after }

@@ -2,21 +2,26 @@
 -- first check that applies is answered. What is checked is TPM 2.0 Library, Part 3, sections 5.2 (header), 5.3 (mode),
 -- 5.4 (handles) and 5.5 (sizes of the session area); the order and the codes are this device's own.
 use Rattle.std.specs.Prelude.{◌≡◌, ℕ, ◌==◌, ◌&&◌, nat_lt, not, Bool, true, false, List, Result, Ok, Err}
+use Rattle.tpm_bytes.specs.Many.{each_at}
 use Rattle.tpm_bytes.specs.Reading.{◌>>=◌, refused_if}
 use Rattle.tpm_types.specs.declared.command.Header.{Header}
 use Rattle.tpm_types.specs.declared.command.HeaderFault.{HeaderFault}
 use Rattle.tpm_types.specs.declared.command.HeaderFault.TheVariants as fault
 use Rattle.tpm_types.specs.declared.command_code.CommandCode.{CommandCode}
+use Rattle.tpm_types.specs.declared.handle.Handle.{Handle}
+use Rattle.tpm_types.specs.declared.rc.Rc.{Rc}
 use Rattle.tpm_types.specs.declared.rc.ResponseCode.TheVariants as code
+use Rattle.tpm_types.specs.declared.shape.HandleRule.{HandleRule}
 use Rattle.tpm_types.specs.declared.tag.Tag.{Tag}
 use Rattle.tpm_types.specs.declared.tag.Tag.TheVariants.{NoSessions, Sessions}
 use Rattle.tpm_types.specs.declared.whole_command.Command.{Command}
 use Rattle.tpm_types.specs.Command.{Whole, sessions_at, whole_of}
 use Rattle.tpm_types.specs.CommandCode.{code_number}
-use Rattle.tpm_types.specs.HandleArea.{allowed_handles_at}
+use Rattle.tpm_types.specs.HandleArea.{allowed_handle_at}
 use Rattle.tpm_types.specs.Header.{header_at, header_fault_rc}
 use Rattle.tpm_types.specs.Rc.{plain}
 use Rattle.tpm_types.specs.CommandCode.{authorized_handles, shape_of}
+use Rattle.tpm_record.specs.Entity.{absence_rc, is_present}
 use Rattle.tpm_record.specs.Record.{Record}
 use Rattle.tpm_auth.specs.Refused.{checked, refusal}
 use Rattle.tpm_auth.specs.declared.check.Check.{Check}
@@ -61,11 +66,22 @@ sessions_pass c tag = do
   forbidden ← refused_if (has_sessions tag && (shape_of c).forbids_sessions) (refusal check.Sessions (plain code.AuthContext))
   refused_if (not (has_sessions tag) && nat_lt 0 (authorized_handles c)) (refusal check.Sessions (plain code.AuthMissing))
 
+-- handle n as its rule wants it, if there is what it names
+unfoldable pub present_handle_at : Record → ℕ → HandleRule → List ℕ → Result (Handle × List ℕ) Rc
+present_handle_at r n rule text = do
+  handle ← allowed_handle_at n rule text
+  present ← refused_if (not (is_present r handle.0)) (absence_rc n handle.0)
+  Ok handle
+
+-- a handle for each rule of the command
+abbrev pub present_handles_at : Record → CommandCode → List ℕ → Result (List Handle × List ℕ) Rc
+present_handles_at r code text = each_at (present_handle_at r) 1 (shape_of code).handles text
+
 -- G5 to the sizes of the area in G8: what stands behind the header
 unfoldable pub body_of : Record → Header → List ℕ → Result Whole Refused
 body_of r header text = do
   g5 ← refused_if (both_or_neither r.fixed.started (is_startup header.code)) (refusal check.Started (plain code.Initialize))
-  handles ← checked check.Handles (allowed_handles_at header.code text)
+  handles ← checked check.Handles (present_handles_at r header.code text)
   g7 ← sessions_pass header.code header.tag
   entries ← checked check.Entries (sessions_at header.tag handles.1)
   Ok (record { code = header.code; handles = handles.0; entries = entries.0; parameters = entries.1 })

@@ -1,6 +1,8 @@
 pub mod Events
 pub mod General
 pub mod Table
+pub mod Parameters
+pub mod Entries
 pub mod Answer
 pub mod Step
 pub mod State

@@ -1,9 +1,8 @@
 -- One event: time passes, the general checks, the authorization, the command's row, the answer. TPM 2.0 Library, Part 1,
 -- section 18 (command and response structures), and Part 3, sections 5 and 6.
-use Rattle.std.specs.Prelude.{◌≡◌, ◌⊎◌, ℕ, Bool, true, List, [], Result, Ok, Err}
+use Rattle.std.specs.Prelude.{◌≡◌, ℕ, Bool, true, false, List, [], Result, Ok, Err, if◌then◌else◌}
 use Rattle.tpm_bytes.specs.Reading.{◌>>=◌}
 use Rattle.tpm_types.specs.declared.handle.Handle.{Handle}
-use Rattle.tpm_types.specs.declared.rc.ResponseCode.TheVariants as code
 use Rattle.tpm_types.specs.Command.{Whole}
 use Rattle.tpm_types.specs.CommandCode.{code_number}
 use Rattle.tpm_types.specs.Rc.{plain}
@@ -13,16 +12,15 @@ use Rattle.tpm_record.specs.Record.{Record}
 use Rattle.tpm_record.specs.Tick.{ticked}
 use Rattle.tpm_auth.specs.Check.{check_number}
 use Rattle.tpm_auth.specs.Grant.{authorize, grants_of}
-use Rattle.tpm_auth.specs.Refused.{refusal}
-use Rattle.tpm_auth.specs.declared.check.Check.TheVariants as check
 use Rattle.tpm_auth.specs.declared.refused.Counted.{Counted}
 use Rattle.tpm_auth.specs.declared.refused.Refused.{Refused}
 use Rattle.tpm_actions.specs.Request.{Request}
 use Rattle.tpm_actions.specs.declared.answer.Answer.{Answer}
-use Rattle.tpm_actions.specs.Rows.{Success}
-use Rattle.tpm_machine.specs.Answer.{refusal_text, success_text}
+use Rattle.tpm_actions.specs.Rows.{Success, memory_refused}
+use Rattle.tpm_machine.specs.Answer.{Answered, answer_to, refusal_text, success_of}
 use Rattle.tpm_machine.specs.Events.{Happening, Given, Cycled}
 use Rattle.tpm_machine.specs.General.{general, in_command}
+use Rattle.tpm_machine.specs.Parameters.{plain_parameters}
 use Rattle.tpm_machine.specs.Table.{row_of}
 use Rattle.tpm_machine.specs.declared.event.Outcome.{Outcome}
 use Rattle.tpm_machine.specs.declared.event.Row.{Row}
@@ -40,25 +38,31 @@ pub record Accepted : Type 0 where
   pub grants : List Handle
   pub success : Success
 
--- what a command asks of its row
-abbrev pub request_in : Whole → ℕ → List ℕ → Request
-request_in c locality random = record { handles = c.handles; locality = locality; parameters = c.parameters; random = random }
+-- what a command asks of its row, by its plain parameters
+abbrev pub request_in : Whole → List ℕ → ℕ → List ℕ → Request
+request_in c plain locality random =
+    record { handles = c.handles; locality = locality; parameters = plain; random = random }
 
--- the authorization of a command, and then its row
+-- the authorization of a command, then its parameters as its sessions decrypt them, and then its row
 unfoldable pub acceptance : Record → Whole → ℕ → List ℕ → Result Accepted Refused
 acceptance r c locality random = do
   grants ← authorize r c
-  success ← row_of r c.code (request_in c locality random)
+  let plain : List ℕ = plain_parameters r grants c.entries c.parameters
+  success ← row_of r c.code (request_in c plain locality random)
   Ok (record { command = c; grants = grants; success = success })
 
+-- The refusal is that of the acceptance; or memory was refused, where it can be, in place of a success of a command
+-- that grows something.
+abbrev pub RefusesOrStarves : Bool → Whole → Result Accepted Refused → Refused → Type 0
+RefusesOrStarves can c (Err refused) e = e ≡ refused
+RefusesOrStarves can c (Ok a) e =
+    (can ≡ true) × (a.command ≡ c) × ((shape_of c.code).grows ≡ true) × (e ≡ memory_refused)
+
 -- The code's acceptance of a command stands for the definition's; a refusal leaves the record.
-abbrev pub Accepts : Result Accepted Refused → Whole → Record → Result Answer Refused → Record → Type 0
-Accepts a c old (Ok answer) new = a ≡ Ok (record {
-  command = c;
-  grants = grants_of c;
-  success = record { handle = answer.handle; answer = answer.parameters; drawn = answer.drawn; after = new };
-})
-Accepts a c old (Err e) new = (a ≡ Err e) × (new ≡ old)
+abbrev pub Accepts : Bool → Result Accepted Refused → Whole → Record → Result Answer Refused → Record → Type 0
+Accepts can a c old (Ok answer) new =
+    a ≡ Ok (record { command = c; grants = grants_of c; success = success_of answer new })
+Accepts can a c old (Err e) new = (new ≡ old) × RefusesOrStarves can c a e
 
 -- a command's buffer, accepted by a record whose time has passed, or its first refusal
 unfoldable pub accepted : Record → List ℕ → ℕ → List ℕ → Result Accepted Refusal
@@ -78,22 +82,14 @@ refusal_step r e = record {
   after = counted_in e.refused.counted r;
 }
 
-abbrev pub success_step : Accepted → Stepped
-success_step a = record {
-  response = success_text a.command.entries a.success.handle a.success.answer;
-  row = record { code = code_number a.command.code; check = 0 };
-  after = a.success.after;
-}
+abbrev pub success_step : Accepted → List ℕ → Stepped
+success_step a random =
+    let x : Answered = answer_to a.command a.grants a.success random in
+    record { response = x.response; row = record { code = code_number a.command.code; check = 0 }; after = x.after }
 
-abbrev pub answer_of : Record → Result Accepted Refusal → Stepped
-answer_of r (Ok a) = success_step a
-answer_of r (Err e) = refusal_step r e
-
--- the step of an event; for a command first its time passes
-abbrev pub step : Record → Happening → Stepped
-step r (Given buffer locality elapsed random) =
-    let t = ticked r elapsed in answer_of t (accepted t buffer locality random)
-step r Cycled = record { response = []; row = record { code = 0; check = 0 }; after = cycled r }
+abbrev pub answer_of : Record → List ℕ → Result Accepted Refusal → Stepped
+answer_of r random (Ok a) = success_step a random
+answer_of r random (Err e) = refusal_step r e
 
 -- what is seen of an outcome that left this record
 abbrev pub seen : Record → Outcome → Stepped
@@ -101,18 +97,39 @@ seen r o = record { response = o.response.items; row = o.row; after = r }
 
 -- the answer where memory was refused: MEMORY, check M, and the record as it was
 abbrev pub starved : Record → Whole → Stepped
-starved r c = refusal_step r (record { code = code_number c.code; refused = refusal check.Memory (plain code.Memory) })
+starved r c = refusal_step r (record { code = code_number c.code; refused = memory_refused })
 
--- Memory may be refused in place of a success of a command that grows something, and nowhere else.
-abbrev pub StarvesInstead : Record → Result Accepted Refusal → Stepped → Type 0
-StarvesInstead r (Ok a) x = ((shape_of a.command.code).grows ≡ true) × (x ≡ starved r a.command)
-StarvesInstead r (Err e) x = ⊥
+-- a success where memory is refused: MEMORY in its place, if the command grows something
+abbrev pub starved_success : Record → List ℕ → Accepted → Stepped
+starved_success r random a =
+    if (shape_of a.command.code).grows then starved r a.command else success_step a random
 
-abbrev pub Starves : Record → Happening → Stepped → Type 0
-Starves r (Given buffer locality elapsed random) x =
-    let t = ticked r elapsed in StarvesInstead t (accepted t buffer locality random) x
-Starves r Cycled x = ⊥
+-- the answer where memory is refused; a command that is refused anyway wants none
+abbrev pub starved_answer : Record → List ℕ → Result Accepted Refusal → Stepped
+starved_answer r random (Ok a) = starved_success r random a
+starved_answer r random (Err e) = refusal_step r e
 
--- an event's step, or want of memory where the keep can be refused it
+-- the answer to a command, to which memory is refused (true) or is not (false)
+abbrev pub answer_where : Bool → Record → List ℕ → Result Accepted Refusal → Stepped
+answer_where false r random a = answer_of r random a
+answer_where true r random a = starved_answer r random a
+
+-- the step of an event, to which memory is refused or is not: for a command first its time passes
+abbrev pub step_where : Bool → Record → Happening → Stepped
+step_where refused r (Given buffer locality elapsed random) =
+    let t = ticked r elapsed in answer_where refused t random (accepted t buffer locality random)
+step_where refused r Cycled = record { response = []; row = record { code = 0; check = 0 }; after = cycled r }
+
+-- the step of an event, to which no memory is refused
+abbrev pub step : Record → Happening → Stepped
+step r event = step_where false r event
+
+-- An answer to which memory is refused only where the keep can be refused it.
+abbrev pub Answers : Bool → Record → List ℕ → Result Accepted Refusal → Stepped → Type 0
+Answers can r random a x =
+    (refused : Bool) × (refused ≡ true → can ≡ true) × (x ≡ answer_where refused r random a)
+
+-- And such a step.
 abbrev pub Steps : Bool → Record → Happening → Stepped → Type 0
-Steps can r event x = (x ≡ step r event) ⊎ ((can ≡ true) × Starves r event x)
+Steps can r event x =
+    (refused : Bool) × (refused ≡ true → can ≡ true) × (x ≡ step_where refused r event)

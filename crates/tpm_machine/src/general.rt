@@ -1,16 +1,22 @@
-ghost use Rattle.std.specs.Prelude.{◌≡◌, [], Ok, IfOk};
-ghost use Rattle.tpm_types.specs.CommandCode.{code_number};
+ghost use Rattle.std.specs.Prelude.{◌≡◌, ◌≤◌, [], Ok, IfOk, length};
+ghost use Rattle.tpm_bytes.specs.Reading.{Reads};
+ghost use Rattle.tpm_types.specs.CommandCode.{code_number, handle_count};
 ghost use Rattle.tpm_types.specs.Command.{command_at, whole_of};
-ghost use Rattle.tpm_machine.specs.General.{Decodes, body_of, general, header_check, header_refusal, sessions_pass};
+ghost use Rattle.tpm_machine.specs.General.{Decodes, body_of, general, header_check, header_refusal, present_handle_at, present_handles_at, sessions_pass};
 
+use arrayvec::ArrayVec;
 use tpm_auth::check::Check;
 use tpm_auth::refused::Refused;
 use tpm_bytes::cursor::Cursor;
+use tpm_bytes::many::ReadableBy;
+use tpm_record::entity::{absence_rc, is_present};
 use tpm_record::keep::Keep;
 use tpm_types::command::{Header, HeaderFault};
 use tpm_types::command_code::CommandCode;
-use tpm_types::handle_area::read_handles;
-use tpm_types::rc::ResponseCode;
+use tpm_types::grammar::bytes_fit;
+use tpm_types::handle::Handle;
+use tpm_types::rc::{Rc, ResponseCode};
+use tpm_types::shape::HandleRule;
 use tpm_types::tag::Tag;
 use tpm_types::whole_command::Command;
 use tpm_types::whole_command::reading::read_sessions;
@@ -71,6 +77,48 @@ fn check_sessions(code: CommandCode, tag: Tag) -> Result<(), Refused>
     Ok(())
 }
 
+/// Reads the handle of this number as its rule wants it, if there is what it names.
+#[tactic(auto, unfolding(crate::specs::General::present_handle_at))]
+fn read_handle<K: Keep>(
+    keep: &K,
+    number: u8,
+    rule: &HandleRule,
+    text: &mut Cursor,
+) -> Result<Handle, Rc>
+    ensures { Reads (λ handle. handle)
+        (present_handle_at (K.record_of keep.now) number rule.now text.old) text.old result text.new }
+{
+    let mut ahead = Cursor::new(text.rest());
+    let handle = Handle::read(number, rule, &mut ahead)?;
+    if !is_present(keep, handle) {
+        return Err(absence_rc(number, handle));
+    }
+    *text = ahead;
+    Ok(handle)
+}
+
+/// Reads the handles of a command.
+fn read_handles<K: Keep>(
+    keep: &K,
+    code: CommandCode,
+    text: &mut Cursor,
+) -> Result<ArrayVec<Handle, 3>, Rc>
+    ensures exact { Reads (λ handles. handles.items)
+        (present_handles_at (K.record_of keep.now) code text.old) text.old result text.new }
+    ensures all { IfOk result (λ handles. length handles.items ≡ handle_count code) }
+{
+    let mut ahead = Cursor::new(text.rest());
+    let mut handles = ArrayVec::new();
+    let mut number = 1;
+    let rules = code.shape().handles;
+    for rule in rules {
+        handles.push(read_handle(keep, number, rule, &mut ahead)?);
+        number += 1;
+    }
+    *text = ahead;
+    Ok(handles)
+}
+
 /// Reads what stands behind a command's header, or gives the first check that refuses it.
 #[tactic(auto, unfolding(crate::specs::General::body_of))]
 fn decode_body<'a, K: Keep>(
@@ -86,7 +134,10 @@ fn decode_body<'a, K: Keep>(
         let rc = ResponseCode::Initialize.anywhere();
         return Err(Refused::by(Check::Started, rc));
     }
-    let handles = read_handles(code, &mut text).map_err(|rc| Refused::by(Check::Handles, rc))?;
+    let handles = read_handles(keep, code, &mut text).map_err(|rc| Refused::by(
+        Check::Handles,
+        rc,
+    ))?;
     check_sessions(code, header.tag)?;
     let entries = read_sessions(&mut text, header.tag).map_err(|rc| Refused::by(
         Check::Entries,
@@ -111,12 +162,14 @@ fn decode_whole<'a, K: Keep>(keep: &K, buffer: &'a [u8]) -> Result<Command<'a>, 
 }
 
 /// Decodes a command's buffer, or gives the first general check that refuses it.
-#[tactic(auto, using(crate::proofs::Decoding::decodes_reads))]
+#[tactic(auto, using(crate::proofs::Decoding::decodes_reads, crate::proofs::Decoding::decodes_short))]
 pub fn decode<'a, K: Keep>(keep: &K, buffer: &'a [u8]) -> Result<Command<'a>, Refusal>
     ensures decoded { Decodes (general (K.record_of keep.now) buffer.now) result }
 
     // It is the command that the whole buffer spells.
     ensures read { IfOk result (λ command. command_at buffer.now ≡ Ok (whole_of command, [])) }
+    ensures short { IfOk result (λ command. length command.parameters.now ≤ 4096) }
 {
+    bytes_fit(buffer);
     decode_whole(keep, buffer)
 }

@@ -4,12 +4,17 @@
 //!
 //! A command takes one way through the house: its bytes are read and pass the general checks
 //! ([`general`]), its entries authorize its handles (tpm_auth), its row acts (tpm_actions,
-//! chosen in [`table`]), and [`response`] writes the answer. `specs/` says the same: General, Table,
+//! chosen in [`table`]; where a session decrypts, by [`parameters`]), and [`response`] writes the answer: new
+//! nonces, the entries' answers and session ends are [`entries`]. `specs/` says the same: General, Table,
 //! Answer, the step of an event (Step) and runs of events (Run). [`machine::Machine::execute`] and
 //! [`machine::Machine::run`] are proved to be these, for each way of keeping the record.
 
+mod draws;
+mod entries;
 pub mod event;
 mod general;
 pub mod machine;
+mod parameters;
 mod response;
+mod response_hashes;
 mod table;

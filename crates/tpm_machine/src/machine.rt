@@ -5,7 +5,7 @@ ghost use Rattle.tpm_machine.specs.Events.{happening};
 ghost use Rattle.tpm_machine.specs.Run.{Runs, after_all};
 ghost use Rattle.tpm_machine.specs.Safe.{AcceptsModestly, IsHarmless};
 ghost use Rattle.tpm_machine.specs.State.{state_of};
-ghost use Rattle.tpm_machine.specs.Step.{Steps, seen, step};
+ghost use Rattle.tpm_machine.specs.Step.{Steps, seen};
 
 use crate::event::{Event, Outcome, RESPONSE_LIMIT, Row};
 use crate::general::{Refusal, decode};
@@ -14,6 +14,7 @@ use crate::table::accept;
 use std::alloc::Global;
 use tpm_bytes::sink::Sink;
 use tpm_record::cycle::power_cycle;
+use tpm_record::fixed::Fixed;
 use tpm_record::keep::{Keep, NoMemory};
 use tpm_record::record::read_widths;
 use tpm_record::tick::tick;
@@ -26,13 +27,14 @@ pub struct Machine<K: Keep> {
 }
 
 impl<K: Keep> Machine<K> {
-    /// A new device. Its memory comes from `alloc`, and its secrets from the random bytes, of which it
-    /// has no need so far.
-    pub fn manufacture(alloc: Global, _random: &[u8; 256]) -> Result<Machine<K>, NoMemory>
-        ensures state { IfOk result (λ machine. state_of K.record_of machine ≡ manufactured) }
+    /// A new device. Its memory comes from `alloc`, and its hierarchies' secrets are the random bytes.
+    pub fn manufacture(alloc: Global, random: &[u8; 256]) -> Result<Machine<K>, NoMemory>
+        ensures state { IfOk result (λ machine. state_of K.record_of machine
+            ≡ manufactured random.now) }
         ensures is_record { IfOk result (λ machine. IsRecord (state_of K.record_of machine)) }
     {
-        let keep = K::empty(alloc)?;
+        let mut keep = K::empty(alloc)?;
+        *keep.fixed_mut() = Fixed::manufactured(random);
         read_widths(&keep);
         Ok(Machine::from_keep(keep))
     }
@@ -53,13 +55,11 @@ impl<K: Keep> Machine<K> {
         &self.keep
     }
 
-    /// Executes one event: its response, its row and the state after it are those of the table.
-    #[tactic(auto, using(crate::proofs::Refusals::steps_exactly, crate::proofs::Refusals::step_harmless_seen))]
+    /// Executes one event: its response, its row and the state after it are those of the table, or of
+    /// refused memory in place of a success of a command that grows something.
+    #[tactic(auto, using(crate::proofs::Refusals::steps_exactly, crate::proofs::Refusals::steps_harmless))]
     pub fn execute(&mut self, event: &Event) -> Outcome
         ensures steps { Steps K.can_refuse (state_of K.record_of self.old) (happening event.now) (seen (state_of K.record_of self.new) result) }
-
-        // No command that is served grows anything, so each event is its step, however the state is kept.
-        ensures exact { seen (state_of K.record_of self.new) result ≡ step (state_of K.record_of self.old) (happening event.now) }
 
         // What holds of every record: values of their sizes, numbers of their widths.
         ensures is_record { IsRecord (state_of K.record_of self.new) }
@@ -68,21 +68,25 @@ impl<K: Keep> Machine<K> {
         ensures harmless { IsHarmless (state_of K.record_of self.old) (happening event.now) (seen (state_of K.record_of self.new) result) }
 
         // A row that is accepted draws at most 96 random bytes, and answers at most 2,048 bytes.
-        ensures modest { AcceptsModestly (state_of K.record_of self.old) (happening event.now) }
+        ensures modest { result.row.check ≡ 0
+            → AcceptsModestly (state_of K.record_of self.old) (happening event.now) }
 
         // With what stands before and behind such an answer a response has at most so many bytes.
-        ensures fits { length result.response.items ≤ 2081 }
+        ensures fits { length result.response.items ≤ 2273 }
     {
         self.advance(event)
     }
 
     /// Executes one event. It is inlined, so that no whole response is copied.
     #[inline(always)]
+    #[tactic(auto, using(crate::proofs::Refusals::steps_exactly))]
     fn advance(&mut self, event: &Event) -> Outcome
         ensures is_record { IsRecord (state_of K.record_of self.new) }
-        ensures exact { seen (state_of K.record_of self.new) result ≡ step (state_of K.record_of self.old) (happening event.now) }
-        ensures modest { AcceptsModestly (state_of K.record_of self.old) (happening event.now) }
-        ensures fits { length result.response.items ≤ 2081 }
+        ensures steps { Steps K.can_refuse (state_of K.record_of self.old) (happening event.now)
+            (seen (state_of K.record_of self.new) result) }
+        ensures modest { result.row.check ≡ 0
+            → AcceptsModestly (state_of K.record_of self.old) (happening event.now) }
+        ensures fits { length result.response.items ≤ 2273 }
     {
         let mut text = Sink::new();
         let row = match event {
@@ -131,12 +135,12 @@ impl<K: Keep> Machine<K> {
 
     ghost use Rattle.tpm_types.specs.Locality.{locality_number};
     ghost use Rattle.tpm_machine.specs.Safe.{IsModest};
-    ghost use Rattle.tpm_machine.specs.Step.{accepted, answer_of};
+    ghost use Rattle.tpm_machine.specs.Step.{Answers, accepted};
 
     /// Executes a command's buffer, after its time has passed: writes the response, and gives the row. Where it is inlined
     /// into `execute`, whole responses are copied.
     #[inline(never)]
-    #[tactic(auto, unfolding(crate::specs::Step::accepted))]
+    #[tactic(auto, using(crate::proofs::Refusals::answers_exactly, crate::proofs::Refusals::refused_answers), unfolding(crate::specs::Step::accepted))]
     fn command(
         &mut self,
         buffer: &[u8],
@@ -145,13 +149,13 @@ impl<K: Keep> Machine<K> {
         text: &mut Sink<RESPONSE_LIMIT>,
     ) -> Row
         requires { text.old ≡ [] }
-        ensures answer { answer_of (state_of K.record_of self.old)
+        ensures answer { Answers K.can_refuse (state_of K.record_of self.old) random.now
             (accepted (state_of K.record_of self.old) buffer.now (locality_number locality) random.now)
-            ≡ record { response = text.new; row = result; after = state_of K.record_of self.new } }
-        ensures modest { IfOk
+            (record { response = text.new; row = result; after = state_of K.record_of self.new }) }
+        ensures modest { result.check ≡ 0 → IfOk
             (accepted (state_of K.record_of self.old) buffer.now (locality_number locality) random.now)
             IsModest }
-        ensures fits { length text.new ≤ 2081 }
+        ensures fits { length text.new ≤ 2273 }
     {
         let command = match decode(&self.keep, buffer) {
             Ok(command) => command,
@@ -159,7 +163,7 @@ impl<K: Keep> Machine<K> {
         };
         match &accept(&mut self.keep, &command, locality, random) {
             Ok(answer) => {
-                write_success(command.entries.as_slice(), answer, text);
+                write_success(&mut self.keep, &command, answer, random, text);
                 Row {
                     code: command.code.number(),
                     check: 0,

@@ -1,28 +1,31 @@
-ghost use Rattle.std.specs.Prelude.{◌≡◌, ◌+◌, ◌*◌, ◌≤◌, ◌++◌, [], length, map};
-ghost use Rattle.std.specs.List.{flat_map};
+ghost use Rattle.std.specs.Prelude.{◌≡◌, ◌≤◌, ◌++◌, [], length, map};
 ghost use Rattle.std.specs.Int.{w16, w32, to_be_bytes};
 ghost use Rattle.tpm_types.specs.AuthEntry.{entry_of};
-ghost use Rattle.tpm_machine.specs.Answer.{entry_answer, framed, handle_answer, refusal_tag, refusal_text, success_text};
+ghost use Rattle.tpm_types.specs.Command.{whole_of};
+ghost use Rattle.tpm_auth.specs.Grant.{grants_of};
+ghost use Rattle.tpm_machine.specs.Answer.{answer_to, framed, handle_answer, refusal_tag, refusal_text, success_of};
+ghost use Rattle.tpm_machine.specs.Parameters.{encrypted_answer};
 
+use crate::draws::Draws;
+use crate::entries::{AREA_LIMIT, answer_entries, end_entries, roll_entries};
 use crate::event::RESPONSE_LIMIT;
-use tpm_actions::answer::Answer;
+use crate::parameters::encrypt;
+use crate::response_hashes::ResponseHashes;
+use arrayvec::ArrayVec;
+use tpm_actions::answer::{ANSWER_LIMIT, Answer};
 use tpm_auth::check::Check;
 use tpm_auth::refused::Refused;
 use tpm_bytes::sink::Sink;
+use tpm_record::keep::Keep;
 use tpm_types::auth_entry::AuthEntry;
 use tpm_types::command::HEADER_SIZE;
 use tpm_types::handle::Handle;
 use tpm_types::tag::Tag;
+use tpm_types::whole_command::Command;
 
 /// The tag of a response to a command whose tag is unknown (TPM_ST_RSP_COMMAND, TPM 2.0 Library, Part 2,
 /// section 6.9).
 const BAD_TAG_RESPONSE: u16 = 0x00c4;
-
-/// The answer to a password entry: no nonce, continueSession, no HMAC (TPMS_AUTH_RESPONSE, section 10.13.3).
-const PASSWORD_ANSWER: [u8; 5] = [0, 0, 1, 0, 0];
-
-/// The most bytes of the answers to the entries of a command.
-const AREA_LIMIT: usize = 15;
 
 fn write_header(tag: u16, size: usize, code: u32, text: &mut Sink<RESPONSE_LIMIT>)
     requires size { size ≤ 4096 }
@@ -58,17 +61,6 @@ pub fn write_refusal(refused: Refused, text: &mut Sink<RESPONSE_LIMIT>)
     );
 }
 
-/// Writes the answers to a command's entries, one after another.
-fn write_answers(entries: &[AuthEntry], area: &mut Sink<AREA_LIMIT>)
-    requires { length area.old + 5 * length entries.now ≤ AREA_LIMIT }
-    ensures { area.new ≡ area.old ++ flat_map entry_answer (map entry_of entries.now) }
-{
-    if let [_, others @ ..] = entries {
-        let _ = area.put(&PASSWORD_ANSWER);
-        write_answers(others, area);
-    }
-}
-
 fn handle_size(handle: Option<Handle>) -> usize
     ensures size { result ≡ length (handle_answer handle) }
     ensures small { result ≤ 4 }
@@ -88,47 +80,105 @@ fn write_handle(handle: Option<Handle>, text: &mut Sink<RESPONSE_LIMIT>)
     }
 }
 
-/// Writes the response to a command with these entries that succeeded.
-#[tactic(auto, unfolding(crate::specs::Answer::success_text))]
-pub fn write_success(entries: &[AuthEntry], answer: &Answer, text: &mut Sink<RESPONSE_LIMIT>)
-    requires few { length entries.now ≤ 3 }
+/// Writes a success that has no entries.
+fn write_plain(handle: Option<Handle>, parameters: &[u8], text: &mut Sink<RESPONSE_LIMIT>)
     requires empty { text.old ≡ [] }
-    ensures text { text.new ≡ success_text (map entry_of entries.now) answer.now.handle answer.now.parameters }
-    ensures fits { length text.new ≤ 2081 }
-{
-    match entries {
-        [] => write_plain(answer, text),
-        [_, ..] => {
-            let mut area = Sink::new();
-            write_answers(entries, &mut area);
-            write_with_sessions(answer, area.as_slice(), text);
-        }
-    }
-}
-
-fn write_plain(answer: &Answer, text: &mut Sink<RESPONSE_LIMIT>)
-    requires empty { text.old ≡ [] }
-    ensures text { text.new ≡ framed 0x8001 0 (handle_answer answer.now.handle ++ answer.now.parameters) }
+    requires parameters { length parameters.now ≤ 2048 }
+    ensures text { text.new ≡ framed 0x8001 0 (handle_answer handle ++ parameters.now) }
     ensures fits { length text.new ≤ 2062 }
 {
-    let parameters = answer.parameters.as_slice();
-    let size = HEADER_SIZE + handle_size(answer.handle) + parameters.len();
+    let size = HEADER_SIZE + handle_size(handle) + parameters.len();
     write_header(Tag::NoSessions.number(), size, 0, text);
-    write_handle(answer.handle, text);
+    write_handle(handle, text);
     let _ = text.put(parameters);
 }
 
-fn write_with_sessions(answer: &Answer, area: &[u8], text: &mut Sink<RESPONSE_LIMIT>)
+/// Writes a success whose entries are answered so.
+fn write_with_area(
+    handle: Option<Handle>,
+    parameters: &[u8],
+    area: &[u8],
+    text: &mut Sink<RESPONSE_LIMIT>,
+)
     requires empty { text.old ≡ [] }
+    requires parameters { length parameters.now ≤ 2048 }
     requires area { length area.now ≤ AREA_LIMIT }
-    ensures text { text.new ≡ framed 0x8002 0 (handle_answer answer.now.handle ++ to_be_bytes w32 (length answer.now.parameters) ++ answer.now.parameters ++ area.now) }
-    ensures fits { length text.new ≤ 2081 }
+    ensures text { text.new ≡ framed 0x8002 0 (handle_answer handle
+        ++ to_be_bytes w32 (length parameters.now) ++ parameters.now ++ area.now) }
+    ensures fits { length text.new ≤ 2273 }
 {
-    let parameters = answer.parameters.as_slice();
-    let size = HEADER_SIZE + handle_size(answer.handle) + 4 + parameters.len() + area.len();
+    let size = HEADER_SIZE + handle_size(handle) + 4 + parameters.len() + area.len();
     write_header(Tag::Sessions.number(), size, 0, text);
-    write_handle(answer.handle, text);
+    write_handle(handle, text);
     let _ = text.put_u32(parameters.len() as u32);
     let _ = text.put(parameters);
     let _ = text.put(area);
+}
+
+/// The parameters of an answer as the sessions of the entries encrypt them.
+fn encrypted<K: Keep>(
+    keep: &K,
+    handles: &[Handle],
+    entries: &[AuthEntry],
+    parameters: &[u8],
+) -> ArrayVec<u8, ANSWER_LIMIT>
+    requires { length parameters.now ≤ ANSWER_LIMIT }
+    ensures { result.items ≡ encrypted_answer (K.record_of keep.now) handles.now
+        (map entry_of entries.now) parameters.now }
+{
+    let mut text = ArrayVec::new();
+    let _ = text.try_extend_from_slice(parameters);
+    encrypt(keep, handles, entries, text.as_mut_slice());
+    text
+}
+
+/// Writes the response to a command with entries that succeeded, and does what is to be done with their
+/// sessions.
+#[inline(never)]
+fn write_with_sessions<K: Keep>(
+    keep: &mut K,
+    command: &Command,
+    answer: &Answer,
+    random: &[u8; 256],
+    text: &mut Sink<RESPONSE_LIMIT>,
+)
+    requires empty { text.old ≡ [] }
+    requires some { 1 ≤ length (map entry_of command.now.entries.items) }
+    ensures answer { record { response = text.new; after = K.record_of keep.new }
+        ≡ answer_to (whole_of command.now) (grants_of (whole_of command.now))
+        (success_of answer.now (K.record_of keep.old)) random.now }
+    ensures fits { length text.new ≤ 2273 }
+{
+    let entries = command.entries.as_slice();
+    let handles = &command.handles.as_slice()[..command.code.authorized_handles()];
+    let mut draws = Draws::new(&random[answer.drawn..]);
+    roll_entries(keep, entries, &mut draws);
+    let parameters = encrypted(keep, handles, entries, answer.parameters.as_slice());
+    let mut hashes = ResponseHashes::new(command.code.number(), parameters.as_slice());
+    let mut area = Sink::new();
+    answer_entries(keep, command.code, &mut hashes, handles, entries, &mut area);
+    write_with_area(answer.handle, parameters.as_slice(), area.as_slice(), text);
+    end_entries(keep, entries);
+}
+
+/// Writes the response to a command that succeeded.
+#[tactic(auto, unfolding(crate::specs::Answer::success_text, crate::specs::Answer::answer_to))]
+pub fn write_success<K: Keep>(
+    keep: &mut K,
+    command: &Command,
+    answer: &Answer,
+    random: &[u8; 256],
+    text: &mut Sink<RESPONSE_LIMIT>,
+)
+    requires empty { text.old ≡ [] }
+    ensures answer { record { response = text.new; after = K.record_of keep.new }
+        ≡ answer_to (whole_of command.now) (grants_of (whole_of command.now))
+        (success_of answer.now (K.record_of keep.old)) random.now }
+    ensures fits { length text.new ≤ 2273 }
+{
+    if command.entries.is_empty() {
+        write_plain(answer.handle, answer.parameters.as_slice(), text);
+    } else {
+        write_with_sessions(keep, command, answer, random, text);
+    }
 }

@@ -1,46 +1,129 @@
+ghost use Rattle.std.specs.Prelude.{◌≡◌, ◌≤◌, ◌&&◌, length, map};
+ghost use Rattle.tpm_types.specs.AuthEntry.{entry_of};
 ghost use Rattle.tpm_types.specs.Command.{whole_of};
+ghost use Rattle.tpm_types.specs.CommandCode.{shape_of};
 ghost use Rattle.tpm_types.specs.Locality.{locality_number};
+ghost use Rattle.tpm_actions.specs.Request.{request_of};
+ghost use Rattle.tpm_actions.specs.Rows.{ActsIfRoom};
 ghost use Rattle.tpm_machine.specs.Step.{Accepts, acceptance};
+ghost use Rattle.tpm_machine.specs.Table.{row_of};
+ghost use Rattle.tpm_machine.specs.Parameters.{plain_parameters};
 
+use crate::parameters::decrypt;
+use arrayvec::ArrayVec;
 use tpm_actions::answer::Answer;
 use tpm_actions::call::Call;
+use tpm_actions::flush_context::flush_context;
 use tpm_actions::get_random::get_random;
+use tpm_actions::hierarchy_change_auth::hierarchy_change_auth;
 use tpm_actions::pcr_event::pcr_event;
 use tpm_actions::pcr_extend::pcr_extend;
 use tpm_actions::pcr_read::pcr_read;
 use tpm_actions::pcr_reset::pcr_reset;
+use tpm_actions::start_auth_session::start_auth_session;
 use tpm_actions::startup::startup;
+use tpm_auth::entries::any_decrypts;
 use tpm_auth::grant::authorize;
 use tpm_auth::refused::Refused;
 use tpm_record::keep::Keep;
+use tpm_types::auth_entry::AuthEntry;
 use tpm_types::command_code::CommandCode;
+use tpm_types::handle::Handle;
 use tpm_types::locality::Locality;
 use tpm_types::whole_command::Command;
 
-/// Authorizes a command, and does what its row says; the first refusal leaves the record. Both stand in
-/// one function, since an answer is cleared and copied once more for each function that hands it on.
-#[tactic(auto, unfolding(crate::specs::Step::acceptance, crate::specs::Table::row_of))]
+/// The most bytes of a command's parameters.
+const MOST_PARAMETERS: usize = 4096;
+
+/// Does what the command's row says; only a command that grows something can be refused memory.
+#[inline(always)]
+#[tactic(auto, unfolding(crate::specs::Table::row_of, tpm_types::specs::CommandCode::shape_of))]
+fn act<K: Keep>(keep: &mut K, code: CommandCode, call: &Call) -> Result<Answer, Refused>
+    ensures { ActsIfRoom ((shape_of code).grows && K.can_refuse)
+        (row_of (K.record_of keep.old) code (request_of call.now))
+        (K.record_of keep.old) result (K.record_of keep.new) }
+{
+    match code {
+        CommandCode::HierarchyChangeAuth => hierarchy_change_auth(keep, call),
+        CommandCode::PcrEvent => pcr_event(keep, call),
+        CommandCode::PcrReset => pcr_reset(keep, call),
+        CommandCode::Startup => startup(keep, call),
+        CommandCode::FlushContext => flush_context(keep, call),
+        CommandCode::StartAuthSession => start_auth_session(keep, call),
+        CommandCode::GetRandom => get_random(keep, call),
+        CommandCode::PcrRead => pcr_read(keep, call),
+        CommandCode::PcrExtend => pcr_extend(keep, call),
+    }
+}
+
+/// The parameters of a command as its sessions decrypt them.
+fn plain_parameters<K: Keep>(
+    keep: &K,
+    handles: &[Handle],
+    entries: &[AuthEntry],
+    parameters: &[u8],
+) -> ArrayVec<u8, MOST_PARAMETERS>
+    requires { length parameters.now ≤ 4096 }
+    ensures { result.items ≡ plain_parameters (K.record_of keep.now) handles.now
+        (map entry_of entries.now) parameters.now }
+{
+    let mut text = ArrayVec::new();
+    let _ = text.try_extend_from_slice(parameters);
+    decrypt(keep, handles, entries, text.as_mut_slice());
+    text
+}
+
+/// Does what the row of a command says whose first parameter is encrypted.
+#[inline(never)]
+fn act_decrypted<K: Keep>(
+    keep: &mut K,
+    code: CommandCode,
+    call: &Call,
+    handles: &[Handle],
+    entries: &[AuthEntry],
+) -> Result<Answer, Refused>
+    requires { length call.now.parameters.now ≤ 4096 }
+    ensures { ActsIfRoom ((shape_of code).grows && K.can_refuse)
+        (row_of (K.record_of keep.old) code (record (request_of call.now) {
+          parameters = plain_parameters (K.record_of keep.old) handles.now
+              (map entry_of entries.now) call.now.parameters.now;
+        }))
+        (K.record_of keep.old) result (K.record_of keep.new) }
+{
+    let plain = plain_parameters(keep, handles, entries, call.parameters);
+    let call = Call {
+        handles: call.handles,
+        locality: call.locality,
+        parameters: plain.as_slice(),
+        random: call.random,
+    };
+    act(keep, code, &call)
+}
+
+/// Authorizes a command, and does what its row says; the first refusal leaves the record.
+#[tactic(auto, using(crate::proofs::Decoding::plain_as_sent), unfolding(crate::specs::Step::acceptance))]
 pub fn accept<K: Keep>(
     keep: &mut K,
     command: &Command,
     locality: Locality,
     random: &[u8; 256],
 ) -> Result<Answer, Refused>
-    ensures { Accepts (acceptance (K.record_of keep.old) (whole_of command.now) (locality_number locality) random.now) (whole_of command.now) (K.record_of keep.old) result (K.record_of keep.new) }
+    requires { length command.now.parameters.now ≤ 4096 }
+    ensures { Accepts K.can_refuse (acceptance (K.record_of keep.old) (whole_of command.now)
+        (locality_number locality) random.now) (whole_of command.now) (K.record_of keep.old) result
+        (K.record_of keep.new) }
 {
-    let _grants = authorize(keep, command, locality)?;
+    let grants = authorize(keep, command, locality)?;
+    let entries = command.entries.as_slice();
     let call = Call {
         handles: command.handles.as_slice(),
         locality,
         parameters: command.parameters,
         random,
     };
-    match command.code {
-        CommandCode::PcrEvent => pcr_event(keep, &call),
-        CommandCode::PcrReset => pcr_reset(keep, &call),
-        CommandCode::Startup => startup(keep, &call),
-        CommandCode::GetRandom => get_random(keep, &call),
-        CommandCode::PcrRead => pcr_read(keep, &call),
-        CommandCode::PcrExtend => pcr_extend(keep, &call),
+    if any_decrypts(entries) {
+        act_decrypted(keep, command.code, &call, grants.handles, entries)
+    } else {
+        act(keep, command.code, &call)
     }
 }

@@ -1,3 +1,4 @@
+pub mod Hierarchy
 pub mod Record
 pub mod IsRecord
 pub mod Tick
@@ -6,3 +7,5 @@ pub mod Entity
 pub mod ListKeep
 pub use Rattle.tpm_pcr.specs.Values
 pub use Rattle.tpm_pcr.specs.Banks
+pub use Rattle.tpm_session.specs.Sessions
+pub use Rattle.tpm_name.specs.Name

@@ -12,4 +12,5 @@ pub fn power_cycle<K: Keep>(keep: &mut K)
     fixed.started = false;
     fixed.banks = Banks::new();
     fixed.time = 0;
+    keep.sessions_mut().clear();
 }

@@ -1,12 +1,144 @@
-ghost use Rattle.std.specs.Prelude.{◌≡◌};
-ghost use Rattle.tpm_record.specs.Entity.{auth_value_of};
+ghost use Rattle.std.specs.Prelude.{◌≡◌, ◌≤◌, length};
+ghost use Rattle.tpm_record.specs.Entity.{absence_rc, auth_value_of, hierarchy_auth_value, is_available, is_present, name_of, names_kept, names_session, protection_of, reference_of_handle, with_hierarchy_auth};
 
+use crate::hierarchy::Hierarchies;
 use crate::keep::Keep;
-use tpm_types::handle::Handle;
+use tpm_name::Name;
+use tpm_session::session::Protection;
+use tpm_types::auth_value::AuthValue;
+use tpm_types::handle::{Handle, HierarchyAuth};
+use tpm_types::rc::{Rc, ResponseCode};
+
+/// By what an entity is authorized.
+#[derive(Clone, Copy, Debug, PartialEq, Eq)]
+pub enum Means {
+    /// Its authorization value: a password, or the HMAC of an HMAC session.
+    AuthValue,
+    /// A policy session.
+    Policy,
+}
+
+fn names_session(handle: Handle) -> bool
+    ensures { result ≡ names_session handle }
+{
+    matches!(handle.type_byte(), 0x02 | 0x03)
+}
+
+fn names_kept(handle: Handle) -> bool
+    ensures { result ≡ names_kept handle }
+{
+    matches!(handle.type_byte(), 0x01 | 0x80 | 0x81)
+}
+
+/// Whether there is what a handle names.
+#[tactic(auto, unfolding(crate::specs::Entity::is_present))]
+pub fn is_present<K: Keep>(keep: &K, handle: Handle) -> bool
+    ensures { result ≡ is_present (K.record_of keep.now) handle }
+{
+    if names_session(handle) {
+        keep.sessions().get(handle).is_some()
+    } else {
+        !names_kept(handle)
+    }
+}
+
+fn reference_of_handle(number: u8) -> ResponseCode
+    ensures { result ≡ reference_of_handle number }
+{
+    match number {
+        1 => ResponseCode::ReferenceH0,
+        2 => ResponseCode::ReferenceH1,
+        _ => ResponseCode::ReferenceH2,
+    }
+}
+
+/// The code for the handle of this number that names nothing.
+#[tactic(auto, unfolding(crate::specs::Entity::absence_rc))]
+pub fn absence_rc(number: u8, handle: Handle) -> Rc
+    ensures { result ≡ absence_rc number handle }
+{
+    if names_session(handle) || handle.type_byte() == 0x80 {
+        reference_of_handle(number).anywhere()
+    } else {
+        ResponseCode::Handle.anywhere().at_handle(number)
+    }
+}
+
+/// The Name of an entity.
+pub fn name_of<K: Keep>(_keep: &K, handle: Handle) -> Name
+    ensures { result ≡ name_of (K.record_of _keep.now) handle }
+{
+    Name::of_handle(handle)
+}
+
+impl Hierarchies {
+    /// The authorization value of a hierarchy, or lockoutAuth.
+    pub fn auth_value(&self, auth: HierarchyAuth) -> &AuthValue
+        ensures { result.now ≡ hierarchy_auth_value self.now auth }
+    {
+        match auth {
+            HierarchyAuth::Owner => &self.owner.auth_value,
+            HierarchyAuth::Lockout => &self.lockout_auth,
+            HierarchyAuth::Endorsement => &self.endorsement.auth_value,
+            HierarchyAuth::Platform => &self.platform.auth_value,
+        }
+    }
+
+    /// Sets the authorization value of a hierarchy, or lockoutAuth.
+    #[tactic(auto, unfolding(crate::specs::Entity::with_hierarchy_auth))]
+    pub fn set_auth_value(&mut self, auth: HierarchyAuth, value: AuthValue)
+        ensures { self.new ≡ with_hierarchy_auth self.old auth value }
+    {
+        match auth {
+            HierarchyAuth::Owner => self.owner.auth_value = value,
+            HierarchyAuth::Lockout => self.lockout_auth = value,
+            HierarchyAuth::Endorsement => self.endorsement.auth_value = value,
+            HierarchyAuth::Platform => self.platform.auth_value = value,
+        }
+    }
+}
 
 /// The authorization value of the entity that a handle names, without trailing zeros.
-pub fn auth_value_of<'a, K: Keep>(_keep: &'a K, _handle: Handle) -> &'a [u8]
-    ensures { result.now ≡ auth_value_of (K.record_of _keep.now) _handle }
+#[tactic(auto, unfolding(crate::specs::Entity::auth_value_of))]
+pub fn auth_value_of<'a, K: Keep>(keep: &'a K, handle: Handle) -> &'a [u8]
+    ensures value { result.now ≡ auth_value_of (K.record_of keep.now) handle }
+    ensures fits { length result.now ≤ 32 }
 {
-    &[]
+    match handle.hierarchy_auth() {
+        Some(auth) => keep.fixed().hierarchies.auth_value(auth).as_slice(),
+        None => &[],
+    }
+}
+
+/// The same, copied.
+#[tactic(auto, unfolding(crate::specs::Entity::auth_value_of))]
+pub fn copied_auth_value<K: Keep>(keep: &K, handle: Handle) -> AuthValue
+    ensures { result ≡ auth_value_of (K.record_of keep.now) handle }
+{
+    match handle.hierarchy_auth() {
+        Some(auth) => keep.fixed().hierarchies.auth_value(auth).copy(),
+        None => AuthValue::empty(),
+    }
+}
+
+/// How the authorization value of an entity is protected.
+#[tactic(auto, unfolding(crate::specs::Entity::protection_of))]
+pub fn protection_of(handle: Handle) -> Protection
+    ensures { result ≡ protection_of handle }
+{
+    if handle == Handle::LOCKOUT {
+        Protection::Lockout
+    } else {
+        Protection::None
+    }
+}
+
+/// Whether the entities that there are can be authorized by this.
+pub fn is_available(means: Means) -> bool
+    ensures { result ≡ is_available means }
+{
+    match means {
+        Means::AuthValue => true,
+        Means::Policy => false,
+    }
 }

@@ -1,5 +1,6 @@
 ghost use Rattle.std.specs.Prelude.{◌≡◌};
 
+use crate::hierarchy::Hierarchies;
 use tpm_pcr::banks::Banks;
 
 /// What the last TPM2_Shutdown saved for the next TPM2_Startup. No Shutdown is served yet, so nothing is.
@@ -14,6 +15,7 @@ pub struct Fixed {
     /// Whether TPM2_Startup was accepted since power came on.
     pub started: bool,
     pub saved: Saved,
+    pub hierarchies: Hierarchies,
     pub banks: Banks,
     /// Milliseconds since power came on, up to 2^64 - 1.
     pub time: u64,
@@ -28,13 +30,14 @@ pub struct Fixed {
 impl Fixed {
     ghost use Rattle.tpm_record.specs.Record.{manufactured};
 
-    /// The part of a device as it is manufactured.
-    pub fn manufactured() -> Fixed
-        ensures { result ≡ manufactured.fixed }
+    /// The part of a device that is manufactured with these random bytes.
+    pub fn manufactured(random: &[u8; 256]) -> Fixed
+        ensures { result ≡ (manufactured random.now).fixed }
     {
         Fixed {
             started: false,
             saved: Saved::Nothing,
+            hierarchies: Hierarchies::manufactured(random),
             banks: Banks::new(),
             time: 0,
             clock: 0,

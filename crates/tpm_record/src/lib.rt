@@ -10,6 +10,7 @@
 pub mod cycle;
 pub mod entity;
 pub mod fixed;
+pub mod hierarchy;
 pub mod keep;
 pub mod list_keep;
 pub mod record;

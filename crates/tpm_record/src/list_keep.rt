@@ -3,26 +3,35 @@ ghost use Rattle.std.specs.Prelude.{◌≡◌};
 use crate::fixed::Fixed;
 use crate::keep::{Keep, NoMemory};
 use std::alloc::Global;
+use tpm_session::list_slots::ListSlots;
+use tpm_session::sessions::Sessions;
+use tpm_session::slots::Slots;
 
-/// The record in growing lists, of which there is none yet.
+/// The record in growing lists.
 #[derive(Drop)]
 pub struct ListKeep {
     fixed: Fixed,
+    sessions: Sessions<ListSlots>,
 }
 
 impl Keep for ListKeep {
     ghost use Rattle.std.specs.Prelude.{true, refl};
     ghost use Rattle.tpm_record.specs.ListKeep.{list_record};
 
+    type Se = ListSlots;
+
     ghost record_of = { list_record };
 
     ghost with_fixed = { λ keep fixed. record keep { fixed = fixed } };
 
+    ghost with_sessions = { λ keep sessions. record keep { sessions = sessions } };
+
     ghost can_refuse = { true };
 
-    fn empty(_alloc: Global) -> Result<ListKeep, NoMemory> {
+    fn empty(alloc: Global) -> Result<ListKeep, NoMemory> {
         Ok(ListKeep {
-            fixed: Fixed::manufactured(),
+            fixed: Fixed::manufactured(&[0; 256]),
+            sessions: Sessions::new(alloc),
         })
     }
 
@@ -34,5 +43,17 @@ impl Keep for ListKeep {
         &mut self.fixed
     }
 
+    fn sessions(&self) -> &Sessions<ListSlots> {
+        &self.sessions
+    }
+
+    fn sessions_mut(&mut self) -> &mut Sessions<ListSlots> {
+        &mut self.sessions
+    }
+
     ghost fixed_written = { λ keep fixed. refl };
+
+    ghost sessions_written = { λ keep sessions. refl };
+
+    ghost sessions_can_refuse = { refl };
 }

@@ -13,3 +13,6 @@ pub mod CommandLaws
 pub mod CountedLaws
 pub mod ValuesLemmas
 pub mod ValuesLaws
+pub mod Trimming
+pub mod SymmetricLaws
+pub mod Buffers

@@ -2,6 +2,8 @@
 use Rattle.std.specs.Prelude.{◌≡◌, ℕ, ◌==◌, ◌/◌, ◌^◌, ◌||◌, nat_lt, if◌then◌else◌}
 use Rattle.std.specs.Prelude.{Option, Some, None}
 use Rattle.tpm_types.specs.declared.handle.Handle.{Handle}
+use Rattle.tpm_types.specs.declared.handle.HierarchyAuth.{HierarchyAuth}
+use Rattle.tpm_types.specs.declared.handle.HierarchyAuth.TheVariants as auth
 use Rattle.tpm_types.specs.declared.pcr.PcrIndex.{PcrIndex}
 use Rattle.tpm_types.specs.declared.handle.SessionKind.{SessionKind}
 use Rattle.tpm_types.specs.declared.handle.SessionKind.TheVariants.{Password, Session, Other}
@@ -21,6 +23,15 @@ session_kind handle =
 -- TPM_RH_NULL
 abbrev pub null_handle : Handle
 null_handle = record { number = 0x4000_0007 }
+
+-- whose authorization value a handle names: TPM_RH_OWNER, TPM_RH_LOCKOUT, TPM_RH_ENDORSEMENT or TPM_RH_PLATFORM
+abbrev pub hierarchy_auth_of : Handle → Option HierarchyAuth
+hierarchy_auth_of handle =
+    if handle.number == 0x4000_0001 then Some auth.Owner
+    else (if handle.number == 0x4000_000a then Some auth.Lockout
+    else (if handle.number == 0x4000_000b then Some auth.Endorsement
+    else (if handle.number == 0x4000_000c then Some auth.Platform
+    else None)))
 
 -- the PCR that a handle names: handles 0 to 23 (TPM_HT_PCR)
 abbrev pub pcr_of : Handle → Option ℕ

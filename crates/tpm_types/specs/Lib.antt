@@ -16,6 +16,8 @@ pub mod DigestList
 pub mod DigestValues
 pub mod StartupType
 pub mod Buffer
+pub mod Symmetric
+pub mod AuthValue
 pub use Rattle.tpm_bytes.specs.Reading
 pub use Rattle.tpm_bytes.specs.Writing
 pub use Rattle.tpm_mac.specs.Digest

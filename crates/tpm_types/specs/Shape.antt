@@ -1,7 +1,7 @@
 -- Every fact of a command but its number and what it does. TPM 2.0 Library, Part 3, the tables of
 -- each command's own section: its handles and who authorizes them, its parameters, and whether it
 -- may have sessions.
-use Rattle.std.specs.Prelude.{ℕ, ◌==◌, ◌||◌, is_some, count_by, Bool, true, false, List, [], ◌∷◌, length, Some}
+use Rattle.std.specs.Prelude.{ℕ, ◌==◌, ◌||◌, is_some, count_by, Bool, true, false, List, [], ◌∷◌, length, Some, None}
 use Rattle.tpm_types.specs.declared.handle.Handle.{Handle}
 use Rattle.tpm_types.specs.declared.shape.HandleKind.{HandleKind}
 use Rattle.tpm_types.specs.declared.shape.HandleKind.TheVariants as kind
@@ -10,18 +10,32 @@ use Rattle.tpm_types.specs.declared.shape.ParameterKind.{ParameterKind}
 use Rattle.tpm_types.specs.declared.shape.ParameterKind.TheVariants as parameter
 use Rattle.tpm_types.specs.declared.shape.Role.TheVariants as role
 use Rattle.tpm_types.specs.declared.shape.Shape.{Shape}
-use Rattle.tpm_types.specs.Handle.{null_handle, pcr_of}
+use Rattle.tpm_types.specs.Handle.{handle_type, hierarchy_auth_of, null_handle, pcr_of}
+
+-- whether a handle is one of what has an authorization value, there or not: a permanent entity, a PCR, an NV index
+-- (01), a transient object (80) or a persistent one (81); or TPM_RH_NULL (TPMI_DH_ENTITY)
+abbrev pub is_entity : Handle → Bool
+is_entity handle =
+    handle.number == null_handle.number || is_some (hierarchy_auth_of handle) || is_some (pcr_of handle)
+    || handle_type handle == 0x01 || handle_type handle == 0x80 || handle_type handle == 0x81
 
 -- whether a handle is of a kind: a PCR (TPMI_DH_PCR of Part 2, section 9), or that or TPM_RH_NULL
 abbrev pub is_of_kind : HandleKind → Handle → Bool
 is_of_kind kind.Pcr handle = is_some (pcr_of handle)
 is_of_kind kind.PcrOrNull handle = is_some (pcr_of handle) || handle.number == null_handle.number
+is_of_kind kind.Null handle = handle.number == null_handle.number
+is_of_kind kind.HierarchyAuth handle = is_some (hierarchy_auth_of handle)
+is_of_kind kind.Entity handle = is_entity handle
 
 -- whether a parameter is a sized buffer (TPM2B of Part 2, section 10.4)
 abbrev pub is_sized : ParameterKind → Bool
 is_sized (parameter.Buffer most) = true
 is_sized parameter.StartupType = false
+is_sized parameter.U8 = false
 is_sized parameter.U16 = false
+is_sized parameter.U32 = false
+is_sized parameter.Hash = false
+is_sized parameter.Symmetric = false
 is_sized parameter.Selection = false
 is_sized parameter.Digests = false
 
@@ -49,6 +63,10 @@ facts_of s = record {
 -- a handle that is authorized in the role of the user
 abbrev pub user : HandleKind → HandleRule
 user kind = record { kind = kind; role = Some role.User }
+
+-- one that needs no authorization
+abbrev pub unauthorized : HandleKind → HandleRule
+unauthorized kind = record { kind = kind; role = None }
 
 -- a shape with these handles and parameters, of which none of the other facts holds
 abbrev pub shape_with : List HandleRule → List ParameterKind → Facts

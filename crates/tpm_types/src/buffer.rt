@@ -1,3 +1,4 @@
+ghost use Rattle.std.specs.Prelude.{◌≤◌, IfOk, length};
 ghost use Rattle.tpm_bytes.specs.Reading.{Reads};
 ghost use Rattle.tpm_types.specs.Buffer.{buffer_at};
 
@@ -6,8 +7,16 @@ use tpm_bytes::cursor::{Cursor, SizedFault};
 
 /// Reads a sized buffer of at most `limit` bytes (TPM2B of TPM 2.0 Library, Part 2, section 10.4):
 /// SIZE where it says that it has more, else INSUFFICIENT where it is cut.
-#[tactic(auto, unfolding(crate::specs::Buffer::buffer_at))]
 pub fn read_buffer<'a>(text: &mut Cursor<'a>, limit: usize) -> Result<&'a [u8], Rc>
+    ensures exact { Reads (λ buffer. buffer.now) (buffer_at limit text.old) text.old
+        result text.new }
+    ensures fits { IfOk result (λ buffer. length buffer.now ≤ limit) }
+{
+    read_sized(text, limit)
+}
+
+#[tactic(auto, unfolding(crate::specs::Buffer::buffer_at))]
+fn read_sized<'a>(text: &mut Cursor<'a>, limit: usize) -> Result<&'a [u8], Rc>
     ensures { Reads (λ buffer. buffer.now) (buffer_at limit text.old) text.old result text.new }
 {
     text.sized(limit).map_err(|fault| match fault {

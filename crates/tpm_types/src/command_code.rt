@@ -1,14 +1,20 @@
 ghost use Rattle.std.specs.Prelude.{◌≡◌, ◌≤◌, ◌==◌, IfSome, length};
 
-use crate::shape::{HandleKind, HandleRule, ParameterKind, Role, Shape};
+use crate::shape::ParameterKind::{
+    Buffer, Digests, Hash, Selection, StartupType, Symmetric, U8, U16, U32,
+};
+use crate::shape::{HandleKind, HandleRule, Role, Shape};
 
 /// The commands that are served, ascending by number: TPM_CC of TPM 2.0 Library, Part 2, section
 /// 6.5.2.
 #[derive(Clone, Copy, Debug, PartialEq, Eq)]
 pub enum CommandCode {
+    HierarchyChangeAuth = 0x129,
     PcrEvent = 0x13c,
     PcrReset = 0x13d,
     Startup = 0x144,
+    FlushContext = 0x165,
+    StartAuthSession = 0x176,
     GetRandom = 0x17b,
     PcrRead = 0x17e,
     PcrExtend = 0x182,
@@ -22,6 +28,21 @@ const USER_PCR: HandleRule = HandleRule {
 const USER_PCR_OR_NULL: HandleRule = HandleRule {
     kind: HandleKind::PcrOrNull,
     role: Some(Role::User),
+};
+
+const USER_HIERARCHY_AUTH: HandleRule = HandleRule {
+    kind: HandleKind::HierarchyAuth,
+    role: Some(Role::User),
+};
+
+const NULL: HandleRule = HandleRule {
+    kind: HandleKind::Null,
+    role: None,
+};
+
+const ENTITY: HandleRule = HandleRule {
+    kind: HandleKind::Entity,
+    role: None,
 };
 
 /// A shape with these handles and parameters, of which the named facts hold and no others.
@@ -41,14 +62,17 @@ macro_rules! shape {
 }
 
 impl CommandCode {
-    ghost use Rattle.tpm_types.specs.CommandCode.{authorized_handles, code_named, code_number, handle_count, shape_of};
+    ghost use Rattle.tpm_types.specs.CommandCode.{authorized_handles, code_named, code_number, handle_count, has_sized_parameter, shape_of};
     ghost use Rattle.tpm_types.specs.Shape.{facts_of};
 
     /// All of them, ascending by number.
-    pub const ALL: [CommandCode; 6] = [
+    pub const ALL: [CommandCode; 9] = [
+        CommandCode::HierarchyChangeAuth,
         CommandCode::PcrEvent,
         CommandCode::PcrReset,
         CommandCode::Startup,
+        CommandCode::FlushContext,
+        CommandCode::StartAuthSession,
         CommandCode::GetRandom,
         CommandCode::PcrRead,
         CommandCode::PcrExtend,
@@ -84,12 +108,21 @@ impl CommandCode {
         ensures few { length result.handles.now ≤ 3 }
     {
         match self {
-            CommandCode::PcrEvent => shape!([USER_PCR_OR_NULL], [ParameterKind::Buffer(1024)]),
+            CommandCode::HierarchyChangeAuth => shape!([USER_HIERARCHY_AUTH], [Buffer(32)]),
+            CommandCode::PcrEvent => shape!([USER_PCR_OR_NULL], [Buffer(1024)]),
             CommandCode::PcrReset => shape!([USER_PCR], []),
-            CommandCode::Startup => shape!([], [ParameterKind::StartupType], forbids_sessions),
-            CommandCode::GetRandom => shape!([], [ParameterKind::U16], sized_answer),
-            CommandCode::PcrRead => shape!([], [ParameterKind::Selection]),
-            CommandCode::PcrExtend => shape!([USER_PCR_OR_NULL], [ParameterKind::Digests]),
+            CommandCode::Startup => shape!([], [StartupType], forbids_sessions),
+            CommandCode::FlushContext => shape!([], [U32], forbids_sessions),
+            CommandCode::StartAuthSession => shape!(
+                [NULL, ENTITY],
+                [Buffer(32), Buffer(32), U8, Symmetric, Hash],
+                sized_answer,
+                answers_handle,
+                grows
+            ),
+            CommandCode::GetRandom => shape!([], [U16], sized_answer),
+            CommandCode::PcrRead => shape!([], [Selection]),
+            CommandCode::PcrExtend => shape!([USER_PCR_OR_NULL], [Digests]),
         }
     }
 
@@ -111,5 +144,15 @@ impl CommandCode {
             .iter()
             .filter(|rule| rule.role.is_some())
             .count()
+    }
+
+    /// Whether its first parameter is a sized buffer, which a session can encrypt.
+    pub fn has_sized_parameter(self) -> bool
+        ensures { result ≡ has_sized_parameter self }
+    {
+        match self.shape().parameters {
+            [first, ..] => first.is_sized(),
+            [] => false,
+        }
     }
 }

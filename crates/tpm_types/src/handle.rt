@@ -20,8 +20,21 @@ pub enum SessionKind {
     Other,
 }
 
+/// An authorization value of the device's own: TPMI_RH_HIERARCHY_AUTH of Part 2, section 9.19.
+#[derive(Clone, Copy, Debug, PartialEq, Eq)]
+pub enum HierarchyAuth {
+    /// TPM_RH_OWNER: ownerAuth.
+    Owner,
+    /// TPM_RH_LOCKOUT: lockoutAuth.
+    Lockout,
+    /// TPM_RH_ENDORSEMENT: endorsementAuth.
+    Endorsement,
+    /// TPM_RH_PLATFORM: platformAuth.
+    Platform,
+}
+
 impl Handle {
-    ghost use Rattle.tpm_types.specs.Handle.{SomePcrOf, pcr_of, session_kind};
+    ghost use Rattle.tpm_types.specs.Handle.{SomePcrOf, handle_type, hierarchy_auth_of, pcr_of, session_kind};
 
     /// TPM_RS_PW, section 7.4.
     pub const PASSWORD: Handle = Handle {
@@ -31,6 +44,26 @@ impl Handle {
     /// TPM_RH_NULL, section 7.4.
     pub const NULL: Handle = Handle {
         number: 0x4000_0007,
+    };
+
+    /// TPM_RH_OWNER, section 7.4.
+    pub const OWNER: Handle = Handle {
+        number: 0x4000_0001,
+    };
+
+    /// TPM_RH_LOCKOUT, section 7.4.
+    pub const LOCKOUT: Handle = Handle {
+        number: 0x4000_000a,
+    };
+
+    /// TPM_RH_ENDORSEMENT, section 7.4.
+    pub const ENDORSEMENT: Handle = Handle {
+        number: 0x4000_000b,
+    };
+
+    /// TPM_RH_PLATFORM, section 7.4.
+    pub const PLATFORM: Handle = Handle {
+        number: 0x4000_000c,
     };
 
     /// The PCR that the handle names, if it names one.
@@ -53,5 +86,25 @@ impl Handle {
             number if number >> 24 == 0x02 || number >> 24 == 0x03 => SessionKind::Session,
             _ => SessionKind::Other,
         }
+    }
+
+    /// Whose authorization value the handle names, if it names a hierarchy's or lockoutAuth.
+    pub fn hierarchy_auth(self) -> Option<HierarchyAuth>
+        ensures { result ≡ hierarchy_auth_of self }
+    {
+        match self {
+            Handle::OWNER => Some(HierarchyAuth::Owner),
+            Handle::LOCKOUT => Some(HierarchyAuth::Lockout),
+            Handle::ENDORSEMENT => Some(HierarchyAuth::Endorsement),
+            Handle::PLATFORM => Some(HierarchyAuth::Platform),
+            _ => None,
+        }
+    }
+
+    /// What its highest byte says that it names (TPM_HT).
+    pub fn type_byte(self) -> u32
+        ensures { result ≡ handle_type self }
+    {
+        self.number >> 24
     }
 }

@@ -1,4 +1,5 @@
 ghost use Rattle.std.specs.Prelude.{◌≡◌};
+ghost use Rattle.tpm_types.specs.Shape.{is_entity};
 
 use crate::handle::Handle;
 
@@ -9,6 +10,21 @@ pub enum HandleKind {
     Pcr,
     /// TPMI_DH_PCR+: a PCR, or TPM_RH_NULL.
     PcrOrNull,
+    /// TPM_RH_NULL alone.
+    Null,
+    /// TPMI_RH_HIERARCHY_AUTH: a hierarchy, or TPM_RH_LOCKOUT.
+    HierarchyAuth,
+    /// TPMI_DH_ENTITY+: whatever has an authorization value, or TPM_RH_NULL.
+    Entity,
+}
+
+/// Whether the handle is one of an entity that has an authorization value, or TPM_RH_NULL.
+fn is_entity(handle: Handle) -> bool
+    ensures { result ≡ is_entity handle }
+{
+    let is_permanent = handle == Handle::NULL || handle.hierarchy_auth().is_some();
+    let kind = handle.type_byte();
+    is_permanent || handle.pcr().is_some() || kind == 0x01 || kind == 0x80 || kind == 0x81
 }
 
 impl HandleKind {
@@ -21,6 +37,9 @@ impl HandleKind {
         match self {
             HandleKind::Pcr => handle.pcr().is_some(),
             HandleKind::PcrOrNull => handle.pcr().is_some() || handle == Handle::NULL,
+            HandleKind::Null => handle == Handle::NULL,
+            HandleKind::HierarchyAuth => handle.hierarchy_auth().is_some(),
+            HandleKind::Entity => is_entity(handle),
         }
     }
 }
@@ -45,8 +64,16 @@ pub struct HandleRule {
 pub enum ParameterKind {
     /// TPM_SU.
     StartupType,
+    /// UINT8.
+    U8,
     /// UINT16.
     U16,
+    /// UINT32.
+    U32,
+    /// TPMI_ALG_HASH.
+    Hash,
+    /// TPMT_SYM_DEF.
+    Symmetric,
     /// TPML_PCR_SELECTION.
     Selection,
     /// TPML_DIGEST_VALUES.
@@ -65,7 +92,11 @@ impl ParameterKind {
         match self {
             ParameterKind::Buffer(_) => true,
             ParameterKind::StartupType
+            | ParameterKind::U8
             | ParameterKind::U16
+            | ParameterKind::U32
+            | ParameterKind::Hash
+            | ParameterKind::Symmetric
             | ParameterKind::Selection
             | ParameterKind::Digests => false,
         }

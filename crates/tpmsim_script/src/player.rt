@@ -3,7 +3,8 @@ ghost use Rattle.std.specs.Io.KnownBytes.{Keeps};
 ghost use Rattle.tpmsim_script.specs.Answers.{backlog, printout};
 ghost use Rattle.tpmsim_script.specs.Line.{hex_of, meaning_of};
 ghost use Rattle.tpmsim_script.specs.Player.{Did, playing_of};
-ghost use Rattle.tpmsim_script.specs.Script.{at_first, execute, perform, perform_line, set_entropy};
+ghost use Rattle.tpmsim_script.specs.Script.{at_first, execute, perform, perform_line};
+ghost use Rattle.tpmsim_script.specs.Script.{script_bytes, set_entropy};
 
 use crate::answers::Answers;
 use crate::fault::ScriptFault;
@@ -33,7 +34,7 @@ impl Player {
         ensures answers { IfOk result (λ player. backlog player.answers ≡ []) }
     {
         let answers = Answers::new(alloc)?;
-        let machine = Machine::manufacture(alloc, &array::from_fn(|place| place as u8))?;
+        let machine = Machine::manufacture(alloc, &first_bytes())?;
         Ok(Player {
             script: Script::new(),
             machine,
@@ -43,7 +44,7 @@ impl Player {
 
     /// Does what a line says, and prints the response to a command. What is written in hex goes to
     /// `room`.
-    #[tactic(auto, using(crate::proofs::Doing::said_done, crate::proofs::Doing::unsaid_done))]
+    #[tactic(auto, using(crate::proofs::Doing::unsaid_done))]
     pub fn line<W: Write>(
         &mut self,
         line: &[u8],
@@ -52,7 +53,7 @@ impl Player {
     ) -> Result<(), LineFault>
         requires limit { length line.now ≤ 65536 }
         requires room { length line.now ≤ 2 * length room.old }
-        ensures { Did (perform_line (playing_of self.old) line.now)
+        ensures { Did (λ refused. perform_line refused (playing_of self.old) line.now)
             (printout (W.contents writer.old) self.old.answers) (playing_of self.old) result
             (printout (W.contents writer.new) self.new.answers) (playing_of self.new) }
     {
@@ -81,7 +82,7 @@ impl Player {
         writer: &mut W,
     ) -> Result<(), LineFault>
         requires { length (hex_of (meaning_of line)) ≤ 2 * length room.old }
-        ensures { Did (perform (playing_of self.old) (meaning_of line.entry))
+        ensures { Did (λ refused. perform refused (playing_of self.old) (meaning_of line.entry))
             (printout (W.contents writer.old) self.old.answers) (playing_of self.old) result
             (printout (W.contents writer.new) self.new.answers) (playing_of self.new) }
     {
@@ -100,7 +101,7 @@ impl Player {
 
     /// Executes a command, and prints the response.
     fn execute<W: Write>(&mut self, buffer: &[u8], writer: &mut W) -> Result<(), LineFault>
-        ensures { Did (Some (execute (playing_of self.old) buffer.now))
+        ensures { Did (λ refused. Some (execute refused (playing_of self.old) buffer.now))
             (printout (W.contents writer.old) self.old.answers) (playing_of self.old) result
             (printout (W.contents writer.new) self.new.answers) (playing_of self.new) }
     {
@@ -110,4 +111,11 @@ impl Player {
             .put(writer, response)
             .map_err(|_| LineFault::Write)
     }
+}
+
+/// The bytes 00 to ff.
+fn first_bytes() -> [u8; 256]
+    ensures { result ≡ script_bytes }
+{
+    array::from_fn(|place| place as u8)
 }

@@ -27,7 +27,9 @@ pub fn run_script<R: Read, W: Write>(
     reader: &mut R,
     writer: &mut W,
 ) -> Result<(), ScriptFault>
-    // What is written is what the script prints, to its end or up to its first bad line.
+    // What is written is what the script prints, to its end or up to its first bad line. Where
+    // memory is refused to a command, MEMORY is printed in place of the success of a command that
+    // grows something, and nothing else is changed.
     ensures played { Ran (Plays (R.remaining reader.old)
         (W.contents writer.old) (W.contents writer.new) at_first 1) result }
 {

@@ -1,11 +1,11 @@
-use Rattle.std.proofs.Common.{◌≡◌, ◌+◌, drop, map}
+use Rattle.std.proofs.Common.{◌≡◌, drop, take, map, []}
 use Rattle.tpm_types.specs.AuthEntry.{entry_of}
 use Rattle.tpm_auth.specs.Entries.{entries_pass}
 use Rattle.tpm_auth.proofs.entries.check_entries.Given as goal
 
--- what is left to check decides
-abbrev pub invariant-loop-entry : goal.invariant-loop-entry
-invariant-loop-entry l = record {
-  place : l.number ≡ l.entry-index + 1;
-  rest : entries_pass l.authorized 1 (map entry_of l.entries) ≡ entries_pass l.authorized l.number (map entry_of (drop l.entry-index l.entries));
-}
+-- what is left to check, behind the entries so far, decides about all
+abbrev pub invariant-loop-index : goal.invariant-loop-index
+invariant-loop-index g l =
+    let r = g.K.Keep.record_of l.keep in
+    entries_pass r l.code (map entry_of (take l.index l.entries)) (map entry_of (drop l.index l.entries))
+    ≡ entries_pass r l.code [] (map entry_of l.entries)

@@ -1,0 +1,39 @@
+-- TPM2_FlushContext. TPM 2.0 Library, Part 3, section 28.4.
+use Rattle.std.specs.Prelude.{◌==◌, ◌||◌, not, Bool, [], is_some, None, Result, Ok}
+use Rattle.std.specs.Int.{w32}
+use Rattle.tpm_bytes.specs.Reading.{◌>>=◌, number_at, or_fault, refused_if}
+use Rattle.tpm_session.specs.Sessions.{flushed, session_at}
+use Rattle.tpm_types.specs.declared.handle.Handle.{Handle}
+use Rattle.tpm_types.specs.declared.rc.ResponseCode.TheVariants as code
+use Rattle.tpm_types.specs.declared.rc.Place.TheVariants as place
+use Rattle.tpm_types.specs.Handle.{handle_type}
+use Rattle.tpm_types.specs.HandleArea.{numbered}
+use Rattle.tpm_types.specs.Rc.{at, plain}
+use Rattle.tpm_record.specs.Entity.{names_session}
+use Rattle.tpm_record.specs.Record.{Record}
+use Rattle.tpm_auth.specs.Refused.{refusal}
+use Rattle.tpm_auth.specs.declared.check.ActionCheck.TheVariants as action
+use Rattle.tpm_auth.specs.declared.check.Check.TheVariants as check
+use Rattle.tpm_auth.specs.declared.refused.Refused.{Refused}
+use Rattle.tpm_actions.specs.Request.{Request}
+use Rattle.tpm_actions.specs.Rows.{Success, all_read, parameter}
+
+-- whether a handle is of what can be flushed: a session (02, 03) or a transient object (80)
+abbrev pub can_be_flushed : Handle → Bool
+can_be_flushed handle = names_session handle || handle_type handle == 0x80
+
+-- flushHandle. A1: it is neither a session's nor a transient object's; A2: there is none of that handle
+unfoldable pub flush_context_row : Record → Request → Result Success Refused
+flush_context_row r q = do
+  number ← parameter 1 (or_fault (number_at w32 q.parameters) (plain code.Insufficient))
+  ended ← all_read number.1
+  a1 ← refused_if (not (can_be_flushed (numbered number.0)))
+      (refusal (check.Action action.First) (at (place.Parameter 1) (plain code.Value)))
+  a2 ← refused_if (not (is_some (session_at r.sessions (numbered number.0))))
+      (refusal (check.Action action.Second) (at (place.Parameter 1) (plain code.Handle)))
+  Ok (record {
+    handle = None;
+    answer = [];
+    drawn = 0;
+    after = record r { sessions = flushed r.sessions (numbered number.0) };
+  })

@@ -1,0 +1,122 @@
+-- TPM2_StartAuthSession. TPM 2.0 Library, Part 3, section 11.1, and Part 1, section 19.6.
+use Rattle.std.specs.Prelude.{◌≡◌, ℕ, ◌==◌, not, List, length, take, Option, Some, None, if◌then◌else◌, Result, Ok, Err, slice_set}
+use Rattle.std.specs.Int.{w8}
+use Rattle.tpm_bytes.specs.Reading.{◌>>=◌, number_at, or_fault, refused_if}
+use Rattle.tpm_bytes.specs.Writing.{sized_text}
+use Rattle.tpm_mac.specs.declared.algorithm.HashAlg.{HashAlg}
+use Rattle.tpm_session.specs.declared.session.Binding.{Binding}
+use Rattle.tpm_session.specs.declared.session.Session.{Session}
+use Rattle.tpm_session.specs.declared.session.SessionType.{SessionType}
+use Rattle.tpm_session.specs.declared.session.SessionType.TheVariants as type
+use Rattle.tpm_session.specs.Key.{is_nonce_size, session_key}
+use Rattle.tpm_session.specs.Places.{lowest_free}
+use Rattle.tpm_session.specs.Sessions.{handle_of}
+use Rattle.tpm_types.specs.declared.handle.Handle.{Handle}
+use Rattle.tpm_types.specs.declared.rc.Rc.{Rc}
+use Rattle.tpm_types.specs.declared.rc.ResponseCode.TheVariants as code
+use Rattle.tpm_types.specs.declared.rc.Place.TheVariants as place
+use Rattle.tpm_types.specs.declared.symmetric.SymmetricDefinition.{SymmetricDefinition}
+use Rattle.tpm_types.specs.Algorithm.{hash_at}
+use Rattle.tpm_types.specs.Buffer.{buffer_at}
+use Rattle.tpm_types.specs.Handle.{null_handle}
+use Rattle.tpm_types.specs.Rc.{at, plain}
+use Rattle.tpm_types.specs.Symmetric.{symmetric_at}
+use Rattle.tpm_record.specs.Entity.{auth_value_of, name_of, protection_of}
+use Rattle.tpm_record.specs.Record.{Record}
+use Rattle.tpm_auth.specs.Refused.{refusal}
+use Rattle.tpm_auth.specs.declared.check.ActionCheck.TheVariants as action
+use Rattle.tpm_auth.specs.declared.check.Check.TheVariants as check
+use Rattle.tpm_auth.specs.declared.refused.Refused.{Refused}
+use Rattle.tpm_actions.specs.declared.start_auth_session.Asked.{Asked}
+use Rattle.tpm_actions.specs.Request.{Request, second_handle}
+use Rattle.tpm_actions.specs.Rows.{Success, all_read, parameter}
+
+-- nonceCaller, encryptedSalt, sessionType, symmetric, authHash
+pub record Parameters : Type 0 where
+  pub nonce_caller : List ℕ
+  pub salt : List ℕ
+  pub kind : SessionType
+  pub symmetric : SymmetricDefinition
+  pub hash : HashAlg
+
+abbrev pub parameters_of : Asked → Parameters
+parameters_of asked = record {
+  nonce_caller = asked.nonce_caller.now;
+  salt = asked.salt.now;
+  kind = asked.kind;
+  symmetric = asked.symmetric;
+  hash = asked.hash;
+}
+
+-- the type of a session; policy and trial sessions are not served yet
+unfoldable pub session_type_at : List ℕ → Result (SessionType × List ℕ) Rc
+session_type_at text = do
+  number ← or_fault (number_at w8 text) (plain code.Insufficient)
+  served ← refused_if (not (number.0 == 0x00)) (plain code.Value)
+  Ok (type.Hmac, number.1)
+
+unfoldable pub parameters_in : List ℕ → Result Parameters Refused
+parameters_in text = do
+  nonce ← parameter 1 (buffer_at 32 text)
+  salt ← parameter 2 (buffer_at 32 nonce.1)
+  kind ← parameter 3 (session_type_at salt.1)
+  symmetric ← parameter 4 (symmetric_at kind.1)
+  hash ← parameter 5 (hash_at symmetric.1)
+  ended ← all_read hash.1
+  Ok (record {
+    nonce_caller = nonce.0;
+    salt = salt.0;
+    kind = kind.0;
+    symmetric = symmetric.0;
+    hash = hash.0;
+  })
+
+-- The code's reading of the parameters stands for the definition's.
+abbrev pub Asks : Result Parameters Refused → Result Asked Refused → Type 0
+Asks read (Ok asked) = read ≡ Ok (parameters_of asked)
+Asks read (Err e) = read ≡ Err e
+
+-- A1: nonceCaller has fewer than 16 bytes, or more than a digest; A2: there is a salt, and no key to decrypt it
+unfoldable pub parameters_pass : Parameters → Result (Unit {0}) Refused
+parameters_pass p = do
+  a1 ← refused_if (not (is_nonce_size p.hash (length p.nonce_caller)))
+      (refusal (check.Action action.First) (at (place.Parameter 1) (plain code.Size)))
+  refused_if (not (length p.salt == 0))
+      (refusal (check.Action action.Second) (at (place.Parameter 2) (plain code.Value)))
+
+-- what a session is bound to: the entity as it is now, and none for TPM_RH_NULL
+unfoldable pub binding_of : Record → Handle → Option Binding
+binding_of r bind =
+    if bind.number == null_handle.number then None
+    else Some (record { name = name_of r bind; auth_value = auth_value_of r bind; protection = protection_of bind })
+
+-- the session that is started with a nonce of the TPM's
+abbrev pub new_session : Parameters → Option Binding → List ℕ → Session
+new_session p binding nonce = record {
+  kind = p.kind;
+  hash = p.hash;
+  symmetric = p.symmetric;
+  nonce_tpm = nonce;
+  key = session_key p.hash binding nonce p.nonce_caller;
+  binding = binding;
+}
+
+-- A3: there is no place for the session; answered: its handle and its nonce
+abbrev pub started : Record → Parameters → Session → Option ℕ → Result Success Refused
+started r p s None = Err (refusal (check.Action action.Third) (plain code.SessionMemory))
+started r p s (Some place) = Ok (record {
+  handle = Some (handle_of s.kind place);
+  answer = sized_text s.nonce_tpm;
+  drawn = length p.nonce_caller;
+  after = record r { sessions = slice_set r.sessions place (Some s) };
+})
+
+-- tpmKey, which is TPM_RH_NULL, and bind; the session takes the lowest free place, and a nonce of the size of the
+-- caller's from the front of the random bytes
+unfoldable pub start_auth_session_row : Record → Request → Result Success Refused
+start_auth_session_row r q = do
+  bind ← second_handle q.handles
+  p ← parameters_in q.parameters
+  passed ← parameters_pass p
+  let s : Session = new_session p (binding_of r bind) (take (length p.nonce_caller) q.random)
+  started r p s (lowest_free r.sessions)

@@ -1,0 +1,44 @@
+ghost use Rattle.std.specs.Prelude.{◌≡◌};
+ghost use Rattle.tpm_actions.specs.FlushContext.{can_be_flushed, flush_context_row};
+ghost use Rattle.tpm_actions.specs.Request.{request_of};
+ghost use Rattle.tpm_actions.specs.Rows.{Acts};
+
+use crate::answer::Answer;
+use crate::call::Call;
+use crate::reading::{at_parameter, end};
+use tpm_auth::check::{ActionCheck, Check};
+use tpm_auth::refused::Refused;
+use tpm_bytes::cursor::Cursor;
+use tpm_record::keep::Keep;
+use tpm_types::handle::Handle;
+use tpm_types::rc::ResponseCode;
+
+fn can_be_flushed(handle: Handle) -> bool
+    ensures { result ≡ can_be_flushed handle }
+{
+    matches!(handle.type_byte(), 0x02 | 0x03 | 0x80)
+}
+
+/// TPM2_FlushContext: ends a session.
+#[tactic(auto, unfolding(crate::specs::FlushContext::flush_context_row))]
+pub fn flush_context<K: Keep>(keep: &mut K, call: &Call) -> Result<Answer, Refused>
+    ensures { Acts (flush_context_row (K.record_of keep.old) (request_of call.now))
+        (K.record_of keep.old) result (K.record_of keep.new) }
+{
+    let mut parameters = Cursor::new(call.parameters);
+    let number = parameters
+        .u32()
+        .map_err(|_| at_parameter(1, ResponseCode::Insufficient.anywhere()))?;
+    end(&parameters)?;
+    let handle = Handle { number };
+    if !can_be_flushed(handle) {
+        let rc = ResponseCode::Value.anywhere().at_parameter(1);
+        return Err(Refused::by(Check::Action(ActionCheck::First), rc));
+    }
+    if keep.sessions().get(handle).is_none() {
+        let rc = ResponseCode::Handle.anywhere().at_parameter(1);
+        return Err(Refused::by(Check::Action(ActionCheck::Second), rc));
+    }
+    keep.sessions_mut().flush(handle);
+    Ok(Answer::empty())
+}

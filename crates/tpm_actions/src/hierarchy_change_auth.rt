@@ -1,0 +1,28 @@
+ghost use Rattle.std.specs.Prelude.{◌≡◌};
+ghost use Rattle.tpm_actions.specs.HierarchyChangeAuth.{hierarchy_change_auth_row};
+ghost use Rattle.tpm_actions.specs.Request.{request_of};
+ghost use Rattle.tpm_actions.specs.Rows.{Acts};
+
+use crate::answer::Answer;
+use crate::call::Call;
+use crate::reading::{at_parameter, end};
+use tpm_auth::refused::Refused;
+use tpm_bytes::cursor::Cursor;
+use tpm_record::keep::Keep;
+use tpm_types::auth_value::AuthValue;
+
+/// TPM2_HierarchyChangeAuth: sets the authorization value of a hierarchy, or lockoutAuth.
+#[tactic(auto, unfolding(crate::specs::HierarchyChangeAuth::hierarchy_change_auth_row))]
+pub fn hierarchy_change_auth<K: Keep>(keep: &mut K, call: &Call) -> Result<Answer, Refused>
+    ensures { Acts (hierarchy_change_auth_row (K.record_of keep.old) (request_of call.now))
+        (K.record_of keep.old) result (K.record_of keep.new) }
+{
+    let handle = call.first_handle()?;
+    let mut parameters = Cursor::new(call.parameters);
+    let value = AuthValue::read(&mut parameters).map_err(|rc| at_parameter(1, rc))?;
+    end(&parameters)?;
+    if let Some(auth) = handle.hierarchy_auth() {
+        keep.fixed_mut().hierarchies.set_auth_value(auth, value);
+    }
+    Ok(Answer::empty())
+}

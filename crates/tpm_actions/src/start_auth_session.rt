@@ -1,0 +1,142 @@
+ghost use Rattle.std.specs.Prelude.{◌≡◌, ◌≤◌, true, length, IfOk, OnOk};
+ghost use Rattle.tpm_bytes.specs.Reading.{Reads};
+ghost use Rattle.tpm_session.specs.Key.{is_nonce_size};
+ghost use Rattle.tpm_actions.specs.Request.{request_of};
+ghost use Rattle.tpm_actions.specs.Rows.{ActsIfRoom};
+ghost use Rattle.tpm_actions.specs.StartAuthSession.{Asks, binding_of, parameters_in, parameters_of, parameters_pass, session_type_at, start_auth_session_row};
+
+use crate::answer::Answer;
+use crate::call::Call;
+use crate::reading::{at_parameter, end, memory_refused};
+use tpm_auth::check::{ActionCheck, Check};
+use tpm_auth::refused::Refused;
+use tpm_bytes::cursor::Cursor;
+use tpm_mac::HashAlg;
+use tpm_record::entity::{copied_auth_value, name_of, protection_of};
+use tpm_record::keep::Keep;
+use tpm_session::key::is_nonce_size;
+use tpm_session::nonce::Nonce;
+use tpm_session::session::{Binding, SessionType};
+use tpm_session::sessions::{Start, StartFault};
+use tpm_types::algorithm::read_hash;
+use tpm_types::buffer::read_buffer;
+use tpm_types::handle::Handle;
+use tpm_types::rc::{Rc, ResponseCode};
+use tpm_types::symmetric::SymmetricDefinition;
+
+/// The most bytes of nonceCaller and encryptedSalt.
+const MOST_BYTES: usize = 32;
+
+/// What is asked for.
+#[derive(Clone, Copy)]
+pub struct Asked<'a> {
+    nonce_caller: &'a [u8],
+    salt: &'a [u8],
+    kind: SessionType,
+    symmetric: SymmetricDefinition,
+    hash: HashAlg,
+}
+
+/// Reads the type of a session: VALUE where it is not that of an HMAC session.
+#[tactic(auto, unfolding(crate::specs::StartAuthSession::session_type_at))]
+fn read_type(text: &mut Cursor) -> Result<SessionType, Rc>
+    ensures { Reads (λ kind. kind) (session_type_at text.old) text.old result text.new }
+{
+    let mut ahead = Cursor::new(text.rest());
+    let number = ahead
+        .u8()
+        .map_err(|_| ResponseCode::Insufficient.anywhere())?;
+    if number != 0 {
+        return Err(ResponseCode::Value.anywhere());
+    }
+    *text = ahead;
+    Ok(SessionType::Hmac)
+}
+
+#[tactic(auto, unfolding(crate::specs::StartAuthSession::parameters_in))]
+fn read_parameters(parameters: &[u8]) -> Result<Asked, Refused>
+    ensures read { Asks (parameters_in parameters.now) result }
+    ensures few { IfOk result (λ asked. length asked.nonce_caller.now ≤ 32) }
+{
+    let mut text = Cursor::new(parameters);
+    let nonce_caller = read_buffer(&mut text, MOST_BYTES).map_err(|rc| at_parameter(1, rc))?;
+    let salt = read_buffer(&mut text, MOST_BYTES).map_err(|rc| at_parameter(2, rc))?;
+    let kind = read_type(&mut text).map_err(|rc| at_parameter(3, rc))?;
+    let symmetric = SymmetricDefinition::read(&mut text).map_err(|rc| at_parameter(4, rc))?;
+    let hash = read_hash(&mut text).map_err(|rc| at_parameter(5, rc))?;
+    end(&text)?;
+    Ok(Asked {
+        nonce_caller,
+        salt,
+        kind,
+        symmetric,
+        hash,
+    })
+}
+
+#[tactic(auto, unfolding(crate::specs::StartAuthSession::parameters_pass))]
+fn check_parameters(asked: &Asked) -> Result<(), Refused>
+    ensures passed { result ≡ parameters_pass (parameters_of asked.now) }
+    ensures sized { OnOk result
+        (is_nonce_size asked.now.hash (length asked.now.nonce_caller.now) ≡ true) }
+{
+    if !is_nonce_size(asked.hash, asked.nonce_caller.len()) {
+        let rc = ResponseCode::Size.anywhere().at_parameter(1);
+        return Err(Refused::by(Check::Action(ActionCheck::First), rc));
+    }
+    if !asked.salt.is_empty() {
+        let rc = ResponseCode::Value.anywhere().at_parameter(2);
+        return Err(Refused::by(Check::Action(ActionCheck::Second), rc));
+    }
+    Ok(())
+}
+
+#[tactic(auto, unfolding(crate::specs::StartAuthSession::binding_of))]
+fn binding_of<K: Keep>(keep: &K, bind: Handle) -> Option<Binding>
+    ensures { result ≡ binding_of (K.record_of keep.now) bind }
+{
+    if bind == Handle::NULL {
+        return None;
+    }
+    Some(Binding {
+        name: name_of(keep, bind),
+        auth_value: copied_auth_value(keep, bind),
+        protection: protection_of(bind),
+    })
+}
+
+/// TPM2_StartAuthSession: starts an HMAC session, bound to an entity or to none.
+#[tactic(auto, unfolding(crate::specs::StartAuthSession::start_auth_session_row))]
+pub fn start_auth_session<K: Keep>(keep: &mut K, call: &Call) -> Result<Answer, Refused>
+    ensures { ActsIfRoom K.can_refuse
+        (start_auth_session_row (K.record_of keep.old) (request_of call.now))
+        (K.record_of keep.old) result (K.record_of keep.new) }
+{
+    let bind = call.second_handle()?;
+    let asked = read_parameters(call.parameters)?;
+    check_parameters(&asked)?;
+    let random = call.random;
+    let drawn = asked.nonce_caller.len();
+    let mut answer = Answer::empty();
+    let _ = answer.parameters.put_sized(&random[..drawn]);
+    answer.drawn = drawn;
+    let start = Start {
+        kind: asked.kind,
+        hash: asked.hash,
+        symmetric: asked.symmetric,
+        nonce_caller: asked.nonce_caller,
+        nonce_tpm: Nonce::of(&random[..drawn]),
+        binding: binding_of(keep, bind),
+    };
+    match keep.sessions_mut().start(start) {
+        Ok(handle) => {
+            answer.handle = Some(handle);
+            Ok(answer)
+        }
+        Err(StartFault::Memory) => Err(memory_refused()),
+        Err(_) => {
+            let rc = ResponseCode::SessionMemory.anywhere();
+            Err(Refused::by(Check::Action(ActionCheck::Third), rc))
+        }
+    }
+}

@@ -1,0 +1,13 @@
+use Rattle.std.proofs.Common.{◌≡◌, ◌+◌, ◌*◌, ◌≤◌, drop, length, map}
+use Rattle.tpm_types.specs.AuthEntry.{entry_of}
+use Rattle.tpm_machine.specs.Entries.{entries_rolled}
+use Rattle.tpm_machine.proofs.entries.roll_entries.Given as goal
+
+-- what is left to roll, from here on, leads where all of it does
+abbrev pub invariant-loop-entry : goal.invariant-loop-entry
+invariant-loop-entry g l =
+    let record_of = g.K.Keep.record_of in
+    record {
+      rolled : entries_rolled (record_of l.keep) (map entry_of (drop l.entry-index l.entries)) l.draws ≡ entries_rolled (record_of l.initial.keep) (map entry_of l.entries) l.initial.draws;
+      random : 96 ≤ length l.draws + 32 * l.entry-index;
+    }

@@ -1,0 +1,78 @@
+-- What a success does with the sessions of its entries, and what it answers for each entry. TPM 2.0 Library, Part 1,
+-- section 19.6 (session nonces and HMACs), and Part 2, section 10.13.3 (TPMS_AUTH_RESPONSE).
+use Rattle.std.specs.Prelude.{ℕ, ◌==◌, List, [], ◌∷◌, ◌++◌, length, take, drop, if◌then◌else◌, Option, Some, None}
+use Rattle.std.specs.Option.{option_map_or}
+use Rattle.tpm_bytes.specs.Writing.{sized_text}
+use Rattle.tpm_session.specs.declared.session.Session.{Session}
+use Rattle.tpm_session.specs.EntryText.{response_mac_of}
+use Rattle.tpm_session.specs.ParameterHash.{response_hash_of}
+use Rattle.tpm_session.specs.Sessions.{flushed, rolled}
+use Rattle.tpm_types.specs.declared.command_code.CommandCode.{CommandCode}
+use Rattle.tpm_types.specs.declared.handle.Handle.{Handle}
+use Rattle.tpm_types.specs.AuthEntry.{Entry, has_bits}
+use Rattle.tpm_types.specs.CommandCode.{code_number}
+use Rattle.tpm_record.specs.Record.{Record}
+use Rattle.tpm_auth.specs.Entries.{session_of}
+use Rattle.tpm_auth.specs.Grant.{used_auth_value}
+
+-- a record, and the random bytes that are left
+pub record Drawn : Type 0 where
+  pub after : Record
+  pub left : List ℕ
+
+-- how many bytes an entry's next nonce has: those of its session's nonce; a password has none
+unfoldable pub draw_of : Record → Entry → ℕ
+draw_of r e = option_map_or (λ (s : Session). length s.nonce_tpm) (session_of r e) 0
+
+-- a new nonce for the session of an entry
+unfoldable pub entry_rolled : Record → Entry → List ℕ → Drawn
+entry_rolled r e left = record {
+  after = record r { sessions = rolled r.sessions e.session (take (draw_of r e) left) };
+  left = drop (draw_of r e) left;
+}
+
+-- and of each entry, in order
+abbrev pub entries_rolled : Record → List Entry → List ℕ → Drawn
+entries_rolled r [] left = record { after = r; left = left }
+entries_rolled r (e ∷ es) left =
+    let first = entry_rolled r e left in
+    entries_rolled first.after es first.left
+
+-- the answer to a password: no nonce, continueSession, no HMAC
+abbrev pub password_answer : List ℕ
+password_answer = 0 ∷ 0 ∷ 1 ∷ 0 ∷ 0 ∷ []
+
+-- what the hash of a response is about: the command's code, and the parameters as they are answered
+pub record HashedResponse : Type 0 where
+  pub code : ℕ
+  pub parameters : List ℕ
+
+-- the HMAC of an answer; it is empty where the command's was
+unfoldable pub answer_mac : Record → CommandCode → List ℕ → Option Handle → Entry → Session → List ℕ
+answer_mac r c answer used e s =
+    if length e.hmac == 0 then []
+    else response_mac_of s (used_auth_value r s used) (response_hash_of s.hash (code_number c) answer) e.nonce
+    e.attributes
+
+-- the answer to an entry of a session: its nonce, the attributes of the command's entry, the HMAC
+unfoldable pub session_answer : Record → CommandCode → List ℕ → Option Handle → Entry → Session → List ℕ
+session_answer r c answer used e s =
+    sized_text s.nonce_tpm ++ e.attributes.octet ∷ [] ++ sized_text (answer_mac r c answer used e s)
+
+unfoldable pub entry_answer : Record → CommandCode → List ℕ → Option Handle → Entry → List ℕ
+entry_answer r c answer used e = option_map_or (session_answer r c answer used e) (session_of r e) password_answer
+
+-- the answers to the entries of a command, which in order authorized these handles
+abbrev pub entries_answer : Record → CommandCode → List ℕ → List Handle → List Entry → List ℕ
+entries_answer r c answer handles [] = []
+entries_answer r c answer [] (e ∷ es) = entry_answer r c answer None e ++ entries_answer r c answer [] es
+entries_answer r c answer (handle ∷ handles) (e ∷ es) =
+    entry_answer r c answer (Some handle) e ++ entries_answer r c answer handles es
+
+-- a session without continueSession (bit 0) ends
+unfoldable pub entry_ended : Record → Entry → Record
+entry_ended r e = if has_bits 0x01 e.attributes then r else record r { sessions = flushed r.sessions e.session }
+
+abbrev pub entries_ended : Record → List Entry → Record
+entries_ended r [] = r
+entries_ended r (e ∷ es) = entries_ended (entry_ended r e) es

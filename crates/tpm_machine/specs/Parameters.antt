@@ -1,0 +1,64 @@
+-- Parameters that sessions encrypt. TPM 2.0 Library, Part 1, section 21: the bytes of the first parameter, a sized
+-- buffer, and not its size.
+use Rattle.std.specs.Prelude.{◌≡◌, ℕ, ◌+◌, ◌≤◌, ◌&&◌, nat_le, Bool, true, false, List, [], ◌∷◌, ◌++◌, length, take, drop, if◌then◌else◌, Option, Some, None}
+use Rattle.std.specs.Int.{w16, from_be_bytes}
+use Rattle.std.specs.Option.{option_map_or}
+use Rattle.tpm_session.specs.declared.session.Session.{Session}
+use Rattle.tpm_session.specs.Encryption.{encrypted_parameter, plain_parameter}
+use Rattle.tpm_types.specs.declared.handle.Handle.{Handle}
+use Rattle.tpm_types.specs.AuthEntry.{Entry}
+use Rattle.tpm_record.specs.Entity.{auth_value_of}
+use Rattle.tpm_record.specs.Record.{Record}
+use Rattle.tpm_auth.specs.Entries.{decrypts, encrypts, session_of}
+
+-- the size that stands at the front of a text
+abbrev pub first_size : List ℕ → ℕ
+first_size text = from_be_bytes w16 (take 2 text)
+
+-- whether a whole sized buffer stands there
+abbrev pub has_first_buffer : List ℕ → Bool
+has_first_buffer text = nat_le 2 (length text) && nat_le (2 + first_size text) (length text)
+
+-- a text with other bytes in the sized buffer at its front
+unfoldable pub with_first_buffer : (List ℕ → List ℕ) → List ℕ → List ℕ
+with_first_buffer f text =
+    if has_first_buffer text
+    then take 2 text ++ f (take (first_size text) (drop 2 text)) ++ drop (2 + first_size text) text
+    else text
+
+-- The size of that buffer was found, or there is none.
+abbrev pub FindsFirst : List ℕ → Option ℕ → Type 0
+FindsFirst text (Some size) = (has_first_buffer text ≡ true) × (size ≡ first_size text) × (2 + size ≤ length text)
+FindsFirst text None = has_first_buffer text ≡ false
+
+-- the authorization value in the key of encryption: that of the handle that the session authorizes, if there is one
+unfoldable pub cipher_value : Record → Option Handle → List ℕ
+cipher_value r used = option_map_or (auth_value_of r) used []
+
+-- the parameters as the entry's session decrypts them, between the caller's nonce and the TPM's
+unfoldable pub decrypted_by : Record → Option Handle → Entry → List ℕ → List ℕ
+decrypted_by r used e text =
+    option_map_or (λ (s : Session).
+    with_first_buffer (plain_parameter s (cipher_value r used) e.nonce s.nonce_tpm) text) (session_of r e) text
+
+-- the parameters of a command whose entries, in order, authorize these handles
+abbrev pub plain_parameters : Record → List Handle → List Entry → List ℕ → List ℕ
+plain_parameters r handles [] text = text
+plain_parameters r [] (e ∷ es) text =
+    if decrypts e then decrypted_by r None e text else plain_parameters r [] es text
+plain_parameters r (handle ∷ handles) (e ∷ es) text =
+    if decrypts e then decrypted_by r (Some handle) e text else plain_parameters r handles es text
+
+-- the answer's parameters as the entry's session encrypts them, between the TPM's new nonce and the caller's
+unfoldable pub encrypted_by : Record → Option Handle → Entry → List ℕ → List ℕ
+encrypted_by r used e text =
+    option_map_or (λ (s : Session).
+    with_first_buffer (encrypted_parameter s (cipher_value r used) s.nonce_tpm e.nonce) text) (session_of r e) text
+
+-- and the parameters of its answer
+abbrev pub encrypted_answer : Record → List Handle → List Entry → List ℕ → List ℕ
+encrypted_answer r handles [] text = text
+encrypted_answer r [] (e ∷ es) text =
+    if encrypts e then encrypted_by r None e text else encrypted_answer r [] es text
+encrypted_answer r (handle ∷ handles) (e ∷ es) text =
+    if encrypts e then encrypted_by r (Some handle) e text else encrypted_answer r handles es text

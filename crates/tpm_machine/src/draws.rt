@@ -1,0 +1,36 @@
+ghost use Rattle.std.specs.Prelude.{◌≡◌, ◌≤◌, ℕ, List, length, take, drop};
+
+use std::marker::Model;
+use tpm_session::nonce::Nonce;
+
+/// The random bytes of an event that are left. Contracts see them as a list.
+#[derive(Drop)]
+pub struct Draws<'a> {
+    left: &'a [u8],
+}
+
+impl<'a> Model for Draws<'a> {
+    ghost Value = { List ℕ };
+
+    ghost view = { λ d. d.left.now };
+}
+
+impl<'a> Draws<'a> {
+    pub fn new(left: &'a [u8]) -> Draws<'a>
+        ensures { result ≡ left.now }
+    {
+        Draws { left }
+    }
+
+    /// A nonce of so many bytes, from the front.
+    pub fn nonce(&mut self, size: usize) -> Nonce
+        requires small { size ≤ 32 }
+        requires enough { size ≤ length self.old }
+        ensures nonce { result ≡ take size self.old }
+        ensures left { self.new ≡ drop size self.old }
+    {
+        let (front, back) = self.left.split_at(size);
+        self.left = back;
+        Nonce::of(front)
+    }
+}

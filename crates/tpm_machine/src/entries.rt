@@ -1,0 +1,173 @@
+ghost use Rattle.std.specs.Prelude.{◌≡◌, ◌+◌, ◌*◌, ◌≤◌, ◌++◌, length, map};
+ghost use Rattle.tpm_types.specs.AuthEntry.{entry_of};
+ghost use Rattle.tpm_types.specs.CommandCode.{code_number};
+ghost use Rattle.tpm_machine.specs.Entries.{answer_mac, draw_of, entries_answer, entries_ended, entries_rolled, entry_answer, entry_ended, entry_rolled, session_answer};
+
+use crate::draws::Draws;
+use crate::response_hashes::ResponseHashes;
+use tpm_auth::session_grant::used_auth_value;
+use tpm_bytes::sink::Sink;
+use tpm_mac::Digest;
+use tpm_record::keep::Keep;
+use tpm_session::session::Session;
+use tpm_types::auth_entry::AuthEntry;
+use tpm_types::command_code::CommandCode;
+use tpm_types::handle::Handle;
+
+/// The answer to a password entry: no nonce, continueSession, no HMAC (TPMS_AUTH_RESPONSE, TPM 2.0
+/// Library, Part 2, section 10.13.3).
+const PASSWORD_ANSWER: [u8; 5] = [0, 0, 1, 0, 0];
+
+/// The attribute by which a session stays after the command.
+const CONTINUE_SESSION: u8 = 0x01;
+
+/// The most bytes of the answers to the entries of a command, 69 each.
+pub const AREA_LIMIT: usize = 207;
+
+/// How many bytes the next nonce of an entry's session has.
+#[tactic(auto, unfolding(crate::specs::Entries::draw_of))]
+fn draw_of<K: Keep>(keep: &K, entry: &AuthEntry) -> usize
+    ensures value { result ≡ draw_of (K.record_of keep.now) (entry_of entry.now) }
+    ensures small { result ≤ 32 }
+{
+    match keep.sessions().get(entry.session) {
+        Some(session) => session.nonce_tpm.len(),
+        None => 0,
+    }
+}
+
+#[tactic(auto, unfolding(crate::specs::Entries::entry_rolled))]
+fn roll_entry<K: Keep>(keep: &mut K, entry: &AuthEntry, draws: &mut Draws)
+    requires { 32 ≤ length draws.old }
+    ensures rolled { entry_rolled (K.record_of keep.old) (entry_of entry.now) draws.old
+        ≡ record { after = K.record_of keep.new; left = draws.new } }
+    ensures drawn { length draws.old ≤ length draws.new + 32 }
+{
+    let nonce = draws.nonce(draw_of(keep, entry));
+    keep.sessions_mut().roll(entry.session, nonce);
+}
+
+/// Gives the sessions of the entries new nonces, in order.
+pub fn roll_entries<K: Keep>(keep: &mut K, entries: &[AuthEntry], draws: &mut Draws)
+    requires few { length entries.now ≤ 3 }
+    requires random { 96 ≤ length draws.old }
+    ensures { entries_rolled (K.record_of keep.old) (map entry_of entries.now) draws.old
+        ≡ record { after = K.record_of keep.new; left = draws.new } }
+{
+    for entry in entries {
+        roll_entry(keep, entry, draws);
+    }
+}
+
+/// The HMAC of the answer to an entry.
+#[tactic(auto, unfolding(crate::specs::Entries::answer_mac))]
+fn answer_mac<K: Keep>(
+    keep: &K,
+    code: CommandCode,
+    hashes: &mut ResponseHashes,
+    used: Option<Handle>,
+    entry: &AuthEntry,
+    session: &Session,
+) -> Digest
+    requires { hashes.old.code ≡ code_number code }
+    ensures value { result.items ≡ answer_mac (K.record_of keep.now) code hashes.old.parameters used
+        (entry_of entry.now) session.now }
+    ensures same { hashes.new ≡ hashes.old }
+{
+    if entry.hmac.is_empty() {
+        return Digest::new();
+    }
+    let value = used_auth_value(keep, session, used);
+    let hash = hashes.by(session.hash);
+    session.response_mac(value, hash.as_slice(), entry.nonce, entry.attributes)
+}
+
+#[tactic(auto, unfolding(crate::specs::Entries::session_answer))]
+fn answer_session<K: Keep>(
+    keep: &K,
+    code: CommandCode,
+    hashes: &mut ResponseHashes,
+    used: Option<Handle>,
+    entry: &AuthEntry,
+    session: &Session,
+    area: &mut Sink<AREA_LIMIT>,
+)
+    requires code { hashes.old.code ≡ code_number code }
+    requires room { length area.old + 69 ≤ AREA_LIMIT }
+    ensures text { area.new ≡ area.old ++ session_answer (K.record_of keep.now) code
+        hashes.old.parameters used (entry_of entry.now) session.now }
+    ensures grown { length area.new ≤ length area.old + 69 }
+    ensures same { hashes.new ≡ hashes.old }
+{
+    let mac = answer_mac(keep, code, hashes, used, entry, session);
+    let _ = area.put_sized(session.nonce_tpm.as_slice());
+    let _ = area.put_u8(entry.attributes.octet);
+    let _ = area.put_sized(mac.as_slice());
+}
+
+#[tactic(auto, unfolding(crate::specs::Entries::entry_answer))]
+fn answer_entry<K: Keep>(
+    keep: &K,
+    code: CommandCode,
+    hashes: &mut ResponseHashes,
+    used: Option<Handle>,
+    entry: &AuthEntry,
+    area: &mut Sink<AREA_LIMIT>,
+)
+    requires code { hashes.old.code ≡ code_number code }
+    requires room { length area.old + 69 ≤ AREA_LIMIT }
+    ensures text { area.new ≡ area.old ++ entry_answer (K.record_of keep.now) code
+        hashes.old.parameters used (entry_of entry.now) }
+    ensures grown { length area.new ≤ length area.old + 69 }
+    ensures same { hashes.new ≡ hashes.old }
+{
+    match keep.sessions().get(entry.session) {
+        Some(session) => answer_session(keep, code, hashes, used, entry, session, area),
+        None => {
+            let _ = area.put(&PASSWORD_ANSWER);
+        }
+    }
+}
+
+/// Answers each entry, in order; they authorized these handles.
+pub fn answer_entries<K: Keep>(
+    keep: &K,
+    code: CommandCode,
+    hashes: &mut ResponseHashes,
+    handles: &[Handle],
+    entries: &[AuthEntry],
+    area: &mut Sink<AREA_LIMIT>,
+)
+    requires code { hashes.old.code ≡ code_number code }
+    requires room { length area.old + 69 * length entries.now ≤ AREA_LIMIT }
+    ensures { area.new ≡ area.old ++ entries_answer (K.record_of keep.now) code hashes.old.parameters
+        handles.now (map entry_of entries.now) }
+{
+    let [entry, entries @ ..] = entries else {
+        return;
+    };
+    let (used, handles) = match handles {
+        [handle, others @ ..] => (Some(*handle), others),
+        [] => (None, handles),
+    };
+    answer_entry(keep, code, hashes, used, entry, area);
+    answer_entries(keep, code, hashes, handles, entries, area);
+}
+
+#[tactic(auto, unfolding(crate::specs::Entries::entry_ended))]
+fn end_entry<K: Keep>(keep: &mut K, entry: &AuthEntry)
+    ensures { K.record_of keep.new ≡ entry_ended (K.record_of keep.old) (entry_of entry.now) }
+{
+    if !entry.attributes.has_any(CONTINUE_SESSION) {
+        keep.sessions_mut().flush(entry.session);
+    }
+}
+
+/// Ends the sessions that do not continue.
+pub fn end_entries<K: Keep>(keep: &mut K, entries: &[AuthEntry])
+    ensures { K.record_of keep.new ≡ entries_ended (K.record_of keep.old) (map entry_of entries.now) }
+{
+    for entry in entries {
+        end_entry(keep, entry);
+    }
+}

@@ -1,0 +1,132 @@
+ghost use Rattle.std.specs.Prelude.{◌≡◌, ◌≤◌, length, map};
+ghost use Rattle.tpm_session.specs.Encryption.{encrypted_parameter, plain_parameter};
+ghost use Rattle.tpm_types.specs.AuthEntry.{entry_of};
+ghost use Rattle.tpm_machine.specs.Parameters.{FindsFirst, cipher_value, decrypted_by, encrypted_answer, encrypted_by, plain_parameters, with_first_buffer};
+
+use tpm_auth::entries::{decrypts, encrypts};
+use tpm_record::entity::auth_value_of;
+use tpm_record::keep::Keep;
+use tpm_session::session::Session;
+use tpm_types::auth_entry::AuthEntry;
+use tpm_types::handle::Handle;
+
+/// How many bytes the sized buffer at the front of a text has, if it is all there.
+fn first_size(text: &[u8]) -> Option<usize>
+    ensures { FindsFirst text.now result }
+{
+    if text.len() < 2 {
+        return None;
+    }
+    let size = usize::from(u16::from_be_bytes([text[0], text[1]]));
+    if text.len() < 2 + size {
+        None
+    } else {
+        Some(size)
+    }
+}
+
+/// The authorization value in the key of encryption.
+#[tactic(auto, unfolding(crate::specs::Parameters::cipher_value))]
+fn cipher_value<'a, K: Keep>(keep: &'a K, used: Option<Handle>) -> &'a [u8]
+    ensures value { result.now ≡ cipher_value (K.record_of keep.now) used }
+    ensures fits { length result.now ≤ 32 }
+{
+    match used {
+        Some(handle) => auth_value_of(keep, handle),
+        None => &[],
+    }
+}
+
+/// Decrypts the buffer at the front of a text.
+#[tactic(auto, unfolding(crate::specs::Parameters::with_first_buffer))]
+fn decrypt_first(session: &Session, value: &[u8], newer: &[u8], older: &[u8], text: &mut [u8])
+    requires { length value.now ≤ 32 }
+    ensures { text.new
+        ≡ with_first_buffer (plain_parameter session.now value.now newer.now older.now) text.old }
+{
+    if let Some(size) = first_size(text) {
+        let _ = session.open_parameter(value, newer, older, &mut text[2..2 + size]);
+    }
+}
+
+/// Encrypts the buffer at the front of a text.
+#[tactic(auto, unfolding(crate::specs::Parameters::with_first_buffer))]
+fn encrypt_first(session: &Session, value: &[u8], newer: &[u8], older: &[u8], text: &mut [u8])
+    requires { length value.now ≤ 32 }
+    ensures { text.new
+        ≡ with_first_buffer (encrypted_parameter session.now value.now newer.now older.now) text.old }
+{
+    if let Some(size) = first_size(text) {
+        let _ = session.close_parameter(value, newer, older, &mut text[2..2 + size]);
+    }
+}
+
+#[tactic(auto, unfolding(crate::specs::Parameters::decrypted_by))]
+fn decrypt_by<K: Keep>(keep: &K, used: Option<Handle>, entry: &AuthEntry, text: &mut [u8])
+    ensures { text.new ≡ decrypted_by (K.record_of keep.now) used (entry_of entry.now) text.old }
+{
+    if let Some(session) = keep.sessions().get(entry.session) {
+        let value = cipher_value(keep, used);
+        decrypt_first(
+            session,
+            value,
+            entry.nonce,
+            session.nonce_tpm.as_slice(),
+            text,
+        );
+    }
+}
+
+/// Decrypts the parameters of a command whose entries, in order, authorize these handles.
+pub fn decrypt<K: Keep>(keep: &K, handles: &[Handle], entries: &[AuthEntry], text: &mut [u8])
+    ensures { text.new ≡ plain_parameters (K.record_of keep.now) handles.now
+        (map entry_of entries.now) text.old }
+{
+    let [entry, entries @ ..] = entries else {
+        return;
+    };
+    let (used, handles) = match handles {
+        [handle, others @ ..] => (Some(*handle), others),
+        [] => (None, handles),
+    };
+    if decrypts(entry) {
+        decrypt_by(keep, used, entry, text);
+    } else {
+        decrypt(keep, handles, entries, text);
+    }
+}
+
+#[tactic(auto, unfolding(crate::specs::Parameters::encrypted_by))]
+fn encrypt_by<K: Keep>(keep: &K, used: Option<Handle>, entry: &AuthEntry, text: &mut [u8])
+    ensures { text.new ≡ encrypted_by (K.record_of keep.now) used (entry_of entry.now) text.old }
+{
+    if let Some(session) = keep.sessions().get(entry.session) {
+        let value = cipher_value(keep, used);
+        encrypt_first(
+            session,
+            value,
+            session.nonce_tpm.as_slice(),
+            entry.nonce,
+            text,
+        );
+    }
+}
+
+/// Encrypts the parameters of the answer to such a command.
+pub fn encrypt<K: Keep>(keep: &K, handles: &[Handle], entries: &[AuthEntry], text: &mut [u8])
+    ensures { text.new ≡ encrypted_answer (K.record_of keep.now) handles.now
+        (map entry_of entries.now) text.old }
+{
+    let [entry, entries @ ..] = entries else {
+        return;
+    };
+    let (used, handles) = match handles {
+        [handle, others @ ..] => (Some(*handle), others),
+        [] => (None, handles),
+    };
+    if encrypts(entry) {
+        encrypt_by(keep, used, entry, text);
+    } else {
+        encrypt(keep, handles, entries, text);
+    }
+}

@@ -1,0 +1,2 @@
+pub mod Name
+pub use Rattle.tpm_types.specs.Handle

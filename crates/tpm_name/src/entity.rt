@@ -1,0 +1,77 @@
+ghost use Rattle.std.specs.Prelude.{◌≡◌, ◌≤◌, [], length};
+ghost use Rattle.std.specs.Str.{bytes_eq};
+ghost use Rattle.tpm_name.specs.Name.{handle_name};
+
+use arrayvec::ArrayVec;
+use std::marker::Model;
+use tpm_types::handle::Handle;
+
+/// The Name of an entity: at most 34 bytes. Contracts see it as its bytes.
+#[derive(Drop)]
+pub struct Name {
+    bytes: ArrayVec<u8, 34>,
+}
+
+impl Model for Name {
+    ghost use Rattle.std.specs.Prelude.{ℕ, List};
+
+    ghost Value = { List ℕ };
+
+    ghost view = { λ n. n.bytes.items };
+}
+
+/// The bytes, copied.
+fn copied(bytes: &[u8]) -> ArrayVec<u8, 34>
+    requires { length bytes.now ≤ 34 }
+    ensures { result.items ≡ bytes.now }
+{
+    let mut copy = ArrayVec::new();
+    let _ = copy.try_extend_from_slice(bytes);
+    copy
+}
+
+impl Default for Name {
+    /// No byte, the Name of nothing (TPM 2.0 Library, Part 1, section 16).
+    fn default() -> Name
+        ensures { result ≡ [] }
+    {
+        Name {
+            bytes: ArrayVec::new(),
+        }
+    }
+}
+
+impl Name {
+    /// The Name of an entity that has no public area, as a hierarchy or a PCR: its handle.
+    pub fn of_handle(handle: Handle) -> Name
+        ensures { result ≡ handle_name handle }
+    {
+        Name {
+            bytes: copied(&handle.number.to_be_bytes()),
+        }
+    }
+
+    /// Its bytes.
+    pub fn as_slice(&self) -> &[u8]
+        ensures value { result.now ≡ self.now }
+        ensures fits { length result.now ≤ 34 }
+    {
+        self.bytes.as_slice()
+    }
+
+    /// The same Name.
+    pub fn copy(&self) -> Name
+        ensures { result ≡ self.now }
+    {
+        Name {
+            bytes: copied(self.bytes.as_slice()),
+        }
+    }
+
+    /// Whether the two are the same.
+    pub fn is_same(&self, other: &Name) -> bool
+        ensures { result ≡ bytes_eq self.now other.now }
+    {
+        self.bytes.as_slice() == other.bytes.as_slice()
+    }
+}

@@ -1,0 +1,197 @@
+-- The sessions of a device as a map from handles: what is found after a start, a flush and a new nonce.
+use Rattle.std.proofs.Common.{◌≡◌, ◌≢◌, ℕ, zero, suc, ◌<◌, Bool, true, false, cond, eqb, List, [], ◌∷◌, length, Option, Some, None, slice_set, is_none, refl, sym, ap, subst, ◌∙◌, arith, inl, inr}
+use Rattle.std.specs.Prelude.{option_and_then}
+use Rattle.std.proofs.lemmas.Bool.{cases_eq, eqb-true, eq-eqb, ne_eqb}
+use Rattle.std.proofs.lemmas.List.Quantifiers.{position-Some}
+use Rattle.tpm_types.specs.declared.handle.Handle.{Handle}
+use Rattle.tpm_types.specs.Handle.{handle_type}
+use Rattle.tpm_session.specs.declared.session.Session.{Session}
+use Rattle.tpm_session.specs.Places.{at_place, lowest_free}
+use Rattle.tpm_session.specs.Session.{type_byte, with_nonce}
+use Rattle.tpm_session.specs.Sessions.{flushed, handle_of, if_of_type, place_of, rolled, session_at}
+use Rattle.tpm_session.proofs.Padding.{at_place-read}
+
+abbrev Places : Type 0
+Places = List (Option Session)
+
+-- ---- places
+
+pub at_set-here : (places : Places) (place : ℕ) (cell : Option Session) → place < length places → at_place (slice_set places place cell) place ≡ cell
+at_set-here [] place cell below = absurd (omega arith)
+at_set-here (first ∷ places) zero cell below = refl
+at_set-here (first ∷ places) (suc place) cell below = at_set-here places place cell (omega arith)
+
+pub at_set-other : (places : Places) (place other : ℕ) (cell : Option Session) → other ≢ place → at_place (slice_set places place cell) other ≡ at_place places other
+at_set-other [] place other cell apart = refl
+at_set-other (first ∷ places) zero zero cell apart = absurd (apart refl)
+at_set-other (first ∷ places) zero (suc other) cell apart = refl
+at_set-other (first ∷ places) (suc place) zero cell apart = refl
+at_set-other (first ∷ places) (suc place) (suc other) cell apart = at_set-other places place other cell (λ e. apart (ap (λ (n : ℕ). suc n) e))
+
+at_inside : (places : Places) (place : ℕ) (s : Session) → at_place places place ≡ Some s → place < length places
+at_inside [] place s is = absurd cc
+at_inside (first ∷ places) zero s is = omega arith
+at_inside (first ∷ places) (suc place) s is = let more = at_inside places place s is in omega (arith, more)
+
+-- ---- the lowest free place
+
+is_none_true : (cell : Option Session) → is_none cell ≡ true → cell ≡ None
+is_none_true None e = refl
+is_none_true (Some s) e = absurd cc
+
+-- it is free, and there
+pub lowest_free-free : (places : Places) (place : ℕ) → lowest_free places ≡ Some place → (place < length places) × (at_place places place ≡ None)
+lowest_free-free places place is =
+    let p = position-Some is_none places place None is in
+    (p.0, at_place-read places place None None p.0 (is_none_true _ p.1))
+
+is_none_false : (cell : Option Session) → is_none cell ≡ false → cell ≢ None
+is_none_false None e same = absurd cc
+is_none_false (Some s) e same = absurd cc
+
+-- and each place below it is taken
+pub lowest_free-lowest : (places : Places) (place below : ℕ) → lowest_free places ≡ Some place → below < place → at_place places below ≢ None
+lowest_free-lowest places place below is lower =
+    let p = position-Some is_none places place None is in
+    let taken = is_none_false _ (p.2 below lower) in
+    let inside : below < length places = omega (arith, p.0, lower) in
+    λ free. taken (sym (at_place-read places below _ None inside refl) ∙ free)
+
+-- ---- handles
+
+-- the session of a handle in a place that holds this
+abbrev seen : Handle → Option Session → Option Session
+seen handle cell = option_and_then (if_of_type handle) cell
+
+seen_fits : (handle : Handle) (s : Session) → handle_type handle ≡ type_byte s.kind → seen handle (Some s) ≡ Some s
+seen_fits handle s is = rw (eq-eqb _ _ is) refl
+
+seen_apart : (handle : Handle) (s : Session) → handle_type handle ≢ type_byte s.kind → seen handle (Some s) ≡ None
+seen_apart handle s apart = rw (ne_eqb _ _ apart) refl
+
+found : (b : Bool) (s t : Session) → cond b (Some s) None ≡ Some t → (b ≡ true) × (s ≡ t)
+found true s t e = (refl, cc)
+found false s t e = absurd cc
+
+seen_some : (handle : Handle) (cell : Option Session) (s : Session) → seen handle cell ≡ Some s → (cell ≡ Some s) × (handle_type handle ≡ type_byte s.kind)
+seen_some handle None s e = absurd cc
+seen_some handle (Some t) s e =
+    let f = found (eqb (handle_type handle) (type_byte t.kind)) t s e in
+    (ap (λ (x : Session). Some x) f.1, subst (λ (x : Session). handle_type handle ≡ type_byte x.kind) f.1 (eqb-true _ _ f.0))
+
+-- two handles of one place and one highest byte are one
+one_handle : (a b : Handle) → place_of a ≡ place_of b → handle_type a ≡ handle_type b → a ≡ b
+one_handle a b place byte = ap (λ (n : ℕ). let h : Handle = record { number = n } in h) (let same : a.number ≡ b.number = omega arith in same)
+
+place_of-handle_of : (s : Session) (place : ℕ) → place < 16 → place_of (handle_of s.kind place) ≡ place
+place_of-handle_of s place below = omega arith
+
+type_of-handle_of : (s : Session) (place : ℕ) → place < 16 → handle_type (handle_of s.kind place) ≡ type_byte s.kind
+type_of-handle_of s place below = omega arith
+
+-- what another handle finds where a place is written
+elsewhere : (places : Places) (place : ℕ) (other : Handle) (cell : Option Session) → (place_of other ≡ place → seen other cell ≡ seen other (at_place places place)) → place < length places → session_at (slice_set places place cell) other ≡ session_at places other
+unfolding session_at
+elsewhere places place other cell same inside =
+    elim (cases_eq (place_of other) place) [
+      | inl here ↦
+          let at = at_set-here places place cell inside in
+          ap (λ (n : ℕ). seen other (at_place (slice_set places place cell) n)) here ∙ ap (seen other) at ∙ same here
+          ∙ ap (λ (n : ℕ). seen other (at_place places n)) (sym here)
+      | inr apart ↦ ap (seen other) (at_set-other places place (place_of other) cell apart)
+    ]
+
+-- ---- a start
+
+pub started-found : (places : Places) (place : ℕ) (s : Session) → length places ≡ 16 → place < 16 → session_at (slice_set places place (Some s)) (handle_of s.kind place) ≡ Some s
+unfolding session_at
+started-found places place s all below =
+    ap (λ (n : ℕ). seen (handle_of s.kind place) (at_place (slice_set places place (Some s)) n)) (place_of-handle_of s place below)
+    ∙ ap (seen (handle_of s.kind place)) (at_set-here places place (Some s) (omega arith))
+    ∙ seen_fits (handle_of s.kind place) s (type_of-handle_of s place below)
+
+pub started-others : (places : Places) (place : ℕ) (s : Session) (other : Handle) → length places ≡ 16 → lowest_free places ≡ Some place → other ≢ handle_of s.kind place → session_at (slice_set places place (Some s)) other ≡ session_at places other
+started-others places place s other all is apart =
+    let free = lowest_free-free places place is in
+    let below : place < 16 = omega (arith, free.0) in
+    elsewhere places place other (Some s)
+    (λ here. seen_apart other s (λ byte. apart (one_handle other (handle_of s.kind place) (here ∙ sym (place_of-handle_of s place below)) (byte ∙ sym (type_of-handle_of s place below)))) ∙ ap (seen other) (sym free.1))
+    free.0
+
+-- ---- what is written where a session is
+
+abbrev Found : Places → Handle → Session → Type 0
+Found places handle s = (at_place places (place_of handle) ≡ Some s) × (handle_type handle ≡ type_byte s.kind)
+
+found_at : (places : Places) (handle : Handle) (s : Session) → session_at places handle ≡ Some s → Found places handle s
+unfolding session_at
+found_at places handle s is = seen_some handle (at_place places (place_of handle)) s is
+
+-- another handle of the place has another highest byte, and finds nothing there
+hidden : (places : Places) (handle other : Handle) (s t : Session) → Found places handle s → t.kind ≡ s.kind → other ≢ handle → place_of other ≡ place_of handle → seen other (Some t) ≡ None
+hidden places handle other s t is kind apart here =
+    seen_apart other t (λ byte. apart (one_handle other handle here (byte ∙ ap type_byte kind ∙ sym is.1)))
+
+others_stay : (places : Places) (handle other : Handle) (s : Session) (cell : Option Session) → session_at places handle ≡ Some s → other ≢ handle → (place_of other ≡ place_of handle → seen other cell ≡ None) → session_at (slice_set places (place_of handle) cell) other ≡ session_at places other
+others_stay places handle other s cell is apart none =
+    let f = found_at places handle s is in
+    elsewhere places (place_of handle) other cell
+    (λ here. none here ∙ sym (ap (seen other) f.0 ∙ hidden places handle other s s f refl apart here))
+    (at_inside places (place_of handle) s f.0)
+
+-- ---- a flush
+
+flushed_some : (places : Places) (handle : Handle) (s : Session) → session_at places handle ≡ Some s → flushed places handle ≡ slice_set places (place_of handle) None
+unfolding flushed
+flushed_some places handle s is = rw is refl
+
+pub flushed-absent : (places : Places) (handle : Handle) → session_at places handle ≡ None → flushed places handle ≡ places
+unfolding flushed
+flushed-absent places handle is = rw is refl
+
+cleared : (places : Places) (handle : Handle) (s : Session) → session_at places handle ≡ Some s → session_at (slice_set places (place_of handle) None) handle ≡ None
+unfolding session_at
+cleared places handle s is =
+    let f = seen_some handle (at_place places (place_of handle)) s is in
+    ap (seen handle) (at_set-here places (place_of handle) None (at_inside places (place_of handle) s f.0))
+
+pub flushed-gone : (places : Places) (handle : Handle) → session_at (flushed places handle) handle ≡ None
+flushed-gone places handle = by (session_at places handle) refl
+  where
+    by : (o : Option Session) → session_at places handle ≡ o → session_at (flushed places handle) handle ≡ None
+    by (Some s) is = ap (λ (p : Places). session_at p handle) (flushed_some places handle s is) ∙ cleared places handle s is
+    by None is = ap (λ (p : Places). session_at p handle) (flushed-absent places handle is) ∙ is
+
+pub flushed-others : (places : Places) (handle other : Handle) → other ≢ handle → session_at (flushed places handle) other ≡ session_at places other
+flushed-others places handle other apart = by (session_at places handle) refl
+  where
+    by : (o : Option Session) → session_at places handle ≡ o → session_at (flushed places handle) other ≡ session_at places other
+    by (Some s) is = ap (λ (p : Places). session_at p other) (flushed_some places handle s is) ∙ others_stay places handle other s None is apart (λ here. refl)
+    by None is = ap (λ (p : Places). session_at p other) (flushed-absent places handle is)
+
+-- ---- a new nonce
+
+rolled_some : (places : Places) (handle : Handle) (s : Session) (nonce : List ℕ) → session_at places handle ≡ Some s → rolled places handle nonce ≡ slice_set places (place_of handle) (Some (with_nonce s nonce))
+unfolding rolled
+rolled_some places handle s nonce is = rw is refl
+
+pub rolled-absent : (places : Places) (handle : Handle) (nonce : List ℕ) → session_at places handle ≡ None → rolled places handle nonce ≡ places
+unfolding rolled
+rolled-absent places handle nonce is = rw is refl
+
+renewed : (places : Places) (handle : Handle) (s : Session) (nonce : List ℕ) → session_at places handle ≡ Some s → session_at (slice_set places (place_of handle) (Some (with_nonce s nonce))) handle ≡ Some (with_nonce s nonce)
+unfolding session_at
+renewed places handle s nonce is =
+    let f = seen_some handle (at_place places (place_of handle)) s is in
+    ap (seen handle) (at_set-here places (place_of handle) (Some (with_nonce s nonce)) (at_inside places (place_of handle) s f.0))
+    ∙ seen_fits handle (with_nonce s nonce) f.1
+
+pub rolled-found : (places : Places) (handle : Handle) (s : Session) (nonce : List ℕ) → session_at places handle ≡ Some s → session_at (rolled places handle nonce) handle ≡ Some (with_nonce s nonce)
+rolled-found places handle s nonce is = ap (λ (p : Places). session_at p handle) (rolled_some places handle s nonce is) ∙ renewed places handle s nonce is
+
+pub rolled-others : (places : Places) (handle other : Handle) (nonce : List ℕ) → other ≢ handle → session_at (rolled places handle nonce) other ≡ session_at places other
+rolled-others places handle other nonce apart = by (session_at places handle) refl
+  where
+    by : (o : Option Session) → session_at places handle ≡ o → session_at (rolled places handle nonce) other ≡ session_at places other
+    by (Some s) is = ap (λ (p : Places). session_at p other) (rolled_some places handle s nonce is) ∙ others_stay places handle other s (Some (with_nonce s nonce)) is apart (λ here. hidden places handle other s (with_nonce s nonce) (found_at places handle s is) refl apart here)
+    by None is = ap (λ (p : Places). session_at p other) (rolled-absent places handle nonce is)

@@ -1,0 +1,42 @@
+-- Encryption of a parameter by a session. TPM 2.0 Library, Part 1, sections 21.1 and 21.3 (CFB mode
+-- parameter encryption).
+use Rattle.std.specs.Prelude.{ℕ, List, [], ◌∷◌, ◌++◌, take, drop}
+use Rattle.tpm_aes.specs.Cfb.{cfb_decrypt_of, cfb_encrypt_of}
+use Rattle.tpm_mac.specs.Kdf.{kdfa_of}
+use Rattle.tpm_types.specs.declared.symmetric.SymmetricDefinition.{SymmetricDefinition}
+use Rattle.tpm_types.specs.declared.symmetric.SymmetricDefinition.TheVariants.{Null, Aes128Cfb}
+use Rattle.tpm_session.specs.declared.session.Session.{Session}
+
+-- "CFB"
+abbrev pub cipher_label : List ℕ
+cipher_label = 0x43 ∷ 0x46 ∷ 0x42 ∷ []
+
+-- KDFa(authHash, sessionKey || authValue, "CFB", nonceNewer, nonceOlder, 256 bits)
+unfoldable pub cipher_bytes : Session → (auth_value newer older : List ℕ) → List ℕ
+cipher_bytes session auth_value newer older =
+    kdfa_of session.hash (session.key ++ auth_value) cipher_label newer older 32
+
+-- the first 128 bits are the key, the others the IV
+abbrev pub cipher_key : List ℕ → List ℕ
+cipher_key bytes = take 16 bytes
+
+abbrev pub cipher_iv : List ℕ → List ℕ
+cipher_iv bytes = drop 16 bytes
+
+abbrev encrypted_by : SymmetricDefinition → (bytes plain : List ℕ) → List ℕ
+encrypted_by Null bytes plain = plain
+encrypted_by Aes128Cfb bytes plain = cfb_encrypt_of (cipher_key bytes) (cipher_iv bytes) plain
+
+abbrev decrypted_by : SymmetricDefinition → (bytes cipher : List ℕ) → List ℕ
+decrypted_by Null bytes cipher = cipher
+decrypted_by Aes128Cfb bytes cipher = cfb_decrypt_of (cipher_key bytes) (cipher_iv bytes) cipher
+
+-- the bytes of a parameter encrypted; the same bytes where the session has no symmetric algorithm
+unfoldable pub encrypted_parameter : Session → (auth_value newer older plain : List ℕ) → List ℕ
+encrypted_parameter session auth_value newer older plain =
+    encrypted_by session.symmetric (cipher_bytes session auth_value newer older) plain
+
+-- and decrypted
+unfoldable pub plain_parameter : Session → (auth_value newer older cipher : List ℕ) → List ℕ
+plain_parameter session auth_value newer older cipher =
+    decrypted_by session.symmetric (cipher_bytes session auth_value newer older) cipher

@@ -1,0 +1,22 @@
+-- Nonces and keys of sessions. TPM 2.0 Library, Part 1, sections 19.6.8 (sessionKey creation) and
+-- 19.6.10 (bound sessions), and Part 3, section 11.1 (TPM2_StartAuthSession).
+use Rattle.std.specs.Prelude.{ℕ, ◌&&◌, nat_le, Bool, List, [], ◌∷◌, Option, Some, None}
+use Rattle.tpm_mac.specs.Digest.{digest_size}
+use Rattle.tpm_mac.specs.Kdf.{kdfa_of}
+use Rattle.tpm_mac.specs.declared.algorithm.HashAlg.{HashAlg}
+use Rattle.tpm_session.specs.declared.session.Binding.{Binding}
+
+-- a caller's first nonce has at least 16 bytes, and no more than a digest
+abbrev pub is_nonce_size : HashAlg → ℕ → Bool
+is_nonce_size hash size = nat_le 16 size && nat_le size (digest_size hash)
+
+-- "ATH"
+abbrev pub key_label : List ℕ
+key_label = 0x41 ∷ 0x54 ∷ 0x48 ∷ []
+
+-- KDFa(authHash, bind.authValue, "ATH", nonceTPM, nonceCaller, bits of a digest), and the empty key
+-- without a binding
+unfoldable pub session_key : HashAlg → Option Binding → (nonce_tpm nonce_caller : List ℕ) → List ℕ
+session_key hash None nonce_tpm nonce_caller = []
+session_key hash (Some binding) nonce_tpm nonce_caller =
+    kdfa_of hash binding.auth_value key_label nonce_tpm nonce_caller (digest_size hash)

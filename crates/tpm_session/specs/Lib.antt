@@ -1,0 +1,16 @@
+pub mod Session
+pub mod Key
+pub mod Places
+pub mod ListPlaces
+pub mod Sessions
+pub mod ParameterHash
+pub mod EntryText
+pub mod Encryption
+pub use Rattle.tpm_name.specs.Name
+pub use Rattle.tpm_types.specs.AuthEntry
+pub use Rattle.tpm_types.specs.AuthValue
+pub use Rattle.tpm_types.specs.Handle
+pub use Rattle.tpm_mac.specs.Digest
+pub use Rattle.tpm_mac.specs.Hmac
+pub use Rattle.tpm_mac.specs.Kdf
+pub use Rattle.tpm_aes.specs.Cfb

@@ -1,0 +1,85 @@
+ghost use Rattle.std.specs.Prelude.{◌≡◌, ◌≤◌, ◌++◌, [], length};
+ghost use Rattle.tpm_mac.specs.Digest.{digest_size};
+ghost use Rattle.tpm_mac.specs.Kdf.{kdfa_of};
+ghost use Rattle.tpm_session.specs.Key.{is_nonce_size, key_label, session_key};
+
+use crate::session::Binding;
+use arrayvec::ArrayVec;
+use std::marker::Model;
+use tpm_mac::{HashAlg, kdfa};
+
+/// The label of session keys.
+const KEY_LABEL: &[u8] = b"ATH";
+
+/// The key of a session: empty, or as long as a digest. Contracts see it as its bytes.
+#[derive(Drop)]
+pub struct SessionKey {
+    bytes: ArrayVec<u8, 32>,
+}
+
+impl Model for SessionKey {
+    ghost use Rattle.std.specs.Prelude.{ℕ, List};
+
+    ghost Value = { List ℕ };
+
+    ghost view = { λ k. k.bytes.items };
+}
+
+/// Whether a caller's first nonce may have so many bytes: at least 16, and no more than a digest
+/// (TPM 2.0 Library, Part 3, section 11.1).
+pub fn is_nonce_size(hash: HashAlg, size: usize) -> bool
+    ensures { result ≡ is_nonce_size hash size }
+{
+    16 <= size && size <= hash.size()
+}
+
+impl SessionKey {
+    /// The empty key.
+    pub fn empty() -> SessionKey
+        ensures { result ≡ [] }
+    {
+        SessionKey {
+            bytes: ArrayVec::new(),
+        }
+    }
+
+    /// The key of a session that starts with these nonces (Part 1, section 19.6.8): empty without a
+    /// binding.
+    #[tactic(auto, unfolding(crate::specs::Key::session_key))]
+    pub fn derived(
+        hash: HashAlg,
+        binding: &Option<Binding>,
+        nonce_tpm: &[u8],
+        nonce_caller: &[u8],
+    ) -> SessionKey
+        ensures { result ≡ session_key hash binding.now nonce_tpm.now nonce_caller.now }
+    {
+        match binding {
+            None => SessionKey::empty(),
+            Some(binding) => {
+                let auth_value = binding.auth_value.as_slice();
+                SessionKey::bound(hash, auth_value, nonce_tpm, nonce_caller)
+            }
+        }
+    }
+
+    fn bound(hash: HashAlg, auth_value: &[u8], nonce_tpm: &[u8], nonce_caller: &[u8]) -> SessionKey
+        ensures { result ≡ kdfa_of hash auth_value.now key_label nonce_tpm.now nonce_caller.now
+            (digest_size hash) }
+    {
+        let mut key = [0; 32];
+        let out = &mut key[..hash.size()];
+        kdfa(hash, auth_value, KEY_LABEL, nonce_tpm, nonce_caller, out);
+        let mut bytes = ArrayVec::new();
+        let _ = bytes.try_extend_from_slice(&key[..hash.size()]);
+        SessionKey { bytes }
+    }
+
+    /// Its bytes.
+    pub fn as_slice(&self) -> &[u8]
+        ensures value { result.now ≡ self.now }
+        ensures fits { length result.now ≤ 32 }
+    {
+        self.bytes.as_slice()
+    }
+}

@@ -1,0 +1,21 @@
+#![tactic(auto)]
+
+//! Authorization sessions (TPM 2.0 Library, Part 1, sections 19.6 and 21): the sessions of a device
+//! by their handles, the HMAC of an entry by a session, and parameters that a session encrypts.
+//!
+//! It stands on `tpm_mac` and `tpm_aes` for HMACs, keys and encryption, on `tpm_name` for the Names
+//! in a command's hash, and on `tpm_types`. Contracts see the sessions of [`sessions::Sessions`] as
+//! sixteen places, each free or with a session, whatever keeps them ([`slots::Slots`]). A refused
+//! start changes nothing. Only the start of a session may take memory.
+
+pub mod encryption;
+pub mod entry;
+pub mod key;
+pub mod list_slots;
+pub mod nonce;
+pub mod parameter_hash;
+pub mod session;
+pub mod sessions;
+pub mod slots;
+#[cfg(test)]
+mod tests;

@@ -1,0 +1,47 @@
+ghost use Rattle.std.specs.Prelude.{◌≡◌, ◌≤◌, length};
+
+use arrayvec::ArrayVec;
+use std::marker::Model;
+
+/// A nonce: at most 32 bytes (TPM2B_NONCE of TPM 2.0 Library, Part 2, section 10.4.4). Contracts
+/// see it as its bytes.
+#[derive(Drop)]
+pub struct Nonce {
+    bytes: ArrayVec<u8, 32>,
+}
+
+impl Model for Nonce {
+    ghost use Rattle.std.specs.Prelude.{ℕ, List};
+
+    ghost Value = { List ℕ };
+
+    ghost view = { λ n. n.bytes.items };
+}
+
+impl Nonce {
+    /// The nonce of these bytes.
+    pub fn of(bytes: &[u8]) -> Nonce
+        requires { length bytes.now ≤ 32 }
+        ensures { result ≡ bytes.now }
+    {
+        let mut copy = ArrayVec::new();
+        let _ = copy.try_extend_from_slice(bytes);
+        Nonce { bytes: copy }
+    }
+
+    /// Its bytes.
+    pub fn as_slice(&self) -> &[u8]
+        ensures value { result.now ≡ self.now }
+        ensures fits { length result.now ≤ 32 }
+    {
+        self.bytes.as_slice()
+    }
+
+    /// How many bytes it has.
+    pub fn len(&self) -> usize
+        ensures value { result ≡ length self.now }
+        ensures fits { result ≤ 32 }
+    {
+        self.bytes.len()
+    }
+}

@@ -1,0 +1,42 @@
+ghost use Rattle.std.specs.Prelude.{◌≡◌, ◌≤◌, [], length, slice_index_or};
+ghost use Rattle.tpm_mac.specs.Digest.{digest_size};
+ghost use Rattle.tpm_session.specs.ParameterHash.{command_hash_of, response_hash_of};
+
+use tpm_mac::{Digest, HashAlg, digest_parts};
+use tpm_name::Name;
+
+/// The bytes of the Name in a place, and no byte behind the last.
+fn name_at(names: &[Name], place: usize) -> &[u8]
+    ensures { result.now ≡ slice_index_or names.now place [] }
+{
+    match names.get(place) {
+        Some(name) => name.as_slice(),
+        None => &[],
+    }
+}
+
+/// The hash of a command: its code, the Names of its handles, and its parameters as they are sent
+/// (cpHash: TPM 2.0 Library, Part 1, section 18.7).
+#[tactic(auto, unfolding(crate::specs::ParameterHash::command_hash_of))]
+pub fn command_hash(hash: HashAlg, code: u32, names: &[Name], parameters: &[u8]) -> Digest
+    requires { length names.now ≤ 3 }
+    ensures value { result.items ≡ command_hash_of hash code names.now parameters.now }
+    ensures size { length result.items ≡ digest_size hash }
+{
+    let (first, second) = (name_at(names, 0), name_at(names, 1));
+    let third = name_at(names, 2);
+    let code = code.to_be_bytes();
+    digest_parts(hash, &[&code, first, second, third, parameters])
+}
+
+/// The hash of a success: its response code, the command's code, and its parameters as they are
+/// sent (rpHash: TPM 2.0 Library, Part 1, section 18.8).
+#[tactic(auto, unfolding(crate::specs::ParameterHash::response_hash_of))]
+pub fn response_hash(hash: HashAlg, code: u32, parameters: &[u8]) -> Digest
+    ensures value { result.items ≡ response_hash_of hash code parameters.now }
+    ensures size { length result.items ≡ digest_size hash }
+{
+    let success = 0u32.to_be_bytes();
+    let code = code.to_be_bytes();
+    digest_parts(hash, &[&success, &code, parameters])
+}

@@ -1,0 +1,155 @@
+ghost use Rattle.std.specs.Prelude.{◌≡◌, ◌<◌, None, is_some, length, option_copied, replicate};
+ghost use Rattle.tpm_session.specs.Sessions.{Starts, flushed, handle_of, place_of, places_of, rolled, session_at, started_session};
+
+use crate::key::{SessionKey, is_nonce_size};
+use crate::nonce::Nonce;
+use crate::session::{Binding, Session, SessionType};
+use crate::slots::{SlotFault, Slots};
+use std::alloc::Global;
+use tpm_mac::HashAlg;
+use tpm_types::handle::Handle;
+use tpm_types::symmetric::SymmetricDefinition;
+
+/// With what a session starts (TPM 2.0 Library, Part 3, section 11.1).
+#[derive(Drop)]
+pub struct Start<'a> {
+    pub kind: SessionType,
+    pub hash: HashAlg,
+    pub symmetric: SymmetricDefinition,
+    pub nonce_caller: &'a [u8],
+    pub nonce_tpm: Nonce,
+    pub binding: Option<Binding>,
+}
+
+/// Why a session did not start.
+#[derive(Clone, Copy, Debug, PartialEq, Eq)]
+pub enum StartFault {
+    /// The caller's nonce has fewer than 16 bytes, or more than a digest.
+    Size,
+    /// All places are taken.
+    SessionMemory,
+    /// Memory was refused.
+    Memory,
+}
+
+/// The sessions of a device, at most sixteen, by their handles. Their places are kept by `S`.
+#[derive(Drop)]
+pub struct Sessions<S: Slots> {
+    slots: S,
+}
+
+/// How many numbers a handle has below its highest byte.
+const PLACE_NUMBERS: u32 = 0x0100_0000;
+
+/// The place that a handle names.
+fn place_of(handle: Handle) -> usize
+    ensures { result ≡ place_of handle }
+{
+    (handle.number % PLACE_NUMBERS) as usize
+}
+
+/// The handle of a session of this type in a place.
+fn handle_of(kind: SessionType, place: usize) -> Handle
+    requires { place < 16 }
+    ensures { result ≡ handle_of kind place }
+{
+    Handle {
+        number: kind.handle_byte() * PLACE_NUMBERS + place as u32,
+    }
+}
+
+/// The session that is started, with its key.
+fn started_session(start: Start) -> Session
+    ensures { result ≡ started_session start.entry }
+{
+    let key = SessionKey::derived(
+        start.hash,
+        &start.binding,
+        start.nonce_tpm.as_slice(),
+        start.nonce_caller,
+    );
+    Session {
+        kind: start.kind,
+        hash: start.hash,
+        symmetric: start.symmetric,
+        nonce_tpm: start.nonce_tpm,
+        key,
+        binding: start.binding,
+    }
+}
+
+impl<S: Slots> Sessions<S> {
+    /// No session; no memory is taken.
+    pub fn new(alloc: Global) -> Sessions<S>
+        ensures { places_of S.places result ≡ replicate 16 None }
+    {
+        Sessions {
+            slots: S::new(alloc),
+        }
+    }
+
+    /// Starts a session, under the handle of the lowest free place.
+    pub fn start(&mut self, start: Start) -> Result<Handle, StartFault>
+        ensures { Starts S.can_refuse (places_of S.places self.old) start.entry result
+            (places_of S.places self.new) }
+    {
+        if !is_nonce_size(start.hash, start.nonce_caller.len()) {
+            return Err(StartFault::Size);
+        }
+        let kind = start.kind;
+        match self.slots.insert(started_session(start)) {
+            Ok(place) => Ok(handle_of(kind, place)),
+            Err(SlotFault::Full) => Err(StartFault::SessionMemory),
+            Err(SlotFault::NoMemory) => Err(StartFault::Memory),
+        }
+    }
+
+    /// The session of a handle.
+    #[tactic(auto, unfolding(crate::specs::Sessions::session_at))]
+    pub fn get(&self, handle: Handle) -> Option<&Session>
+        ensures session { option_copied result ≡ session_at (places_of S.places self.now) handle }
+        // There are always sixteen places.
+        ensures sixteen { length (places_of S.places self.now) ≡ 16 }
+    {
+        let session = self.slots.get(place_of(handle))?;
+        if handle.number / PLACE_NUMBERS == session.kind.handle_byte() {
+            Some(session)
+        } else {
+            None
+        }
+    }
+
+    /// Ends the session of a handle, and tells whether there was one.
+    #[tactic(auto, unfolding(crate::specs::Sessions::flushed))]
+    pub fn flush(&mut self, handle: Handle) -> bool
+        ensures there { result ≡ is_some (session_at (places_of S.places self.old) handle) }
+        ensures after { places_of S.places self.new ≡ flushed (places_of S.places self.old) handle }
+    {
+        if self.get(handle).is_none() {
+            return false;
+        }
+        self.slots.remove(place_of(handle));
+        true
+    }
+
+    /// Ends all sessions.
+    pub fn clear(&mut self)
+        ensures { places_of S.places self.new ≡ replicate 16 None }
+    {
+        self.slots.clear();
+    }
+
+    /// Gives the session of a handle another nonce of the TPM's, and tells whether there was one.
+    #[tactic(auto, unfolding(crate::specs::Sessions::rolled, crate::specs::Sessions::session_at))]
+    pub fn roll(&mut self, handle: Handle, nonce: Nonce) -> bool
+        ensures there { result ≡ is_some (session_at (places_of S.places self.old) handle) }
+        ensures after { places_of S.places self.new
+            ≡ rolled (places_of S.places self.old) handle nonce }
+    {
+        if self.get(handle).is_none() {
+            return false;
+        }
+        self.slots.set_nonce(place_of(handle), nonce);
+        true
+    }
+}

@@ -1,0 +1,52 @@
+ghost use Rattle.std.specs.Prelude.{◌≡◌, Bool, List, Option, None, length, option_copied, replicate, slice_set};
+ghost use Rattle.tpm_session.specs.Places.{Inserts, at_place, nonce_set};
+ghost use Rattle.tpm_session.specs.declared.session.Session.{Session as SessionParts};
+
+use crate::nonce::Nonce;
+use crate::session::Session;
+use std::alloc::Global;
+
+/// Why no place was taken.
+#[derive(Clone, Copy, Debug, PartialEq, Eq)]
+pub enum SlotFault {
+    /// All places are taken.
+    Full,
+    /// Memory was refused.
+    NoMemory,
+}
+
+/// Sixteen places for sessions, which are numbered from 0.
+pub trait Slots: Drop + Sized {
+    /// The places.
+    ghost places: { Self → List (Option SessionParts) };
+
+    /// Whether memory can be refused.
+    ghost can_refuse: { Bool };
+
+    /// Free places; no memory is taken.
+    fn new(alloc: Global) -> Self
+        ensures { places result ≡ replicate 16 None };
+
+    /// The session in a place, if one is there.
+    fn get(&self, place: usize) -> Option<&Session>
+        ensures { option_copied result ≡ at_place (places self.now) place };
+
+    /// Puts a session into the lowest free place.
+    fn insert(&mut self, session: Session) -> Result<usize, SlotFault>
+        ensures { Inserts can_refuse (places self.old) session result (places self.new) };
+
+    /// Gives the session in a place another nonce of the TPM's, if one is there.
+    fn set_nonce(&mut self, place: usize, nonce: Nonce)
+        ensures { places self.new ≡ nonce_set (places self.old) place nonce };
+
+    /// Frees a place.
+    fn remove(&mut self, place: usize)
+        ensures { places self.new ≡ slice_set (places self.old) place None };
+
+    /// Frees all places.
+    fn clear(&mut self)
+        ensures { places self.new ≡ replicate 16 None };
+
+    /// There are always sixteen.
+    ghost sixteen: { (slots : Self) → length (places slots) ≡ 16 };
+}

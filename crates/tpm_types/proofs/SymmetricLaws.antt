@@ -1,0 +1,76 @@
+-- Symmetric definitions: what is read was spelled so, and what is spelled so is read.
+use Rattle.std.proofs.Common.{◌≡◌, ℕ, ◌^◌, Bool, true, false, cond, List, ◌++◌, Result, Ok, Err, refl, sym, ap, subst, ◌∙◌, append_assoc, arith, inl, inr}
+use Rattle.std.specs.Prelude.{◌==◌, ◌⊎◌, not}
+use Rattle.std.specs.Int.{w16, to_be_bytes}
+use Rattle.std.proofs.lemmas.Bool.{eqb-true}
+use Rattle.tpm_bytes.specs.Reading.{◌>>=◌, number_at, or_fault, refused_if}
+use Rattle.tpm_bytes.proofs.Fields.{AreBytes, Takes, Takes-then, bind_ok, ok_is, passed, number_or_again, number_or_takes, wide16}
+use Rattle.tpm_types.specs.declared.rc.Rc.{Rc}
+use Rattle.tpm_types.specs.declared.rc.ResponseCode.TheVariants as code
+use Rattle.tpm_types.specs.declared.symmetric.SymmetricDefinition.{SymmetricDefinition}
+use Rattle.tpm_types.specs.declared.symmetric.SymmetricDefinition.TheVariants.{Null, Aes128Cfb}
+use Rattle.tpm_types.specs.Symmetric.{aes_at, behind_at, symmetric_at, symmetric_text}
+use Rattle.tpm_types.specs.Rc.{plain}
+use Rattle.tpm_types.proofs.SelectionLaws.{is_equal}
+
+-- which way a choice went
+chosen : {A E : Type 0} (b : Bool) (x y : Result A E) (z : A) → cond b x y ≡ Ok z → ((b ≡ true) × (x ≡ Ok z)) ⊎ ((b ≡ false) × (y ≡ Ok z))
+chosen true x y z e = inl (refl, e)
+chosen false x y z e = inr (refl, e)
+
+abbrev behind_aes : List ℕ
+behind_aes = to_be_bytes w16 0x0080 ++ to_be_bytes w16 0x0043
+
+aes_takes : (bytes : List ℕ) (x : SymmetricDefinition × List ℕ) → AreBytes bytes → aes_at bytes ≡ Ok x → Takes bytes behind_aes x.1 × (x.0 ≡ Aes128Cfb)
+unfolding aes_at
+aes_takes bytes x fits e =
+    let f = plain code.Insufficient in
+    let a = bind_ok (or_fault (number_at w16 bytes) f) (λ bits. refused_if (not (bits.0 == 0x0080)) (plain code.Value) >>= λ served. or_fault (number_at w16 bits.1) f >>= λ mode. refused_if (not (mode.0 == 0x0043)) (plain code.Mode) >>= λ feedback. Ok (Aes128Cfb, mode.1)) x e in
+    let b = bind_ok (refused_if (not (a.0.0 == 0x0080)) (plain code.Value)) (λ served. or_fault (number_at w16 a.0.1) f >>= λ mode. refused_if (not (mode.0 == 0x0043)) (plain code.Mode) >>= λ feedback. Ok (Aes128Cfb, mode.1)) x a.2 in
+    let c = bind_ok (or_fault (number_at w16 a.0.1) f) (λ mode. refused_if (not (mode.0 == 0x0043)) (plain code.Mode) >>= λ feedback. Ok (Aes128Cfb, mode.1)) x b.2 in
+    let d = bind_ok (refused_if (not (c.0.0 == 0x0043)) (plain code.Mode)) (λ feedback. Ok (Aes128Cfb, c.0.1)) x c.2 in
+    let bits : a.0.0 ≡ 0x0080 = is_equal a.0.0 0x0080 (passed _ (plain code.Value) b.0 b.1) in
+    let mode : c.0.0 ≡ 0x0043 = is_equal c.0.0 0x0043 (passed _ (plain code.Mode) d.0 d.1) in
+    let t0 = number_or_takes w16 (2 ^ 16) wide16 f bytes a.0 fits a.1 in
+    let t1 = number_or_takes w16 (2 ^ 16) wide16 f a.0.1 c.0 t0.0.rest_fits c.1 in
+    let both = Takes-then bytes (to_be_bytes w16 a.0.0) a.0.1 (to_be_bytes w16 c.0.0) c.0.1 t0.0 t1.0 in
+    let sized : Takes bytes (to_be_bytes w16 0x0080 ++ to_be_bytes w16 c.0.0) c.0.1 = subst (λ (n : ℕ). Takes bytes (to_be_bytes w16 n ++ to_be_bytes w16 c.0.0) c.0.1) bits both in
+    let spelled : Takes bytes behind_aes c.0.1 = subst (λ (n : ℕ). Takes bytes (to_be_bytes w16 0x0080 ++ to_be_bytes w16 n) c.0.1) mode sized in
+    let made : SymmetricDefinition × List ℕ = (Aes128Cfb, c.0.1) in
+    subst (λ (y : SymmetricDefinition × List ℕ). Takes bytes behind_aes y.1 × (y.0 ≡ Aes128Cfb)) (ok_is made x d.2) (spelled, refl)
+
+aes_again : (rest : List ℕ) → aes_at (behind_aes ++ rest) ≡ Ok (Aes128Cfb, rest)
+unfolding aes_at
+aes_again rest =
+    let f = plain code.Insufficient in
+    ap aes_at (append_assoc (to_be_bytes w16 0x0080) (to_be_bytes w16 0x0043) rest)
+    ∙ rw (number_or_again w16 (2 ^ 16) wide16 f 0x0080 (to_be_bytes w16 0x0043 ++ rest) (omega arith), number_or_again w16 (2 ^ 16) wide16 f 0x0043 rest (omega arith)) refl
+
+pub symmetric_takes : (bytes : List ℕ) (x : SymmetricDefinition × List ℕ) → AreBytes bytes → symmetric_at bytes ≡ Ok x → bytes ≡ symmetric_text x.0 ++ x.1
+unfolding symmetric_at symmetric_text
+symmetric_takes bytes x fits e =
+    let f = plain code.Insufficient in
+    let a = bind_ok (or_fault (number_at w16 bytes) f) (λ algorithm. behind_at algorithm.0 algorithm.1) x e in
+    let t = number_or_takes w16 (2 ^ 16) wide16 f bytes a.0 fits a.1 in
+    elim (chosen (a.0.0 == 0x0010) (Ok (Null, a.0.1)) (cond (a.0.0 == 0x0006) (aes_at a.0.1) (Err (plain code.Symmetric))) x a.2) [
+      | inl null ↦ null_takes a.0 t.0 (eqb-true _ _ null.0) null.1
+      | inr other ↦ elim (chosen (a.0.0 == 0x0006) (aes_at a.0.1) (Err (plain code.Symmetric)) x other.1) [
+        | inl aes ↦ aes_all a.0 t.0 (eqb-true _ _ aes.0) aes.1
+        | inr none ↦ absurd cc
+      ]
+    ]
+  where
+    null_takes : (number : ℕ × List ℕ) → Takes bytes (to_be_bytes w16 number.0) number.1 → number.0 ≡ 0x0010 → (let made : Result (SymmetricDefinition × List ℕ) Rc = Ok (Null, number.1) in made ≡ Ok x) → bytes ≡ symmetric_text x.0 ++ x.1
+    null_takes number t is made = subst (λ (y : SymmetricDefinition × List ℕ). bytes ≡ symmetric_text y.0 ++ y.1) (ok_is (Null, number.1) x made) (t.parts ∙ ap (λ (n : ℕ). to_be_bytes w16 n ++ number.1) is)
+
+    aes_all : (number : ℕ × List ℕ) → Takes bytes (to_be_bytes w16 number.0) number.1 → number.0 ≡ 0x0006 → aes_at number.1 ≡ Ok x → bytes ≡ symmetric_text x.0 ++ x.1
+    aes_all number t is made =
+        let u = aes_takes number.1 x t.rest_fits made in
+        t.parts ∙ ap (λ (n : ℕ). to_be_bytes w16 n ++ number.1) is
+        ∙ ap (λ (l : List ℕ). to_be_bytes w16 0x0006 ++ l) u.0.parts
+        ∙ ap (λ (d : SymmetricDefinition). symmetric_text d ++ x.1) (sym u.1)
+
+pub symmetric_again : (definition : SymmetricDefinition) (rest : List ℕ) → symmetric_at (symmetric_text definition ++ rest) ≡ Ok (definition, rest)
+unfolding symmetric_at symmetric_text
+symmetric_again Null rest = rw (number_or_again w16 (2 ^ 16) wide16 (plain code.Insufficient) 0x0010 rest (omega arith)) refl
+symmetric_again Aes128Cfb rest = rw (number_or_again w16 (2 ^ 16) wide16 (plain code.Insufficient) 0x0006 (behind_aes ++ rest) (omega arith)) (aes_again rest)

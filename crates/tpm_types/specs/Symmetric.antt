@@ -1,0 +1,37 @@
+-- Symmetric definitions. TPM 2.0 Library, Part 2, section 11.1.6 (TPMT_SYM_DEF) and section 6.3
+-- (TPM_ALG_ID: NULL 0010, AES 0006, CFB 0043).
+use Rattle.std.specs.Prelude.{ℕ, ◌==◌, not, List, ◌++◌, if◌then◌else◌, Result, Ok, Err}
+use Rattle.std.specs.Int.{w16, to_be_bytes}
+use Rattle.tpm_bytes.specs.Reading.{◌>>=◌, number_at, or_fault, refused_if}
+use Rattle.tpm_types.specs.declared.rc.Rc.{Rc}
+use Rattle.tpm_types.specs.declared.rc.ResponseCode.TheVariants as code
+use Rattle.tpm_types.specs.declared.symmetric.SymmetricDefinition.{SymmetricDefinition}
+use Rattle.tpm_types.specs.declared.symmetric.SymmetricDefinition.TheVariants.{Null, Aes128Cfb}
+use Rattle.tpm_types.specs.Rc.{plain}
+
+-- NULL alone; or AES, the bits of its key, and its mode
+unfoldable pub symmetric_text : SymmetricDefinition → List ℕ
+symmetric_text Null = to_be_bytes w16 0x0010
+symmetric_text Aes128Cfb =
+    to_be_bytes w16 0x0006 ++ to_be_bytes w16 0x0080 ++ to_be_bytes w16 0x0043
+
+-- what stands behind the number of AES: 128 bits, and the mode CFB
+unfoldable pub aes_at : List ℕ → Result (SymmetricDefinition × List ℕ) Rc
+aes_at text = do
+  bits ← or_fault (number_at w16 text) (plain code.Insufficient)
+  served ← refused_if (not (bits.0 == 0x0080)) (plain code.Value)
+  mode ← or_fault (number_at w16 bits.1) (plain code.Insufficient)
+  feedback ← refused_if (not (mode.0 == 0x0043)) (plain code.Mode)
+  Ok (Aes128Cfb, mode.1)
+
+-- what stands behind the number of an algorithm
+abbrev pub behind_at : ℕ → List ℕ → Result (SymmetricDefinition × List ℕ) Rc
+behind_at number text =
+    if number == 0x0010 then Ok (Null, text)
+    else (if number == 0x0006 then aes_at text else Err (plain code.Symmetric))
+
+-- a definition, and what is after it
+unfoldable pub symmetric_at : List ℕ → Result (SymmetricDefinition × List ℕ) Rc
+symmetric_at text = do
+  algorithm ← or_fault (number_at w16 text) (plain code.Insufficient)
+  behind_at algorithm.0 algorithm.1

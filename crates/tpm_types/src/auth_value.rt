@@ -1,0 +1,107 @@
+ghost use Rattle.std.specs.Prelude.{◌≡◌, ◌≤◌, [], length, take};
+ghost use Rattle.std.specs.Str.{bytes_eq};
+ghost use Rattle.tpm_bytes.specs.Reading.{Reads};
+ghost use Rattle.tpm_types.specs.AuthValue.{auth_value_at, trimmed};
+
+use crate::buffer::read_buffer;
+use crate::rc::Rc;
+use arrayvec::ArrayVec;
+use std::marker::Model;
+use tpm_bytes::cursor::Cursor;
+
+/// An authorization value: at most 32 bytes, without the zeros at its end (TPM2B_AUTH of TPM 2.0
+/// Library, Part 2, section 10.4.5, and Part 1, section 19.6.4.3). Contracts see it as its bytes.
+#[derive(Drop)]
+pub struct AuthValue {
+    bytes: ArrayVec<u8, 32>,
+}
+
+impl Model for AuthValue {
+    ghost use Rattle.std.specs.Prelude.{◌≡◌, ℕ, List};
+    ghost use Rattle.tpm_types.specs.AuthValue.{trimmed};
+
+    ghost Value = { List ℕ };
+
+    ghost view = { λ a. a.bytes.items };
+
+    ghost invariant = { λ a. trimmed a.bytes.items ≡ a.bytes.items };
+}
+
+/// How many bytes are left without the zeros at the end.
+fn trimmed_size(bytes: &[u8]) -> usize
+    ensures within { result ≤ length bytes.now }
+    ensures value { take result bytes.now ≡ trimmed bytes.now }
+{
+    let mut size = bytes.len();
+    while size > 0 && bytes[size - 1] == 0 {
+        size -= 1;
+    }
+    size
+}
+
+/// The bytes, copied.
+fn copied(bytes: &[u8]) -> ArrayVec<u8, 32>
+    requires { length bytes.now ≤ 32 }
+    ensures { result.items ≡ bytes.now }
+{
+    let mut copy = ArrayVec::new();
+    let _ = copy.try_extend_from_slice(bytes);
+    copy
+}
+
+impl AuthValue {
+    /// The empty value.
+    #[tactic(auto, unfolding(crate::specs::AuthValue::trimmed))]
+    pub fn empty() -> AuthValue
+        ensures { result ≡ [] }
+    {
+        AuthValue {
+            bytes: ArrayVec::new(),
+        }
+    }
+
+    /// The value of these bytes, without the zeros at their end.
+    pub fn of(bytes: &[u8]) -> AuthValue
+        requires { length bytes.now ≤ 32 }
+        ensures { result ≡ trimmed bytes.now }
+    {
+        let size = trimmed_size(bytes);
+        AuthValue {
+            bytes: copied(&bytes[..size]),
+        }
+    }
+
+    /// Reads a value, a sized buffer: SIZE where it says that it has more than 32 bytes, else
+    /// INSUFFICIENT where it is cut.
+    #[tactic(auto, unfolding(crate::specs::AuthValue::auth_value_at))]
+    pub fn read(text: &mut Cursor) -> Result<AuthValue, Rc>
+        ensures { Reads (λ value. value) (auth_value_at text.old) text.old result text.new }
+    {
+        Ok(AuthValue::of(read_buffer(text, 32)?))
+    }
+
+    /// Its bytes.
+    pub fn as_slice(&self) -> &[u8]
+        ensures value { result.now ≡ self.now }
+        ensures fits { length result.now ≤ 32 }
+        ensures trimmed { trimmed result.now ≡ result.now }
+    {
+        self.bytes.as_slice()
+    }
+
+    /// The same value.
+    pub fn copy(&self) -> AuthValue
+        ensures { result ≡ self.now }
+    {
+        AuthValue {
+            bytes: copied(self.bytes.as_slice()),
+        }
+    }
+
+    /// Whether these are its bytes.
+    pub fn is_same(&self, bytes: &[u8]) -> bool
+        ensures { result ≡ bytes_eq self.now bytes.now }
+    {
+        self.bytes.as_slice() == bytes
+    }
+}

@@ -1,0 +1,7 @@
+use Rattle.tpmsim_script.specs.Line.{meaning_of}
+use Rattle.tpmsim_script.proofs.Doing.{did_said}
+use Rattle.tpmsim_script.proofs.player.Player.line.Goals as goal
+
+pub returns : goal.returns
+returns g c =
+    did_said _ _ (meaning_of c.in_ok-said.said) _ _ _ _ _ c.requires.limit c.in_ok-said.ensures.meaning c.perform.ensures

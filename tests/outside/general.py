@@ -1,0 +1,248 @@
+"""What every command goes through before its own parameters: the checks of its buffer, its handles
+and the entries of its authorization area, in the order of docs/TABLE.md.
+"""
+
+from dataclasses import dataclass
+
+import frames
+from frames import (
+    AUDIT,
+    AUDIT_EXCLUSIVE,
+    AUDIT_RESET,
+    DECRYPT,
+    ENCRYPT,
+    HMAC_SESSION,
+    NV,
+    PERSISTENT,
+    POLICY_SESSION,
+    RESERVED,
+    RH_ENDORSEMENT,
+    RH_LOCKOUT,
+    RH_NULL,
+    RH_OWNER,
+    RH_PLATFORM,
+    RS_PW,
+    TRANSIENT,
+)
+
+HEADER_BYTES, COMMAND_BYTES = 10, 4096
+LEAST_AREA, MOST_ENTRIES, MOST_NONCE_OR_HMAC = 9, 3, 32
+PCRS = range(24)
+HIERARCHIES = (RH_OWNER, RH_ENDORSEMENT, RH_PLATFORM, RH_LOCKOUT)
+
+
+class Refusal(Exception):
+    """A command that is refused; its one argument names the code, as HASH/p1."""
+
+
+class Short(Exception):
+    """Fewer bytes are left than are wanted."""
+
+
+class Fields:
+    """Bytes, taken from the front."""
+
+    def __init__(self, data):
+        self.data = data
+
+    def take(self, count):
+        if count > len(self.data):
+            raise Short
+        taken, self.data = self.data[:count], self.data[count:]
+        return taken
+
+    def number(self, size):
+        return int.from_bytes(self.take(size), "big")
+
+    def sized(self):
+        return self.take(self.number(2))
+
+
+def first_byte(handle):
+    return handle >> 24
+
+
+def is_pcr(handle):
+    return handle in PCRS
+
+
+def is_pcr_or_null(handle):
+    return is_pcr(handle) or handle == RH_NULL
+
+
+def is_null(handle):
+    return handle == RH_NULL
+
+
+def is_hierarchy(handle):
+    return handle in HIERARCHIES
+
+
+def is_entity(handle):
+    """What a session can be bound to, or bound to nothing by."""
+    return (
+        is_pcr_or_null(handle)
+        or is_hierarchy(handle)
+        or first_byte(handle) in (NV, TRANSIENT, PERSISTENT)
+    )
+
+
+@dataclass(frozen=True)
+class Shape:
+    """The kinds of a command's handles, how many of them need authorization, whether it may have
+    sessions, and whether its first parameter and its first answer are sized buffers.
+    """
+
+    handles: tuple = ()
+    authorized: int = 0
+    sessions: bool = True
+    sized_parameter: bool = False
+    sized_answer: bool = False
+
+
+SHAPES = {
+    frames.STARTUP: Shape(sessions=False),
+    frames.GET_RANDOM: Shape(sized_answer=True),
+    frames.PCR_READ: Shape(),
+    frames.PCR_EXTEND: Shape((is_pcr_or_null,), 1),
+    frames.PCR_EVENT: Shape((is_pcr_or_null,), 1, sized_parameter=True),
+    frames.PCR_RESET: Shape((is_pcr,), 1),
+    frames.HIERARCHY_CHANGE_AUTH: Shape((is_hierarchy,), 1, sized_parameter=True),
+    frames.FLUSH_CONTEXT: Shape(sessions=False),
+    frames.START_AUTH_SESSION: Shape(
+        (is_null, is_entity), sized_parameter=True, sized_answer=True
+    ),
+}
+
+
+@dataclass
+class Entry:
+    handle: int
+    nonce: bytes
+    attributes: int
+    hmac: bytes
+
+
+@dataclass
+class Command:
+    """A command that its buffer spells; without sessions `entries` is None. A handle of the
+    `authorized` first ones is that of the entry in its place.
+    """
+
+    code: int
+    handles: list
+    entries: list
+    parameters: bytes
+
+    @property
+    def shape(self):
+        return SHAPES[self.code]
+
+    def places(self):
+        """Each entry with its number and the handle that it authorizes, if any."""
+        authorized = self.handles[: self.shape.authorized]
+        for place, entry in enumerate(self.entries or [], 1):
+            yield place, entry, authorized[place - 1] if place <= len(authorized) else None
+
+    def with_attribute(self, attribute):
+        """The entry that decrypts or encrypts, its number, and the handle that it authorizes."""
+        for place, entry, handle in self.places():
+            if entry.attributes & attribute:
+                return place, entry, handle
+        return None
+
+
+def read_header(fields, length):
+    if not HEADER_BYTES <= length <= COMMAND_BYTES:
+        raise Refusal("COMMAND_SIZE")
+    tag, size, code = fields.number(2), fields.number(4), fields.number(4)
+    if tag not in (frames.NO_SESSIONS, frames.SESSIONS):
+        raise Refusal("BAD_TAG")
+    if size != length:
+        raise Refusal("COMMAND_SIZE")
+    if code not in SHAPES:
+        raise Refusal("COMMAND_CODE")
+    return tag, code
+
+
+def read_handles(fields, kinds):
+    handles = []
+    for place, is_of_kind in enumerate(kinds, 1):
+        try:
+            handle = fields.number(4)
+        except Short:
+            raise Refusal(f"INSUFFICIENT/h{place}") from None
+        if not is_of_kind(handle):
+            raise Refusal(f"VALUE/h{place}")
+        # There are no objects and no NV indices yet.
+        if first_byte(handle) == TRANSIENT:
+            raise Refusal(f"REFERENCE_H{place - 1}")
+        if first_byte(handle) in (NV, PERSISTENT):
+            raise Refusal(f"HANDLE/h{place}")
+        handles.append(handle)
+    return handles
+
+
+def read_area(fields):
+    try:
+        size = fields.number(4)
+        if size < LEAST_AREA:
+            raise Refusal("AUTHSIZE")
+        area, entries = Fields(fields.take(size)), []
+        while area.data:
+            entry = Entry(area.number(4), area.sized(), area.number(1), area.sized())
+            entries.append(entry)
+    except Short:
+        raise Refusal("AUTHSIZE") from None
+    if len(entries) > MOST_ENTRIES:
+        raise Refusal("AUTHSIZE")
+    return entries
+
+
+def check_entry(command, place, entry, handle, sessions):
+    """What is wrong with an entry, whatever its hmac is."""
+    shape, before = command.shape, command.entries[: place - 1]
+    if max(len(entry.nonce), len(entry.hmac)) > MOST_NONCE_OR_HMAC:
+        raise Refusal(f"SIZE/s{place}")
+    is_password = entry.handle == RS_PW
+    if not is_password and first_byte(entry.handle) not in (HMAC_SESSION, POLICY_SESSION):
+        raise Refusal(f"VALUE/s{place}")
+    if not is_password and entry.handle not in sessions:
+        raise Refusal(f"REFERENCE_S{place - 1}")
+    if is_password and handle is None:
+        raise Refusal(f"HANDLE/s{place}")
+    if not is_password and entry.handle in [it.handle for it in before]:
+        raise Refusal(f"HANDLE/s{place}")
+
+    if entry.attributes & RESERVED:
+        raise Refusal(f"RESERVED_BITS/s{place}")
+    if entry.attributes & (AUDIT_EXCLUSIVE | AUDIT_RESET | AUDIT):
+        raise Refusal(f"ATTRIBUTES/s{place}")
+    for attribute, has_buffer in (
+        (DECRYPT, shape.sized_parameter),
+        (ENCRYPT, shape.sized_answer),
+    ):
+        taken = any(it.attributes & attribute for it in before)
+        if entry.attributes & attribute and (is_password or taken or not has_buffer):
+            raise Refusal(f"ATTRIBUTES/s{place}")
+    if entry.attributes & (DECRYPT | ENCRYPT) and not sessions[entry.handle].aes:
+        raise Refusal(f"SYMMETRIC/s{place}")
+
+
+def decode(buffer, started, sessions):
+    """The command of a buffer, or its first refusal that no authorization value decides."""
+    fields = Fields(buffer)
+    tag, code = read_header(fields, len(buffer))
+    shape = SHAPES[code]
+    if started == (code == frames.STARTUP):
+        raise Refusal("INITIALIZE")
+    handles = read_handles(fields, shape.handles)
+    if tag == frames.SESSIONS and not shape.sessions:
+        raise Refusal("AUTH_CONTEXT")
+    if tag == frames.NO_SESSIONS and shape.authorized:
+        raise Refusal("AUTH_MISSING")
+    entries = read_area(fields) if tag == frames.SESSIONS else None
+    command = Command(code, handles, entries, fields.data)
+    for place, entry, handle in command.places():
+        check_entry(command, place, entry, handle, sessions)
+    return command
