@@ -22,7 +22,8 @@ use Rattle.tpm_actions.specs.Rows.{Success, all_read, parameter}
 abbrev pub can_be_flushed : Handle → Bool
 can_be_flushed handle = names_session handle || handle_type handle == 0x80
 
--- flushHandle. A1: it is neither a session's nor a transient object's; A2: there is none of that handle
+-- flushHandle. A1: it is neither a session's nor a transient object's; A2: there is none of that
+-- handle
 unfoldable pub flush_context_row : Record → Request → Result Success Refused
 flush_context_row r q = do
   number ← parameter 1 (or_fault (number_at w32 q.parameters) (plain code.Insufficient))

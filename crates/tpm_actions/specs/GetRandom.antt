@@ -10,7 +10,8 @@ use Rattle.tpm_auth.specs.declared.refused.Refused.{Refused}
 use Rattle.tpm_actions.specs.Request.{Request}
 use Rattle.tpm_actions.specs.Rows.{Success, all_read, parameter}
 
--- bytesRequested; answered: that many of the event's 256 random bytes, at most 32, as a sized buffer
+-- bytesRequested; answered: that many of the event's 256 random bytes, at most 32, as a sized
+-- buffer
 unfoldable pub get_random_row : Record → Request → Result Success Refused
 get_random_row r q = do
   requested ← parameter 1 (or_fault (number_at w16 q.parameters) (plain code.Insufficient))

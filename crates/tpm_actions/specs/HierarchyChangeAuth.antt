@@ -14,7 +14,8 @@ use Rattle.tpm_actions.specs.Rows.{Success, all_read, parameter}
 
 -- the hierarchies with another authorization value for the one that a handle names
 abbrev pub with_auth_of : Hierarchies → Handle → List ℕ → Hierarchies
-with_auth_of h handle value = option_map_or (λ auth. with_hierarchy_auth h auth value) (hierarchy_auth_of handle) h
+with_auth_of h handle value =
+    option_map_or (λ auth. with_hierarchy_auth h auth value) (hierarchy_auth_of handle) h
 
 -- authHandle, authorized; newAuth, at most 32 bytes, whose trailing zeros do not count
 unfoldable pub hierarchy_change_auth_row : Record → Request → Result Success Refused
@@ -26,5 +27,7 @@ hierarchy_change_auth_row r q = do
     handle = None;
     answer = [];
     drawn = 0;
-    after = record r { fixed = record r.fixed { hierarchies = with_auth_of r.fixed.hierarchies handle value.0 } };
+    after = record r {
+      fixed = record r.fixed { hierarchies = with_auth_of r.fixed.hierarchies handle value.0 };
+    };
   })

@@ -1,4 +1,5 @@
--- What the commands that change PCRs share: a PCR is changed, and on TPM_RH_NULL nothing is checked or changed.
+-- What the commands that change PCRs share: a PCR is changed, and on TPM_RH_NULL nothing is checked
+-- or changed.
 use Rattle.std.specs.Prelude.{ℕ, Option, Some, None, Result, Ok, Err}
 use Rattle.tpm_pcr.specs.Values.{BankValues}
 use Rattle.tpm_pcr.specs.declared.changes.ChangeFault.{ChangeFault}

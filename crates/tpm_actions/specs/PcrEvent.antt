@@ -17,7 +17,8 @@ pcr_event_row r q = do
   handle ← first_handle q.handles
   event ← parameter 1 (buffer_at 1024 q.parameters)
   ended ← all_read event.1
-  banks ← on_pcr (pcr_of handle) r.fixed.banks (λ pcr. extend_of pcr q.locality (event_digests event.0) r.fixed.banks)
+  banks ← on_pcr (pcr_of handle) r.fixed.banks
+      (λ pcr. extend_of pcr q.locality (event_digests event.0) r.fixed.banks)
   Ok (record {
     handle = None;
     answer = digest_values_text (event_digests event.0);

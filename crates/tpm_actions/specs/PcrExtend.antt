@@ -17,4 +17,9 @@ pcr_extend_row r q = do
   digests ← parameter 1 (digest_values_at q.parameters)
   ended ← all_read digests.1
   banks ← on_pcr (pcr_of handle) r.fixed.banks (λ pcr. extend_of pcr q.locality digests.0 r.fixed.banks)
-  Ok (record { handle = None; answer = []; drawn = 0; after = record r { fixed = record r.fixed { banks = banks } } })
+  Ok (record {
+    handle = None;
+    answer = [];
+    drawn = 0;
+    after = record r { fixed = record r.fixed { banks = banks } };
+  })

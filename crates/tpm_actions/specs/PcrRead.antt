@@ -10,7 +10,8 @@ use Rattle.tpm_auth.specs.declared.refused.Refused.{Refused}
 use Rattle.tpm_actions.specs.Request.{Request}
 use Rattle.tpm_actions.specs.Rows.{Success, all_read, parameter}
 
--- pcrSelectionIn; answered: the update counter modulo 2^32, and the first eight values with the selection of just these
+-- pcrSelectionIn; answered: the update counter modulo 2^32, and the first eight values with the
+-- selection of just these
 unfoldable pub pcr_read_row : Record → Request → Result Success Refused
 pcr_read_row r q = do
   selection ← parameter 1 (selection_at q.parameters)

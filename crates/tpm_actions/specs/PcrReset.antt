@@ -15,4 +15,9 @@ pcr_reset_row r q = do
   handle ← first_handle q.handles
   ended ← all_read q.parameters
   banks ← on_pcr (pcr_of handle) r.fixed.banks (λ pcr. reset_of pcr q.locality r.fixed.banks)
-  Ok (record { handle = None; answer = []; drawn = 0; after = record r { fixed = record r.fixed { banks = banks } } })
+  Ok (record {
+    handle = None;
+    answer = [];
+    drawn = 0;
+    after = record r { fixed = record r.fixed { banks = banks } };
+  })

@@ -9,8 +9,8 @@ use Rattle.tpm_auth.specs.declared.check.Check.TheVariants as check
 use Rattle.tpm_auth.specs.declared.refused.Refused.{Refused}
 use Rattle.tpm_actions.specs.declared.call.Call.{Call}
 
--- its handles, as many as its shape has, the number of its locality, its plain parameters, and the event's 256 random
--- bytes
+-- its handles, as many as its shape has, the number of its locality, its plain parameters, and the
+-- event's 256 random bytes
 pub record Request : Type 0 where
   pub handles : List Handle
   pub locality : ℕ
@@ -25,8 +25,8 @@ request_of call = record {
   random = call.random.now;
 }
 
--- the first handle of a command that has one; without one no row acts. That does not occur: a request has as many
--- handles as its command's shape
+-- the first handle of a command that has one; without one no row acts. That does not occur: a
+-- request has as many handles as its command's shape
 abbrev pub first_handle : List Handle → Result Handle Refused
 first_handle [] = Err (refusal check.Handles (plain code.Failure))
 first_handle (handle ∷ handles) = Ok handle

@@ -25,8 +25,8 @@ parameter n (Err rc) = Err (parameter_refusal n rc)
 abbrev pub all_read : List ℕ → Result (Unit {0}) Refused
 all_read rest = refused_if (not (length rest == 0)) (refusal check.Parameters (plain code.Size))
 
--- what a command answers: the handle of what it made, if there is one, and its parameters; how many of the event's
--- random bytes it drew from their front, and the record after it
+-- what a command answers: the handle of what it made, if there is one, and its parameters; how many
+-- of the event's random bytes it drew from their front, and the record after it
 pub record Success : Type 0 where
   pub handle : Option Handle
   pub answer : List ℕ
@@ -35,7 +35,8 @@ pub record Success : Type 0 where
 
 -- A command did what its row says; a refusal changes nothing.
 abbrev pub Acts : Result Success Refused → Record → Result Answer Refused → Record → Type 0
-Acts row old (Ok a) new = row ≡ Ok (record { handle = a.handle; answer = a.parameters; drawn = a.drawn; after = new })
+Acts row old (Ok a) new =
+    row ≡ Ok (record { handle = a.handle; answer = a.parameters; drawn = a.drawn; after = new })
 Acts row old (Err e) new = (row ≡ Err e) × (new ≡ old)
 
 -- want of memory, M
@@ -47,7 +48,8 @@ abbrev pub RefusesOrStarves : Bool → Result Success Refused → Refused → Ty
 RefusesOrStarves can (Err refused) e = e ≡ refused
 RefusesOrStarves can (Ok s) e = (can ≡ true) × (e ≡ memory_refused)
 
--- A command that grows something did what its row says, or was refused memory; a refusal changes nothing.
+-- A command that grows something did what its row says, or was refused memory; a refusal changes
+-- nothing.
 abbrev pub ActsIfRoom : Bool → Result Success Refused → Record → Result Answer Refused → Record → Type 0
 ActsIfRoom can row old (Ok a) new =
     row ≡ Ok (record { handle = a.handle; answer = a.parameters; drawn = a.drawn; after = new })

@@ -76,7 +76,8 @@ abbrev pub Asks : Result Parameters Refused → Result Asked Refused → Type 0
 Asks read (Ok asked) = read ≡ Ok (parameters_of asked)
 Asks read (Err e) = read ≡ Err e
 
--- A1: nonceCaller has fewer than 16 bytes, or more than a digest; A2: there is a salt, and no key to decrypt it
+-- A1: nonceCaller has fewer than 16 bytes, or more than a digest; A2: there is a salt, and no key
+-- to decrypt it
 unfoldable pub parameters_pass : Parameters → Result (Unit {0}) Refused
 parameters_pass p = do
   a1 ← refused_if (not (is_nonce_size p.hash (length p.nonce_caller)))
@@ -88,7 +89,11 @@ parameters_pass p = do
 unfoldable pub binding_of : Record → Handle → Option Binding
 binding_of r bind =
     if bind.number == null_handle.number then None
-    else Some (record { name = name_of r bind; auth_value = auth_value_of r bind; protection = protection_of bind })
+    else Some (record {
+      name = name_of r bind;
+      auth_value = auth_value_of r bind;
+      protection = protection_of bind;
+    })
 
 -- the session that is started with a nonce of the TPM's
 abbrev pub new_session : Parameters → Option Binding → List ℕ → Session
@@ -111,8 +116,8 @@ started r p s (Some place) = Ok (record {
   after = record r { sessions = slice_set r.sessions place (Some s) };
 })
 
--- tpmKey, which is TPM_RH_NULL, and bind; the session takes the lowest free place, and a nonce of the size of the
--- caller's from the front of the random bytes
+-- tpmKey, which is TPM_RH_NULL, and bind; the session takes the lowest free place, and a nonce of
+-- the size of the caller's from the front of the random bytes
 unfoldable pub start_auth_session_row : Record → Request → Result Success Refused
 start_auth_session_row r q = do
   bind ← second_handle q.handles

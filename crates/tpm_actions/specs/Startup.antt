@@ -25,20 +25,22 @@ abbrev pub lacks_state : StartupType → Saved → Bool
 lacks_state Clear Nothing = false
 lacks_state State Nothing = true
 
--- the hierarchies after a TPM Reset: platformAuth is empty, and the null hierarchy has a new seed and a new proof, the
--- first 64 random bytes (Part 1, sections 14.3 and 14.4)
+-- the hierarchies after a TPM Reset: platformAuth is empty, and the null hierarchy has a new seed
+-- and a new proof, the first 64 random bytes (Part 1, sections 14.3 and 14.4)
 abbrev pub reset_hierarchies : Hierarchies → List ℕ → Hierarchies
 reset_hierarchies h random = record (with_hierarchy_auth h auth.Platform []) {
   null = record { seed = take 32 random; proof = take 32 (drop 32 random) };
 }
 
--- startupType; TPM2_Startup(CLEAR) where nothing was saved is a TPM Reset: there is one more of these, and none of the
--- other startups since. The update counter begins at 0, and the count of resets stops at 2^32 - 1
+-- startupType; TPM2_Startup(CLEAR) where nothing was saved is a TPM Reset: there is one more of
+-- these, and none of the other startups since. The update counter begins at 0, and the count of
+-- resets stops at 2^32 - 1
 unfoldable pub startup_row : Record → Request → Result Success Refused
 startup_row r q = do
   type ← parameter 1 (startup_type_at q.parameters)
   ended ← all_read type.1
-  a1 ← refused_if (lacks_state type.0 r.fixed.saved) (refusal (check.Action action.First) (at (place.Parameter 1) (plain code.Value)))
+  a1 ← refused_if (lacks_state type.0 r.fixed.saved)
+      (refusal (check.Action action.First) (at (place.Parameter 1) (plain code.Value)))
   Ok (record {
     handle = None;
     answer = [];

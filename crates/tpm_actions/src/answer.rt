@@ -3,8 +3,8 @@ ghost use Rattle.std.specs.Prelude.{◌≡◌, ◌≤◌, [], None};
 use tpm_bytes::sink::Sink;
 use tpm_types::handle::Handle;
 
-/// The most bytes of a response's parameters: a TPM2B of 1,024 bytes (TPM2_NV_Read) is the longest of all
-/// commands. It is no more than that, since an answer is cleared and moved for each command.
+/// The most bytes of a response's parameters: a TPM2B of 1,024 bytes (TPM2_NV_Read) is the longest
+/// of all commands. It is no more than that, since an answer is cleared and moved for each command.
 pub const ANSWER_LIMIT: usize = 1026;
 
 /// A response's parameters.
@@ -22,8 +22,8 @@ pub struct Answer {
 }
 
 impl Answer {
-    /// No handle, no parameters, and no random bytes drawn. A command writes its parameters into it, so that
-    /// none are copied.
+    /// No handle, no parameters, and no random bytes drawn. A command writes its parameters into
+    /// it, so that none are copied.
     #[inline(always)]
     pub fn empty() -> Answer
         ensures handle { result.handle ≡ None }

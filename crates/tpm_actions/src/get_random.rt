@@ -16,7 +16,8 @@ const MOST_RANDOM: usize = 32;
 /// TPM2_GetRandom: as many random bytes as are asked for, at most 32.
 #[tactic(auto, unfolding(crate::specs::GetRandom::get_random_row))]
 pub fn get_random<K: Keep>(_keep: &mut K, call: &Call) -> Result<Answer, Refused>
-    ensures { Acts (get_random_row (K.record_of _keep.old) (request_of call.now)) (K.record_of _keep.old) result (K.record_of _keep.new) }
+    ensures { Acts (get_random_row (K.record_of _keep.old) (request_of call.now))
+        (K.record_of _keep.old) result (K.record_of _keep.new) }
 {
     let mut parameters = Cursor::new(call.parameters);
     let requested = parameters

@@ -15,11 +15,12 @@ use tpm_types::buffer::read_buffer;
 /// The most bytes of an event's data.
 const MOST_EVENT: usize = 1024;
 
-/// TPM2_PCR_Event: extends a PCR by the digests of the data, and answers them; on TPM_RH_NULL it answers them
-/// and nothing is checked or changed.
+/// TPM2_PCR_Event: extends a PCR by the digests of the data, and answers them; on TPM_RH_NULL it
+/// answers them and nothing is checked or changed.
 #[tactic(auto, unfolding(crate::specs::PcrEvent::pcr_event_row))]
 pub fn pcr_event<K: Keep>(keep: &mut K, call: &Call) -> Result<Answer, Refused>
-    ensures { Acts (pcr_event_row (K.record_of keep.old) (request_of call.now)) (K.record_of keep.old) result (K.record_of keep.new) }
+    ensures { Acts (pcr_event_row (K.record_of keep.old) (request_of call.now))
+        (K.record_of keep.old) result (K.record_of keep.new) }
 {
     let handle = call.first_handle()?;
     let mut parameters = Cursor::new(call.parameters);

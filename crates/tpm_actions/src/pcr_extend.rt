@@ -12,10 +12,12 @@ use tpm_bytes::cursor::Cursor;
 use tpm_record::keep::Keep;
 use tpm_types::digest_values::DigestValues;
 
-/// TPM2_PCR_Extend: extends a PCR by each digest in turn; on TPM_RH_NULL nothing is checked or changed.
+/// TPM2_PCR_Extend: extends a PCR by each digest in turn; on TPM_RH_NULL nothing is checked or
+/// changed.
 #[tactic(auto, unfolding(crate::specs::PcrExtend::pcr_extend_row))]
 pub fn pcr_extend<K: Keep>(keep: &mut K, call: &Call) -> Result<Answer, Refused>
-    ensures { Acts (pcr_extend_row (K.record_of keep.old) (request_of call.now)) (K.record_of keep.old) result (K.record_of keep.new) }
+    ensures { Acts (pcr_extend_row (K.record_of keep.old) (request_of call.now))
+        (K.record_of keep.old) result (K.record_of keep.new) }
 {
     let handle = call.first_handle()?;
     let mut parameters = Cursor::new(call.parameters);

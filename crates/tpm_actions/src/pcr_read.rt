@@ -27,11 +27,12 @@ fn write_reading(update_count: u64, reading: &PcrReading, answer: &mut Parameter
     let _ = reading.values.write(answer);
 }
 
-/// TPM2_PCR_Read: the update counter, and the values of the first eight PCRs of a selection, with the
-/// selection of just these.
+/// TPM2_PCR_Read: the update counter, and the values of the first eight PCRs of a selection, with
+/// the selection of just these.
 #[tactic(auto, unfolding(crate::specs::PcrRead::pcr_read_row))]
 pub fn pcr_read<K: Keep>(keep: &mut K, call: &Call) -> Result<Answer, Refused>
-    ensures { Acts (pcr_read_row (K.record_of keep.old) (request_of call.now)) (K.record_of keep.old) result (K.record_of keep.new) }
+    ensures { Acts (pcr_read_row (K.record_of keep.old) (request_of call.now))
+        (K.record_of keep.old) result (K.record_of keep.new) }
 {
     let mut parameters = Cursor::new(call.parameters);
     let selection = PcrSelection::read(&mut parameters).map_err(|rc| at_parameter(1, rc))?;

@@ -14,7 +14,8 @@ use tpm_record::keep::Keep;
 /// TPM2_PCR_Reset: makes a PCR zeros in both banks.
 #[tactic(auto, unfolding(crate::specs::PcrReset::pcr_reset_row))]
 pub fn pcr_reset<K: Keep>(keep: &mut K, call: &Call) -> Result<Answer, Refused>
-    ensures { Acts (pcr_reset_row (K.record_of keep.old) (request_of call.now)) (K.record_of keep.old) result (K.record_of keep.new) }
+    ensures { Acts (pcr_reset_row (K.record_of keep.old) (request_of call.now))
+        (K.record_of keep.old) result (K.record_of keep.new) }
 {
     let handle = call.first_handle()?;
     end(&Cursor::new(call.parameters))?;

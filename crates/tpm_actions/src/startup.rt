@@ -43,7 +43,8 @@ fn lacks_state(kind: StartupType, saved: Saved) -> bool
 /// TPM2_Startup: VALUE where it wants a saved state and there is none; else a TPM Reset.
 #[tactic(auto, unfolding(crate::specs::Startup::startup_row))]
 pub fn startup<K: Keep>(keep: &mut K, call: &Call) -> Result<Answer, Refused>
-    ensures { Acts (startup_row (K.record_of keep.old) (request_of call.now)) (K.record_of keep.old) result (K.record_of keep.new) }
+    ensures { Acts (startup_row (K.record_of keep.old) (request_of call.now))
+        (K.record_of keep.old) result (K.record_of keep.new) }
 {
     let mut parameters = Cursor::new(call.parameters);
     let kind = StartupType::read(&mut parameters).map_err(|rc| at_parameter(1, rc))?;

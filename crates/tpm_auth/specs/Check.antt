@@ -1,4 +1,5 @@
--- The numbers of the checks, which a row reports; 0 in a row says that none refused, or that power was cycled.
+-- The numbers of the checks, which a row reports; 0 in a row says that none refused, or that power
+-- was cycled.
 use Rattle.std.specs.Prelude.{ℕ, ◌+◌}
 use Rattle.tpm_auth.specs.declared.check.ActionCheck.{ActionCheck}
 use Rattle.tpm_auth.specs.declared.check.ActionCheck.TheVariants as action
@@ -15,8 +16,8 @@ action_number action.Fifth = 5
 action_number action.Sixth = 6
 action_number action.Seventh = 7
 
--- 1 to 11 are the general checks G1 to G11, those of every command, 20 + k is the k-th check Ak of a command's own, and
--- 255 is want of memory
+-- 1 to 11 are the general checks G1 to G11, those of every command, 20 + k is the k-th check Ak of
+-- a command's own, and 255 is want of memory
 abbrev pub check_number : Check → ℕ
 check_number check.Length = 1
 check_number check.Tag = 2

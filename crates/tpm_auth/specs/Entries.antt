@@ -1,5 +1,5 @@
--- The entries of an authorization area, each for itself. TPM 2.0 Library, Part 3, section 5.5 (session area validation),
--- and Part 1, section 21.2 (which sessions encrypt).
+-- The entries of an authorization area, each for itself. TPM 2.0 Library, Part 3, section 5.5
+-- (session area validation), and Part 1, section 21 (which sessions encrypt).
 use Rattle.std.specs.Prelude.{ℕ, ◌+◌, ◌==◌, ◌||◌, ◌&&◌, not, nat_lt, Bool, true, false, List, [], ◌∷◌, ◌++◌, length, if◌then◌else◌, Option, is_none, Result, Ok, Err}
 use Rattle.std.specs.List.{list_any}
 use Rattle.std.specs.Option.{option_map_or}
@@ -32,8 +32,8 @@ session_of r e = session_at r.sessions e.session
 abbrev pub is_password : Entry → Bool
 is_password e = e.session.number == 0x4000_0009
 
--- the attributes decrypt (bit 5) and encrypt (bit 6): the session decrypts the command's first parameter, or encrypts
--- the response's
+-- the attributes decrypt (bit 5) and encrypt (bit 6): the session decrypts the command's first
+-- parameter, or encrypts the response's
 abbrev pub decrypts : Entry → Bool
 decrypts e = has_bits 0x20 e.attributes
 
@@ -42,7 +42,8 @@ encrypts e = has_bits 0x40 e.attributes
 
 -- the code for a session that is not there, in entry n
 abbrev pub reference_of : ℕ → Rc
-reference_of n = plain (if n == 1 then code.ReferenceS0 else (if n == 2 then code.ReferenceS1 else code.ReferenceS2))
+reference_of n =
+    plain (if n == 1 then code.ReferenceS0 else (if n == 2 then code.ReferenceS1 else code.ReferenceS2))
 
 -- whether there is what an entry's handle names: a password always is
 abbrev pub kind_passes : Record → ℕ → Entry → SessionKind → Result (Unit {0}) Rc
@@ -56,8 +57,9 @@ is_misplaced c n before e =
     if is_password e then nat_lt (authorized_handles c) n
     else list_any (λ earlier. earlier.session.number == e.session.number) before
 
--- auditExclusive (1), auditReset (2) or audit (7); decrypt or encrypt on a password, for the second time, or where the
--- first parameter of the command or of its answer is no sized buffer
+-- auditExclusive (1), auditReset (2) or audit (7), since audit sessions are not served; or decrypt
+-- or encrypt on a password, where an earlier entry has the same, or where the first parameter of
+-- the command or of its answer is no sized buffer
 abbrev pub has_wrong_attributes : CommandCode → List Entry → Entry → Bool
 has_wrong_attributes c before e =
     has_bits 0x86 e.attributes
@@ -74,8 +76,8 @@ abbrev pub lacks_cipher : Record → Entry → Bool
 lacks_cipher r e =
     has_bits 0x60 e.attributes && option_map_or (λ (s : Session). is_null s.symmetric) (session_of r e) false
 
--- an entry behind these others of its command: the sizes of its nonce and HMAC, its session, the reserved bits 3 and 4,
--- the other attributes, the session's algorithm
+-- an entry behind these others of its command: the sizes of its nonce and HMAC, its session, the
+-- reserved bits 3 and 4, the other attributes, the session's algorithm
 unfoldable pub entry_passes : Record → CommandCode → List Entry → Entry → Result (Unit {0}) Rc
 entry_passes r c before e = do
   let n : ℕ = length before + 1

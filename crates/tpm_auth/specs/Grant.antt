@@ -1,5 +1,6 @@
--- What the entries of a command authorize. TPM 2.0 Library, Part 1, sections 19.4 (password authorizations), 19.6 (HMAC
--- sessions) and 19.8 (dictionary attacks), and Part 3, section 5.6 (authorization checks).
+-- What the entries of a command authorize. TPM 2.0 Library, Part 1, sections 19.4 (password
+-- authorizations), 19.6 (HMAC sessions) and 19.8 (dictionary attacks), and Part 3, section 5.6
+-- (authorization checks).
 use Rattle.std.specs.Prelude.{◌≡◌, ℕ, ◌+◌, ◌==◌, ◌&&◌, ◌||◌, not, nat_lt, nat_le, nat_eq, Bool, true, false, List, [], ◌∷◌, length, map, take, drop, if◌then◌else◌, Option, Some, None, is_some, Result, Ok, Err}
 use Rattle.std.specs.List.{find, list_all, list_any}
 use Rattle.std.specs.Option.{option_map_or}
@@ -37,21 +38,23 @@ use Rattle.tpm_auth.specs.declared.grant.Grants.{Grants}
 use Rattle.tpm_auth.specs.declared.refused.Counted.TheVariants as counted
 use Rattle.tpm_auth.specs.declared.refused.Refused.{Refused}
 
--- a password counts without its trailing zeros: it is the authorization value, and behind that zeros alone
+-- a password counts without its trailing zeros: it is the authorization value, and behind that
+-- zeros alone
 abbrev pub is_password_of : List ℕ → List ℕ → Bool
 is_password_of value password =
     nat_le (length value) (length password)
     && pointwise nat_eq (take (length value) password) value
     && list_all (λ byte. byte == 0) (drop (length value) password)
 
--- a session is bound to an entity as long as that has the Name and the authorization value of the session's start
+-- a session is bound to an entity as long as that has the Name and the authorization value of the
+-- session's start
 unfoldable pub is_bound_to : Record → Session → Handle → Bool
 is_bound_to r s handle =
     option_map_or (λ (b : Binding).
     bytes_eq b.name (name_of r handle) && bytes_eq b.auth_value (auth_value_of r handle)) s.binding false
 
--- the authorization value in the key of an entry: that of the handle that it authorizes, if there is one to which the
--- session is not bound
+-- the authorization value in the key of an entry: that of the handle that it authorizes, if there
+-- is one to which the session is not bound
 unfoldable pub used_auth_value : Record → Session → Option Handle → List ℕ
 used_auth_value r s None = []
 used_auth_value r s (Some handle) = if is_bound_to r s handle then [] else auth_value_of r handle
@@ -64,7 +67,8 @@ entry_nonce r e = option_map_or (λ (s : Session). s.nonce_tpm) (session_of r e)
 unfoldable pub nonce_where : Record → (Entry → Bool) → List Entry → List ℕ
 nonce_where r test entries = option_map_or (entry_nonce r) (find test entries) []
 
--- the entries whose sessions' nonces stand in the text of entry n: those behind the first, where that authorizes a handle
+-- the entries whose sessions' nonces may stand in the text of entry n: for the first, where it
+-- authorizes a handle, those after it; for any other none
 abbrev pub other_entries : Whole → ℕ → List Entry
 other_entries c n = if n == 1 && nat_lt 0 (authorized_handles c.code) then drop 1 c.entries else []
 
@@ -87,7 +91,8 @@ entry_parts r c n e s = record {
   attributes = e.attributes;
 }
 
--- whether the HMAC of an entry is right: it is that of its key and text, or key and HMAC are both empty
+-- whether the HMAC of an entry is right: it is that of its key and text, or key and HMAC are both
+-- empty
 unfoldable pub is_authentic : Record → Whole → ℕ → Option Handle → Entry → Session → Bool
 is_authentic r c n used e s =
     let value = used_auth_value r s used in
@@ -103,15 +108,16 @@ or_protection protection.None other = other
 or_protection protection.Tries other = protection.Tries
 or_protection protection.Lockout other = protection.Lockout
 
--- the protected entity that an entry of a session touches: one that it authorizes by its authorization value, else that
--- to which its session was bound
+-- the protection that a wrong entry of a session comes up against: that of the entity whose
+-- authorization value is in its key, else that of what its session was bound to
 unfoldable pub touched : Record → Session → Option Handle → Protection
 touched r s None = binding_protection s
 touched r s (Some handle) =
     if is_bound_to r s handle then binding_protection s
     else or_protection (protection_of handle) (binding_protection s)
 
--- a comparison that failed in entry n: AUTH_FAIL where a protected entity is touched, which counts, and else BAD_AUTH
+-- a comparison that failed in entry n: AUTH_FAIL where a protected entity is touched, which counts,
+-- and else BAD_AUTH
 abbrev pub failure : Check → ℕ → Protection → Refused
 failure check n protection.None = refusal check (entry_fault n code.BadAuth)
 failure check n protection.Tries =
@@ -140,16 +146,19 @@ means_of type.Hmac = means.AuthValue
 means_of type.Policy = means.Policy
 means_of type.Trial = means.Policy
 
--- entry n is of a session: a trial session authorizes nothing, the entity must be available to the session's type, and
--- the HMAC must be right
-unfoldable pub session_grant : Record → Whole → ℕ → Option Handle → Entry → Session → Result (Unit {0}) Refused
+-- entry n is of a session: a trial session authorizes nothing, the entity must be available to the
+-- session's type, and the HMAC must be right
+unfoldable pub session_grant : Record
+    → Whole → ℕ → Option Handle → Entry → Session → Result (Unit {0}) Refused
 session_grant r c n used e s = do
-  trial ← refused_if (is_some used && is_trial s.kind) (refusal (check_of used) (entry_fault n code.Attributes))
+  trial ← refused_if (is_some used && is_trial s.kind)
+      (refusal (check_of used) (entry_fault n code.Attributes))
   available ← refused_if (is_some used && not (is_available (means_of s.kind)))
       (refusal (check_of used) (plain code.AuthUnavailable))
   refused_if (not (is_authentic r c n used e s)) (failure (check_of used) n (touched r s used))
 
-abbrev pub session_grant_if : Record → Whole → ℕ → Option Handle → Entry → Option Session → Result (Unit {0}) Refused
+abbrev pub session_grant_if : Record
+    → Whole → ℕ → Option Handle → Entry → Option Session → Result (Unit {0}) Refused
 session_grant_if r c n used e None = Err (refusal check.Entries (reference_of n))
 session_grant_if r c n used e (Some s) = session_grant r c n used e s
 
@@ -162,7 +171,8 @@ grant_by kind.Other r c n used e = Err (refusal check.Entries (entry_fault n cod
 unfoldable pub grant : Record → Whole → ℕ → Option Handle → Entry → Result (Unit {0}) Refused
 grant r c n used e = grant_by (session_kind e.session) r c n used e
 
--- each handle that needs authorization by the entry of the same place, from the n-th on, and then the other entries
+-- each handle that needs authorization by the entry of the same place, from the n-th on, and then
+-- the other entries
 abbrev pub grants_pass : Record → Whole → ℕ → List Handle → List Entry → Result (Unit {0}) Refused
 grants_pass r c n handles [] = Ok tt
 grants_pass r c n [] (e ∷ es) = do
@@ -172,8 +182,8 @@ grants_pass r c n (handle ∷ handles) (e ∷ es) = do
   this ← grant r c n (Some handle) e
   grants_pass r c (n + 1) handles es
 
--- what a command's entries are to authorize: the first of its handles, as many as need authorization, each by the entry
--- of the same place
+-- what a command's entries are to authorize: the first of its handles, as many as need
+-- authorization, each by the entry of the same place
 abbrev pub grants_of : Whole → List Handle
 grants_of c = take (authorized_handles c.code) c.handles
 
@@ -182,8 +192,9 @@ abbrev pub is_cut : {X E : Type 0} → Result X E → Bool
 is_cut (Ok x) = false
 is_cut (Err e) = true
 
--- G8 behind the sizes of the area: each entry's own checks, then that there is an entry for each handle that needs
--- authorization; then G9, each of these handles, and G10, the other entries, and that what a session decrypts is there
+-- G8 behind the sizes of the area: each entry's own checks, then that there is an entry for each
+-- handle that needs authorization; then G9, each of these handles, and G10, the other entries, and
+-- that what a session decrypts is there
 unfoldable pub authorize : Record → Whole → Result (List Handle) Refused
 authorize r c = do
   own ← checked check.Entries (entries_pass r c.code [] c.entries)

@@ -22,8 +22,8 @@ impl ActionCheck {
     }
 }
 
-/// The check that refused a command: G1 to G11 for all commands, then A1 to A7 of the command's own,
-/// and M. Its number is what a row reports.
+/// The check that refused a command: G1 to G11 for all commands, then A1 to A7 of the command's
+/// own, and M. Its number is what a row reports.
 #[derive(Clone, Copy, Debug, PartialEq, Eq)]
 pub enum Check {
     /// G1: fewer than 10 or more than 4,096 bytes.

@@ -103,8 +103,8 @@ fn check_grant<K: Keep>(
     }
 }
 
-/// Checks each handle by the entry of its place, of which the first has this number, and then the other
-/// entries; the first that fails is answered.
+/// Checks each handle by the entry of its place, of which the first has this number, and then the
+/// other entries; the first that fails is answered.
 fn check_grants<K: Keep>(
     keep: &K,
     command: &Command,
@@ -149,8 +149,8 @@ fn names_of<K: Keep>(keep: &K, handles: &[Handle]) -> ArrayVec<Name, 3>
 }
 
 /// Checks the entries of a command, and by them the handles that need authorization: first each
-/// entry for itself, then that there are enough, then each handle and each other entry, and last that
-/// what a session decrypts is there.
+/// entry for itself, then that there are enough, then each handle and each other entry, and last
+/// that what a session decrypts is there.
 #[tactic(auto, unfolding(crate::specs::Grant::authorize))]
 pub fn authorize<'a, K: Keep>(
     keep: &K,

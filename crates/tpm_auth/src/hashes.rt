@@ -18,8 +18,10 @@ pub struct CommandHashes<'a> {
     sha1: Option<Digest>,
     sha256: Option<Digest>,
     ghost few: { length names.now ≤ 3 },
-    ghost is_sha1: { ForSome sha1 (λ d. d.items ≡ command_hash_of alg.Sha1 code names.now parameters.now) },
-    ghost is_sha256: { ForSome sha256 (λ d. d.items ≡ command_hash_of alg.Sha256 code names.now parameters.now) },
+    ghost is_sha1: { ForSome sha1
+        (λ d. d.items ≡ command_hash_of alg.Sha1 code names.now parameters.now) },
+    ghost is_sha256: { ForSome sha256
+        (λ d. d.items ≡ command_hash_of alg.Sha256 code names.now parameters.now) },
 }
 
 impl<'a> Model for CommandHashes<'a> {

@@ -3,10 +3,11 @@
 //! Authorization: whether a command's entries authorize its handles (TPM 2.0 Library, Part 1,
 //! section 19, and Part 3, sections 5.5 and 5.6).
 //!
-//! [`grant::authorize`] first checks each entry for itself ([`entries`]), then each handle that needs
-//! authorization by the entry of its place. A refusal, of every room of the device, is [`refused::Refused`]:
-//! the response code, the check that found it ([`check`]), and what it counts. It stands on
-//! tpm_record, and promises the definitions of `specs/` for each way of keeping the record.
+//! [`grant::authorize`] first checks each entry for itself ([`entries`]), then each handle that
+//! needs authorization by the entry of its place. A refusal, of every room of the device, is
+//! [`refused::Refused`]: the response code, the check that found it ([`check`]), and what it
+//! counts. It stands on tpm_record, and promises the definitions of `specs/` for each way of
+//! keeping the record.
 
 pub mod check;
 pub mod entries;

@@ -82,8 +82,8 @@ fn encrypting_nonce<'a, K: Keep>(keep: &'a K, entries: &[AuthEntry]) -> &'a [u8]
     }
 }
 
-/// The entries whose sessions' nonces stand in the text of this entry: those behind the first, where that
-/// authorizes a handle.
+/// The entries whose sessions' nonces stand in the text of this entry: those behind the first,
+/// where that authorizes a handle.
 fn other_entries<'a, 'b>(command: &'a Command<'b>, number: u8) -> &'a [AuthEntry<'b>]
     ensures { map entry_of result.now ≡ other_entries (whole_of command.now) number }
 {
@@ -203,8 +203,8 @@ fn means_of(kind: SessionType) -> Means
     }
 }
 
-/// Checks the entry of a session: a trial session authorizes nothing, the entity must be available to
-/// the session's type, and the HMAC must be right.
+/// Checks the entry of a session: a trial session authorizes nothing, the entity must be available
+/// to the session's type, and the HMAC must be right.
 #[tactic(auto, unfolding(crate::specs::Grant::session_grant))]
 pub fn check_session<K: Keep>(
     keep: &K,

@@ -16,9 +16,11 @@ use Rattle.tpm_auth.specs.declared.refused.Refused.{Refused}
 
 -- a response's tag, its size, its code, and what stands behind that header
 abbrev pub framed : (tag code : ℕ) → List ℕ → List ℕ
-framed tag code body = to_be_bytes w16 tag ++ to_be_bytes w32 (10 + length body) ++ to_be_bytes w32 code ++ body
+framed tag code body =
+    to_be_bytes w16 tag ++ to_be_bytes w32 (10 + length body) ++ to_be_bytes w32 code ++ body
 
--- a refusal has no sessions; where the command's tag was bad it has a tag of its own, 00C4 (TPM_ST_RSP_COMMAND)
+-- a refusal has no sessions; where the command's tag was bad it has a tag of its own, 00C4
+-- (TPM_ST_RSP_COMMAND)
 abbrev pub refusal_tag : Check → ℕ
 refusal_tag check.Tag = 0xc4
 refusal_tag _ = 0x8001
@@ -31,8 +33,8 @@ abbrev pub handle_answer : Option Handle → List ℕ
 handle_answer None = []
 handle_answer (Some handle) = handle_text handle
 
--- the handle of what was made, if there is one, and the parameters; with sessions their size stands before the
--- parameters, and behind them what answers the command's entries
+-- the handle of what was made, if there is one, and the parameters; with sessions their size stands
+-- before the parameters, and behind them what answers the command's entries
 unfoldable pub success_text : List Entry → Option Handle → (answer area : List ℕ) → List ℕ
 success_text [] handle answer area = framed 0x8001 0 (handle_answer handle ++ answer)
 success_text (entry ∷ entries) handle answer area =
@@ -43,14 +45,16 @@ pub record Answered : Type 0 where
   pub response : List ℕ
   pub after : Record
 
--- what answers a success of a command, whose entries in order authorized these handles: behind its effect new nonces are
--- drawn, then its parameters are encrypted where that is asked for, then each entry is answered, and then sessions end
+-- what answers a success of a command, whose entries in order authorized these handles: behind its
+-- effect new nonces are drawn, then its parameters are encrypted where that is asked for, then each
+-- entry is answered, and then sessions end
 unfoldable pub answer_to : Whole → List Handle → Success → List ℕ → Answered
 answer_to c handles s random =
     let drawn : Drawn = entries_rolled s.after c.entries (drop s.drawn random) in
     let answer : List ℕ = encrypted_answer drawn.after handles c.entries s.answer in
     record {
-      response = success_text c.entries s.handle answer (entries_answer drawn.after c.code answer handles c.entries);
+      response = success_text c.entries s.handle answer
+          (entries_answer drawn.after c.code answer handles c.entries);
       after = entries_ended drawn.after c.entries;
     }
 

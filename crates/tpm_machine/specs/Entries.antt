@@ -1,5 +1,6 @@
--- What a success does with the sessions of its entries, and what it answers for each entry. TPM 2.0 Library, Part 1,
--- section 19.6 (session nonces and HMACs), and Part 2, section 10.13.3 (TPMS_AUTH_RESPONSE).
+-- What a success does with the sessions of its entries, and what it answers for each entry. TPM 2.0
+-- Library, Part 1, section 19.6 (session nonces and HMACs), and Part 2, section 10.13.3
+-- (TPMS_AUTH_RESPONSE).
 use Rattle.std.specs.Prelude.{ℕ, ◌==◌, List, [], ◌∷◌, ◌++◌, length, take, drop, if◌then◌else◌, Option, Some, None}
 use Rattle.std.specs.Option.{option_map_or}
 use Rattle.tpm_bytes.specs.Writing.{sized_text}
@@ -47,12 +48,15 @@ pub record HashedResponse : Type 0 where
   pub code : ℕ
   pub parameters : List ℕ
 
--- the HMAC of an answer; it is empty where the command's was
+-- the HMAC of an answer. Its key is made after the command's effect: of the entity's value as it is
+-- then, and a session whose entity's value was changed is no longer bound to it. Where the
+-- command's HMAC was empty this is empty too, even if the key is no longer empty (this device's
+-- own)
 unfoldable pub answer_mac : Record → CommandCode → List ℕ → Option Handle → Entry → Session → List ℕ
 answer_mac r c answer used e s =
     if length e.hmac == 0 then []
-    else response_mac_of s (used_auth_value r s used) (response_hash_of s.hash (code_number c) answer) e.nonce
-    e.attributes
+    else response_mac_of s (used_auth_value r s used)
+    (response_hash_of s.hash (code_number c) answer) e.nonce e.attributes
 
 -- the answer to an entry of a session: its nonce, the attributes of the command's entry, the HMAC
 unfoldable pub session_answer : Record → CommandCode → List ℕ → Option Handle → Entry → Session → List ℕ
@@ -60,7 +64,8 @@ session_answer r c answer used e s =
     sized_text s.nonce_tpm ++ e.attributes.octet ∷ [] ++ sized_text (answer_mac r c answer used e s)
 
 unfoldable pub entry_answer : Record → CommandCode → List ℕ → Option Handle → Entry → List ℕ
-entry_answer r c answer used e = option_map_or (session_answer r c answer used e) (session_of r e) password_answer
+entry_answer r c answer used e =
+    option_map_or (session_answer r c answer used e) (session_of r e) password_answer
 
 -- the answers to the entries of a command, which in order authorized these handles
 abbrev pub entries_answer : Record → CommandCode → List ℕ → List Handle → List Entry → List ℕ
@@ -71,7 +76,8 @@ entries_answer r c answer (handle ∷ handles) (e ∷ es) =
 
 -- a session without continueSession (bit 0) ends
 unfoldable pub entry_ended : Record → Entry → Record
-entry_ended r e = if has_bits 0x01 e.attributes then r else record r { sessions = flushed r.sessions e.session }
+entry_ended r e =
+    if has_bits 0x01 e.attributes then r else record r { sessions = flushed r.sessions e.session }
 
 abbrev pub entries_ended : Record → List Entry → Record
 entries_ended r [] = r

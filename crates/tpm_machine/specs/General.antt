@@ -1,6 +1,7 @@
--- The order of refusals: what is checked of every command before its own parameters are read, and in which order. The
--- first check that applies is answered. What is checked is TPM 2.0 Library, Part 3, sections 5.2 (header), 5.3 (mode),
--- 5.4 (handles) and 5.5 (sizes of the session area); the order and the codes are this device's own.
+-- The order of refusals: what is checked of every command before its own parameters are read, and
+-- in which order. The first check that applies is answered. What is checked is TPM 2.0 Library,
+-- Part 3, sections 5.2 (header), 5.3 (mode), 5.4 (handles) and 5.5 (sizes of the session area); the
+-- order and the codes are this device's own.
 use Rattle.std.specs.Prelude.{◌≡◌, ℕ, ◌==◌, ◌&&◌, nat_lt, not, Bool, true, false, List, Result, Ok, Err}
 use Rattle.tpm_bytes.specs.Many.{each_at}
 use Rattle.tpm_bytes.specs.Reading.{◌>>=◌, refused_if}
@@ -48,7 +49,7 @@ abbrev pub in_header : Result (Header × List ℕ) HeaderFault → Result (Heade
 in_header (Ok h) = Ok h
 in_header (Err f) = Err (header_refusal f)
 
--- G5: before TPM2_Startup nothing else is accepted, and after it no other one
+-- G5: before TPM2_Startup nothing else is accepted, and after it no second TPM2_Startup
 abbrev pub is_startup : CommandCode → Bool
 is_startup c = code_number c == 0x144
 
@@ -60,11 +61,14 @@ abbrev pub has_sessions : Tag → Bool
 has_sessions NoSessions = false
 has_sessions Sessions = true
 
--- G7: some commands may have no sessions, and one with a handle that needs authorization must have some
+-- G7: some commands may have no sessions, and one with a handle that needs authorization must have
+-- some
 unfoldable pub sessions_pass : CommandCode → Tag → Result (Unit {0}) Refused
 sessions_pass c tag = do
-  forbidden ← refused_if (has_sessions tag && (shape_of c).forbids_sessions) (refusal check.Sessions (plain code.AuthContext))
-  refused_if (not (has_sessions tag) && nat_lt 0 (authorized_handles c)) (refusal check.Sessions (plain code.AuthMissing))
+  forbidden ← refused_if (has_sessions tag && (shape_of c).forbids_sessions)
+      (refusal check.Sessions (plain code.AuthContext))
+  refused_if (not (has_sessions tag) && nat_lt 0 (authorized_handles c))
+      (refusal check.Sessions (plain code.AuthMissing))
 
 -- handle n as its rule wants it, if there is what it names
 unfoldable pub present_handle_at : Record → ℕ → HandleRule → List ℕ → Result (Handle × List ℕ) Rc
@@ -80,7 +84,8 @@ present_handles_at r code text = each_at (present_handle_at r) 1 (shape_of code)
 -- G5 to the sizes of the area in G8: what stands behind the header
 unfoldable pub body_of : Record → Header → List ℕ → Result Whole Refused
 body_of r header text = do
-  g5 ← refused_if (both_or_neither r.fixed.started (is_startup header.code)) (refusal check.Started (plain code.Initialize))
+  g5 ← refused_if (both_or_neither r.fixed.started (is_startup header.code))
+      (refusal check.Started (plain code.Initialize))
   handles ← checked check.Handles (present_handles_at r header.code text)
   g7 ← sessions_pass header.code header.tag
   entries ← checked check.Entries (sessions_at header.tag handles.1)

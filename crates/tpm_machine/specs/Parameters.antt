@@ -1,5 +1,5 @@
--- Parameters that sessions encrypt. TPM 2.0 Library, Part 1, section 21: the bytes of the first parameter, a sized
--- buffer, and not its size.
+-- Parameters that sessions encrypt. TPM 2.0 Library, Part 1, section 21: the bytes of the first
+-- parameter, a sized buffer, and not its size.
 use Rattle.std.specs.Prelude.{◌≡◌, ℕ, ◌+◌, ◌≤◌, ◌&&◌, nat_le, Bool, true, false, List, [], ◌∷◌, ◌++◌, length, take, drop, if◌then◌else◌, Option, Some, None}
 use Rattle.std.specs.Int.{w16, from_be_bytes}
 use Rattle.std.specs.Option.{option_map_or}
@@ -28,10 +28,12 @@ with_first_buffer f text =
 
 -- The size of that buffer was found, or there is none.
 abbrev pub FindsFirst : List ℕ → Option ℕ → Type 0
-FindsFirst text (Some size) = (has_first_buffer text ≡ true) × (size ≡ first_size text) × (2 + size ≤ length text)
+FindsFirst text (Some size) =
+    (has_first_buffer text ≡ true) × (size ≡ first_size text) × (2 + size ≤ length text)
 FindsFirst text None = has_first_buffer text ≡ false
 
--- the authorization value in the key of encryption: that of the handle that the session authorizes, if there is one
+-- the authorization value in the key of encryption: that of the handle that the session authorizes,
+-- if there is one, even where the session is bound to it (unlike the key of an HMAC)
 unfoldable pub cipher_value : Record → Option Handle → List ℕ
 cipher_value r used = option_map_or (auth_value_of r) used []
 
@@ -49,7 +51,8 @@ plain_parameters r [] (e ∷ es) text =
 plain_parameters r (handle ∷ handles) (e ∷ es) text =
     if decrypts e then decrypted_by r (Some handle) e text else plain_parameters r handles es text
 
--- the answer's parameters as the entry's session encrypts them, between the TPM's new nonce and the caller's
+-- the answer's parameters as the entry's session encrypts them, between the TPM's new nonce and the
+-- caller's
 unfoldable pub encrypted_by : Record → Option Handle → Entry → List ℕ → List ℕ
 encrypted_by r used e text =
     option_map_or (λ (s : Session).

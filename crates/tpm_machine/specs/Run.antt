@@ -8,9 +8,11 @@ use Rattle.tpm_machine.specs.Events.{Happening}
 use Rattle.tpm_machine.specs.Step.{Steps, seen, step}
 use Rattle.tpm_machine.specs.declared.event.Outcome.{Outcome}
 
--- The events ran from old to new, a step each with a record behind it, and a closure in state p was called at the
--- outcome of each, in order, which left it in state q; can says whether memory can be refused.
-abbrev pub Runs : {F : Type 0} → Mut F (Bor Outcome × Unit {0}) (Unit {0}) → Bool → Record → F → List Happening → Record → F → Type 0
+-- The events ran from old to new, a step each with a record behind it, and a closure in state p was
+-- called at the outcome of each, in order, which left it in state q; can says whether memory can be
+-- refused.
+abbrev pub Runs : {F : Type 0} → Mut F (Bor Outcome × Unit {0}) (Unit {0})
+    → Bool → Record → F → List Happening → Record → F → Type 0
 Runs g can old p [] new q = (new ≡ old) × (q ≡ p)
 Runs {F} g can old p (event ∷ events) new q =
     (outcome : Outcome) × (mid : Record) × (next : F) × Steps can old event (seen mid outcome) × IsRecord mid

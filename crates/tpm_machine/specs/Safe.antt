@@ -13,9 +13,12 @@ only_ticked r Cycled = r
 
 -- A refusal is ten bytes, and changes nothing but Time and Clock and what it counts.
 abbrev pub IsHarmless : Record → Happening → Stepped → Type 0
-IsHarmless r event x = x.row.check ≢ 0 → (length x.response ≡ 10) × (counted : Counted) × (x.after ≡ counted_in counted (only_ticked r event))
+IsHarmless r event x = x.row.check ≢ 0
+    → (length x.response ≡ 10)
+    × (counted : Counted) × (x.after ≡ counted_in counted (only_ticked r event))
 
--- A row draws at most 96 of the event's random bytes, and answers at most 2,048 bytes of parameters.
+-- A row draws at most 96 of the event's 256 random bytes, so that three nonces are left, and
+-- answers at most 2,048 bytes of parameters.
 abbrev pub IsModest : Accepted → Type 0
 IsModest a = (a.success.drawn ≤ 96) × (length a.success.answer ≤ 2048)
 

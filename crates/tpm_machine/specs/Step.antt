@@ -1,5 +1,5 @@
--- One event: time passes, the general checks, the authorization, the command's row, the answer. TPM 2.0 Library, Part 1,
--- section 18 (command and response structures), and Part 3, sections 5 and 6.
+-- One event: time passes, the general checks, the authorization, the command's row, the answer. TPM
+-- 2.0 Library, Part 1, section 18 (command and response structures), and Part 3, sections 5 and 6.
 use Rattle.std.specs.Prelude.{◌≡◌, ℕ, Bool, true, false, List, [], Result, Ok, Err, if◌then◌else◌}
 use Rattle.tpm_bytes.specs.Reading.{◌>>=◌}
 use Rattle.tpm_types.specs.declared.handle.Handle.{Handle}
@@ -32,7 +32,8 @@ pub record Stepped : Type 0 where
   pub row : Row
   pub after : Record
 
--- a command that is accepted: as it was sent, the handles that its entries authorize, and the success of its row
+-- a command that is accepted: as it was sent, the handles that its entries authorize, and the
+-- success of its row
 pub record Accepted : Type 0 where
   pub command : Whole
   pub grants : List Handle
@@ -43,7 +44,8 @@ abbrev pub request_in : Whole → List ℕ → ℕ → List ℕ → Request
 request_in c plain locality random =
     record { handles = c.handles; locality = locality; parameters = plain; random = random }
 
--- the authorization of a command, then its parameters as its sessions decrypt them, and then its row
+-- the authorization of a command, then its parameters as its sessions decrypt them, and then its
+-- row
 unfoldable pub acceptance : Record → Whole → ℕ → List ℕ → Result Accepted Refused
 acceptance r c locality random = do
   grants ← authorize r c
@@ -51,8 +53,8 @@ acceptance r c locality random = do
   success ← row_of r c.code (request_in c plain locality random)
   Ok (record { command = c; grants = grants; success = success })
 
--- The refusal is that of the acceptance; or memory was refused, where it can be, in place of a success of a command
--- that grows something.
+-- The refusal is that of the acceptance; or memory was refused, where it can be, in place of a
+-- success of a command that grows something.
 abbrev pub RefusesOrStarves : Bool → Whole → Result Accepted Refused → Refused → Type 0
 RefusesOrStarves can c (Err refused) e = e ≡ refused
 RefusesOrStarves can c (Ok a) e =
@@ -85,7 +87,11 @@ refusal_step r e = record {
 abbrev pub success_step : Accepted → List ℕ → Stepped
 success_step a random =
     let x : Answered = answer_to a.command a.grants a.success random in
-    record { response = x.response; row = record { code = code_number a.command.code; check = 0 }; after = x.after }
+    record {
+      response = x.response;
+      row = record { code = code_number a.command.code; check = 0 };
+      after = x.after;
+    }
 
 abbrev pub answer_of : Record → List ℕ → Result Accepted Refusal → Stepped
 answer_of r random (Ok a) = success_step a random

@@ -49,8 +49,8 @@ impl<'a> Event<'a> {
     }
 }
 
-/// What was decided about an event: the command's code, 0 where none was found or power was cycled, and
-/// the number of the check that refused it, 0 where none did.
+/// What was decided about an event: the command's code, 0 where none was found or power was cycled,
+/// and the number of the check that refused it, 0 where none did.
 #[derive(Clone, Copy, Debug, PartialEq, Eq)]
 pub struct Row {
     pub code: u32,

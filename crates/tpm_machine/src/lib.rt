@@ -1,13 +1,15 @@
 #![tactic(auto)]
 
-//! The device: it executes one event at a time, a command or a power cycle, as the written table says.
+//! The device: it executes one event at a time, a command or a power cycle, as the written table
+//! says.
 //!
 //! A command takes one way through the house: its bytes are read and pass the general checks
-//! ([`general`]), its entries authorize its handles (tpm_auth), its row acts (tpm_actions,
-//! chosen in [`table`]; where a session decrypts, by [`parameters`]), and [`response`] writes the answer: new
-//! nonces, the entries' answers and session ends are [`entries`]. `specs/` says the same: General, Table,
-//! Answer, the step of an event (Step) and runs of events (Run). [`machine::Machine::execute`] and
-//! [`machine::Machine::run`] are proved to be these, for each way of keeping the record.
+//! ([`general`]), its entries authorize its handles (tpm_auth), its row acts (tpm_actions, chosen
+//! in [`table`]; where a session decrypts, by [`parameters`]), and [`response`] writes the answer:
+//! new nonces, the entries' answers and session ends are [`entries`]. `specs/` says the same:
+//! General, Table, Answer, the step of an event (Step) and runs of events (Run).
+//! [`machine::Machine::execute`] and [`machine::Machine::run`] are proved to be these, for each way
+//! of keeping the record.
 
 mod draws;
 mod entries;

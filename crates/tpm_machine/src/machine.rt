@@ -27,7 +27,8 @@ pub struct Machine<K: Keep> {
 }
 
 impl<K: Keep> Machine<K> {
-    /// A new device. Its memory comes from `alloc`, and its hierarchies' secrets are the random bytes.
+    /// A new device. Its memory comes from `alloc`, and its hierarchies' secrets are the random
+    /// bytes.
     pub fn manufacture(alloc: Global, random: &[u8; 256]) -> Result<Machine<K>, NoMemory>
         ensures state { IfOk result (λ machine. state_of K.record_of machine
             ≡ manufactured random.now) }
@@ -55,17 +56,19 @@ impl<K: Keep> Machine<K> {
         &self.keep
     }
 
-    /// Executes one event: its response, its row and the state after it are those of the table, or of
-    /// refused memory in place of a success of a command that grows something.
+    /// Executes one event: its response, its row and the state after it are those of the table, or
+    /// of refused memory in place of a success of a command that grows something.
     #[tactic(auto, using(crate::proofs::Refusals::steps_exactly, crate::proofs::Refusals::steps_harmless))]
     pub fn execute(&mut self, event: &Event) -> Outcome
-        ensures steps { Steps K.can_refuse (state_of K.record_of self.old) (happening event.now) (seen (state_of K.record_of self.new) result) }
+        ensures steps { Steps K.can_refuse (state_of K.record_of self.old) (happening event.now)
+            (seen (state_of K.record_of self.new) result) }
 
         // What holds of every record: values of their sizes, numbers of their widths.
         ensures is_record { IsRecord (state_of K.record_of self.new) }
 
         // A refusal is ten bytes, and changes nothing but the time.
-        ensures harmless { IsHarmless (state_of K.record_of self.old) (happening event.now) (seen (state_of K.record_of self.new) result) }
+        ensures harmless { IsHarmless (state_of K.record_of self.old) (happening event.now)
+            (seen (state_of K.record_of self.new) result) }
 
         // A row that is accepted draws at most 96 random bytes, and answers at most 2,048 bytes.
         ensures modest { result.row.check ≡ 0
@@ -115,17 +118,20 @@ impl<K: Keep> Machine<K> {
     #[tactic(auto, using(crate::proofs::Running::runs_lead))]
     pub fn run<F: FnMut(&Outcome)>(&mut self, events: &[Event], tell: &mut F)
         requires { F.IsAlwaysCallable tell.old }
-        ensures runs { Runs F.FnMut K.can_refuse (state_of K.record_of self.old) tell.old (map happening events.now) (state_of K.record_of self.new) tell.new }
+        ensures runs { Runs F.FnMut K.can_refuse (state_of K.record_of self.old) tell.old
+            (map happening events.now) (state_of K.record_of self.new) tell.new }
 
         // Where no memory can be refused, the events lead where their steps lead.
-        ensures after { K.can_refuse ≡ false → state_of K.record_of self.new ≡ after_all (state_of K.record_of self.old) (map happening events.now) }
+        ensures after { K.can_refuse ≡ false → state_of K.record_of self.new
+            ≡ after_all (state_of K.record_of self.old) (map happening events.now) }
     {
         self.execute_all(events, tell);
     }
 
     fn execute_all<F: FnMut(&Outcome)>(&mut self, events: &[Event], tell: &mut F)
         requires { F.IsAlwaysCallable tell.old }
-        ensures { Runs F.FnMut K.can_refuse (state_of K.record_of self.old) tell.old (map happening events.now) (state_of K.record_of self.new) tell.new }
+        ensures { Runs F.FnMut K.can_refuse (state_of K.record_of self.old) tell.old
+            (map happening events.now) (state_of K.record_of self.new) tell.new }
     {
         for event in events {
             let outcome = self.execute(event);
@@ -137,8 +143,8 @@ impl<K: Keep> Machine<K> {
     ghost use Rattle.tpm_machine.specs.Safe.{IsModest};
     ghost use Rattle.tpm_machine.specs.Step.{Answers, accepted};
 
-    /// Executes a command's buffer, after its time has passed: writes the response, and gives the row. Where it is inlined
-    /// into `execute`, whole responses are copied.
+    /// Executes a command's buffer, after its time has passed: writes the response, and gives the
+    /// row. Where it is inlined into `execute`, whole responses are copied.
     #[inline(never)]
     #[tactic(auto, using(crate::proofs::Refusals::answers_exactly, crate::proofs::Refusals::refused_answers), unfolding(crate::specs::Step::accepted))]
     fn command(

@@ -23,8 +23,8 @@ use tpm_types::handle::Handle;
 use tpm_types::tag::Tag;
 use tpm_types::whole_command::Command;
 
-/// The tag of a response to a command whose tag is unknown (TPM_ST_RSP_COMMAND, TPM 2.0 Library, Part 2,
-/// section 6.9).
+/// The tag of a response to a command whose tag is unknown (TPM_ST_RSP_COMMAND, TPM 2.0 Library,
+/// Part 2, section 6.9).
 const BAD_TAG_RESPONSE: u16 = 0x00c4;
 
 fn write_header(tag: u16, size: usize, code: u32, text: &mut Sink<RESPONSE_LIMIT>)
@@ -132,8 +132,8 @@ fn encrypted<K: Keep>(
     text
 }
 
-/// Writes the response to a command with entries that succeeded, and does what is to be done with their
-/// sessions.
+/// Writes the response to a command with entries that succeeded, and does what is to be done with
+/// their sessions.
 #[inline(never)]
 fn write_with_sessions<K: Keep>(
     keep: &mut K,

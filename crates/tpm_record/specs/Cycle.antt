@@ -1,6 +1,6 @@
--- Power going off and on again (_TPM_Init). TPM 2.0 Library, Part 1, section 12.2.2: Startup is awaited, the
--- PCRs start over, and so does Time, and no session is left; Clock, the counts, the hierarchies and what a Shutdown
--- saved stay.
+-- Power going off and on again (_TPM_Init). TPM 2.0 Library, Part 1, section 12.2.2: Startup is
+-- awaited, the PCRs start over, and so does Time, and no session is left; Clock, the counts, the
+-- hierarchies and what a Shutdown saved stay.
 use Rattle.std.specs.Prelude.{false}
 use Rattle.tpm_pcr.specs.Banks.{new_banks}
 use Rattle.tpm_record.specs.Record.{Record, no_sessions}

@@ -1,6 +1,7 @@
--- What a handle's entity is: whether it is there, its Name, its authorization value, how that is protected, and by what
--- it can be authorized. TPM 2.0 Library, Part 1, sections 16 (Names), 19.2 (roles), 19.7 (policies) and 19.8 (dictionary
--- attacks). No object and no NV index can be there yet.
+-- What a handle's entity is: whether it is there, its Name, its authorization value, how that is
+-- protected, and by what it can be authorized. TPM 2.0 Library, Part 1, sections 16 (Names), 19.2
+-- (roles), 19.7 (policies) and 19.8 (dictionary attacks). No object and no NV index can be there
+-- yet.
 use Rattle.std.specs.Prelude.{ℕ, ◌==◌, ◌||◌, not, Bool, true, false, is_some, List, [], if◌then◌else◌}
 use Rattle.std.specs.Option.{option_map_or}
 use Rattle.tpm_name.specs.Name.{handle_name}
@@ -25,7 +26,8 @@ use Rattle.tpm_record.specs.declared.hierarchy.Hierarchies.{Hierarchies}
 abbrev pub names_session : Handle → Bool
 names_session handle = handle_type handle == 0x02 || handle_type handle == 0x03
 
--- or that of what is kept under numbers: an NV index (01), a transient object (80), a persistent object (81)
+-- or that of what is kept under numbers: an NV index (01), a transient object (80), a persistent
+-- object (81)
 abbrev pub names_kept : Handle → Bool
 names_kept handle = handle_type handle == 0x01 || handle_type handle == 0x80 || handle_type handle == 0x81
 
@@ -56,7 +58,7 @@ hierarchy_auth_value h auth.Lockout = h.lockout_auth
 hierarchy_auth_value h auth.Endorsement = h.endorsement.auth_value
 hierarchy_auth_value h auth.Platform = h.platform.auth_value
 
--- the same hierarchies with another
+-- the same hierarchies with another authorization value
 unfoldable pub with_hierarchy_auth : Hierarchies → HierarchyAuth → List ℕ → Hierarchies
 with_hierarchy_auth h auth.Owner value = record h { owner = record h.owner { auth_value = value } }
 with_hierarchy_auth h auth.Lockout value = record h { lockout_auth = value }
@@ -64,15 +66,18 @@ with_hierarchy_auth h auth.Endorsement value =
     record h { endorsement = record h.endorsement { auth_value = value } }
 with_hierarchy_auth h auth.Platform value = record h { platform = record h.platform { auth_value = value } }
 
--- the authorization value of an entity, without trailing zeros: PCRs and TPM_RH_NULL have the empty one
+-- the authorization value of an entity, without trailing zeros: PCRs and TPM_RH_NULL have the empty
+-- one
 unfoldable pub auth_value_of : Record → Handle → List ℕ
-auth_value_of r handle = option_map_or (hierarchy_auth_value r.fixed.hierarchies) (hierarchy_auth_of handle) []
+auth_value_of r handle =
+    option_map_or (hierarchy_auth_value r.fixed.hierarchies) (hierarchy_auth_of handle) []
 
 -- how it is protected: hierarchies, PCRs and TPM_RH_NULL are not, and lockoutAuth in its own way
 unfoldable pub protection_of : Handle → Protection
 protection_of handle = if handle.number == 0x4000_000a then protection.Lockout else protection.None
 
--- by what it can be authorized: a permanent entity or a PCR by its authorization value alone
+-- by what each entity that is served can be authorized: by its authorization value, and not by a
+-- policy, as none can be set yet
 abbrev pub is_available : Means → Bool
 is_available means.AuthValue = true
 is_available means.Policy = false

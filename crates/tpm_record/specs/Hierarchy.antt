@@ -1,4 +1,5 @@
--- The hierarchies as they are manufactured. TPM 2.0 Library, Part 1, sections 14.3 (primary seeds) and 14.4 (proofs).
+-- The hierarchies as they are manufactured. TPM 2.0 Library, Part 1, sections 14.3 (primary seeds)
+-- and 14.4 (proofs).
 use Rattle.std.specs.Prelude.{ℕ, ◌+◌, ◌*◌, List, [], take, drop}
 use Rattle.tpm_record.specs.declared.hierarchy.Hierarchies.{Hierarchies}
 use Rattle.tpm_record.specs.declared.hierarchy.Hierarchy.{Hierarchy}

@@ -19,8 +19,8 @@ pub struct Hierarchy {
     pub secrets: Secrets,
 }
 
-/// The hierarchies, and lockoutAuth beside them. The authorization value of the null hierarchy is always
-/// empty.
+/// The hierarchies, and lockoutAuth beside them. The authorization value of the null hierarchy is
+/// always empty.
 #[derive(Drop)]
 pub struct Hierarchies {
     pub owner: Hierarchy,

@@ -44,7 +44,8 @@ pub trait Keep: Drop + Sized {
 
     /// The part that does not grow, to be changed.
     fn fixed_mut(&mut self) -> &mut Fixed
-        ensures* writes_back { sem 𝓛 (Lends Self.row fixed_row self.entry result (with_fixed self.entry.now)) }
+        ensures* writes_back { sem 𝓛 (Lends Self.row fixed_row self.entry result
+            (with_fixed self.entry.now)) }
         ensures value { result.now ≡ (record_of self.old).fixed };
 
     /// The sessions.
@@ -58,7 +59,8 @@ pub trait Keep: Drop + Sized {
         ensures value { places_of Self.Se.places result.now ≡ (record_of self.old).sessions };
 
     /// What is written to the fixed part is its place in the record.
-    ghost fixed_written: { (keep : Self) (fixed : FixedParts) → record_of (with_fixed keep fixed) ≡ record (record_of keep) { fixed = fixed } };
+    ghost fixed_written: { (keep : Self) (fixed : FixedParts)
+        → record_of (with_fixed keep fixed) ≡ record (record_of keep) { fixed = fixed } };
 
     /// And what is written to the sessions.
     ghost sessions_written: { (keep : Self) (sessions : SessionsParts Self.Se)

@@ -3,8 +3,8 @@ ghost use Rattle.tpm_record.specs.IsRecord.{IsRecord};
 use crate::keep::Keep;
 use tpm_types::handle::Handle;
 
-/// What holds of every record holds of a keep's: its fields are of types of these widths and sizes. It only reads, and
-/// costs nothing when it runs.
+/// What holds of every record holds of a keep's: its fields are of types of these widths and sizes.
+/// It only reads, and costs nothing when it runs.
 #[inline(always)]
 pub fn read_widths<K: Keep>(keep: &K)
     ensures { IsRecord (K.record_of keep.now) }

@@ -1,4 +1,5 @@
--- Hash algorithms on the wire. TPM 2.0 Library, Part 2, section 6.3 (TPM_ALG_ID) and section 9 (TPMI_ALG_HASH).
+-- Hash algorithms on the wire. TPM 2.0 Library, Part 2, section 6.3 (TPM_ALG_ID) and section 9
+-- (TPMI_ALG_HASH).
 use Rattle.std.specs.Prelude.{ℕ, ◌==◌, List, if◌then◌else◌, Option, Some, None, Result, Ok, ok_or}
 use Rattle.std.specs.Int.{w16}
 use Rattle.tpm_bytes.specs.Reading.{◌>>=◌, number_at, or_fault}

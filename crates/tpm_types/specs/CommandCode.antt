@@ -37,10 +37,12 @@ all_codes =
 unfoldable pub code_named : ℕ → Option CommandCode
 code_named number = find (λ code. code_number code == number) all_codes
 
--- nonceCaller, encryptedSalt, sessionType, symmetric, authHash
+-- nonceCaller, encryptedSalt (of at most 32 bytes, as no key can decrypt one), sessionType,
+-- symmetric, authHash
 abbrev pub start_parameters : List ParameterKind
 start_parameters =
-    parameter.Buffer 32 ∷ parameter.Buffer 32 ∷ parameter.U8 ∷ parameter.Symmetric ∷ parameter.Hash ∷ []
+    parameter.Buffer 32 ∷ parameter.Buffer 32 ∷ parameter.U8
+    ∷ parameter.Symmetric ∷ parameter.Hash ∷ []
 
 -- every other fact of a command
 unfoldable pub shape_of : CommandCode → Facts

@@ -24,7 +24,8 @@ session_kind handle =
 abbrev pub null_handle : Handle
 null_handle = record { number = 0x4000_0007 }
 
--- whose authorization value a handle names: TPM_RH_OWNER, TPM_RH_LOCKOUT, TPM_RH_ENDORSEMENT or TPM_RH_PLATFORM
+-- whose authorization value a handle names: TPM_RH_OWNER, TPM_RH_LOCKOUT, TPM_RH_ENDORSEMENT or
+-- TPM_RH_PLATFORM
 abbrev pub hierarchy_auth_of : Handle → Option HierarchyAuth
 hierarchy_auth_of handle =
     if handle.number == 0x4000_0001 then Some auth.Owner

@@ -12,8 +12,9 @@ use Rattle.tpm_types.specs.declared.shape.Role.TheVariants as role
 use Rattle.tpm_types.specs.declared.shape.Shape.{Shape}
 use Rattle.tpm_types.specs.Handle.{handle_type, hierarchy_auth_of, null_handle, pcr_of}
 
--- whether a handle is one of what has an authorization value, there or not: a permanent entity, a PCR, an NV index
--- (01), a transient object (80) or a persistent one (81); or TPM_RH_NULL (TPMI_DH_ENTITY)
+-- whether a handle is one of what has an authorization value, there or not: a permanent entity, a
+-- PCR, an NV index (01), a transient object (80) or a persistent one (81); or TPM_RH_NULL
+-- (TPMI_DH_ENTITY)
 abbrev pub is_entity : Handle → Bool
 is_entity handle =
     handle.number == null_handle.number || is_some (hierarchy_auth_of handle) || is_some (pcr_of handle)
@@ -39,9 +40,9 @@ is_sized parameter.Symmetric = false
 is_sized parameter.Selection = false
 is_sized parameter.Digests = false
 
--- a shape, wherever its lists lie in memory: its handles and who authorizes each, its parameters, whether the first
--- parameter of its answer is a sized buffer, whether a handle stands before these, whether it may have no sessions, and
--- whether it may want memory
+-- a shape, wherever its lists lie in memory: its handles and who authorizes each, its parameters,
+-- whether the first parameter of its answer is a sized buffer, whether a handle stands before
+-- these, whether it may have no sessions, and whether it may want memory
 pub record Facts : Type 0 where
   pub handles : List HandleRule
   pub parameters : List ParameterKind

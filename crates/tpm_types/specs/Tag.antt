@@ -9,4 +9,6 @@ tag_number Sessions = 0x8002
 
 -- the tag of a number
 abbrev pub tag_named : ℕ → Option Tag
-tag_named number = if number == 0x8001 then Some NoSessions else (if number == 0x8002 then Some Sessions else None)
+tag_named number =
+    if number == 0x8001 then Some NoSessions
+    else (if number == 0x8002 then Some Sessions else None)

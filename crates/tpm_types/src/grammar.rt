@@ -1,7 +1,7 @@
 ghost use Rattle.std.specs.Prelude.{ℕ, ◌<◌, slice_index};
 
-/// Says of the bytes of a slice what their type says: each is below 256. The laws of the grammar need
-/// it, and a cursor's value is a plain list.
+/// Says of the bytes of a slice what their type says: each is below 256. The laws of the grammar
+/// need it, and a cursor's value is a plain list.
 pub fn bytes_fit(bytes: &[u8])
     ensures { (i : ℕ) → slice_index bytes.now i < 256 }
 {

@@ -8,9 +8,9 @@
 //!
 //! It stands on `tpm_bytes` for the bytes and on `tpm_mac` for digests and hash algorithms. A read
 //! gives the value or the first fault, as the response code that the standard has for it, and a
-//! refused read or write changes nothing. Selections of PCRs, digests with their algorithms, symmetric
-//! definitions, authorization entries and commands have one text a value: what is read was spelled
-//! so, and what is spelled so is read. No call here takes memory.
+//! refused read or write changes nothing. Selections of PCRs, digests with their algorithms,
+//! symmetric definitions, authorization entries and commands have one text a value: what is read
+//! was spelled so, and what is spelled so is read. No call here takes memory.
 
 pub mod algorithm;
 pub mod auth_area;

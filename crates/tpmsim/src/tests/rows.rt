@@ -1,6 +1,7 @@
 //! The row that each command reports: its code, and the check that refused it.
 
 use std::alloc::{AllocError, Global};
+use std::process::Abort;
 use std::test::Fail;
 use tpm_machine::event::{Event, Outcome, Row};
 use tpm_machine::machine::Machine;
@@ -23,11 +24,44 @@ const PCR_EVENT: u32 = 0x13c;
 
 const PCR_RESET: u32 = 0x13d;
 
+const START_AUTH_SESSION: u32 = 0x176;
+
+const FLUSH_CONTEXT: u32 = 0x165;
+
+const HIERARCHY_CHANGE_AUTH: u32 = 0x129;
+
 const CLEAR: &[u8] = &[0, 0];
 
 const STATE: &[u8] = &[0, 1];
 
 const HANDLE_NULL: &[u8] = &[0x40, 0, 0, 7];
+
+const OWNER: &[u8] = &[0x40, 0, 0, 1];
+
+/// A caller's nonce of sixteen zeros.
+const NONCE: &[u8] = &[0, 16, 0, 0, 0, 0, 0, 0, 0, 0, 0, 0, 0, 0, 0, 0, 0, 0];
+
+const SALT: &[u8] = &[0, 1, 0];
+
+/// The type of HMAC sessions, no symmetric algorithm, and SHA-256.
+const HMAC: &[u8] = &[0, 0, 16, 0, 11];
+
+/// The same of policy sessions.
+const POLICY: &[u8] = &[1, 0, 16, 0, 11];
+
+/// The first session.
+const SESSION_0: &[u8] = &[2, 0, 0, 0];
+
+/// A transient object that is not there.
+const ABSENT_OBJECT: &[u8] = &[0x80, 0, 0, 0];
+
+/// An area of one entry, the first session with no nonce, continueSession and no HMAC.
+const BY_SESSION: &[u8] = &[0, 0, 0, 9, 2, 0, 0, 0, 0, 0, 1, 0, 0];
+
+/// The empty password, and behind it that entry.
+const WRONG_FURTHER: &[u8] = &[
+    0, 0, 0, 18, 0x40, 0, 0, 9, 0, 0, 1, 0, 0, 2, 0, 0, 0, 0, 0, 1, 0, 0,
+];
 
 const PCR_0: &[u8] = &[0, 0, 0, 0];
 
@@ -126,11 +160,78 @@ fn each_check_is_reported(rt: HostRuntime) -> Result<(), Fail> {
         case(SESSIONS, PCR_EVENT, &[PCR_17, PASSWORD, NO_DATA], "A1"),
         case(SESSIONS, PCR_EVENT, &[HANDLE_NULL, PASSWORD, NO_DATA], "ok"),
     ];
-    let mut machine: Machine<ListKeep> = Machine::manufacture(rt.alloc(), &[0; 256])?;
-    for case in &cases {
-        let buffer = case.buffer(rt.alloc())?;
+    check_rows(&rt, rt.alloc(), &cases)
+}
+
+#[test]
+fn each_check_of_sessions_is_reported(rt: HostRuntime) -> Result<(), Fail> {
+    let cases = [
+        case(NO_SESSIONS, STARTUP, &[CLEAR], "ok"),
+        case(
+            NO_SESSIONS,
+            START_AUTH_SESSION,
+            &[HANDLE_NULL, SESSION_0],
+            "G6",
+        ),
+        case(
+            NO_SESSIONS,
+            START_AUTH_SESSION,
+            &[HANDLE_NULL, ABSENT_OBJECT],
+            "G6",
+        ),
+        case(
+            NO_SESSIONS,
+            START_AUTH_SESSION,
+            &[HANDLE_NULL, OWNER, NONCE, NO_DATA, POLICY],
+            "G11",
+        ),
+        case(
+            NO_SESSIONS,
+            START_AUTH_SESSION,
+            &[HANDLE_NULL, OWNER, NO_DATA, NO_DATA, HMAC],
+            "A1",
+        ),
+        case(
+            NO_SESSIONS,
+            START_AUTH_SESSION,
+            &[HANDLE_NULL, OWNER, NONCE, SALT, HMAC],
+            "A2",
+        ),
+        case(
+            NO_SESSIONS,
+            START_AUTH_SESSION,
+            &[HANDLE_NULL, OWNER, NONCE, NO_DATA, HMAC],
+            "ok",
+        ),
+        case(SESSIONS, PCR_RESET, &[PCR_16, BY_SESSION], "G9"),
+        case(SESSIONS, PCR_RESET, &[PCR_16, WRONG_FURTHER], "G10"),
+        case(
+            SESSIONS,
+            HIERARCHY_CHANGE_AUTH,
+            &[HANDLE_NULL, PASSWORD, NO_DATA],
+            "G6",
+        ),
+        case(
+            SESSIONS,
+            HIERARCHY_CHANGE_AUTH,
+            &[OWNER, PASSWORD, NO_DATA],
+            "ok",
+        ),
+        case(NO_SESSIONS, FLUSH_CONTEXT, &[PCR_0], "A1"),
+        case(NO_SESSIONS, FLUSH_CONTEXT, &[ABSENT_OBJECT], "A2"),
+        case(NO_SESSIONS, FLUSH_CONTEXT, &[SESSION_0], "ok"),
+        case(SESSIONS, PCR_RESET, &[PCR_16, BY_SESSION], "G8"),
+    ];
+    check_rows(&rt, rt.alloc(), &cases)
+}
+
+/// Executes the commands on a new device, and compares each row that is reported.
+fn check_rows(rt: &impl Abort, alloc: Global, cases: &[Wanted]) -> Result<(), Fail> {
+    let mut machine: Machine<ListKeep> = Machine::manufacture(alloc, &[0; 256])?;
+    for case in cases {
+        let buffer = case.buffer(alloc)?;
         let row = machine.execute(&command(buffer.as_slice())).row;
-        let check = check_of(rt.alloc(), row)?;
+        let check = check_of(alloc, row)?;
         assert_eq!(rt; check.as_str(), case.check, "of {buffer:?}");
         let named = !matches!(case.check, "G2" | "G4");
         assert_eq!(rt; row.code, if named { case.code } else { 0 });

@@ -1,0 +1,32 @@
+#!/usr/bin/env python3
+"""Prints the script that sessions.sh measures: TPM2_PCR_Reset of PCR 16 through an HMAC session.
+
+    python3 bench/session_script.py 100000
+
+The session is bound to TPM_RH_OWNER, with SHA-256. The random bytes are the same for each command,
+so that the device draws the same nonce again, and one prepared buffer is accepted as often as it is
+sent.
+"""
+
+import pathlib
+import sys
+
+sys.path.insert(0, str(pathlib.Path(__file__).resolve().parent.parent / "tests" / "outside"))
+
+from caller import Caller, Use
+from frames import RH_OWNER
+from script import Script
+
+script = Script("bench", "")
+caller = Caller(script)
+script.startup()
+script.entropy(b"\xbb")
+script.fresh = lambda: None
+session = caller.start("A session", RH_OWNER)
+buffer = caller.reset(Use(session)).buffer()
+script.command("", "SUCCESS", buffer)
+script.command("", "SUCCESS", buffer)
+lines = [line for line in script.lines if line.startswith(("cmd", "entropy"))]
+print("\n".join(lines[:-2]))
+for _ in range(int(sys.argv[1])):
+    print(lines[-1])

@@ -1,0 +1,22 @@
+#!/bin/sh
+# Measures TPM2_PCR_Reset under an HMAC session with prepared buffers: commands per second. Needs
+# python3, GNU time, and rt where the program is not built yet. Not part of the gate.
+set -eu
+
+top=$(CDPATH='' cd "$(dirname "$0")/.." && pwd -P)
+program=$top/crates/tpmsim/out/tpmsim
+folder=$(mktemp -d)
+trap 'rm -rf "$folder"' EXIT
+
+"$top/tpmsim" run /dev/null # builds the program where it is not built
+python3 "$top/bench/session_script.py" 100000 >"$folder/script"
+for _ in 1 2 3 4 5 6 7 8 9 10; do
+    /usr/bin/time -f '%e' -o "$folder/time" "$program" run "$folder/script" >"$folder/answers"
+    cat "$folder/time"
+done | sort -n | head -n 1 >"$folder/least"
+if [ "$(grep -c '^80020000' "$folder/answers")" -ne 100000 ]; then
+    echo "$0: the program did not accept each command" >&2
+    exit 1
+fi
+awk '{ printf "100000 TPM2_PCR_Reset by an HMAC session: %.2f s, %d commands per second\n",
+    $1, 100000 / $1 }' "$folder/least"
