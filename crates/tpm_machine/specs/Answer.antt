@@ -33,14 +33,14 @@ abbrev pub handle_answer : Option Handle → List ℕ
 handle_answer None = []
 handle_answer (Some handle) = handle_text handle
 
--- the handle of what was made, if there is one, and the parameters; with sessions their size stands
--- before the parameters, and behind them what answers the command's entries
+-- the handle of what was made, if there is one, and the parameters; with sessions the size of the
+-- parameters stands before them, and after them what answers the command's entries
 unfoldable pub success_text : List Entry → Option Handle → (answer area : List ℕ) → List ℕ
 success_text [] handle answer area = framed 0x8001 0 (handle_answer handle ++ answer)
 success_text (entry ∷ entries) handle answer area =
     framed 0x8002 0 (handle_answer handle ++ to_be_bytes w32 (length answer) ++ answer ++ area)
 
--- a response, and the record behind it
+-- a response, and the record after it
 pub record Answered : Type 0 where
   pub response : List ℕ
   pub after : Record
