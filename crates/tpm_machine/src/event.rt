@@ -63,3 +63,18 @@ pub struct Outcome {
     pub response: Response,
     pub row: Row,
 }
+
+impl Outcome {
+    ghost use Rattle.std.specs.Prelude.{[]};
+
+    /// That of an event that answers nothing, to be written over.
+    pub fn empty() -> Outcome
+        ensures response { result.response.items ≡ [] }
+        ensures row { result.row ≡ record { code = 0; check = 0 } }
+    {
+        Outcome {
+            response: ArrayVec::new(),
+            row: Row { code: 0, check: 0 },
+        }
+    }
+}

@@ -7,12 +7,11 @@ ghost use Rattle.tpm_machine.specs.Safe.{AcceptsModestly, IsHarmless};
 ghost use Rattle.tpm_machine.specs.State.{state_of};
 ghost use Rattle.tpm_machine.specs.Step.{Steps, seen};
 
-use crate::event::{Event, Outcome, RESPONSE_LIMIT, Row};
+use crate::event::{Event, Outcome, Response, Row};
 use crate::general::{Refusal, decode};
 use crate::response::{write_refusal, write_success};
 use crate::table::accept;
 use std::alloc::Global;
-use tpm_bytes::sink::Sink;
 use tpm_record::cycle::power_cycle;
 use tpm_record::fixed::Fixed;
 use tpm_record::keep::{Keep, NoMemory};
@@ -58,7 +57,6 @@ impl<K: Keep> Machine<K> {
 
     /// Executes one event: its response, its row and the state after it are those of the table, or
     /// of refused memory in place of a success of a command that grows something.
-    #[tactic(auto, using(crate::proofs::Refusals::steps_exactly, crate::proofs::Refusals::steps_harmless))]
     pub fn execute(&mut self, event: &Event) -> Outcome
         ensures steps { Steps K.can_refuse (state_of K.record_of self.old) (happening event.now)
             (seen (state_of K.record_of self.new) result) }
@@ -77,22 +75,40 @@ impl<K: Keep> Machine<K> {
         // With what stands before and behind such an answer a response has at most so many bytes.
         ensures fits { length result.response.items ≤ 2273 }
     {
-        self.advance(event)
+        let mut outcome = Outcome::empty();
+        self.execute_into(event, &mut outcome);
+        outcome
     }
 
-    /// Executes one event. It is inlined, so that no whole response is copied.
-    #[inline(always)]
-    #[tactic(auto, using(crate::proofs::Refusals::steps_exactly))]
-    fn advance(&mut self, event: &Event) -> Outcome
-        ensures is_record { IsRecord (state_of K.record_of self.new) }
+    /// Executes one event, and writes its outcome over that of an event before, so that one
+    /// response serves for a whole run.
+    #[tactic(auto, using(crate::proofs::Refusals::steps_harmless))]
+    pub fn execute_into(&mut self, event: &Event, outcome: &mut Outcome)
         ensures steps { Steps K.can_refuse (state_of K.record_of self.old) (happening event.now)
-            (seen (state_of K.record_of self.new) result) }
-        ensures modest { result.row.check ≡ 0
+            (seen (state_of K.record_of self.new) outcome.new) }
+        ensures is_record { IsRecord (state_of K.record_of self.new) }
+        ensures harmless { IsHarmless (state_of K.record_of self.old) (happening event.now)
+            (seen (state_of K.record_of self.new) outcome.new) }
+        ensures modest { outcome.new.row.check ≡ 0
             → AcceptsModestly (state_of K.record_of self.old) (happening event.now) }
-        ensures fits { length result.response.items ≤ 2273 }
+        ensures fits { length outcome.new.response.items ≤ 2273 }
     {
-        let mut text = Sink::new();
-        let row = match event {
+        outcome.response.clear();
+        outcome.row = self.advance(event, &mut outcome.response);
+        read_widths(&self.keep);
+    }
+
+    /// Does what an event asks for, writes its response, and gives its row.
+    #[tactic(auto, using(crate::proofs::Refusals::steps_exactly))]
+    fn advance(&mut self, event: &Event, text: &mut Response) -> Row
+        requires { text.old.items ≡ [] }
+        ensures steps { Steps K.can_refuse (state_of K.record_of self.old) (happening event.now)
+            (record { response = text.new.items; row = result; after = state_of K.record_of self.new }) }
+        ensures modest { result.check ≡ 0
+            → AcceptsModestly (state_of K.record_of self.old) (happening event.now) }
+        ensures fits { length text.new.items ≤ 2273 }
+    {
+        match event {
             Event::PowerCycle => {
                 power_cycle(&mut self.keep);
                 Row { code: 0, check: 0 }
@@ -104,13 +120,8 @@ impl<K: Keep> Machine<K> {
                 random,
             } => {
                 tick(&mut self.keep, *elapsed_ms);
-                self.command(buffer, *locality, random, &mut text)
+                self.command(buffer, *locality, random, text)
             }
-        };
-        read_widths(&self.keep);
-        Outcome {
-            response: text.into_bytes(),
-            row,
         }
     }
 
@@ -133,8 +144,9 @@ impl<K: Keep> Machine<K> {
         ensures { Runs F.FnMut K.can_refuse (state_of K.record_of self.old) tell.old
             (map happening events.now) (state_of K.record_of self.new) tell.new }
     {
+        let mut outcome = Outcome::empty();
         for event in events {
-            let outcome = self.execute(event);
+            self.execute_into(event, &mut outcome);
             tell(&outcome);
         }
     }
@@ -144,24 +156,23 @@ impl<K: Keep> Machine<K> {
     ghost use Rattle.tpm_machine.specs.Step.{Answers, accepted};
 
     /// Executes a command's buffer, after its time has passed: writes the response, and gives the
-    /// row. Where it is inlined into `execute`, whole responses are copied.
-    #[inline(never)]
+    /// row.
     #[tactic(auto, using(crate::proofs::Refusals::answers_exactly, crate::proofs::Refusals::refused_answers), unfolding(crate::specs::Step::accepted))]
     fn command(
         &mut self,
         buffer: &[u8],
         locality: Locality,
         random: &[u8; 256],
-        text: &mut Sink<RESPONSE_LIMIT>,
+        text: &mut Response,
     ) -> Row
-        requires { text.old ≡ [] }
+        requires { text.old.items ≡ [] }
         ensures answer { Answers K.can_refuse (state_of K.record_of self.old) random.now
             (accepted (state_of K.record_of self.old) buffer.now (locality_number locality) random.now)
-            (record { response = text.new; row = result; after = state_of K.record_of self.new }) }
+            (record { response = text.new.items; row = result; after = state_of K.record_of self.new }) }
         ensures modest { result.check ≡ 0 → IfOk
             (accepted (state_of K.record_of self.old) buffer.now (locality_number locality) random.now)
             IsModest }
-        ensures fits { length text.new ≤ 2273 }
+        ensures fits { length text.new.items ≤ 2273 }
     {
         let command = match decode(&self.keep, buffer) {
             Ok(command) => command,
@@ -184,11 +195,11 @@ ghost use Rattle.tpm_auth.specs.Check.{check_number};
 ghost use Rattle.tpm_machine.specs.Answer.{refusal_text};
 
 /// Writes the response to a command that is refused, and gives the row.
-fn refuse(refusal: Refusal, text: &mut Sink<RESPONSE_LIMIT>) -> Row
-    requires { text.old ≡ [] }
-    ensures text { text.new ≡ refusal_text refusal.refused }
+fn refuse(refusal: Refusal, text: &mut Response) -> Row
+    requires { text.old.items ≡ [] }
+    ensures text { text.new.items ≡ refusal_text refusal.refused }
     ensures row { result ≡ record { code = refusal.code; check = check_number refusal.refused.check } }
-    ensures size { length text.new ≡ 10 }
+    ensures size { length text.new.items ≡ 10 }
 {
     write_refusal(refusal.refused, text);
     Row {

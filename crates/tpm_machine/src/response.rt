@@ -1,4 +1,4 @@
-ghost use Rattle.std.specs.Prelude.{◌≡◌, ◌≤◌, ◌++◌, [], length, map};
+ghost use Rattle.std.specs.Prelude.{◌≡◌, ◌+◌, ◌≤◌, ◌++◌, [], length, map};
 ghost use Rattle.std.specs.Int.{w16, w32, to_be_bytes};
 ghost use Rattle.tpm_types.specs.AuthEntry.{entry_of};
 ghost use Rattle.tpm_types.specs.Command.{whole_of};
@@ -8,7 +8,7 @@ ghost use Rattle.tpm_machine.specs.Parameters.{encrypted_answer};
 
 use crate::draws::Draws;
 use crate::entries::{AREA_LIMIT, answer_entries, end_entries, roll_entries};
-use crate::event::RESPONSE_LIMIT;
+use crate::event::{RESPONSE_LIMIT, Response};
 use crate::parameters::encrypt;
 use crate::response_hashes::ResponseHashes;
 use arrayvec::ArrayVec;
@@ -27,14 +27,22 @@ use tpm_types::whole_command::Command;
 /// Part 2, section 6.9).
 const BAD_TAG_RESPONSE: u16 = 0x00c4;
 
-fn write_header(tag: u16, size: usize, code: u32, text: &mut Sink<RESPONSE_LIMIT>)
-    requires size { size ≤ 4096 }
-    requires empty { text.old ≡ [] }
-    ensures { text.new ≡ to_be_bytes w16 tag ++ to_be_bytes w32 size ++ to_be_bytes w32 code }
+/// Appends bytes for which there is room.
+fn put(text: &mut Response, bytes: &[u8])
+    requires { length text.old.items + length bytes.now ≤ RESPONSE_LIMIT }
+    ensures { text.new.items ≡ text.old.items ++ bytes.now }
 {
-    let _ = text.put_u16(tag);
-    let _ = text.put_u32(size as u32);
-    let _ = text.put_u32(code);
+    let _ = text.try_extend_from_slice(bytes);
+}
+
+fn write_header(tag: u16, size: usize, code: u32, text: &mut Response)
+    requires size { size ≤ 4096 }
+    requires empty { text.old.items ≡ [] }
+    ensures { text.new.items ≡ to_be_bytes w16 tag ++ to_be_bytes w32 size ++ to_be_bytes w32 code }
+{
+    put(text, &tag.to_be_bytes());
+    put(text, &(size as u32).to_be_bytes());
+    put(text, &code.to_be_bytes());
 }
 
 fn refusal_tag(check: Check) -> u16
@@ -48,10 +56,10 @@ fn refusal_tag(check: Check) -> u16
 
 /// Writes the response to a command that was refused.
 #[tactic(auto, using(crate::proofs::Answering::framed_alone))]
-pub fn write_refusal(refused: Refused, text: &mut Sink<RESPONSE_LIMIT>)
-    requires { text.old ≡ [] }
-    ensures text { text.new ≡ refusal_text refused }
-    ensures size { length text.new ≡ 10 }
+pub fn write_refusal(refused: Refused, text: &mut Response)
+    requires { text.old.items ≡ [] }
+    ensures text { text.new.items ≡ refusal_text refused }
+    ensures size { length text.new.items ≡ 10 }
 {
     write_header(
         refusal_tag(refused.check),
@@ -71,26 +79,26 @@ fn handle_size(handle: Option<Handle>) -> usize
     }
 }
 
-fn write_handle(handle: Option<Handle>, text: &mut Sink<RESPONSE_LIMIT>)
-    requires { length text.old ≤ 10 }
-    ensures { text.new ≡ text.old ++ handle_answer handle }
+fn write_handle(handle: Option<Handle>, text: &mut Response)
+    requires { length text.old.items ≤ 10 }
+    ensures { text.new.items ≡ text.old.items ++ handle_answer handle }
 {
     if let Some(handle) = handle {
-        let _ = text.put_u32(handle.number);
+        put(text, &handle.number.to_be_bytes());
     }
 }
 
 /// Writes a success that has no entries.
-fn write_plain(handle: Option<Handle>, parameters: &[u8], text: &mut Sink<RESPONSE_LIMIT>)
-    requires empty { text.old ≡ [] }
+fn write_plain(handle: Option<Handle>, parameters: &[u8], text: &mut Response)
+    requires empty { text.old.items ≡ [] }
     requires parameters { length parameters.now ≤ 2048 }
-    ensures text { text.new ≡ framed 0x8001 0 (handle_answer handle ++ parameters.now) }
-    ensures fits { length text.new ≤ 2062 }
+    ensures text { text.new.items ≡ framed 0x8001 0 (handle_answer handle ++ parameters.now) }
+    ensures fits { length text.new.items ≤ 2062 }
 {
     let size = HEADER_SIZE + handle_size(handle) + parameters.len();
     write_header(Tag::NoSessions.number(), size, 0, text);
     write_handle(handle, text);
-    let _ = text.put(parameters);
+    put(text, parameters);
 }
 
 /// Writes a success whose entries are answered so.
@@ -98,21 +106,21 @@ fn write_with_area(
     handle: Option<Handle>,
     parameters: &[u8],
     area: &[u8],
-    text: &mut Sink<RESPONSE_LIMIT>,
+    text: &mut Response,
 )
-    requires empty { text.old ≡ [] }
+    requires empty { text.old.items ≡ [] }
     requires parameters { length parameters.now ≤ 2048 }
     requires area { length area.now ≤ AREA_LIMIT }
-    ensures text { text.new ≡ framed 0x8002 0 (handle_answer handle
+    ensures text { text.new.items ≡ framed 0x8002 0 (handle_answer handle
         ++ to_be_bytes w32 (length parameters.now) ++ parameters.now ++ area.now) }
-    ensures fits { length text.new ≤ 2273 }
+    ensures fits { length text.new.items ≤ 2273 }
 {
     let size = HEADER_SIZE + handle_size(handle) + 4 + parameters.len() + area.len();
     write_header(Tag::Sessions.number(), size, 0, text);
     write_handle(handle, text);
-    let _ = text.put_u32(parameters.len() as u32);
-    let _ = text.put(parameters);
-    let _ = text.put(area);
+    put(text, &(parameters.len() as u32).to_be_bytes());
+    put(text, parameters);
+    put(text, area);
 }
 
 /// The parameters of an answer as the sessions of the entries encrypt them.
@@ -140,14 +148,14 @@ fn write_with_sessions<K: Keep>(
     command: &Command,
     answer: &Answer,
     random: &[u8; 256],
-    text: &mut Sink<RESPONSE_LIMIT>,
+    text: &mut Response,
 )
-    requires empty { text.old ≡ [] }
+    requires empty { text.old.items ≡ [] }
     requires some { 1 ≤ length (map entry_of command.now.entries.items) }
-    ensures answer { record { response = text.new; after = K.record_of keep.new }
+    ensures answer { record { response = text.new.items; after = K.record_of keep.new }
         ≡ answer_to (whole_of command.now) (grants_of (whole_of command.now))
         (success_of answer.now (K.record_of keep.old)) random.now }
-    ensures fits { length text.new ≤ 2273 }
+    ensures fits { length text.new.items ≤ 2273 }
 {
     let entries = command.entries.as_slice();
     let handles = &command.handles.as_slice()[..command.code.authorized_handles()];
@@ -168,13 +176,13 @@ pub fn write_success<K: Keep>(
     command: &Command,
     answer: &Answer,
     random: &[u8; 256],
-    text: &mut Sink<RESPONSE_LIMIT>,
+    text: &mut Response,
 )
-    requires empty { text.old ≡ [] }
-    ensures answer { record { response = text.new; after = K.record_of keep.new }
+    requires empty { text.old.items ≡ [] }
+    ensures answer { record { response = text.new.items; after = K.record_of keep.new }
         ≡ answer_to (whole_of command.now) (grants_of (whole_of command.now))
         (success_of answer.now (K.record_of keep.old)) random.now }
-    ensures fits { length text.new ≤ 2273 }
+    ensures fits { length text.new.items ≤ 2273 }
 {
     if command.entries.is_empty() {
         write_plain(answer.handle, answer.parameters.as_slice(), text);

@@ -14,7 +14,7 @@ use crate::script::Script;
 use std::alloc::Global;
 use std::array;
 use std::io::Write;
-use tpm_machine::event::Event;
+use tpm_machine::event::{Event, Outcome};
 use tpm_machine::machine::Machine;
 use tpm_record::list_keep::ListKeep;
 
@@ -23,6 +23,8 @@ use tpm_record::list_keep::ListKeep;
 pub struct Player {
     script: Script,
     machine: Machine<ListKeep>,
+    /// That of the event before, which the next is written over.
+    outcome: Outcome,
     pub answers: Answers,
 }
 
@@ -38,6 +40,7 @@ impl Player {
         Ok(Player {
             script: Script::new(),
             machine,
+            outcome: Outcome::empty(),
             answers,
         })
     }
@@ -92,7 +95,8 @@ impl Player {
             Line::Wait(milliseconds) => self.script.wait(milliseconds)?,
             Line::Entropy(digits) => self.script.set_entropy(decode(digits, room)?)?,
             Line::PowerCycle => {
-                let _ = self.machine.execute(&Event::PowerCycle);
+                self.machine
+                    .execute_into(&Event::PowerCycle, &mut self.outcome);
             }
             Line::Nothing => {}
         }
@@ -105,8 +109,9 @@ impl Player {
             (printout (W.contents writer.old) self.old.answers) (playing_of self.old) result
             (printout (W.contents writer.new) self.new.answers) (playing_of self.new) }
     {
-        let outcome = self.machine.execute(&self.script.command(buffer));
-        let response = outcome.response.as_slice();
+        let event = self.script.command(buffer);
+        self.machine.execute_into(&event, &mut self.outcome);
+        let response = self.outcome.response.as_slice();
         self.answers
             .put(writer, response)
             .map_err(|_| LineFault::Write)

@@ -12,6 +12,6 @@ returns-clause-answer g c =
     let record_of = g.K.Keep.record_of in
     let command = whole_of c.args.command.now in
     answered_with command (grants_of command) (success_of c.args.answer.now (record_of c.args.keep.now)) c.args.random.now (record_of c.roll_entries.new.keep) _
-    (map entry_of c.as_slice-entries.result.now) _ c.new-draws.result c.roll_entries.new.draws c.as_slice-2.result.now c.encrypted-parameters.result.items c.as_slice-3.result.now c.answer_entries.new.area c.write_with_area.new.text
+    (map entry_of c.as_slice-entries.result.now) _ c.new-draws.result c.roll_entries.new.draws c.as_slice-2.result.now c.encrypted-parameters.result.items c.as_slice-3.result.now c.answer_entries.new.area c.write_with_area.new.text.items
     c.requires.some (search rules) (search rules) (grind (arith, common_steps)) (search rules) (search rules)
     c.roll_entries.ensures c.encrypted-parameters.ensures (search rules) (search rules) c.end_entries.ensures

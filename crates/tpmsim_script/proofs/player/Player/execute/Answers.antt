@@ -7,5 +7,5 @@ use Rattle.tpmsim_script.proofs.player.Player.execute.Goals as goal
 pub returns : goal.returns
 returns g c =
     let contents = g.W.Write.contents in
-    let steps = rw c.command.ensures.event at c.execute-outcome.ensures.steps in
-    executed steps.0 (playing_of c.args.self.now) c.args.buffer.now _ _ _ _ _ (sym steps.2) (search rules) (ap (λ script. playing script c.execute-outcome.new.self) c.command.ensures.time) (search rules)
+    let steps = rw c.command-event.ensures.event at c.execute_into.ensures.steps in
+    executed steps.0 (playing_of c.args.self.now) c.args.buffer.now _ _ _ _ _ (sym steps.2) (search rules) (ap (λ script. playing script c.execute_into.new.self) c.command-event.ensures.time) (search rules)

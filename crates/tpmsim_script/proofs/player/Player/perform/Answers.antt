@@ -17,10 +17,10 @@ returns-in_ok-set_entropy-in-Entropy g c = (false, silence (playing c.set_entrop
 pub returns-in-PowerCycle : goal.returns-in-PowerCycle
 returns-in-PowerCycle g c =
     let p = playing_of c.args.self.now in
-    let steps = c.execute-in-PowerCycle.ensures.steps in
+    let steps = c.execute_into.ensures.steps in
     let is = steps.2 ∙ cycled_anyway steps.0 p.device in
     let done = ap (λ (s : Stepped). Some (silence (record p { device = s.after }))) (sym is) in
-    (false, silence (playing c.args.self.now.script c.execute-in-PowerCycle.new.self), search (rules, done), nothing_printed _, refl)
+    (false, silence (playing c.args.self.now.script c.execute_into.new.self), search (rules, done), nothing_printed _, refl)
 
 pub returns-in-Nothing : goal.returns-in-Nothing
 returns-in-Nothing g c = (false, silence (playing c.args.self.now.script c.args.self.now.machine), search rules, nothing_printed _, refl)
