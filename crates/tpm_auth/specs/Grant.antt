@@ -1,7 +1,7 @@
 -- What the entries of a command authorize. TPM 2.0 Library, Part 1, sections 19.4 (password
 -- authorizations), 19.6 (HMAC sessions) and 19.8 (dictionary attacks), and Part 3, section 5.6
 -- (authorization checks).
-use Rattle.std.specs.Prelude.{◌≡◌, ℕ, ◌+◌, ◌==◌, ◌&&◌, ◌||◌, not, nat_lt, nat_le, nat_eq, Bool, true, false, List, [], ◌∷◌, length, map, take, drop, if◌then◌else◌, Option, Some, None, is_some, Result, Ok, Err}
+use Rattle.std.specs.Prelude.{◌≡◌, ℕ, ◌+◌, ◌==◌, ◌&&◌, ◌||◌, not, nat_lt, nat_le, nat_eq, Bool, true, false, List, [], ◌∷◌, ◌++◌, length, map, take, drop, if◌then◌else◌, Option, Some, None, is_some, option_map, slice_get, Result, Ok, Err}
 use Rattle.std.specs.List.{find, list_all, list_any}
 use Rattle.std.specs.Option.{option_map_or}
 use Rattle.std.specs.Str.{bytes_eq}
@@ -34,6 +34,7 @@ use Rattle.tpm_auth.specs.Hashes.{HashedCommand}
 use Rattle.tpm_auth.specs.Refused.{checked, refusal}
 use Rattle.tpm_auth.specs.declared.check.Check.{Check}
 use Rattle.tpm_auth.specs.declared.check.Check.TheVariants as check
+use Rattle.tpm_auth.specs.declared.grant.Grant.{Grant}
 use Rattle.tpm_auth.specs.declared.grant.Grants.{Grants}
 use Rattle.tpm_auth.specs.declared.refused.Counted.TheVariants as counted
 use Rattle.tpm_auth.specs.declared.refused.Refused.{Refused}
@@ -167,25 +168,30 @@ grant_by kind.Password r c n used e = password_grant r n used e
 grant_by kind.Session r c n used e = session_grant_if r c n used e (session_of r e)
 grant_by kind.Other r c n used e = Err (refusal check.Entries (entry_fault n code.Value))
 
--- entry n, which authorizes this handle or none
-unfoldable pub grant : Record → Whole → ℕ → Option Handle → Entry → Result (Unit {0}) Refused
-grant r c n used e = grant_by (session_kind e.session) r c n used e
+abbrev pub granted : Handle → Grant
+granted handle = record { handle = handle }
 
--- each handle that needs authorization by the entry of the same place, from the n-th on, and then
--- the other entries
-abbrev pub grants_pass : Record → Whole → ℕ → List Handle → List Entry → Result (Unit {0}) Refused
-grants_pass r c n handles [] = Ok tt
-grants_pass r c n [] (e ∷ es) = do
-  this ← grant r c n None e
-  grants_pass r c (n + 1) [] es
-grants_pass r c n (handle ∷ handles) (e ∷ es) = do
-  this ← grant r c n (Some handle) e
-  grants_pass r c (n + 1) handles es
+abbrev pub granted_handle : Grant → Handle
+granted_handle grant = grant.handle
 
--- what a command's entries are to authorize: the first of its handles, as many as need
--- authorization, each by the entry of the same place
-abbrev pub grants_of : Whole → List Handle
-grants_of c = take (authorized_handles c.code) c.handles
+-- entry n, which is to authorize this handle or none
+unfoldable pub grant : Record → Whole → ℕ → Option Handle → Entry → Result (Option Grant) Refused
+grant r c n used e = do
+  passed ← grant_by (session_kind e.session) r c n used e
+  Ok (option_map granted used)
+
+-- the handles of a command that need authorization, which are its first
+abbrev pub authorized : Whole → List Handle
+authorized c = take (authorized_handles c.code) c.handles
+
+-- each entry in order, behind what those before it authorize: the n-th is to authorize the n-th of
+-- these handles, and an entry behind them nothing
+abbrev pub grants_pass : Record
+    → Whole → (before : List (Option Grant)) → List Entry → Result (List (Option Grant)) Refused
+grants_pass r c before [] = Ok before
+grants_pass r c before (e ∷ es) = do
+  this ← grant r c (length before + 1) (slice_get (authorized c) (length before)) e
+  grants_pass r c (before ++ this ∷ []) es
 
 -- whether the first parameter, a sized buffer, is not all there
 abbrev pub is_cut : {X E : Type 0} → Result X E → Bool
@@ -194,18 +200,25 @@ is_cut (Err e) = true
 
 -- G8 behind the sizes of the area: each entry's own checks, then that there is an entry for each
 -- handle that needs authorization; then G9, each of these handles, and G10, the other entries, and
--- that what a session decrypts is there
-unfoldable pub authorize : Record → Whole → Result (List Handle) Refused
+-- that what a session decrypts is there. Given is what each entry authorizes
+unfoldable pub authorize : Record → Whole → Result (List (Option Grant)) Refused
 authorize r c = do
   own ← checked check.Entries (entries_pass r c.code [] c.entries)
   enough ← refused_if (nat_lt (length c.entries) (authorized_handles c.code))
       (refusal check.Entries (plain code.AuthMissing))
-  each ← grants_pass r c 1 (grants_of c) c.entries
+  grants ← grants_pass r c [] c.entries
   whole ← refused_if (list_any decrypts c.entries && is_cut (sized_at 0xffff c.parameters))
       (refusal check.Others (at (place.Parameter 1) (plain code.Insufficient)))
-  Ok (grants_of c)
+  Ok grants
 
--- The code's result of an authorization stands for the definition's.
-abbrev pub IsGranted : Result (List Handle) Refused → Result Grants Refused → Type 0
-IsGranted authorized (Ok grants) = authorized ≡ Ok grants.handles.now
+-- The code's result of checking entries, and what they authorize with those before them, stands for
+-- the definition's.
+abbrev pub AreGranted : Result (List (Option Grant)) Refused
+    → Result (Unit {0}) Refused → List (Option Grant) → Type 0
+AreGranted granted (Ok u) grants = granted ≡ Ok grants
+AreGranted granted (Err e) grants = granted ≡ Err e
+
+-- And that of an authorization.
+abbrev pub IsGranted : Result (List (Option Grant)) Refused → Result Grants Refused → Type 0
+IsGranted authorized (Ok grants) = authorized ≡ Ok grants.entries.items
 IsGranted authorized (Err e) = authorized ≡ Err e

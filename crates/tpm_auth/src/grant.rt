@@ -5,7 +5,8 @@ ghost use Rattle.tpm_bytes.specs.Reading.{sized_at};
 ghost use Rattle.tpm_types.specs.AuthEntry.{entry_of};
 ghost use Rattle.tpm_types.specs.Command.{whole_of};
 ghost use Rattle.tpm_record.specs.Entity.{name_of};
-ghost use Rattle.tpm_auth.specs.Grant.{IsGranted, authorize, grant, grants_of, grants_pass, hashed_command, is_cut, is_password_of, password_grant};
+ghost use Rattle.tpm_types.specs.Handle.{session_kind};
+ghost use Rattle.tpm_auth.specs.Grant.{AreGranted, IsGranted, authorize, authorized, grant, grant_by, grants_pass, hashed_command, is_cut, is_password_of, password_grant};
 
 use crate::check::Check;
 use crate::entries::{any_decrypts, check_entries, reference_of};
@@ -24,11 +25,16 @@ use tpm_types::locality::Locality;
 use tpm_types::rc::ResponseCode;
 use tpm_types::whole_command::Command;
 
-/// What the entries of a command authorize: the n-th entry the n-th of these handles, and an entry
-/// behind them nothing.
-#[derive(Clone, Copy)]
-pub struct Grants<'a> {
-    pub handles: &'a [Handle],
+/// What an entry authorizes.
+#[derive(Clone, Copy, Debug, PartialEq, Eq)]
+pub struct Grant {
+    pub handle: Handle,
+}
+
+/// What the entries of a command authorize: each a handle, or nothing.
+#[derive(Drop)]
+pub struct Grants {
+    pub entries: ArrayVec<Option<Grant>, 3>,
 }
 
 fn is_same(bytes: &[u8], others: &[u8]) -> bool
@@ -75,9 +81,8 @@ fn check_password<K: Keep>(
     }
 }
 
-/// Checks the entry of this number, which authorizes this handle, or none.
-#[tactic(auto, unfolding(crate::specs::Grant::grant))]
-fn check_grant<K: Keep>(
+/// Checks the entry of this number by its kind, for this handle or none.
+fn check_entry<K: Keep>(
     keep: &K,
     command: &Command,
     hashes: &mut CommandHashes,
@@ -86,8 +91,8 @@ fn check_grant<K: Keep>(
     entry: &AuthEntry,
 ) -> Result<(), Refused>
     requires { hashes.old ≡ hashed_command (K.record_of keep.now) (whole_of command.now) }
-    ensures value { result ≡ grant (K.record_of keep.now) (whole_of command.now) number used
-        (entry_of entry.now) }
+    ensures value { result ≡ grant_by (session_kind entry.now.session) (K.record_of keep.now)
+        (whole_of command.now) number used (entry_of entry.now) }
     ensures same { hashes.new ≡ hashes.old }
 {
     match entry.session.session_kind() {
@@ -103,30 +108,57 @@ fn check_grant<K: Keep>(
     }
 }
 
-/// Checks each handle by the entry of its place, of which the first has this number, and then the
-/// other entries; the first that fails is answered.
-fn check_grants<K: Keep>(
+/// Checks the entry of this number, and tells what it authorizes: this handle, or nothing.
+#[tactic(auto, unfolding(crate::specs::Grant::grant))]
+fn check_grant<K: Keep>(
     keep: &K,
     command: &Command,
     hashes: &mut CommandHashes,
     number: u8,
-    handles: &[Handle],
+    used: Option<Handle>,
+    entry: &AuthEntry,
+) -> Result<Option<Grant>, Refused>
+    requires { hashes.old ≡ hashed_command (K.record_of keep.now) (whole_of command.now) }
+    ensures value { result ≡ grant (K.record_of keep.now) (whole_of command.now) number used
+        (entry_of entry.now) }
+    ensures same { hashes.new ≡ hashes.old }
+{
+    check_entry(keep, command, hashes, number, used, entry)?;
+    match used {
+        Some(handle) => Ok(Some(Grant { handle })),
+        None => Ok(None),
+    }
+}
+
+/// The handles of a command that need authorization.
+fn authorized<'a>(command: &'a Command) -> &'a [Handle]
+    ensures { result.now ≡ authorized (whole_of command.now) }
+{
+    &command.handles.as_slice()[..command.code.authorized_handles()]
+}
+
+/// Checks these entries behind those so far, and adds what each authorizes; the first that fails is
+/// answered.
+fn check_grants<K: Keep>(
+    keep: &K,
+    command: &Command,
+    hashes: &mut CommandHashes,
     entries: &[AuthEntry],
+    grants: &mut ArrayVec<Option<Grant>, 3>,
 ) -> Result<(), Refused>
     requires hashed { hashes.old ≡ hashed_command (K.record_of keep.now) (whole_of command.now) }
-    requires few { number + length entries.now ≤ 255 }
-    ensures { result ≡ grants_pass (K.record_of keep.now) (whole_of command.now) number handles.now
-        (map entry_of entries.now) }
+    requires few { length grants.old.items + length entries.now ≤ 3 }
+    ensures { AreGranted (grants_pass (K.record_of keep.now) (whole_of command.now) grants.old.items
+        (map entry_of entries.now)) result grants.new.items }
 {
     let [entry, entries @ ..] = entries else {
         return Ok(());
     };
-    let (used, handles) = match handles {
-        [handle, others @ ..] => (Some(*handle), others),
-        [] => (None, handles),
-    };
-    check_grant(keep, command, hashes, number, used, entry)?;
-    check_grants(keep, command, hashes, number + 1, handles, entries)
+    let before = grants.len();
+    let used = authorized(command).get(before).copied();
+    let grant = check_grant(keep, command, hashes, before as u8 + 1, used, entry)?;
+    grants.push(grant);
+    check_grants(keep, command, hashes, entries, grants)
 }
 
 /// Whether the first parameter, a sized buffer, is not all there.
@@ -152,29 +184,27 @@ fn names_of<K: Keep>(keep: &K, handles: &[Handle]) -> ArrayVec<Name, 3>
 /// entry for itself, then that there are enough, then each handle and each other entry, and last
 /// that what a session decrypts is there.
 #[tactic(auto, unfolding(crate::specs::Grant::authorize))]
-pub fn authorize<'a, K: Keep>(
+pub fn authorize<K: Keep>(
     keep: &K,
-    command: &'a Command,
+    command: &Command,
     _locality: Locality,
-) -> Result<Grants<'a>, Refused>
-    ensures granted { IsGranted (authorize (K.record_of keep.now) (whole_of command.now)) result }
-    ensures handles { IfOk result (λ grants. grants.handles.now ≡ grants_of (whole_of command.now)) }
+) -> Result<Grants, Refused>
+    ensures { IsGranted (authorize (K.record_of keep.now) (whole_of command.now)) result }
 {
     let entries = command.entries.as_slice();
-    let count = command.code.authorized_handles();
-    let handles = &command.handles.as_slice()[..count];
     check_entries(keep, command.code, entries).map_err(|rc| Refused::by(Check::Entries, rc))?;
-    if entries.len() < count {
+    if entries.len() < command.code.authorized_handles() {
         let rc = ResponseCode::AuthMissing.anywhere();
         return Err(Refused::by(Check::Entries, rc));
     }
     let names = names_of(keep, command.handles.as_slice());
     let code = command.code.number();
     let mut hashes = CommandHashes::new(code, names.as_slice(), command.parameters);
-    check_grants(keep, command, &mut hashes, 1, handles, entries)?;
+    let mut grants = ArrayVec::new();
+    check_grants(keep, command, &mut hashes, entries, &mut grants)?;
     if any_decrypts(entries) && is_cut(command.parameters) {
         let rc = ResponseCode::Insufficient.anywhere().at_parameter(1);
         return Err(Refused::by(Check::Others, rc));
     }
-    Ok(Grants { handles })
+    Ok(Grants { entries: grants })
 }

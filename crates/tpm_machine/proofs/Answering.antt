@@ -5,6 +5,7 @@ use Rattle.tpm_types.specs.declared.handle.Handle.{Handle}
 use Rattle.tpm_types.specs.AuthEntry.{Entry}
 use Rattle.tpm_types.specs.Command.{Whole}
 use Rattle.tpm_record.specs.Record.{Record}
+use Rattle.tpm_auth.specs.declared.grant.Grant.{Grant}
 use Rattle.tpm_actions.specs.Rows.{Success}
 use Rattle.tpm_machine.specs.Answer.{answer_to, framed, handle_answer, success_text}
 use Rattle.tpm_machine.specs.Entries.{entries_answer, entries_ended, entries_rolled}
@@ -20,29 +21,29 @@ success_some [] handle answer area some = absurd (let none : ⊥ = omega arith i
 success_some (entry ∷ entries) handle answer area some = refl
 
 -- its three passes, and then its text
-answered_by : (c : Whole) (handles : List Handle) (s : Success) (random : List ℕ) (mid after : Record) (left parameters area text : List ℕ) → 1 ≤ length c.entries
+answered_by : (c : Whole) (grants : List (Option Grant)) (s : Success) (random : List ℕ) (mid after : Record) (left parameters area text : List ℕ) → 1 ≤ length c.entries
     → entries_rolled s.after c.entries (drop s.drawn random) ≡ record { after = mid; left = left }
-    → parameters ≡ encrypted_answer mid handles c.entries s.answer
-    → area ≡ entries_answer mid c.code parameters handles c.entries
+    → parameters ≡ encrypted_answer mid c.entries grants s.answer
+    → area ≡ entries_answer mid c.code parameters c.entries grants
     → text ≡ framed 0x8002 0 (handle_answer s.handle ++ to_be_bytes w32 (length parameters) ++ parameters ++ area)
     → after ≡ entries_ended mid c.entries
-    → record { response = text; after = after } ≡ answer_to c handles s random
+    → record { response = text; after = after } ≡ answer_to c grants s random
 unfolding answer_to
-answered_by c handles s random mid after left parameters area text some rolled encrypted answered spelled ended =
+answered_by c grants s random mid after left parameters area text some rolled encrypted answered spelled ended =
     let texts : text ≡ success_text c.entries s.handle parameters area = spelled ∙ sym (success_some c.entries s.handle parameters area some) in
     rw (rolled, ← encrypted, ← answered) (λ i. record { response = texts i; after = ended i })
 
 -- the same of what stands in its variables
-pub answered_with : (c : Whole) (handles : List Handle) (s : Success) (random : List ℕ) (mid after : Record) (entries : List Entry) (used : List Handle) (draws left plain parameters sent area text : List ℕ) → 1 ≤ length c.entries
-    → entries ≡ c.entries → used ≡ handles → draws ≡ drop s.drawn random → plain ≡ s.answer → sent ≡ parameters
+pub answered_with : (c : Whole) (grants : List (Option Grant)) (s : Success) (random : List ℕ) (mid after : Record) (entries : List Entry) (used : List (Option Grant)) (draws left plain parameters sent area text : List ℕ) → 1 ≤ length c.entries
+    → entries ≡ c.entries → used ≡ grants → draws ≡ drop s.drawn random → plain ≡ s.answer → sent ≡ parameters
     → entries_rolled s.after entries draws ≡ record { after = mid; left = left }
-    → parameters ≡ encrypted_answer mid used entries plain
-    → area ≡ entries_answer mid c.code sent used entries
+    → parameters ≡ encrypted_answer mid entries used plain
+    → area ≡ entries_answer mid c.code sent entries used
     → text ≡ framed 0x8002 0 (handle_answer s.handle ++ to_be_bytes w32 (length sent) ++ sent ++ area)
     → after ≡ entries_ended mid entries
-    → record { response = text; after = after } ≡ answer_to c handles s random
-answered_with c handles s random mid after entries used draws left plain parameters sent area text some entered granted drawn planned whole rolled encrypted answered spelled ended =
-    answered_by c handles s random mid after left sent area text some
+    → record { response = text; after = after } ≡ answer_to c grants s random
+answered_with c grants s random mid after entries used draws left plain parameters sent area text some entered granted drawn planned whole rolled encrypted answered spelled ended =
+    answered_by c grants s random mid after left sent area text some
     (rw (← entered, ← drawn) rolled)
     (rw (← entered, ← granted, ← planned) (whole ∙ encrypted))
     (rw (← entered, ← granted) answered)

@@ -1,5 +1,5 @@
 -- What the general checks decode is what the whole buffer spells.
-use Rattle.std.proofs.Common.{arith, refl, sym, cond, Bool, true, false, Some, None, ◌≤◌, ◌*◌, ◌≡◌, ℕ, not, List, [], ◌∷◌, ◌+◌, length, Result, Ok, Err, IfOk, ap, ◌∙◌}
+use Rattle.std.proofs.Common.{arith, refl, sym, cond, Bool, true, false, Some, None, ◌≤◌, ◌*◌, ◌≡◌, ℕ, not, List, [], ◌∷◌, ◌+◌, length, Result, Ok, Err, IfOk, ap, ◌∙◌, Option}
 use Rattle.std.proofs.lemmas.Bool.{false≢true}
 use Rattle.std.specs.Prelude.{◌||◌}
 use Rattle.std.specs.List.{list_any}
@@ -29,6 +29,7 @@ use Rattle.tpm_types.specs.CommandCode.{shape_of}
 use Rattle.tpm_types.specs.Shape.{is_of_kind}
 use Rattle.tpm_record.specs.Entity.{absence_rc, is_present}
 use Rattle.tpm_record.specs.Record.{Record}
+use Rattle.tpm_auth.specs.declared.grant.Grant.{Grant}
 use Rattle.tpm_auth.specs.Refused.{checked, refusal}
 use Rattle.tpm_auth.specs.declared.check.Check.{Check}
 use Rattle.tpm_auth.specs.declared.check.Check.TheVariants as check
@@ -120,9 +121,8 @@ not_decrypted : (first others : Bool) (by_first by_others text : List ℕ) → (
 not_decrypted true others by_first by_others text none rest = absurd (false≢true (sym none))
 not_decrypted false others by_first by_others text none rest = rest none
 
-pub plain_as_sent : (r : Record) (handles : List Handle) (entries : List Entry) (text : List ℕ) → list_any decrypts entries ≡ false → plain_parameters r handles entries text ≡ text
-plain_as_sent r handles [] text none = refl
-plain_as_sent r [] (e ∷ es) text none =
-    not_decrypted (decrypts e) (list_any decrypts es) (decrypted_by r None e text) (plain_parameters r [] es text) text none (λ others. plain_as_sent r [] es text others)
-plain_as_sent r (handle ∷ handles) (e ∷ es) text none =
-    not_decrypted (decrypts e) (list_any decrypts es) (decrypted_by r (Some handle) e text) (plain_parameters r handles es text) text none (λ others. plain_as_sent r handles es text others)
+pub plain_as_sent : (r : Record) (entries : List Entry) (grants : List (Option Grant)) (text : List ℕ) → list_any decrypts entries ≡ false → plain_parameters r entries grants text ≡ text
+plain_as_sent r [] grants text none = refl
+plain_as_sent r (e ∷ es) [] text none = refl
+plain_as_sent r (e ∷ es) (grant ∷ grants) text none =
+    not_decrypted (decrypts e) (list_any decrypts es) (decrypted_by r grant e text) (plain_parameters r es grants text) text none (λ others. plain_as_sent r es grants text others)

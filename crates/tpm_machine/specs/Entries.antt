@@ -1,7 +1,7 @@
 -- What a success does with the sessions of its entries, and what it answers for each entry. TPM 2.0
 -- Library, Part 1, section 19.6 (session nonces and HMACs), and Part 2, section 10.13.3
 -- (TPMS_AUTH_RESPONSE).
-use Rattle.std.specs.Prelude.{ℕ, ◌==◌, List, [], ◌∷◌, ◌++◌, length, take, drop, if◌then◌else◌, Option, Some, None}
+use Rattle.std.specs.Prelude.{ℕ, ◌==◌, List, [], ◌∷◌, ◌++◌, length, take, drop, if◌then◌else◌, Option, option_map}
 use Rattle.std.specs.Option.{option_map_or}
 use Rattle.tpm_bytes.specs.Writing.{sized_text}
 use Rattle.tpm_session.specs.declared.session.Session.{Session}
@@ -9,12 +9,12 @@ use Rattle.tpm_session.specs.EntryText.{response_mac_of}
 use Rattle.tpm_session.specs.ParameterHash.{response_hash_of}
 use Rattle.tpm_session.specs.Sessions.{flushed, rolled}
 use Rattle.tpm_types.specs.declared.command_code.CommandCode.{CommandCode}
-use Rattle.tpm_types.specs.declared.handle.Handle.{Handle}
 use Rattle.tpm_types.specs.AuthEntry.{Entry, has_bits}
 use Rattle.tpm_types.specs.CommandCode.{code_number}
 use Rattle.tpm_record.specs.Record.{Record}
 use Rattle.tpm_auth.specs.Entries.{session_of}
-use Rattle.tpm_auth.specs.Grant.{used_auth_value}
+use Rattle.tpm_auth.specs.declared.grant.Grant.{Grant}
+use Rattle.tpm_auth.specs.Grant.{granted_handle, used_auth_value}
 
 -- a record, and the random bytes that are left
 pub record Drawn : Type 0 where
@@ -52,27 +52,27 @@ pub record HashedResponse : Type 0 where
 -- then, and a session whose entity's value was changed is no longer bound to it. Where the
 -- command's HMAC was empty this is empty too, even if the key is no longer empty (this device's
 -- own)
-unfoldable pub answer_mac : Record → CommandCode → List ℕ → Option Handle → Entry → Session → List ℕ
-answer_mac r c answer used e s =
+unfoldable pub answer_mac : Record → CommandCode → List ℕ → Option Grant → Entry → Session → List ℕ
+answer_mac r c answer grant e s =
     if length e.hmac == 0 then []
-    else response_mac_of s (used_auth_value r s used)
+    else response_mac_of s (used_auth_value r s (option_map granted_handle grant))
     (response_hash_of s.hash (code_number c) answer) e.nonce e.attributes
 
 -- the answer to an entry of a session: its nonce, the attributes of the command's entry, the HMAC
-unfoldable pub session_answer : Record → CommandCode → List ℕ → Option Handle → Entry → Session → List ℕ
-session_answer r c answer used e s =
-    sized_text s.nonce_tpm ++ e.attributes.octet ∷ [] ++ sized_text (answer_mac r c answer used e s)
+unfoldable pub session_answer : Record → CommandCode → List ℕ → Option Grant → Entry → Session → List ℕ
+session_answer r c answer grant e s =
+    sized_text s.nonce_tpm ++ e.attributes.octet ∷ [] ++ sized_text (answer_mac r c answer grant e s)
 
-unfoldable pub entry_answer : Record → CommandCode → List ℕ → Option Handle → Entry → List ℕ
-entry_answer r c answer used e =
-    option_map_or (session_answer r c answer used e) (session_of r e) password_answer
+unfoldable pub entry_answer : Record → CommandCode → List ℕ → Option Grant → Entry → List ℕ
+entry_answer r c answer grant e =
+    option_map_or (session_answer r c answer grant e) (session_of r e) password_answer
 
--- the answers to the entries of a command, which in order authorized these handles
-abbrev pub entries_answer : Record → CommandCode → List ℕ → List Handle → List Entry → List ℕ
-entries_answer r c answer handles [] = []
-entries_answer r c answer [] (e ∷ es) = entry_answer r c answer None e ++ entries_answer r c answer [] es
-entries_answer r c answer (handle ∷ handles) (e ∷ es) =
-    entry_answer r c answer (Some handle) e ++ entries_answer r c answer handles es
+-- the answers to the entries of a command, each of which authorized this handle or none
+abbrev pub entries_answer : Record → CommandCode → List ℕ → List Entry → List (Option Grant) → List ℕ
+entries_answer r c answer [] grants = []
+entries_answer r c answer (e ∷ es) [] = []
+entries_answer r c answer (e ∷ es) (grant ∷ grants) =
+    entry_answer r c answer grant e ++ entries_answer r c answer es grants
 
 -- a session without continueSession (bit 0) ends
 unfoldable pub entry_ended : Record → Entry → Record

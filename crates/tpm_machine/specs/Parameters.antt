@@ -5,10 +5,10 @@ use Rattle.std.specs.Int.{w16, from_be_bytes}
 use Rattle.std.specs.Option.{option_map_or}
 use Rattle.tpm_session.specs.declared.session.Session.{Session}
 use Rattle.tpm_session.specs.Encryption.{encrypted_parameter, plain_parameter}
-use Rattle.tpm_types.specs.declared.handle.Handle.{Handle}
 use Rattle.tpm_types.specs.AuthEntry.{Entry}
 use Rattle.tpm_record.specs.Entity.{auth_value_of}
 use Rattle.tpm_record.specs.Record.{Record}
+use Rattle.tpm_auth.specs.declared.grant.Grant.{Grant}
 use Rattle.tpm_auth.specs.Entries.{decrypts, encrypts, session_of}
 
 -- the size that stands at the front of a text
@@ -34,34 +34,32 @@ FindsFirst text None = has_first_buffer text ≡ false
 
 -- the authorization value in the key of encryption: that of the handle that the session authorizes,
 -- if there is one, even where the session is bound to it (unlike the key of an HMAC)
-unfoldable pub cipher_value : Record → Option Handle → List ℕ
-cipher_value r used = option_map_or (auth_value_of r) used []
+unfoldable pub cipher_value : Record → Option Grant → List ℕ
+cipher_value r grant = option_map_or (λ (g : Grant). auth_value_of r g.handle) grant []
 
 -- the parameters as the entry's session decrypts them, between the caller's nonce and the TPM's
-unfoldable pub decrypted_by : Record → Option Handle → Entry → List ℕ → List ℕ
-decrypted_by r used e text =
+unfoldable pub decrypted_by : Record → Option Grant → Entry → List ℕ → List ℕ
+decrypted_by r grant e text =
     option_map_or (λ (s : Session).
-    with_first_buffer (plain_parameter s (cipher_value r used) e.nonce s.nonce_tpm) text) (session_of r e) text
+    with_first_buffer (plain_parameter s (cipher_value r grant) e.nonce s.nonce_tpm) text) (session_of r e) text
 
--- the parameters of a command whose entries, in order, authorize these handles
-abbrev pub plain_parameters : Record → List Handle → List Entry → List ℕ → List ℕ
-plain_parameters r handles [] text = text
-plain_parameters r [] (e ∷ es) text =
-    if decrypts e then decrypted_by r None e text else plain_parameters r [] es text
-plain_parameters r (handle ∷ handles) (e ∷ es) text =
-    if decrypts e then decrypted_by r (Some handle) e text else plain_parameters r handles es text
+-- the parameters of a command, each of whose entries authorizes this handle or none
+abbrev pub plain_parameters : Record → List Entry → List (Option Grant) → List ℕ → List ℕ
+plain_parameters r [] grants text = text
+plain_parameters r (e ∷ es) [] text = text
+plain_parameters r (e ∷ es) (grant ∷ grants) text =
+    if decrypts e then decrypted_by r grant e text else plain_parameters r es grants text
 
 -- the answer's parameters as the entry's session encrypts them, between the TPM's new nonce and the
 -- caller's
-unfoldable pub encrypted_by : Record → Option Handle → Entry → List ℕ → List ℕ
-encrypted_by r used e text =
+unfoldable pub encrypted_by : Record → Option Grant → Entry → List ℕ → List ℕ
+encrypted_by r grant e text =
     option_map_or (λ (s : Session).
-    with_first_buffer (encrypted_parameter s (cipher_value r used) s.nonce_tpm e.nonce) text) (session_of r e) text
+    with_first_buffer (encrypted_parameter s (cipher_value r grant) s.nonce_tpm e.nonce) text) (session_of r e) text
 
 -- and the parameters of its answer
-abbrev pub encrypted_answer : Record → List Handle → List Entry → List ℕ → List ℕ
-encrypted_answer r handles [] text = text
-encrypted_answer r [] (e ∷ es) text =
-    if encrypts e then encrypted_by r None e text else encrypted_answer r [] es text
-encrypted_answer r (handle ∷ handles) (e ∷ es) text =
-    if encrypts e then encrypted_by r (Some handle) e text else encrypted_answer r handles es text
+abbrev pub encrypted_answer : Record → List Entry → List (Option Grant) → List ℕ → List ℕ
+encrypted_answer r [] grants text = text
+encrypted_answer r (e ∷ es) [] text = text
+encrypted_answer r (e ∷ es) (grant ∷ grants) text =
+    if encrypts e then encrypted_by r grant e text else encrypted_answer r es grants text

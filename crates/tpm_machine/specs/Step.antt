@@ -1,8 +1,7 @@
 -- One event: time passes, the general checks, the authorization, the command's row, the answer. TPM
 -- 2.0 Library, Part 1, section 18 (command and response structures), and Part 3, sections 5 and 6.
-use Rattle.std.specs.Prelude.{◌≡◌, ℕ, Bool, true, false, List, [], Result, Ok, Err, if◌then◌else◌}
+use Rattle.std.specs.Prelude.{◌≡◌, ℕ, Bool, true, false, List, [], Option, Result, Ok, Err, if◌then◌else◌}
 use Rattle.tpm_bytes.specs.Reading.{◌>>=◌}
-use Rattle.tpm_types.specs.declared.handle.Handle.{Handle}
 use Rattle.tpm_types.specs.Command.{Whole}
 use Rattle.tpm_types.specs.CommandCode.{code_number}
 use Rattle.tpm_types.specs.Rc.{plain}
@@ -11,7 +10,8 @@ use Rattle.tpm_record.specs.Cycle.{cycled}
 use Rattle.tpm_record.specs.Record.{Record}
 use Rattle.tpm_record.specs.Tick.{ticked}
 use Rattle.tpm_auth.specs.Check.{check_number}
-use Rattle.tpm_auth.specs.Grant.{authorize, grants_of}
+use Rattle.tpm_auth.specs.Grant.{authorize}
+use Rattle.tpm_auth.specs.declared.grant.Grant.{Grant}
 use Rattle.tpm_auth.specs.declared.refused.Counted.{Counted}
 use Rattle.tpm_auth.specs.declared.refused.Refused.{Refused}
 use Rattle.tpm_actions.specs.Request.{Request}
@@ -32,11 +32,11 @@ pub record Stepped : Type 0 where
   pub row : Row
   pub after : Record
 
--- a command that is accepted: as it was sent, the handles that its entries authorize, and the
--- success of its row
+-- a command that is accepted: as it was sent, what each of its entries authorizes, and the success
+-- of its row
 pub record Accepted : Type 0 where
   pub command : Whole
-  pub grants : List Handle
+  pub grants : List (Option Grant)
   pub success : Success
 
 -- what a command asks of its row, by its plain parameters
@@ -49,7 +49,7 @@ request_in c plain locality random =
 unfoldable pub acceptance : Record → Whole → ℕ → List ℕ → Result Accepted Refused
 acceptance r c locality random = do
   grants ← authorize r c
-  let plain : List ℕ = plain_parameters r grants c.entries c.parameters
+  let plain : List ℕ = plain_parameters r c.entries grants c.parameters
   success ← row_of r c.code (request_in c plain locality random)
   Ok (record { command = c; grants = grants; success = success })
 
@@ -60,11 +60,13 @@ RefusesOrStarves can c (Err refused) e = e ≡ refused
 RefusesOrStarves can c (Ok a) e =
     (can ≡ true) × (a.command ≡ c) × ((shape_of c.code).grows ≡ true) × (e ≡ memory_refused)
 
--- The code's acceptance of a command stands for the definition's; a refusal leaves the record.
-abbrev pub Accepts : Bool → Result Accepted Refused → Whole → Record → Result Answer Refused → Record → Type 0
-Accepts can a c old (Ok answer) new =
-    a ≡ Ok (record { command = c; grants = grants_of c; success = success_of answer new })
-Accepts can a c old (Err e) new = (new ≡ old) × RefusesOrStarves can c a e
+-- The code's acceptance of a command with these grants stands for the definition's; a refusal leaves
+-- the record.
+abbrev pub Accepts : Bool → Result Accepted Refused → Whole → List (Option Grant)
+    → Record → Result Answer Refused → Record → Type 0
+Accepts can a c grants old (Ok answer) new =
+    a ≡ Ok (record { command = c; grants = grants; success = success_of answer new })
+Accepts can a c grants old (Err e) new = (new ≡ old) × RefusesOrStarves can c a e
 
 -- a command's buffer, accepted by a record whose time has passed, or its first refusal
 unfoldable pub accepted : Record → List ℕ → ℕ → List ℕ → Result Accepted Refusal

@@ -5,6 +5,7 @@ ghost use Rattle.tpm_machine.specs.Entries.{answer_mac, draw_of, entries_answer,
 
 use crate::draws::Draws;
 use crate::response_hashes::ResponseHashes;
+use tpm_auth::grant::Grant;
 use tpm_auth::session_grant::used_auth_value;
 use tpm_bytes::sink::Sink;
 use tpm_mac::Digest;
@@ -12,7 +13,6 @@ use tpm_record::keep::Keep;
 use tpm_session::session::Session;
 use tpm_types::auth_entry::AuthEntry;
 use tpm_types::command_code::CommandCode;
-use tpm_types::handle::Handle;
 
 /// The answer to a password entry: no nonce, continueSession, no HMAC (TPMS_AUTH_RESPONSE, TPM 2.0
 /// Library, Part 2, section 10.13.3).
@@ -65,18 +65,19 @@ fn answer_mac<K: Keep>(
     keep: &K,
     code: CommandCode,
     hashes: &mut ResponseHashes,
-    used: Option<Handle>,
+    grant: Option<Grant>,
     entry: &AuthEntry,
     session: &Session,
 ) -> Digest
     requires { hashes.old.code ≡ code_number code }
-    ensures value { result.items ≡ answer_mac (K.record_of keep.now) code hashes.old.parameters used
+    ensures value { result.items ≡ answer_mac (K.record_of keep.now) code hashes.old.parameters grant
         (entry_of entry.now) session.now }
     ensures same { hashes.new ≡ hashes.old }
 {
     if entry.hmac.is_empty() {
         return Digest::new();
     }
+    let used = grant.map(|grant| grant.handle);
     let value = used_auth_value(keep, session, used);
     let hash = hashes.by(session.hash);
     session.response_mac(value, hash.as_slice(), entry.nonce, entry.attributes)
@@ -87,7 +88,7 @@ fn answer_session<K: Keep>(
     keep: &K,
     code: CommandCode,
     hashes: &mut ResponseHashes,
-    used: Option<Handle>,
+    grant: Option<Grant>,
     entry: &AuthEntry,
     session: &Session,
     area: &mut Sink<AREA_LIMIT>,
@@ -95,11 +96,11 @@ fn answer_session<K: Keep>(
     requires code { hashes.old.code ≡ code_number code }
     requires room { length area.old + 69 ≤ AREA_LIMIT }
     ensures text { area.new ≡ area.old ++ session_answer (K.record_of keep.now) code
-        hashes.old.parameters used (entry_of entry.now) session.now }
+        hashes.old.parameters grant (entry_of entry.now) session.now }
     ensures grown { length area.new ≤ length area.old + 69 }
     ensures same { hashes.new ≡ hashes.old }
 {
-    let mac = answer_mac(keep, code, hashes, used, entry, session);
+    let mac = answer_mac(keep, code, hashes, grant, entry, session);
     let _ = area.put_sized(session.nonce_tpm.as_slice());
     let _ = area.put_u8(entry.attributes.octet);
     let _ = area.put_sized(mac.as_slice());
@@ -110,48 +111,47 @@ fn answer_entry<K: Keep>(
     keep: &K,
     code: CommandCode,
     hashes: &mut ResponseHashes,
-    used: Option<Handle>,
+    grant: Option<Grant>,
     entry: &AuthEntry,
     area: &mut Sink<AREA_LIMIT>,
 )
     requires code { hashes.old.code ≡ code_number code }
     requires room { length area.old + 69 ≤ AREA_LIMIT }
     ensures text { area.new ≡ area.old ++ entry_answer (K.record_of keep.now) code
-        hashes.old.parameters used (entry_of entry.now) }
+        hashes.old.parameters grant (entry_of entry.now) }
     ensures grown { length area.new ≤ length area.old + 69 }
     ensures same { hashes.new ≡ hashes.old }
 {
     match keep.sessions().get(entry.session) {
-        Some(session) => answer_session(keep, code, hashes, used, entry, session, area),
+        Some(session) => answer_session(keep, code, hashes, grant, entry, session, area),
         None => {
             let _ = area.put(&PASSWORD_ANSWER);
         }
     }
 }
 
-/// Answers each entry, in order; they authorized these handles.
+/// Answers each entry, in order; each authorized this handle or none.
 pub fn answer_entries<K: Keep>(
     keep: &K,
     code: CommandCode,
     hashes: &mut ResponseHashes,
-    handles: &[Handle],
     entries: &[AuthEntry],
+    grants: &[Option<Grant>],
     area: &mut Sink<AREA_LIMIT>,
 )
     requires code { hashes.old.code ≡ code_number code }
     requires room { length area.old + 69 * length entries.now ≤ AREA_LIMIT }
     ensures { area.new ≡ area.old ++ entries_answer (K.record_of keep.now) code hashes.old.parameters
-        handles.now (map entry_of entries.now) }
+        (map entry_of entries.now) grants.now }
 {
     let [entry, entries @ ..] = entries else {
         return;
     };
-    let (used, handles) = match handles {
-        [handle, others @ ..] => (Some(*handle), others),
-        [] => (None, handles),
+    let [grant, grants @ ..] = grants else {
+        return;
     };
-    answer_entry(keep, code, hashes, used, entry, area);
-    answer_entries(keep, code, hashes, handles, entries, area);
+    answer_entry(keep, code, hashes, *grant, entry, area);
+    answer_entries(keep, code, hashes, entries, grants, area);
 }
 
 #[tactic(auto, unfolding(crate::specs::Entries::entry_ended))]

@@ -12,12 +12,14 @@ use crate::general::{Refusal, decode};
 use crate::response::{write_refusal, write_success};
 use crate::table::accept;
 use std::alloc::Global;
+use tpm_auth::grant::{Grants, authorize};
 use tpm_record::cycle::power_cycle;
 use tpm_record::fixed::Fixed;
 use tpm_record::keep::{Keep, NoMemory};
 use tpm_record::record::read_widths;
 use tpm_record::tick::tick;
 use tpm_types::locality::Locality;
+use tpm_types::whole_command::Command;
 
 /// The device, by a way of keeping its state.
 #[derive(Drop)]
@@ -178,9 +180,44 @@ impl<K: Keep> Machine<K> {
             Ok(command) => command,
             Err(refusal) => return refuse(refusal, text),
         };
-        match &accept(&mut self.keep, &command, locality, random) {
+        match authorize(&self.keep, &command, locality) {
+            Ok(grants) => self.act(&command, &grants, locality, random, text),
+            Err(refused) => refuse(Refusal::of(command.code, refused), text),
+        }
+    }
+
+    ghost use Rattle.std.specs.Prelude.{Ok};
+    ghost use Rattle.tpm_types.specs.Command.{whole_of};
+    ghost use Rattle.tpm_auth.specs.Grant.{authorize as authorization};
+    ghost use Rattle.tpm_machine.specs.General.{in_command};
+    ghost use Rattle.tpm_machine.specs.Step.{acceptance};
+
+    /// Does what a command asks for that its entries authorize so.
+    #[inline(always)]
+    #[tactic(auto, using(crate::proofs::Refusals::answers_exactly, crate::proofs::Refusals::refused_answers))]
+    fn act(
+        &mut self,
+        command: &Command,
+        grants: &Grants,
+        locality: Locality,
+        random: &[u8; 256],
+        text: &mut Response,
+    ) -> Row
+        requires empty { text.old.items ≡ [] }
+        requires size { length command.now.parameters.now ≤ 4096 }
+        requires granted { authorization (state_of K.record_of self.old) (whole_of command.now)
+            ≡ Ok grants.now.entries.items }
+        ensures answer { Answers K.can_refuse (state_of K.record_of self.old) random.now
+            (in_command command.now.code (acceptance (state_of K.record_of self.old)
+            (whole_of command.now) (locality_number locality) random.now))
+            (record { response = text.new.items; row = result; after = state_of K.record_of self.new }) }
+        ensures modest { result.check ≡ 0 → IfOk (acceptance (state_of K.record_of self.old)
+            (whole_of command.now) (locality_number locality) random.now) IsModest }
+        ensures fits { length text.new.items ≤ 2273 }
+    {
+        match &accept(&mut self.keep, command, grants, locality, random) {
             Ok(answer) => {
-                write_success(&mut self.keep, &command, answer, random, text);
+                write_success(&mut self.keep, command, grants, answer, random, text);
                 Row {
                     code: command.code.number(),
                     check: 0,

@@ -4,11 +4,11 @@ ghost use Rattle.tpm_types.specs.AuthEntry.{entry_of};
 ghost use Rattle.tpm_machine.specs.Parameters.{FindsFirst, cipher_value, decrypted_by, encrypted_answer, encrypted_by, plain_parameters, with_first_buffer};
 
 use tpm_auth::entries::{decrypts, encrypts};
+use tpm_auth::grant::Grant;
 use tpm_record::entity::auth_value_of;
 use tpm_record::keep::Keep;
 use tpm_session::session::Session;
 use tpm_types::auth_entry::AuthEntry;
-use tpm_types::handle::Handle;
 
 /// How many bytes the sized buffer at the front of a text has, if it is all there.
 fn first_size(text: &[u8]) -> Option<usize>
@@ -27,12 +27,12 @@ fn first_size(text: &[u8]) -> Option<usize>
 
 /// The authorization value in the key of encryption.
 #[tactic(auto, unfolding(crate::specs::Parameters::cipher_value))]
-fn cipher_value<'a, K: Keep>(keep: &'a K, used: Option<Handle>) -> &'a [u8]
-    ensures value { result.now ≡ cipher_value (K.record_of keep.now) used }
+fn cipher_value<'a, K: Keep>(keep: &'a K, grant: Option<Grant>) -> &'a [u8]
+    ensures value { result.now ≡ cipher_value (K.record_of keep.now) grant }
     ensures fits { length result.now ≤ 32 }
 {
-    match used {
-        Some(handle) => auth_value_of(keep, handle),
+    match grant {
+        Some(grant) => auth_value_of(keep, grant.handle),
         None => &[],
     }
 }
@@ -62,11 +62,11 @@ fn encrypt_first(session: &Session, value: &[u8], newer: &[u8], older: &[u8], te
 }
 
 #[tactic(auto, unfolding(crate::specs::Parameters::decrypted_by))]
-fn decrypt_by<K: Keep>(keep: &K, used: Option<Handle>, entry: &AuthEntry, text: &mut [u8])
-    ensures { text.new ≡ decrypted_by (K.record_of keep.now) used (entry_of entry.now) text.old }
+fn decrypt_by<K: Keep>(keep: &K, grant: Option<Grant>, entry: &AuthEntry, text: &mut [u8])
+    ensures { text.new ≡ decrypted_by (K.record_of keep.now) grant (entry_of entry.now) text.old }
 {
     if let Some(session) = keep.sessions().get(entry.session) {
-        let value = cipher_value(keep, used);
+        let value = cipher_value(keep, grant);
         decrypt_first(
             session,
             value,
@@ -77,31 +77,34 @@ fn decrypt_by<K: Keep>(keep: &K, used: Option<Handle>, entry: &AuthEntry, text: 
     }
 }
 
-/// Decrypts the parameters of a command whose entries, in order, authorize these handles.
-pub fn decrypt<K: Keep>(keep: &K, handles: &[Handle], entries: &[AuthEntry], text: &mut [u8])
-    ensures { text.new ≡ plain_parameters (K.record_of keep.now) handles.now
-        (map entry_of entries.now) text.old }
+/// Decrypts the parameters of a command, each of whose entries authorizes this handle or none.
+pub fn decrypt<K: Keep>(
+    keep: &K,
+    entries: &[AuthEntry],
+    grants: &[Option<Grant>],
+    text: &mut [u8],
+)
+    ensures { text.new ≡ plain_parameters (K.record_of keep.now) (map entry_of entries.now) grants.now text.old }
 {
     let [entry, entries @ ..] = entries else {
         return;
     };
-    let (used, handles) = match handles {
-        [handle, others @ ..] => (Some(*handle), others),
-        [] => (None, handles),
+    let [grant, grants @ ..] = grants else {
+        return;
     };
     if decrypts(entry) {
-        decrypt_by(keep, used, entry, text);
+        decrypt_by(keep, *grant, entry, text);
     } else {
-        decrypt(keep, handles, entries, text);
+        decrypt(keep, entries, grants, text);
     }
 }
 
 #[tactic(auto, unfolding(crate::specs::Parameters::encrypted_by))]
-fn encrypt_by<K: Keep>(keep: &K, used: Option<Handle>, entry: &AuthEntry, text: &mut [u8])
-    ensures { text.new ≡ encrypted_by (K.record_of keep.now) used (entry_of entry.now) text.old }
+fn encrypt_by<K: Keep>(keep: &K, grant: Option<Grant>, entry: &AuthEntry, text: &mut [u8])
+    ensures { text.new ≡ encrypted_by (K.record_of keep.now) grant (entry_of entry.now) text.old }
 {
     if let Some(session) = keep.sessions().get(entry.session) {
-        let value = cipher_value(keep, used);
+        let value = cipher_value(keep, grant);
         encrypt_first(
             session,
             value,
@@ -113,20 +116,23 @@ fn encrypt_by<K: Keep>(keep: &K, used: Option<Handle>, entry: &AuthEntry, text: 
 }
 
 /// Encrypts the parameters of the answer to such a command.
-pub fn encrypt<K: Keep>(keep: &K, handles: &[Handle], entries: &[AuthEntry], text: &mut [u8])
-    ensures { text.new ≡ encrypted_answer (K.record_of keep.now) handles.now
-        (map entry_of entries.now) text.old }
+pub fn encrypt<K: Keep>(
+    keep: &K,
+    entries: &[AuthEntry],
+    grants: &[Option<Grant>],
+    text: &mut [u8],
+)
+    ensures { text.new ≡ encrypted_answer (K.record_of keep.now) (map entry_of entries.now) grants.now text.old }
 {
     let [entry, entries @ ..] = entries else {
         return;
     };
-    let (used, handles) = match handles {
-        [handle, others @ ..] => (Some(*handle), others),
-        [] => (None, handles),
+    let [grant, grants @ ..] = grants else {
+        return;
     };
     if encrypts(entry) {
-        encrypt_by(keep, used, entry, text);
+        encrypt_by(keep, *grant, entry, text);
     } else {
-        encrypt(keep, handles, entries, text);
+        encrypt(keep, entries, grants, text);
     }
 }

@@ -2,7 +2,6 @@ ghost use Rattle.std.specs.Prelude.{◌≡◌, ◌+◌, ◌≤◌, ◌++◌, [],
 ghost use Rattle.std.specs.Int.{w16, w32, to_be_bytes};
 ghost use Rattle.tpm_types.specs.AuthEntry.{entry_of};
 ghost use Rattle.tpm_types.specs.Command.{whole_of};
-ghost use Rattle.tpm_auth.specs.Grant.{grants_of};
 ghost use Rattle.tpm_machine.specs.Answer.{answer_to, framed, handle_answer, refusal_tag, refusal_text, success_of};
 ghost use Rattle.tpm_machine.specs.Parameters.{encrypted_answer};
 
@@ -14,6 +13,7 @@ use crate::response_hashes::ResponseHashes;
 use arrayvec::ArrayVec;
 use tpm_actions::answer::{ANSWER_LIMIT, Answer};
 use tpm_auth::check::Check;
+use tpm_auth::grant::{Grant, Grants};
 use tpm_auth::refused::Refused;
 use tpm_bytes::sink::Sink;
 use tpm_record::keep::Keep;
@@ -126,17 +126,17 @@ fn write_with_area(
 /// The parameters of an answer as the sessions of the entries encrypt them.
 fn encrypted<K: Keep>(
     keep: &K,
-    handles: &[Handle],
     entries: &[AuthEntry],
+    grants: &[Option<Grant>],
     parameters: &[u8],
 ) -> ArrayVec<u8, ANSWER_LIMIT>
     requires { length parameters.now ≤ ANSWER_LIMIT }
-    ensures { result.items ≡ encrypted_answer (K.record_of keep.now) handles.now
-        (map entry_of entries.now) parameters.now }
+    ensures { result.items ≡ encrypted_answer (K.record_of keep.now) (map entry_of entries.now)
+        grants.now parameters.now }
 {
     let mut text = ArrayVec::new();
     let _ = text.try_extend_from_slice(parameters);
-    encrypt(keep, handles, entries, text.as_mut_slice());
+    encrypt(keep, entries, grants, text.as_mut_slice());
     text
 }
 
@@ -146,6 +146,7 @@ fn encrypted<K: Keep>(
 fn write_with_sessions<K: Keep>(
     keep: &mut K,
     command: &Command,
+    grants: &Grants,
     answer: &Answer,
     random: &[u8; 256],
     text: &mut Response,
@@ -153,18 +154,18 @@ fn write_with_sessions<K: Keep>(
     requires empty { text.old.items ≡ [] }
     requires some { 1 ≤ length (map entry_of command.now.entries.items) }
     ensures answer { record { response = text.new.items; after = K.record_of keep.new }
-        ≡ answer_to (whole_of command.now) (grants_of (whole_of command.now))
+        ≡ answer_to (whole_of command.now) grants.now.entries.items
         (success_of answer.now (K.record_of keep.old)) random.now }
     ensures fits { length text.new.items ≤ 2273 }
 {
     let entries = command.entries.as_slice();
-    let handles = &command.handles.as_slice()[..command.code.authorized_handles()];
+    let grants = grants.entries.as_slice();
     let mut draws = Draws::new(&random[answer.drawn..]);
     roll_entries(keep, entries, &mut draws);
-    let parameters = encrypted(keep, handles, entries, answer.parameters.as_slice());
+    let parameters = encrypted(keep, entries, grants, answer.parameters.as_slice());
     let mut hashes = ResponseHashes::new(command.code.number(), parameters.as_slice());
     let mut area = Sink::new();
-    answer_entries(keep, command.code, &mut hashes, handles, entries, &mut area);
+    answer_entries(keep, command.code, &mut hashes, entries, grants, &mut area);
     write_with_area(answer.handle, parameters.as_slice(), area.as_slice(), text);
     end_entries(keep, entries);
 }
@@ -174,19 +175,20 @@ fn write_with_sessions<K: Keep>(
 pub fn write_success<K: Keep>(
     keep: &mut K,
     command: &Command,
+    grants: &Grants,
     answer: &Answer,
     random: &[u8; 256],
     text: &mut Response,
 )
     requires empty { text.old.items ≡ [] }
     ensures answer { record { response = text.new.items; after = K.record_of keep.new }
-        ≡ answer_to (whole_of command.now) (grants_of (whole_of command.now))
+        ≡ answer_to (whole_of command.now) grants.now.entries.items
         (success_of answer.now (K.record_of keep.old)) random.now }
     ensures fits { length text.new.items ≤ 2273 }
 {
     if command.entries.is_empty() {
         write_plain(answer.handle, answer.parameters.as_slice(), text);
     } else {
-        write_with_sessions(keep, command, answer, random, text);
+        write_with_sessions(keep, command, grants, answer, random, text);
     }
 }

@@ -1,8 +1,9 @@
-ghost use Rattle.std.specs.Prelude.{◌≡◌, ◌≤◌, ◌&&◌, length, map};
+ghost use Rattle.std.specs.Prelude.{◌≡◌, ◌≤◌, ◌&&◌, Ok, length, map};
 ghost use Rattle.tpm_types.specs.AuthEntry.{entry_of};
 ghost use Rattle.tpm_types.specs.Command.{whole_of};
 ghost use Rattle.tpm_types.specs.CommandCode.{shape_of};
 ghost use Rattle.tpm_types.specs.Locality.{locality_number};
+ghost use Rattle.tpm_auth.specs.Grant.{authorize};
 ghost use Rattle.tpm_actions.specs.Request.{request_of};
 ghost use Rattle.tpm_actions.specs.Rows.{ActsIfRoom};
 ghost use Rattle.tpm_machine.specs.Step.{Accepts, acceptance};
@@ -23,12 +24,11 @@ use tpm_actions::pcr_reset::pcr_reset;
 use tpm_actions::start_auth_session::start_auth_session;
 use tpm_actions::startup::startup;
 use tpm_auth::entries::any_decrypts;
-use tpm_auth::grant::authorize;
+use tpm_auth::grant::{Grant, Grants};
 use tpm_auth::refused::Refused;
 use tpm_record::keep::Keep;
 use tpm_types::auth_entry::AuthEntry;
 use tpm_types::command_code::CommandCode;
-use tpm_types::handle::Handle;
 use tpm_types::locality::Locality;
 use tpm_types::whole_command::Command;
 
@@ -59,17 +59,17 @@ fn act<K: Keep>(keep: &mut K, code: CommandCode, call: &Call) -> Result<Answer, 
 /// The parameters of a command as its sessions decrypt them.
 fn plain_parameters<K: Keep>(
     keep: &K,
-    handles: &[Handle],
     entries: &[AuthEntry],
+    grants: &[Option<Grant>],
     parameters: &[u8],
 ) -> ArrayVec<u8, MOST_PARAMETERS>
     requires { length parameters.now ≤ 4096 }
-    ensures { result.items ≡ plain_parameters (K.record_of keep.now) handles.now
-        (map entry_of entries.now) parameters.now }
+    ensures { result.items ≡ plain_parameters (K.record_of keep.now) (map entry_of entries.now)
+        grants.now parameters.now }
 {
     let mut text = ArrayVec::new();
     let _ = text.try_extend_from_slice(parameters);
-    decrypt(keep, handles, entries, text.as_mut_slice());
+    decrypt(keep, entries, grants, text.as_mut_slice());
     text
 }
 
@@ -79,18 +79,18 @@ fn act_decrypted<K: Keep>(
     keep: &mut K,
     code: CommandCode,
     call: &Call,
-    handles: &[Handle],
     entries: &[AuthEntry],
+    grants: &[Option<Grant>],
 ) -> Result<Answer, Refused>
     requires { length call.now.parameters.now ≤ 4096 }
     ensures { ActsIfRoom ((shape_of code).grows && K.can_refuse)
         (row_of (K.record_of keep.old) code (record (request_of call.now) {
-          parameters = plain_parameters (K.record_of keep.old) handles.now
-              (map entry_of entries.now) call.now.parameters.now;
+          parameters = plain_parameters (K.record_of keep.old) (map entry_of entries.now)
+              grants.now call.now.parameters.now;
         }))
         (K.record_of keep.old) result (K.record_of keep.new) }
 {
-    let plain = plain_parameters(keep, handles, entries, call.parameters);
+    let plain = plain_parameters(keep, entries, grants, call.parameters);
     let call = Call {
         handles: call.handles,
         locality: call.locality,
@@ -100,20 +100,22 @@ fn act_decrypted<K: Keep>(
     act(keep, code, &call)
 }
 
-/// Authorizes a command, and does what its row says; the first refusal leaves the record.
+/// Does what the row of a command says that its entries authorize so; a refusal leaves the record.
 #[tactic(auto, using(crate::proofs::Decoding::plain_as_sent), unfolding(crate::specs::Step::acceptance))]
 pub fn accept<K: Keep>(
     keep: &mut K,
     command: &Command,
+    grants: &Grants,
     locality: Locality,
     random: &[u8; 256],
 ) -> Result<Answer, Refused>
-    requires { length command.now.parameters.now ≤ 4096 }
+    requires size { length command.now.parameters.now ≤ 4096 }
+    requires granted { authorize (K.record_of keep.old) (whole_of command.now)
+        ≡ Ok grants.now.entries.items }
     ensures { Accepts K.can_refuse (acceptance (K.record_of keep.old) (whole_of command.now)
-        (locality_number locality) random.now) (whole_of command.now) (K.record_of keep.old) result
-        (K.record_of keep.new) }
+        (locality_number locality) random.now) (whole_of command.now) grants.now.entries.items
+        (K.record_of keep.old) result (K.record_of keep.new) }
 {
-    let grants = authorize(keep, command, locality)?;
     let entries = command.entries.as_slice();
     let call = Call {
         handles: command.handles.as_slice(),
@@ -122,7 +124,7 @@ pub fn accept<K: Keep>(
         random,
     };
     if any_decrypts(entries) {
-        act_decrypted(keep, command.code, &call, grants.handles, entries)
+        act_decrypted(keep, command.code, &call, entries, grants.entries.as_slice())
     } else {
         act(keep, command.code, &call)
     }

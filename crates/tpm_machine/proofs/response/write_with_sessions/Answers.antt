@@ -2,7 +2,6 @@ use Rattle.std.proofs.Common.{rules, arith, map}
 use Rattle.std.proofs.lemmas.Grind.{common_steps}
 use Rattle.tpm_types.specs.AuthEntry.{entry_of}
 use Rattle.tpm_types.specs.Command.{whole_of}
-use Rattle.tpm_auth.specs.Grant.{grants_of}
 use Rattle.tpm_machine.specs.Answer.{success_of}
 use Rattle.tpm_machine.proofs.Answering.{answered_with}
 use Rattle.tpm_machine.proofs.response.write_with_sessions.Goals as goal
@@ -11,7 +10,7 @@ pub returns-clause-answer : goal.returns-clause-answer
 returns-clause-answer g c =
     let record_of = g.K.Keep.record_of in
     let command = whole_of c.args.command.now in
-    answered_with command (grants_of command) (success_of c.args.answer.now (record_of c.args.keep.now)) c.args.random.now (record_of c.roll_entries.new.keep) _
-    (map entry_of c.as_slice-entries.result.now) _ c.new-draws.result c.roll_entries.new.draws c.as_slice-2.result.now c.encrypted-parameters.result.items c.as_slice-3.result.now c.answer_entries.new.area c.write_with_area.new.text.items
+    answered_with command c.args.grants.now.entries.items (success_of c.args.answer.now (record_of c.args.keep.now)) c.args.random.now (record_of c.roll_entries.new.keep) _
+    (map entry_of c.as_slice-entries.result.now) _ c.new-draws.result c.roll_entries.new.draws c.as_slice.result.now c.encrypted-parameters.result.items c.as_slice-2.result.now c.answer_entries.new.area c.write_with_area.new.text.items
     c.requires.some (search rules) (search rules) (grind (arith, common_steps)) (search rules) (search rules)
     c.roll_entries.ensures c.encrypted-parameters.ensures (search rules) (search rules) c.end_entries.ensures
