@@ -1,4 +1,5 @@
 pub mod Digest
+pub mod Hasher
 pub mod Hmac
 pub mod Kdf
 pub use Rattle.arrayvec.specs.ArrayVec

@@ -2,10 +2,10 @@
 -- many PCRs there are and what each starts with, as in the PC Client Platform TPM Profile.
 use Rattle.std.specs.Prelude.{ℕ, zero, suc, ◌-◌, nat_le, ◌&&◌, if◌then◌else◌, List, [], ◌∷◌, ◌++◌}
 use Rattle.std.specs.Prelude.{length, take, map, filter, fold, replicate, slice_index_or}
-use Rattle.std.specs.List.{flat_map}
+use Rattle.std.specs.List.{concat, flat_map}
 use Rattle.tpm_mac.specs.declared.algorithm.HashAlg.{HashAlg}
 use Rattle.tpm_mac.specs.declared.algorithm.HashAlg.TheVariants.{Sha1, Sha256}
-use Rattle.tpm_mac.specs.Digest.{digest_size}
+use Rattle.tpm_mac.specs.Digest.{digest_size, hash_of}
 use Rattle.tpm_types.specs.declared.pcr_selection.BankSelection.{BankSelection}
 use Rattle.tpm_types.specs.Pcr.{is_selected, with_pcr}
 use Rattle.tpm_pcr.specs.Values.{BankValues}
@@ -64,3 +64,9 @@ answer_selection room [] = []
 answer_selection room (bank ∷ selection) =
     record bank { select = select_with (take room (selected_pcrs bank)) }
     ∷ answer_selection (room - length (selected_pcrs bank)) selection
+
+-- the digest of the selected PCRs: the hash of all their values, bank by bank in the selection's
+-- order and within a bank ascending (TPM 2.0 Library, Part 3, section 23.7, TPM2_PolicyPCR)
+unfoldable pub select_digest_of : BankValues → HashAlg → List BankSelection → List ℕ
+select_digest_of banks hash selection =
+    hash_of hash (concat (flat_map (selected_values banks) selection))

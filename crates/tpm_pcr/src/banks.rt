@@ -1,23 +1,23 @@
 ghost use Rattle.std.specs.Prelude.{◌≡◌, ◌-◌, [], ◌∷◌, ◌++◌, ◌&&◌, nat_lt, if◌then◌else◌};
 ghost use Rattle.std.specs.Prelude.{◌<◌, ◌^◌, length, take, replicate};
-ghost use Rattle.std.specs.List.{flat_map};
+ghost use Rattle.std.specs.List.{concat, flat_map};
 ghost use Rattle.tpm_types.specs.Pcr.{is_selected, with_pcr};
 ghost use Rattle.tpm_types.specs.DigestList.{digests_of};
+ghost use Rattle.tpm_mac.specs.Digest.{digest_size};
+ghost use Rattle.tpm_mac.specs.Hasher.{Takes};
 ghost use Rattle.tpm_mac.specs.declared.algorithm.HashAlg.TheVariants.{Sha1, Sha256};
 ghost use Rattle.tpm_pcr.specs.Changes.{with_value};
 ghost use Rattle.tpm_pcr.specs.Values.{IsBank};
 ghost use Rattle.tpm_pcr.specs.Banks.{answer_selection, new_banks, pcr_value, read_values};
-ghost use Rattle.tpm_pcr.specs.Banks.{select_with, selected_pcrs, selected_values};
+ghost use Rattle.tpm_pcr.specs.Banks.{select_digest_of, select_with, selected_pcrs};
+ghost use Rattle.tpm_pcr.specs.Banks.{selected_values};
 
 use arrayvec::ArrayVec;
 use std::marker::Model;
-use tpm_mac::{Digest, HashAlg};
+use tpm_mac::{Digest, HashAlg, Hasher};
 use tpm_types::digest_list::DigestList;
 use tpm_types::pcr::{PCR_COUNT, PcrIndex, PcrSelect};
 use tpm_types::pcr_selection::{BankSelection, PcrSelection};
-
-#[cfg(test)]
-mod tests;
 
 /// The values of all PCRs, bank by bank, and how often a value was written.
 #[derive(Drop)]
@@ -168,6 +168,44 @@ impl Banks {
         if bank.select.contains(pcr) && !values.is_full() {
             select.insert(pcr);
             values.push(self.value(bank.hash, pcr));
+        }
+    }
+}
+
+impl Banks {
+    /// The digest of the values of all PCRs of a selection, however many, in its order (Part 3,
+    /// section 23.7). No value is copied beyond its own turn.
+    #[tactic(auto, unfolding(crate::specs::Banks::select_digest_of))]
+    pub fn select_digest(&self, hash: HashAlg, selection: &PcrSelection) -> Digest
+        ensures value { result.items
+            ≡ select_digest_of self.now hash selection.now.banks.items }
+        ensures size { length result.items ≡ digest_size hash }
+    {
+        let mut hasher = Hasher::new(hash);
+        for bank in selection.banks.as_slice() {
+            self.hash_bank(bank, &mut hasher);
+        }
+        hasher.finish()
+    }
+
+    /// Hands the hasher the values of one bank's selection.
+    fn hash_bank(&self, bank: &BankSelection, hasher: &mut Hasher)
+        ensures { Takes hasher.old (concat (selected_values self.now bank.now)) hasher.new }
+    {
+        for number in 0..PCR_COUNT {
+            let pcr = PcrIndex::new(number).unwrap();
+            self.hash_pcr(bank, pcr, hasher);
+        }
+    }
+
+    /// Hands the hasher the value of one PCR, where it is selected.
+    fn hash_pcr(&self, bank: &BankSelection, pcr: PcrIndex, hasher: &mut Hasher)
+        ensures { Takes hasher.old
+            (if is_selected bank.now.select pcr then pcr_value self.now bank.now.hash pcr else [])
+            hasher.new }
+    {
+        if bank.select.contains(pcr) {
+            hasher.update(self.value(bank.hash, pcr).as_slice());
         }
     }
 }

@@ -1,7 +1,7 @@
-//! Published digests (FIPS 180-4 examples), HMACs (RFC 2202, RFC 4231), and KDFa block by block.
+//! Published digests (FIPS 180-4 examples) and HMACs (RFC 2202, RFC 4231), and keys by KDFa that
+//! were computed by Python's `hmac`.
 
-use crate::{Digest, HashAlg, digest_parts, hmac_parts, kdfa};
-use std::test::Fail;
+use tpm_mac::{HashAlg, Hasher, digest_parts, hmac_parts, kdfa};
 
 const TWO_BLOCKS: &[u8] = b"abcdbcdecdefdefgefghfghighijhijkijkljklmklmnlmnomnopnopq";
 
@@ -148,12 +148,6 @@ const MACS: [MacCase; 12] = [
 ];
 
 #[test]
-fn sizes_are_those_of_the_digests(rt: HostRuntime) {
-    assert_eq!(rt; HashAlg::Sha1.size(), 20);
-    assert_eq!(rt; HashAlg::Sha256.size(), 32);
-}
-
-#[test]
 fn digests_of_published_messages_at_every_cut(rt: HostRuntime) {
     for case in &DIGESTS {
         for cut in 0..case.message.len() + 1 {
@@ -161,6 +155,17 @@ fn digests_of_published_messages_at_every_cut(rt: HostRuntime) {
             let digest = digest_parts(case.alg, &[front, back]);
             assert_eq!(rt; digest.as_slice(), case.digest);
         }
+    }
+}
+
+#[test]
+fn digests_of_published_messages_piece_by_piece(rt: HostRuntime) {
+    for case in &DIGESTS {
+        let mut hasher = Hasher::new(case.alg);
+        for piece in case.message.chunks(7) {
+            hasher.update(piece);
+        }
+        assert_eq!(rt; hasher.finish().as_slice(), case.digest);
     }
 }
 
@@ -175,38 +180,39 @@ fn macs_of_published_texts_at_every_cut(rt: HostRuntime) {
     }
 }
 
-const KEY: &[u8] = b"key of a session";
-
-const LABEL: &[u8] = b"ATH";
-
-const CONTEXT_U: &[u8] = b"newer nonce";
-
-const CONTEXT_V: &[u8] = b"older nonce";
-
-// The block of the counter by HMAC alone, of which KDFa wants so many bits in all.
-fn block_by_hmac(alg: HashAlg, counter: u32, bits: u32) -> Digest {
-    let counter: &[u8] = &counter.to_be_bytes();
-    let bits: &[u8] = &bits.to_be_bytes();
-    hmac_parts(
-        alg,
-        KEY,
-        &[counter, LABEL, &[0], CONTEXT_U, CONTEXT_V, bits],
-    )
+struct KeyCase {
+    alg: HashAlg,
+    derived: &'static [u8],
 }
 
+// 45 bytes, which are no whole number of digests
+const KEYS: [KeyCase; 2] = [
+    KeyCase {
+        alg: HashAlg::Sha1,
+        derived: b"\x00\xf2\x74\x13\x16\xa4\x06\x72\x9b\x2f\xcc\x80\x1e\x89\xd3\xd9\
+                   \x29\x2c\x3e\xf8\x63\x48\x1b\x9b\x97\xc7\xbe\x9d\x90\x35\x16\xb6\
+                   \xe9\x82\x61\xee\x8c\xf7\x57\x94\xc3\x1c\xb0\xc9\x05",
+    },
+    KeyCase {
+        alg: HashAlg::Sha256,
+        derived: b"\x9b\x51\x65\x29\xbf\xac\xc7\xb3\x1b\xd6\xf5\xd8\xa9\xd1\x22\xde\
+                   \x7b\xf3\xb9\xbf\xd2\x8d\xd9\xab\xb8\x4f\x20\xee\x40\x15\xb9\xe6\
+                   \x8c\x33\x91\x6b\x93\x9f\x0b\x75\xdc\x32\x6c\x4e\xa2",
+    },
+];
+
 #[test]
-fn derived_keys_are_the_front_of_the_blocks(rt: HostRuntime) -> Result<(), Fail> {
-    for alg in [HashAlg::Sha1, HashAlg::Sha256] {
-        for size in [0, 1, 20, 32, 33, 64u32] {
-            let mut buffer = [0x55u8; 80];
-            let (out, behind) = buffer.split_at_mut(size as usize);
-            kdfa(alg, KEY, LABEL, CONTEXT_U, CONTEXT_V, out);
-            for (counter, written) in (1..5u32).zip(out.chunks(alg.size())) {
-                let block = block_by_hmac(alg, counter, size * 8);
-                assert!(rt; block.as_slice().starts_with(written));
-            }
-            assert!(rt; behind.iter().all(|byte| *byte == 0x55));
-        }
+fn keys_are_derived(rt: HostRuntime) {
+    for case in &KEYS {
+        let mut key = [0x55; 45];
+        kdfa(
+            case.alg,
+            b"key of a session",
+            b"ATH",
+            b"newer nonce",
+            b"older nonce",
+            &mut key,
+        );
+        assert_eq!(rt; key.as_slice(), case.derived);
     }
-    Ok(())
 }

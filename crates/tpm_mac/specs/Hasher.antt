@@ -1,0 +1,25 @@
+-- What a contract sees of a hash under way: its algorithm, and the message that it has taken.
+use Rattle.std.specs.Prelude.{ℕ, List, ◌++◌}
+use Rattle.sha1.specs.Sha1 as S1
+use Rattle.sha2.specs.Hashers.{Holds256}
+use Rattle.tpm_mac.specs.declared.algorithm.HashAlg.{HashAlg}
+use Rattle.tpm_mac.specs.declared.algorithm.HashAlg.TheVariants as alg
+use Rattle.tpm_mac.specs.declared.hasher.Hasher.{Hasher}
+use Rattle.tpm_mac.specs.declared.hasher.State.{State}
+use Rattle.tpm_mac.specs.declared.hasher.State.TheVariants.{Sha1, Sha256}
+
+-- the state is that of a hash by this algorithm, after this message
+abbrev pub StateHolds : State → HashAlg → List ℕ → Type 0
+StateHolds (Sha1 hasher) alg.Sha1 message = S1.Holds hasher message
+StateHolds (Sha1 hasher) alg.Sha256 message = ⊥
+StateHolds (Sha256 hasher) alg.Sha1 message = ⊥
+StateHolds (Sha256 hasher) alg.Sha256 message = Holds256 hasher message
+
+-- the hasher is one of this algorithm and has taken this message
+unfoldable pub Holds : Hasher → HashAlg → List ℕ → Type 0
+Holds hasher algorithm message = StateHolds hasher.state algorithm message
+
+-- the hasher has taken this text behind whatever it had taken before
+abbrev pub Takes : (old : Hasher) → List ℕ → (new : Hasher) → Type 0
+Takes old text new = (algorithm : HashAlg) (message : List ℕ)
+    → Holds old algorithm message → Holds new algorithm (message ++ text)

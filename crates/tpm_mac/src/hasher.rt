@@ -1,0 +1,67 @@
+//! A digest of a message that is handed over piece by piece.
+
+ghost use Rattle.std.specs.Prelude.{◌≡◌, [], length, List, ℕ};
+ghost use Rattle.tpm_mac.specs.Digest.{digest_size, hash_of};
+ghost use Rattle.tpm_mac.specs.Hasher.{Holds, Takes};
+ghost use Rattle.tpm_mac.specs.declared.algorithm.HashAlg.{HashAlg};
+
+use crate::algorithm::HashAlg;
+use crate::digests::Digest;
+use arrayvec::ArrayVec;
+use sha1::Sha1;
+use sha2::{Digest as _, Sha256};
+
+/// A hash under way: what it holds of its message is the hash crate's own state, so it copies
+/// nothing of what it is fed but the begun block.
+#[derive(Drop)]
+pub struct Hasher {
+    state: State,
+}
+
+#[derive(Drop)]
+enum State {
+    Sha1(Sha1),
+    Sha256(Sha256),
+}
+
+impl Hasher {
+    /// A hash of no bytes yet.
+    #[tactic(auto, unfolding(crate::specs::Hasher::Holds))]
+    pub fn new(alg: HashAlg) -> Hasher
+        ensures { Holds result alg [] }
+    {
+        let state = match alg {
+            HashAlg::Sha1 => State::Sha1(Sha1::new()),
+            HashAlg::Sha256 => State::Sha256(Sha256::new()),
+        };
+        Hasher { state }
+    }
+
+    /// Takes more of the message.
+    #[tactic(auto, unfolding(crate::specs::Hasher::Holds))]
+    pub fn update(&mut self, bytes: &[u8])
+        ensures { Takes self.old bytes.now self.new }
+    {
+        match &mut self.state {
+            State::Sha1(hasher) => hasher.update(bytes),
+            State::Sha256(hasher) => hasher.update(bytes),
+        }
+    }
+
+    /// The digest of the message.
+    #[tactic(auto, unfolding(crate::specs::Hasher::Holds))]
+    pub fn finish(self) -> Digest
+        ensures value { (alg : HashAlg) (message : List ℕ)
+            → Holds self alg message → result.items ≡ hash_of alg message }
+        ensures size { (alg : HashAlg) (message : List ℕ)
+            → Holds self alg message → length result.items ≡ digest_size alg }
+    {
+        let mut digest = ArrayVec::new();
+        // Either digest fits into 32 bytes.
+        let _ = match self.state {
+            State::Sha1(hasher) => digest.try_extend_from_slice(&hasher.finalize()),
+            State::Sha256(hasher) => digest.try_extend_from_slice(&hasher.finalize()),
+        };
+        digest
+    }
+}

@@ -1,0 +1,10 @@
+use Rattle.std.proofs.Common.{take}
+use Rattle.std.specs.List.{concat, flat_map}
+use Rattle.tpm_mac.specs.Hasher.{Holds}
+use Rattle.tpm_pcr.specs.Banks.{selected_values}
+use Rattle.tpm_pcr.proofs.banks.Banks.select_digest.Given as goal
+
+-- the hasher holds the values of the banks so far
+abbrev pub invariant-loop-bank : goal.invariant-loop-bank
+invariant-loop-bank l =
+    Holds l.hasher l.fn.hash (concat (flat_map (selected_values l.self) (take l.bank-index l.bank-items)))
