@@ -12,7 +12,5 @@ mod feedback;
 mod field;
 mod key_schedule;
 mod rounds;
-#[cfg(test)]
-mod tests;
 
 pub use cipher::Aes128;

@@ -11,5 +11,3 @@ pub mod cursor;
 pub mod many;
 pub mod sink;
 pub mod tap;
-#[cfg(test)]
-mod tests;

@@ -6,7 +6,5 @@
 //! It stands on `tpm_types` for handles. No call here takes memory or refuses.
 
 mod entity;
-#[cfg(test)]
-mod tests;
 
 pub use entity::Name;

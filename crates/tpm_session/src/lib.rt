@@ -17,5 +17,3 @@ pub mod parameter_hash;
 pub mod session;
 pub mod sessions;
 pub mod slots;
-#[cfg(test)]
-mod tests;

@@ -32,6 +32,4 @@ pub mod shape;
 pub mod startup_type;
 pub mod symmetric;
 pub mod tag;
-#[cfg(test)]
-mod tests;
 pub mod whole_command;

@@ -7,8 +7,12 @@
 //! A crate with tests is proved twice, so the tests of all crates stand in this one.
 
 mod banks;
+mod bytes;
+mod ciphers;
 mod counters;
 mod digests;
 mod rows;
+mod session_parts;
 mod sessions;
 mod streams;
+mod types;

@@ -1,8 +1,6 @@
-//! The examples of FIPS 197 (appendices A, B and C) and of SP 800-38A (F.3.13 and F.3.14).
+//! The examples of FIPS 197 (appendices B and C) and of SP 800-38A (F.3.13 and F.3.14).
 
-use crate::Aes128;
-use crate::field::sub_byte;
-use crate::key_schedule::next_round_key;
+use tpm_aes::Aes128;
 
 struct BlockCase {
     key: [u8; 16],
@@ -42,38 +40,6 @@ const BLOCKS: [BlockCase; 2] = [
     },
 ];
 
-struct RoundKeyCase {
-    constant: u8,
-    key: [u8; 16],
-    next: [u8; 16],
-}
-
-// FIPS 197, A.1: words 0 to 7, and words 36 to 43
-const ROUND_KEYS: [RoundKeyCase; 2] = [
-    RoundKeyCase {
-        constant: 0x01,
-        key: [
-            0x2b, 0x7e, 0x15, 0x16, 0x28, 0xae, 0xd2, 0xa6, 0xab, 0xf7, 0x15, 0x88, 0x09, 0xcf,
-            0x4f, 0x3c,
-        ],
-        next: [
-            0xa0, 0xfa, 0xfe, 0x17, 0x88, 0x54, 0x2c, 0xb1, 0x23, 0xa3, 0x39, 0x39, 0x2a, 0x6c,
-            0x76, 0x05,
-        ],
-    },
-    RoundKeyCase {
-        constant: 0x36,
-        key: [
-            0xac, 0x77, 0x66, 0xf3, 0x19, 0xfa, 0xdc, 0x21, 0x28, 0xd1, 0x29, 0x41, 0x57, 0x5c,
-            0x00, 0x6e,
-        ],
-        next: [
-            0xd0, 0x14, 0xf9, 0xa8, 0xc9, 0xee, 0x25, 0x89, 0xe1, 0x3f, 0x0c, 0xc8, 0xb6, 0x63,
-            0x0c, 0xa6,
-        ],
-    },
-];
-
 // SP 800-38A, F.3.13
 const KEY: [u8; 16] = [
     0x2b, 0x7e, 0x15, 0x16, 0x28, 0xae, 0xd2, 0xa6, 0xab, 0xf7, 0x15, 0x88, 0x09, 0xcf, 0x4f, 0x3c,
@@ -98,19 +64,6 @@ const CIPHER: [u8; 64] = [
 ];
 
 #[test]
-fn s_box_of_published_bytes(rt: HostRuntime) {
-    assert_eq!(rt; sub_byte(0x00), 0x63);
-    assert_eq!(rt; sub_byte(0x53), 0xed);
-}
-
-#[test]
-fn first_and_last_words_of_the_key_schedule(rt: HostRuntime) {
-    for case in &ROUND_KEYS {
-        assert_eq!(rt; next_round_key(&case.key, case.constant), case.next);
-    }
-}
-
-#[test]
 fn blocks_of_published_keys(rt: HostRuntime) {
     for case in &BLOCKS {
         assert_eq!(rt; Aes128::new(&case.key).block(&case.plain), case.cipher);
@@ -124,10 +77,10 @@ fn feedback_of_every_length_there_and_back(rt: HostRuntime) {
     let cipher = Aes128::new(&KEY);
     for length in 0..PLAIN.len() + 1 {
         let mut text = PLAIN;
-        cipher.cfb_encrypt(&IV, &mut text[..length]);
-        assert_eq!(rt; &text[..length], &CIPHER[..length]);
-        assert_eq!(rt; &text[length..], &PLAIN[length..]);
-        cipher.cfb_decrypt(&IV, &mut text[..length]);
+        let (front, _) = text.split_at_mut(length);
+        cipher.cfb_encrypt(&IV, front);
+        assert!(rt; CIPHER.starts_with(front));
+        cipher.cfb_decrypt(&IV, front);
         assert_eq!(rt; text, PLAIN);
     }
 }

@@ -1,16 +1,18 @@
 //! Sessions by their handles, and numbers that were computed outside: HMACs and hashes by Python's
 //! `hmac` and `hashlib`, the encrypted parameter by OpenSSL.
 
-use crate::encryption::SymmetricFault;
-use crate::entry::CommandText;
-use crate::key::{SessionKey, is_nonce_size};
-use crate::list_slots::ListSlots;
-use crate::nonce::Nonce;
-use crate::parameter_hash::{command_hash, response_hash};
-use crate::session::{Binding, Protection, Session, SessionType};
-use crate::sessions::{Sessions, Start, StartFault};
+ghost use Rattle.std.specs.Prelude.{◌≤◌, length};
+
 use tpm_mac::HashAlg;
 use tpm_name::Name;
+use tpm_session::encryption::SymmetricFault;
+use tpm_session::entry::CommandText;
+use tpm_session::key::{SessionKey, is_nonce_size};
+use tpm_session::list_slots::ListSlots;
+use tpm_session::nonce::Nonce;
+use tpm_session::parameter_hash::{command_hash, response_hash};
+use tpm_session::session::{Binding, Protection, Session, SessionType};
+use tpm_session::sessions::{Sessions, Start, StartFault};
 use tpm_types::auth_entry::SessionAttributes;
 use tpm_types::auth_value::AuthValue;
 use tpm_types::handle::Handle;
@@ -42,11 +44,20 @@ const PLAIN: &[u8] = b"a parameter of 25 bytes..";
 const ENCRYPTED: &[u8] = b"\xa2\x50\xc0\xbe\x24\xaf\x83\xc1\xd4\x33\x10\xe8\x13\x7b\x2c\x2f\
     \xe5\x90\xfe\x91\xcb\x85\x69\xf0\x12";
 
+/// The same bytes, of which the prover then knows their number alone, and so computes nothing of
+/// them.
+fn short(bytes: &[u8]) -> &[u8]
+    requires { length bytes.now ≤ 32 }
+    ensures { length result.now ≤ 32 }
+{
+    bytes
+}
+
 /// The owner, with the authorization value "owner".
 fn owner() -> Binding {
     Binding {
         name: Name::of_handle(Handle::OWNER),
-        auth_value: AuthValue::of(b"owner"),
+        auth_value: AuthValue::of(short(b"owner")),
         protection: Protection::None,
     }
 }
@@ -57,7 +68,7 @@ fn start(kind: SessionType, binding: Option<Binding>) -> Start<'static> {
         hash: HashAlg::Sha256,
         symmetric: SymmetricDefinition::Aes128Cfb,
         nonce_caller: NONCE_CALLER,
-        nonce_tpm: Nonce::of(NONCE_TPM),
+        nonce_tpm: Nonce::of(short(NONCE_TPM)),
         binding,
     }
 }
@@ -156,7 +167,7 @@ fn bound_session(symmetric: SymmetricDefinition) -> Session {
         kind: SessionType::Hmac,
         hash: HashAlg::Sha256,
         symmetric,
-        nonce_tpm: Nonce::of(NONCE_TPM),
+        nonce_tpm: Nonce::of(short(NONCE_TPM)),
         key: SessionKey::derived(HashAlg::Sha256, &binding, NONCE_TPM, NONCE_CALLER),
         binding,
     }
