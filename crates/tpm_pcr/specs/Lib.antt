@@ -3,4 +3,4 @@ pub mod Banks
 pub mod Changes
 pub use Rattle.tpm_types.specs.Pcr
 pub use Rattle.tpm_types.specs.DigestList
-pub use Rattle.tpm_mac.specs.Hasher
+pub use Rattle.tpm_mac.specs.Digest
