@@ -10,7 +10,17 @@ from dataclasses import dataclass, replace
 
 import frames
 import sessions
-from frames import CONTINUE_SESSION, DECRYPT, ENCRYPT, RH_NULL, RS_PW, SHA256, number, sized
+from frames import (
+    CONTINUE_SESSION,
+    DECRYPT,
+    ENCRYPT,
+    RH_NULL,
+    RS_PW,
+    SE_HMAC,
+    SHA256,
+    number,
+    sized,
+)
 from general import Entry, Fields
 from sessions import trimmed
 
@@ -20,6 +30,7 @@ ON_A_HANDLE = (
     frames.PCR_EVENT,
     frames.PCR_RESET,
     frames.HIERARCHY_CHANGE_AUTH,
+    frames.POLICY_SECRET,
 )
 
 
@@ -33,6 +44,7 @@ class Session:
     key: bytes
     bind: int
     bind_auth: bytes
+    kind: int = SE_HMAC
 
 
 @dataclass
@@ -106,20 +118,29 @@ class Caller:
 
     # Commands.
 
-    def start(self, what, bind=RH_NULL, algorithm=SHA256, aes=False, size=NONCE_BYTES, uses=()):
+    def start(
+        self,
+        what,
+        bind=RH_NULL,
+        algorithm=SHA256,
+        aes=False,
+        size=NONCE_BYTES,
+        uses=(),
+        kind=SE_HMAC,
+    ):
         """Starts a session, and gives it as this caller knows it."""
         nonce = self.nonce(size)
-        handles, parameters = frames.start_auth_session(nonce, bind, algorithm, aes)
+        handles, parameters = frames.start_auth_session(nonce, bind, algorithm, aes, kind=kind)
         start = self.prepare(frames.START_AUTH_SESSION, handles, parameters, *uses)
-        return self.started(start, self.accepted(what, start), nonce, bind, algorithm)
+        return self.started(start, self.accepted(what, start), nonce, bind, algorithm, kind)
 
-    def started(self, start, answer, nonce, bind, algorithm):
+    def started(self, start, answer, nonce, bind, algorithm, kind):
         handle, parameters = answer
         nonce_tpm, bind_auth = Fields(parameters).sized(), self.auth_value(bind)
         key = b""
         if bind != RH_NULL:
             key = sessions.session_key(algorithm, bind_auth, nonce_tpm, nonce)
-        return Session(handle, algorithm, nonce_tpm, key, bind, bind_auth)
+        return Session(handle, algorithm, nonce_tpm, key, bind, bind_auth, kind)
 
     def prepare(self, code, handles, parameters=b"", *uses):
         """A command with an entry for each use: a password's bytes, a session, or a `Use`."""

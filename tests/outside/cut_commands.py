@@ -15,8 +15,9 @@ HEADER_BYTES = 10
 
 HEAD = """\
 # Each command that succeeds, cut to every shorter length: first as it is, and then with its
-# commandSize corrected. At last it comes whole. So does TPM2_GetRandom with a password, which is
-# refused whole too. Written by tests/outside/cut_commands.py.
+# commandSize corrected. At last it comes whole. So do TPM2_PolicySecret by a wrong password and
+# TPM2_GetRandom with a password, which are refused whole too. Written by
+# tests/outside/cut_commands.py.
 """
 
 # Where the pieces of a command end: the handle, and then the area with one empty password.
@@ -32,6 +33,27 @@ HANDLES, PARAMETERS = frames.start_auth_session(bytes(16), aes=True)
 START = command(
     frames.START_AUTH_SESSION, b"".join(number(it, 4) for it in HANDLES) + PARAMETERS
 )
+
+# A trial session, which has the place of the one above when that has ended.
+TRIAL = 0x0300_0000
+HANDLES, PARAMETERS = frames.start_auth_session(bytes(16), kind=frames.SE_TRIAL)
+START_TRIAL = command(
+    frames.START_AUTH_SESSION, b"".join(number(it, 4) for it in HANDLES) + PARAMETERS
+)
+POLICY_HANDLE = (14, "within policySession", "INSUFFICIENT/h1")
+
+
+def secret(password):
+    """TPM2_PolicySecret of TPM_RH_OWNER."""
+    body = number(frames.RH_OWNER, 4) + number(TRIAL, 4) + area(entry(hmac=password))
+    body += frames.policy_secret(b"nonce", bytes(32), b"policyRef")
+    return command(frames.POLICY_SECRET, body, frames.SESSIONS)
+
+
+
+def policy(code, parameters=b""):
+    return command(code, number(TRIAL, 4) + parameters)
+
 
 COMMANDS = [
     (
@@ -114,6 +136,77 @@ COMMANDS = [
         [(14, "within flushHandle", "INSUFFICIENT/p1")],
         "SUCCESS",
     ),
+    (
+        "TPM2_StartAuthSession of a trial session",
+        START_TRIAL,
+        [
+            (14, "within tpmKey", "INSUFFICIENT/h1"),
+            (18, "within bind", "INSUFFICIENT/h2"),
+            (36, "within nonceCaller", "INSUFFICIENT/p1"),
+            (38, "within encryptedSalt", "INSUFFICIENT/p2"),
+            (39, "before sessionType", "INSUFFICIENT/p3"),
+            (41, "within symmetric", "INSUFFICIENT/p4"),
+            (43, "within authHash", "INSUFFICIENT/p5"),
+        ],
+        "SUCCESS",
+    ),
+    (
+        "TPM2_PolicyPCR of two banks",
+        policy(frames.POLICY_PCR, sized(bytes(20)) + frames.selection((SHA1, [0]), (SHA256, [1]))),
+        [
+            POLICY_HANDLE,
+            (36, "within pcrDigest", "INSUFFICIENT/p1"),
+            (52, "within its selection", "INSUFFICIENT/p2"),
+        ],
+        "SUCCESS",
+    ),
+    (
+        "TPM2_PolicyOR",
+        policy(frames.POLICY_OR, frames.sized_list(bytes(20), b"", bytes(32))),
+        [POLICY_HANDLE, (76, "within its digests", "INSUFFICIENT/p1")],
+        "SUCCESS",
+    ),
+    ("TPM2_PolicyAuthValue", policy(frames.POLICY_AUTH_VALUE), [POLICY_HANDLE], "SUCCESS"),
+    ("TPM2_PolicyPassword", policy(frames.POLICY_PASSWORD), [POLICY_HANDLE], "SUCCESS"),
+    (
+        "TPM2_PolicyCommandCode of Unseal",
+        policy(frames.POLICY_COMMAND_CODE, number(frames.UNSEAL, 4)),
+        [POLICY_HANDLE, (18, "within code", "INSUFFICIENT/p1")],
+        "SUCCESS",
+    ),
+    (
+        "TPM2_PolicyLocality of locality 0",
+        policy(frames.POLICY_LOCALITY, b"\1"),
+        [POLICY_HANDLE, (15, "before locality", "INSUFFICIENT/p1")],
+        "SUCCESS",
+    ),
+    (
+        'TPM2_PolicySecret of TPM_RH_OWNER, whose value is "abc", by the empty password',
+        secret(b""),
+        [
+            (14, "within authHandle", "INSUFFICIENT/h1"),
+            (18, "within policySession", "INSUFFICIENT/h2"),
+            (31, "within the authorization area", "AUTHSIZE"),
+            (87, "behind the authorization area", "BAD_AUTH/s1"),
+        ],
+        "BAD_AUTH/s1",
+    ),
+    (
+        "By the right one",
+        secret(b"abc"),
+        [
+            (14, "within authHandle", "INSUFFICIENT/h1"),
+            (18, "within policySession", "INSUFFICIENT/h2"),
+            (34, "within the authorization area", "AUTHSIZE"),
+            (41, "within nonceTPM", "INSUFFICIENT/p1"),
+            (75, "within cpHashA", "INSUFFICIENT/p2"),
+            (86, "within policyRef", "INSUFFICIENT/p3"),
+            (90, "within expiration", "INSUFFICIENT/p4"),
+        ],
+        "SUCCESS",
+    ),
+    ("TPM2_PolicyGetDigest", policy(frames.POLICY_GET_DIGEST), [POLICY_HANDLE], "SUCCESS"),
+    ("TPM2_PolicyRestart", policy(frames.POLICY_RESTART), [POLICY_HANDLE], "SUCCESS"),
     (
         "TPM2_GetRandom with a password",
         command(frames.GET_RANDOM, area(entry()) + number(4, 2), frames.SESSIONS),

@@ -8,6 +8,7 @@ from dataclasses import dataclass
 
 import frames
 import general
+import policy
 import sessions
 from frames import DECRYPT, ENCRYPT, RH_LOCKOUT, RH_NULL, RH_PLATFORM, RS_PW, SHA1, SHA256
 from frames import number, sized
@@ -27,6 +28,14 @@ EVENT_BYTES = 1024
 SESSIONS = 16
 LEAST_NONCE = 16
 DIGEST_BYTES = 32
+
+# What the handle of a session of each kind begins with; the rest of it is its place.
+HANDLE_KINDS = {
+    frames.SE_HMAC: frames.HMAC_SESSION,
+    frames.SE_POLICY: frames.POLICY_SESSION,
+    frames.SE_TRIAL: frames.POLICY_SESSION,
+}
+PLACE_BITS = 0xFF_FFFF
 
 
 def starting_value(algorithm, pcr):
@@ -86,6 +95,22 @@ class Parameters:
             raise self.refusal("SIZE")
         return count
 
+    def selection(self):
+        """The banks of a selection of PCRs, each with its hash algorithm and the PCRs' numbers."""
+        banks = []
+        for _ in range(self.count(MOST_BANKS)):
+            algorithm = self.hash()
+            self.one_of(1, (3,), "VALUE")
+            bits = int.from_bytes(self.take(3), "little")
+            banks.append((algorithm, [pcr for pcr in PCRS if bits >> pcr & 1]))
+        return banks
+
+    def sized_list(self, least, most):
+        count = self.count(most)
+        if count < least:
+            raise self.refusal("SIZE")
+        return [self.sized(DIGEST_BYTES) for _ in range(count)]
+
     def symmetric(self):
         """Whether a session encrypts, which it does by AES-128 in mode CFB."""
         if self.one_of(2, (frames.AES, frames.ALG_NULL), "SYMMETRIC") == frames.ALG_NULL:
@@ -101,14 +126,22 @@ class Parameters:
 
 @dataclass
 class Session:
-    """A session, with the entity that it was bound to and its authorization value at the start."""
+    """A session, with the entity that it was bound to and its authorization value at the start;
+    `policy` is what a policy or a trial session was told.
+    """
 
+    kind: int
     algorithm: int
     aes: bool
     nonce_tpm: bytes
     key: bytes
     bind: int
     bind_auth: bytes
+    policy: policy.State
+
+    @property
+    def is_trial(self):
+        return self.kind == frames.SE_TRIAL
 
 
 @dataclass
@@ -139,7 +172,7 @@ class Device:
         """The response to a command, and the name of its refusal, or None for a success."""
         try:
             command = general.decode(buffer, self.started, self.sessions)
-            self.authorize(command)
+            self.authorize(command, locality)
             parameters = Parameters(self.plain_parameters(command))
             answer = ROWS[command.code](self, command.handles, parameters, locality, random)
         except Refusal as refusal:
@@ -148,6 +181,10 @@ class Device:
         return self.success(command, answer, random), None
 
     # Authorization.
+
+    def auth_policy(self, handle):
+        """A hierarchy and a PCR are authorized by their values alone, and there is nothing else."""
+        return None
 
     def auth_value(self, handle):
         """That of a PCR and of TPM_RH_NULL is empty, and so is that of no entity."""
@@ -205,8 +242,20 @@ class Device:
         )
         return entry.hmac == wanted
 
-    def authorize(self, command):
+    def check_policy(self, command, place, entry, handle, locality):
+        """What refuses a policy session that is to authorize a handle."""
+        session = self.sessions[entry.handle]
+        cp_hash = sessions.command_hash(
+            session.algorithm, command.code, command.handles, command.parameters
+        )
+        # No served command has a handle in the ADMIN role yet.
+        use = policy.Use(command.code, False, cp_hash, self.update_counter, locality)
+        policy.check_use(session, self.auth_policy(handle), use, place)
+
+    def authorize(self, command, locality):
         for place, entry, handle in command.places():
+            if handle is not None and general.is_policy(entry.handle):
+                self.check_policy(command, place, entry, handle, locality)
             if not self.accepts(command, place, entry, handle):
                 touches = self.touches_lockout(self.sessions.get(entry.handle), handle)
                 raise Refusal(f"{'AUTH_FAIL' if touches else 'BAD_AUTH'}/s{place}")
@@ -305,18 +354,13 @@ class Device:
 
     def pcr_read(self, handles, parameters, locality, random):
         """The update counter, the selection of the values that follow, and these."""
-        parameters.next()
-        asked = []
-        for _ in range(parameters.count(MOST_BANKS)):
-            algorithm = parameters.hash()
-            parameters.one_of(1, (3,), "VALUE")
-            asked.append((algorithm, int.from_bytes(parameters.take(3), "little")))
+        asked = parameters.next().selection()
         parameters.end()
 
         selection, values = [], []
-        for algorithm, bits in asked:
+        for algorithm, pcrs in asked:
             room = VALUES_AT_ONCE - len(values)
-            pcrs = [pcr for pcr in PCRS if bits >> pcr & 1][:room]
+            pcrs = pcrs[:room]
             selection.append((algorithm, pcrs))
             values += [sized(self.banks[algorithm][pcr]) for pcr in pcrs]
         counter = number(self.update_counter % 2**32, 4)
@@ -381,8 +425,7 @@ class Device:
     def start_auth_session(self, handles, parameters, locality, random):
         nonce_caller = parameters.next().sized(DIGEST_BYTES)
         salt = parameters.next().sized(DIGEST_BYTES)
-        # TPM_SE_POLICY and TPM_SE_TRIAL are not served yet.
-        parameters.next().one_of(1, (frames.SE_HMAC,), "VALUE")
+        kind = parameters.next().one_of(1, HANDLE_KINDS, "VALUE")
         aes = parameters.next().symmetric()
         algorithm = parameters.next().hash()
         parameters.end()
@@ -392,8 +435,8 @@ class Device:
             raise Refusal("SIZE/p1")
         if salt:
             raise Refusal("VALUE/p2")
-        slots = (number(frames.HMAC_SESSION, 1) + number(it, 3) for it in range(SESSIONS))
-        free = [it for it in slots if int.from_bytes(it, "big") not in self.sessions]
+        taken = [it & PLACE_BITS for it in self.sessions]
+        free = [it for it in range(SESSIONS) if it not in taken]
         if not free:
             raise Refusal("SESSION_MEMORY")
 
@@ -401,11 +444,119 @@ class Device:
         nonce_tpm, key, bind_auth = random[:size], b"", self.auth_value(bind)
         if bind != RH_NULL:
             key = sessions.session_key(algorithm, bind_auth, nonce_tpm, nonce_caller)
-        handle = free[0]
-        self.sessions[int.from_bytes(handle, "big")] = Session(
-            algorithm, aes, nonce_tpm, key, bind, bind_auth
+        handle = HANDLE_KINDS[kind] << 24 | free[0]
+        told = policy.starting_state(algorithm)
+        self.sessions[handle] = Session(
+            kind, algorithm, aes, nonce_tpm, key, bind, bind_auth, told
         )
-        return Answer(sized(nonce_tpm), handle, drawn=size)
+        return Answer(sized(nonce_tpm), number(handle, 4), drawn=size)
+
+    # Policies. A trial session is told what need not be so.
+
+    def policy_restart(self, handles, parameters, locality, random):
+        parameters.end()
+        session = self.sessions[handles[0]]
+        session.policy = policy.starting_state(session.algorithm)
+        return Answer()
+
+    def policy_pcr(self, handles, parameters, locality, random):
+        given = parameters.next().sized(DIGEST_BYTES)
+        selection = parameters.next().selection()
+        parameters.end()
+
+        session = self.sessions[handles[0]]
+        told, algorithm = session.policy, session.algorithm
+        values = (self.banks[bank][pcr] for bank, pcrs in selection for pcr in pcrs)
+        values_digest = digest(algorithm, b"".join(values))
+        if not session.is_trial and told.update_counter not in (None, self.update_counter):
+            raise Refusal("PCR_CHANGED")
+        if not session.is_trial and given not in (b"", values_digest):
+            raise Refusal("VALUE/p1")
+        told.digest = policy.after_pcr(
+            algorithm, told.digest, frames.selection(*selection), given or values_digest
+        )
+        told.update_counter = self.update_counter
+        return Answer()
+
+    def policy_or(self, handles, parameters, locality, random):
+        branches = parameters.next().sized_list(policy.LEAST_BRANCHES, policy.MOST_BRANCHES)
+        parameters.end()
+
+        session = self.sessions[handles[0]]
+        if not session.is_trial and session.policy.digest not in branches:
+            raise Refusal("VALUE/p1")
+        session.policy.digest = policy.after_or(session.algorithm, branches)
+        return Answer()
+
+    def demanding(self, handles, parameters, demand):
+        """What the policy's use has to show beside the session, the last demand alone."""
+        parameters.end()
+        session = self.sessions[handles[0]]
+        told = session.policy
+        told.digest = policy.after_auth_value(session.algorithm, told.digest)
+        told.demand = demand
+        return Answer()
+
+    def policy_auth_value(self, handles, parameters, locality, random):
+        return self.demanding(handles, parameters, policy.AUTH_VALUE)
+
+    def policy_password(self, handles, parameters, locality, random):
+        return self.demanding(handles, parameters, policy.PASSWORD)
+
+    def policy_command_code(self, handles, parameters, locality, random):
+        code = parameters.next().number(4)
+        parameters.end()
+
+        session = self.sessions[handles[0]]
+        told = session.policy
+        if told.code not in (None, code):
+            raise Refusal("VALUE/p1")
+        if code not in policy.COMMANDS:
+            raise Refusal("POLICY_CC/p1")
+        told.digest = policy.after_command_code(session.algorithm, told.digest, code)
+        told.code = code
+        return Answer()
+
+    def policy_locality(self, handles, parameters, locality, random):
+        """The parameter has a bit for each locality; the event's own locality does not matter."""
+        localities = parameters.next().number(1)
+        parameters.end()
+
+        session = self.sessions[handles[0]]
+        told = session.policy
+        if localities > policy.ALL_LOCALITIES or not localities & told.localities:
+            raise Refusal("RANGE/p1")
+        told.digest = policy.after_locality(session.algorithm, told.digest, localities)
+        told.localities &= localities
+        return Answer()
+
+    def policy_secret(self, handles, parameters, locality, random):
+        nonce_tpm = parameters.next().sized(DIGEST_BYTES)
+        cp_hash = parameters.next().sized(DIGEST_BYTES)
+        policy_ref = parameters.next().sized(DIGEST_BYTES)
+        expiration = parameters.next().number(4)
+        parameters.end()
+
+        entity, handle = handles
+        session = self.sessions[handle]
+        told, algorithm = session.policy, session.algorithm
+        if expiration:
+            raise Refusal("VALUE/p4")
+        if len(cp_hash) not in (0, digest_bytes(algorithm)):
+            raise Refusal("SIZE/p2")
+        if not session.is_trial and nonce_tpm not in (b"", session.nonce_tpm):
+            raise Refusal("NONCE/p1")
+        other = cp_hash and told.cp_hash not in (None, cp_hash)
+        if not session.is_trial and other:
+            raise Refusal("CPHASH")
+        told.digest = policy.after_secret(algorithm, told.digest, entity, policy_ref)
+        told.cp_hash = cp_hash or told.cp_hash
+        # Nothing expires, so there is no timeout.
+        return Answer(sized(b"") + frames.NULL_TICKET)
+
+    def policy_get_digest(self, handles, parameters, locality, random):
+        parameters.end()
+        return Answer(sized(self.sessions[handles[0]].policy.digest))
 
 
 ROWS = {
@@ -418,4 +569,13 @@ ROWS = {
     frames.HIERARCHY_CHANGE_AUTH: Device.hierarchy_change_auth,
     frames.FLUSH_CONTEXT: Device.flush_context,
     frames.START_AUTH_SESSION: Device.start_auth_session,
+    frames.POLICY_RESTART: Device.policy_restart,
+    frames.POLICY_PCR: Device.policy_pcr,
+    frames.POLICY_OR: Device.policy_or,
+    frames.POLICY_AUTH_VALUE: Device.policy_auth_value,
+    frames.POLICY_PASSWORD: Device.policy_password,
+    frames.POLICY_COMMAND_CODE: Device.policy_command_code,
+    frames.POLICY_LOCALITY: Device.policy_locality,
+    frames.POLICY_SECRET: Device.policy_secret,
+    frames.POLICY_GET_DIGEST: Device.policy_get_digest,
 }

@@ -5,6 +5,12 @@ NO_SESSIONS, SESSIONS, BAD_TAG_ANSWER = 0x8001, 0x8002, 0x00C4
 HIERARCHY_CHANGE_AUTH, PCR_EVENT, PCR_RESET, STARTUP = 0x129, 0x13C, 0x13D, 0x144
 FLUSH_CONTEXT, START_AUTH_SESSION = 0x165, 0x176
 GET_RANDOM, PCR_READ, PCR_EXTEND = 0x17B, 0x17E, 0x182
+POLICY_SECRET, POLICY_AUTH_VALUE, POLICY_COMMAND_CODE = 0x151, 0x16B, 0x16C
+POLICY_LOCALITY, POLICY_OR, POLICY_PCR = 0x16F, 0x171, 0x17F
+POLICY_RESTART, POLICY_GET_DIGEST, POLICY_PASSWORD = 0x180, 0x189, 0x18C
+
+# Commands that are not served, but that a policy can name.
+UNSEAL = 0x15E
 
 RH_OWNER, RH_NULL, RS_PW = 0x4000_0001, 0x4000_0007, 0x4000_0009
 RH_LOCKOUT, RH_ENDORSEMENT, RH_PLATFORM = 0x4000_000A, 0x4000_000B, 0x4000_000C
@@ -29,19 +35,26 @@ CODES = {
     "VALUE": 0x084,
     "MODE": 0x089,
     "HANDLE": 0x08B,
+    "RANGE": 0x08D,
     "AUTH_FAIL": 0x08E,
+    "NONCE": 0x08F,
     "SIZE": 0x095,
     "SYMMETRIC": 0x096,
     "INSUFFICIENT": 0x09A,
+    "POLICY_FAIL": 0x09D,
     "RESERVED_BITS": 0x0A1,
     "BAD_AUTH": 0x0A2,
+    "POLICY_CC": 0x0A4,
     "INITIALIZE": 0x100,
     "FAILURE": 0x101,
     "AUTH_MISSING": 0x125,
+    "PCR_CHANGED": 0x128,
+    "AUTH_UNAVAILABLE": 0x12F,
     "COMMAND_SIZE": 0x142,
     "COMMAND_CODE": 0x143,
     "AUTHSIZE": 0x144,
     "AUTH_CONTEXT": 0x145,
+    "CPHASH": 0x151,
     "SESSION_MEMORY": 0x903,
     "LOCALITY": 0x907,
     "REFERENCE_H0": 0x910,
@@ -118,6 +131,21 @@ def selection(*banks):
 def digests(*values):
     """A list of digests, each behind its hash algorithm."""
     return number(len(values), 4) + b"".join(number(alg, 2) + digest for alg, digest in values)
+
+
+def sized_list(*values, count=None):
+    """A list of sized buffers; its count is right where no other is given."""
+    return number(len(values) if count is None else count, 4) + b"".join(map(sized, values))
+
+
+def policy_secret(nonce_tpm=b"", cp_hash=b"", policy_ref=b"", expiration=0):
+    """The parameters of TPM2_PolicySecret."""
+    return sized(nonce_tpm) + sized(cp_hash) + sized(policy_ref) + number(expiration, 4)
+
+
+# The ticket of an assertion that does not expire: of TPM_RH_NULL, and with an empty digest.
+ST_AUTH_SECRET = 0x8023
+NULL_TICKET = number(ST_AUTH_SECRET, 2) + number(RH_NULL, 4) + sized(b"")
 
 
 # Responses.

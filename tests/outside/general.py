@@ -78,13 +78,23 @@ def is_hierarchy(handle):
     return handle in HIERARCHIES
 
 
-def is_entity(handle):
-    """What a session can be bound to, or bound to nothing by."""
+def is_policy(handle):
+    """The handle of a policy or a trial session, whether that is there or not."""
+    return first_byte(handle) == POLICY_SESSION
+
+
+def is_authorized_entity(handle):
+    """What has an authorization value of its own."""
     return (
-        is_pcr_or_null(handle)
+        is_pcr(handle)
         or is_hierarchy(handle)
         or first_byte(handle) in (NV, TRANSIENT, PERSISTENT)
     )
+
+
+def is_entity(handle):
+    """What a session can be bound to, or bound to nothing by."""
+    return is_authorized_entity(handle) or is_null(handle)
 
 
 @dataclass(frozen=True)
@@ -112,6 +122,17 @@ SHAPES = {
     frames.START_AUTH_SESSION: Shape(
         (is_null, is_entity), sized_parameter=True, sized_answer=True
     ),
+    frames.POLICY_RESTART: Shape((is_policy,)),
+    frames.POLICY_PCR: Shape((is_policy,), sized_parameter=True),
+    frames.POLICY_OR: Shape((is_policy,)),
+    frames.POLICY_AUTH_VALUE: Shape((is_policy,)),
+    frames.POLICY_PASSWORD: Shape((is_policy,)),
+    frames.POLICY_COMMAND_CODE: Shape((is_policy,)),
+    frames.POLICY_LOCALITY: Shape((is_policy,)),
+    frames.POLICY_SECRET: Shape(
+        (is_authorized_entity, is_policy), 1, sized_parameter=True, sized_answer=True
+    ),
+    frames.POLICY_GET_DIGEST: Shape((is_policy,), sized_answer=True),
 }
 
 
@@ -165,7 +186,7 @@ def read_header(fields, length):
     return tag, code
 
 
-def read_handles(fields, kinds):
+def read_handles(fields, kinds, sessions):
     handles = []
     for place, is_of_kind in enumerate(kinds, 1):
         try:
@@ -175,7 +196,8 @@ def read_handles(fields, kinds):
         if not is_of_kind(handle):
             raise Refusal(f"VALUE/h{place}")
         # There are no objects and no NV indices yet.
-        if first_byte(handle) == TRANSIENT:
+        is_absent = is_policy(handle) and handle not in sessions
+        if first_byte(handle) == TRANSIENT or is_absent:
             raise Refusal(f"REFERENCE_H{place - 1}")
         if first_byte(handle) in (NV, PERSISTENT):
             raise Refusal(f"HANDLE/h{place}")
@@ -236,7 +258,7 @@ def decode(buffer, started, sessions):
     shape = SHAPES[code]
     if started == (code == frames.STARTUP):
         raise Refusal("INITIALIZE")
-    handles = read_handles(fields, shape.handles)
+    handles = read_handles(fields, shape.handles, sessions)
     if tag == frames.SESSIONS and not shape.sessions:
         raise Refusal("AUTH_CONTEXT")
     if tag == frames.NO_SESSIONS and shape.authorized:

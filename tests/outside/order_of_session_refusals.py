@@ -92,10 +92,8 @@ caller.refused("The second one's", "BAD_AUTH/s2", wrong(start(NULLS, cut, *uses)
 caller.refused(
     "The first parameter, which cannot be decrypted", "INSUFFICIENT/p1", start(NULLS, cut, *uses)
 )
-trial = sized(bytes(15)) + sized(b"\1") + b"\3" + frames.symmetric(False) + number(4, 2) + b"\0"
-caller.refused(
-    "It is whole, and a trial session is asked for", "VALUE/p3", start(NULLS, trial, *uses)
-)
+no_type = sized(bytes(15)) + sized(b"\1") + b"\2" + frames.symmetric(False) + number(4, 2) + b"\0"
+caller.refused("It is whole, and sessionType is 02", "VALUE/p3", start(NULLS, no_type, *uses))
 hmac = sized(bytes(15)) + sized(b"\1") + b"\0" + frames.symmetric(False) + number(4, 2)
 caller.refused("A byte behind the parameters", "SIZE", start(NULLS, hmac + b"\0", *uses))
 caller.refused("A nonce of 15 bytes", "SIZE/p1", start(NULLS, hmac, *uses))

@@ -27,8 +27,9 @@ ENDS = 0x00
 
 script = Script(
     "tests/start_auth_session.tpm",
-    "TPM2_StartAuthSession starts an HMAC session. Its handles are tpmKey and bind; its parameters "
-    "are nonceCaller, encryptedSalt, sessionType, symmetric and authHash.",
+    "TPM2_StartAuthSession starts an HMAC session, a policy session or a trial session. Its "
+    "handles are tpmKey and bind; its parameters are nonceCaller, encryptedSalt, sessionType, "
+    "symmetric and authHash.",
 )
 caller = Caller(script)
 
@@ -146,10 +147,10 @@ refused(
 )
 refused("No sessionType", "INSUFFICIENT/p3", on(NULLS, sized(NONCE) + sized(b"")))
 refused(
-    "A policy session or a trial session, which are not served yet, and types that there are "
-    "not",
+    "A sessionType that is none of the three, TPM_SE_HMAC (00), TPM_SE_POLICY (01) and "
+    "TPM_SE_TRIAL (03)",
     "VALUE/p3",
-    *(start(kind=it) for it in (frames.SE_POLICY, frames.SE_TRIAL, 0x02, 0x04, 0xFF)),
+    *(start(kind=it) for it in (0x02, 0x04, 0x05, 0x80, 0xFF)),
 )
 refused(
     "symmetric that is cut within its algorithm, its keyBits and its mode",
@@ -198,14 +199,14 @@ refused("A byte behind them", "SIZE", on(NULLS, frames.start_auth_session(NONCE)
 
 script.chapter("Of two faults the one that is read first.")
 refused(
-    "nonceCaller that says too much, and a trial session",
+    "nonceCaller that says too much, and a sessionType of 02",
     "SIZE/p1",
-    start(nonce=bytes(33), kind=frames.SE_TRIAL),
+    start(nonce=bytes(33), kind=0x02),
 )
 refused(
-    "A trial session with TPM_ALG_XOR",
+    "A sessionType of 02 with TPM_ALG_XOR",
     "VALUE/p3",
-    on(NULLS, sized(NONCE) + sized(b"") + b"\x03" + words(0x000A, SHA256)),
+    on(NULLS, sized(NONCE) + sized(b"") + b"\x02" + words(0x000A, SHA256)),
 )
 refused(
     "TPM_ALG_XOR, with a wrong hash, which stands where keyBits would",
@@ -262,6 +263,32 @@ for bind, name in (
     starts(
         f"Bound to {name}, whose authorization value is empty; TPM2_PCR_Reset by an hmac", bind=bind
     )
+
+for kind, name in ((frames.SE_POLICY, "policy"), (frames.SE_TRIAL, "trial")):
+    script.chapter(f"A {name} session, of the same lowest number, and it is ended.")
+    for what, choices in (
+        ("SHA-256 and a nonce of 16 bytes", {}),
+        ("SHA-256 and a nonce of 32 bytes", dict(size=32)),
+        ("SHA-1 and a nonce of 20 bytes", dict(algorithm=SHA1, size=20)),
+        ("AES", dict(aes=True)),
+        ("Bound to TPM_RH_OWNER", dict(bind=RH_OWNER)),
+        ("Bound to TPM_RH_LOCKOUT", dict(bind=RH_LOCKOUT, aes=True)),
+        ("Bound to PCR 23", dict(bind=23, algorithm=SHA1)),
+    ):
+        what = f"{what}, TPM2_GetRandom and TPM2_FlushContext"
+        session = caller.start(what, kind=kind, **choices)
+        assert session.handle == 0x0300_0000
+        caller.accepted("", caller.random(4, session))
+        caller.accepted("", caller.flush(session))
+    refused(
+        "A nonce of 15 bytes, and of 21 for SHA-1",
+        "SIZE/p1",
+        start(nonce=bytes(15), kind=kind),
+        start(nonce=bytes(21), algorithm=SHA1, kind=kind),
+    )
+    refused("A salt", "VALUE/p2", start(salt=b"\x01", kind=kind))
+    refused("A tpmKey", "VALUE/h1", start(tpm_key=RH_OWNER, kind=kind))
+    refused("A wrong hash", "HASH/p5", start(algorithm=ALG_NULL, kind=kind))
 
 script.chapter("Sessions beside the command, which authorize nothing.")
 first = caller.start("A session, bound to TPM_RH_OWNER", RH_OWNER)

@@ -12,7 +12,7 @@ use Rattle.tpm_types.specs.Rc.{at, plain}
 use Rattle.tpm_record.specs.Entity.{names_session}
 use Rattle.tpm_record.specs.Record.{Record}
 use Rattle.tpm_auth.specs.Refused.{refusal}
-use Rattle.tpm_auth.specs.declared.check.ActionCheck.TheVariants as action
+use Rattle.tpm_types.specs.declared.action_check.ActionCheck.TheVariants as action
 use Rattle.tpm_auth.specs.declared.check.Check.TheVariants as check
 use Rattle.tpm_auth.specs.declared.refused.Refused.{Refused}
 use Rattle.tpm_actions.specs.Request.{Request}

@@ -1,18 +1,16 @@
 -- TPM2_StartAuthSession. TPM 2.0 Library, Part 3, section 11.1, and Part 1, section 19.6.
 use Rattle.std.specs.Prelude.{◌≡◌, ℕ, ◌==◌, not, List, length, take, Option, Some, None, if◌then◌else◌, Result, Ok, Err, slice_set}
-use Rattle.std.specs.Int.{w8}
-use Rattle.tpm_bytes.specs.Reading.{◌>>=◌, number_at, or_fault, refused_if}
+use Rattle.tpm_bytes.specs.Reading.{◌>>=◌, refused_if}
 use Rattle.tpm_bytes.specs.Writing.{sized_text}
 use Rattle.tpm_mac.specs.declared.algorithm.HashAlg.{HashAlg}
+use Rattle.tpm_policy.specs.State.{starting}
 use Rattle.tpm_session.specs.declared.session.Binding.{Binding}
 use Rattle.tpm_session.specs.declared.session.Session.{Session}
-use Rattle.tpm_session.specs.declared.session.SessionType.{SessionType}
-use Rattle.tpm_session.specs.declared.session.SessionType.TheVariants as type
+use Rattle.tpm_types.specs.declared.session_type.SessionType.{SessionType}
 use Rattle.tpm_session.specs.Key.{is_nonce_size, session_key}
 use Rattle.tpm_session.specs.Places.{lowest_free}
 use Rattle.tpm_session.specs.Sessions.{handle_of}
 use Rattle.tpm_types.specs.declared.handle.Handle.{Handle}
-use Rattle.tpm_types.specs.declared.rc.Rc.{Rc}
 use Rattle.tpm_types.specs.declared.rc.ResponseCode.TheVariants as code
 use Rattle.tpm_types.specs.declared.rc.Place.TheVariants as place
 use Rattle.tpm_types.specs.declared.symmetric.SymmetricDefinition.{SymmetricDefinition}
@@ -20,11 +18,12 @@ use Rattle.tpm_types.specs.Algorithm.{hash_at}
 use Rattle.tpm_types.specs.Buffer.{buffer_at}
 use Rattle.tpm_types.specs.Handle.{null_handle}
 use Rattle.tpm_types.specs.Rc.{at, plain}
+use Rattle.tpm_types.specs.SessionType.{session_type_at}
 use Rattle.tpm_types.specs.Symmetric.{symmetric_at}
 use Rattle.tpm_record.specs.Entity.{auth_value_of, name_of, protection_of}
 use Rattle.tpm_record.specs.Record.{Record}
 use Rattle.tpm_auth.specs.Refused.{refusal}
-use Rattle.tpm_auth.specs.declared.check.ActionCheck.TheVariants as action
+use Rattle.tpm_types.specs.declared.action_check.ActionCheck.TheVariants as action
 use Rattle.tpm_auth.specs.declared.check.Check.TheVariants as check
 use Rattle.tpm_auth.specs.declared.refused.Refused.{Refused}
 use Rattle.tpm_actions.specs.declared.start_auth_session.Asked.{Asked}
@@ -47,13 +46,6 @@ parameters_of asked = record {
   symmetric = asked.symmetric;
   hash = asked.hash;
 }
-
--- the type of a session; policy and trial sessions are not served yet
-unfoldable pub session_type_at : List ℕ → Result (SessionType × List ℕ) Rc
-session_type_at text = do
-  number ← or_fault (number_at w8 text) (plain code.Insufficient)
-  served ← refused_if (not (number.0 == 0x00)) (plain code.Value)
-  Ok (type.Hmac, number.1)
 
 unfoldable pub parameters_in : List ℕ → Result Parameters Refused
 parameters_in text = do
@@ -104,6 +96,7 @@ new_session p binding nonce = record {
   nonce_tpm = nonce;
   key = session_key p.hash binding nonce p.nonce_caller;
   binding = binding;
+  policy = starting p.hash;
 }
 
 -- A3: there is no place for the session; answered: its handle and its nonce

@@ -16,7 +16,7 @@ use Rattle.tpm_actions.specs.Request.{Request}
 use Rattle.tpm_record.specs.declared.fixed.Saved.{Saved}
 use Rattle.tpm_record.specs.declared.fixed.Saved.TheVariants.{Nothing}
 use Rattle.tpm_auth.specs.Refused.{refusal}
-use Rattle.tpm_auth.specs.declared.check.ActionCheck.TheVariants as action
+use Rattle.tpm_types.specs.declared.action_check.ActionCheck.TheVariants as action
 use Rattle.tpm_auth.specs.declared.check.Check.TheVariants as check
 use Rattle.tpm_actions.specs.Rows.{Success, all_read, parameter}
 

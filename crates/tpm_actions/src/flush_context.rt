@@ -6,10 +6,11 @@ ghost use Rattle.tpm_actions.specs.Rows.{Acts};
 use crate::answer::Answer;
 use crate::call::Call;
 use crate::reading::{at_parameter, end};
-use tpm_auth::check::{ActionCheck, Check};
+use tpm_auth::check::Check;
 use tpm_auth::refused::Refused;
 use tpm_bytes::cursor::Cursor;
 use tpm_record::keep::Keep;
+use tpm_types::action_check::ActionCheck;
 use tpm_types::handle::Handle;
 use tpm_types::rc::ResponseCode;
 

@@ -17,6 +17,6 @@ pub mod pcr_event;
 pub mod pcr_extend;
 pub mod pcr_read;
 pub mod pcr_reset;
-mod reading;
+pub mod reading;
 pub mod start_auth_session;
 pub mod startup;

@@ -1,9 +1,10 @@
 ghost use Rattle.std.specs.Prelude.{◌≡◌};
 ghost use Rattle.tpm_actions.specs.PcrChange.{change_refusal};
 
-use tpm_auth::check::{ActionCheck, Check};
+use tpm_auth::check::Check;
 use tpm_auth::refused::Refused;
 use tpm_pcr::changes::ChangeFault;
+use tpm_types::action_check::ActionCheck;
 use tpm_types::rc::ResponseCode;
 
 /// The refusal of a command that would change a PCR.

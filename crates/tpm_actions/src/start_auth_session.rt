@@ -1,14 +1,13 @@
 ghost use Rattle.std.specs.Prelude.{◌≡◌, ◌≤◌, true, length, IfOk, OnOk};
-ghost use Rattle.tpm_bytes.specs.Reading.{Reads};
 ghost use Rattle.tpm_session.specs.Key.{is_nonce_size};
 ghost use Rattle.tpm_actions.specs.Request.{request_of};
 ghost use Rattle.tpm_actions.specs.Rows.{ActsIfRoom};
-ghost use Rattle.tpm_actions.specs.StartAuthSession.{Asks, binding_of, parameters_in, parameters_of, parameters_pass, session_type_at, start_auth_session_row};
+ghost use Rattle.tpm_actions.specs.StartAuthSession.{Asks, binding_of, parameters_in, parameters_of, parameters_pass, start_auth_session_row};
 
 use crate::answer::Answer;
 use crate::call::Call;
 use crate::reading::{at_parameter, end, memory_refused};
-use tpm_auth::check::{ActionCheck, Check};
+use tpm_auth::check::Check;
 use tpm_auth::refused::Refused;
 use tpm_bytes::cursor::Cursor;
 use tpm_mac::HashAlg;
@@ -16,12 +15,14 @@ use tpm_record::entity::{copied_auth_value, name_of, protection_of};
 use tpm_record::keep::Keep;
 use tpm_session::key::is_nonce_size;
 use tpm_session::nonce::Nonce;
-use tpm_session::session::{Binding, SessionType};
+use tpm_session::session::Binding;
 use tpm_session::sessions::{Start, StartFault};
+use tpm_types::action_check::ActionCheck;
 use tpm_types::algorithm::read_hash;
 use tpm_types::buffer::read_buffer;
 use tpm_types::handle::Handle;
 use tpm_types::rc::{Rc, ResponseCode};
+use tpm_types::session_type::SessionType;
 use tpm_types::symmetric::SymmetricDefinition;
 
 /// The most bytes of nonceCaller and encryptedSalt.
@@ -37,22 +38,6 @@ pub struct Asked<'a> {
     hash: HashAlg,
 }
 
-/// Reads the type of a session: VALUE where it is not that of an HMAC session.
-#[tactic(auto, unfolding(crate::specs::StartAuthSession::session_type_at))]
-fn read_type(text: &mut Cursor) -> Result<SessionType, Rc>
-    ensures { Reads (λ kind. kind) (session_type_at text.old) text.old result text.new }
-{
-    let mut ahead = Cursor::new(text.rest());
-    let number = ahead
-        .u8()
-        .map_err(|_| ResponseCode::Insufficient.anywhere())?;
-    if number != 0 {
-        return Err(ResponseCode::Value.anywhere());
-    }
-    *text = ahead;
-    Ok(SessionType::Hmac)
-}
-
 #[tactic(auto, unfolding(crate::specs::StartAuthSession::parameters_in))]
 fn read_parameters(parameters: &[u8]) -> Result<Asked, Refused>
     ensures read { Asks (parameters_in parameters.now) result }
@@ -61,7 +46,7 @@ fn read_parameters(parameters: &[u8]) -> Result<Asked, Refused>
     let mut text = Cursor::new(parameters);
     let nonce_caller = read_buffer(&mut text, MOST_BYTES).map_err(|rc| at_parameter(1, rc))?;
     let salt = read_buffer(&mut text, MOST_BYTES).map_err(|rc| at_parameter(2, rc))?;
-    let kind = read_type(&mut text).map_err(|rc| at_parameter(3, rc))?;
+    let kind = SessionType::read(&mut text).map_err(|rc| at_parameter(3, rc))?;
     let symmetric = SymmetricDefinition::read(&mut text).map_err(|rc| at_parameter(4, rc))?;
     let hash = read_hash(&mut text).map_err(|rc| at_parameter(5, rc))?;
     end(&text)?;
@@ -105,7 +90,7 @@ fn binding_of<K: Keep>(keep: &K, bind: Handle) -> Option<Binding>
     })
 }
 
-/// TPM2_StartAuthSession: starts an HMAC session, bound to an entity or to none.
+/// TPM2_StartAuthSession: starts a session, bound to an entity or to none.
 #[tactic(auto, unfolding(crate::specs::StartAuthSession::start_auth_session_row))]
 pub fn start_auth_session<K: Keep>(keep: &mut K, call: &Call) -> Result<Answer, Refused>
     ensures { ActsIfRoom K.can_refuse

@@ -6,12 +6,13 @@ ghost use Rattle.tpm_actions.specs.Startup.{lacks_state, reset_hierarchies, star
 use crate::answer::Answer;
 use crate::call::Call;
 use crate::reading::{at_parameter, end};
-use tpm_auth::check::{ActionCheck, Check};
+use tpm_auth::check::Check;
 use tpm_auth::refused::Refused;
 use tpm_bytes::cursor::Cursor;
 use tpm_record::fixed::Saved;
 use tpm_record::hierarchy::{Hierarchies, Secrets};
 use tpm_record::keep::Keep;
+use tpm_types::action_check::ActionCheck;
 use tpm_types::auth_value::AuthValue;
 use tpm_types::handle::HierarchyAuth;
 use tpm_types::rc::ResponseCode;

@@ -1,20 +1,9 @@
 -- The numbers of the checks, which a row reports; 0 in a row says that none refused, or that power
 -- was cycled.
 use Rattle.std.specs.Prelude.{ℕ, ◌+◌}
-use Rattle.tpm_auth.specs.declared.check.ActionCheck.{ActionCheck}
-use Rattle.tpm_auth.specs.declared.check.ActionCheck.TheVariants as action
+use Rattle.tpm_types.specs.ActionCheck.{action_number}
 use Rattle.tpm_auth.specs.declared.check.Check.{Check}
 use Rattle.tpm_auth.specs.declared.check.Check.TheVariants as check
-
--- the place of a check among a command's own
-abbrev pub action_number : ActionCheck → ℕ
-action_number action.First = 1
-action_number action.Second = 2
-action_number action.Third = 3
-action_number action.Fourth = 4
-action_number action.Fifth = 5
-action_number action.Sixth = 6
-action_number action.Seventh = 7
 
 -- 1 to 11 are the general checks G1 to G11, those of every command, 20 + k is the k-th check Ak of
 -- a command's own, and 255 is want of memory

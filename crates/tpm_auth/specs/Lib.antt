@@ -2,4 +2,6 @@ pub mod Check
 pub mod Refused
 pub mod Entries
 pub mod Hashes
+pub mod Comparison
+pub mod SessionGrant
 pub mod Grant

@@ -1,26 +1,6 @@
 ghost use Rattle.std.specs.Prelude.{◌≡◌};
 
-/// Which of a command's own checks refused it, by its place in the command's section.
-#[derive(Clone, Copy, Debug, PartialEq, Eq)]
-pub enum ActionCheck {
-    First = 1,
-    Second = 2,
-    Third = 3,
-    Fourth = 4,
-    Fifth = 5,
-    Sixth = 6,
-    Seventh = 7,
-}
-
-impl ActionCheck {
-    ghost use Rattle.tpm_auth.specs.Check.{action_number};
-
-    fn number(self) -> u8
-        ensures { result ≡ action_number self }
-    {
-        self as u8
-    }
-}
+use tpm_types::action_check::ActionCheck;
 
 /// The check that refused a command: G1 to G11 for all commands, then A1 to A7 of the command's
 /// own, and M. Its number is what a row reports.

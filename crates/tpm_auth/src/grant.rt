@@ -1,21 +1,22 @@
-ghost use Rattle.std.specs.Prelude.{◌≡◌, ◌==◌, ◌+◌, ◌≤◌, nat_eq, [], IfOk, length, map};
-ghost use Rattle.std.specs.Cmp.Lexicographic.{pointwise};
-ghost use Rattle.std.specs.List.{list_all};
+ghost use Rattle.std.specs.Prelude.{◌≡◌, ◌+◌, ◌≤◌, [], length, map};
 ghost use Rattle.tpm_bytes.specs.Reading.{sized_at};
 ghost use Rattle.tpm_types.specs.AuthEntry.{entry_of};
 ghost use Rattle.tpm_types.specs.Command.{whole_of};
+ghost use Rattle.tpm_types.specs.Locality.{locality_number};
 ghost use Rattle.tpm_record.specs.Entity.{name_of};
-ghost use Rattle.tpm_types.specs.Handle.{session_kind};
-ghost use Rattle.tpm_auth.specs.Grant.{AreGranted, IsGranted, authorize, authorized, grant, grant_by, grants_pass, hashed_command, is_cut, is_password_of, password_grant};
+ghost use Rattle.tpm_auth.specs.Grant.{AreGranted, IsGranted, authorize, authorized, grant, grants_pass, is_cut, password_grant};
+ghost use Rattle.tpm_auth.specs.SessionGrant.{hashed_command};
 
 use crate::check::Check;
+use crate::comparison::{check_of, failure, is_password_of};
 use crate::entries::{any_decrypts, check_entries, reference_of};
 use crate::hashes::CommandHashes;
 use crate::refused::Refused;
-use crate::session_grant::{check_of, check_session, failure};
+use crate::session_grant::{Grant, Sent, check_session};
 use arrayvec::ArrayVec;
 use tpm_bytes::cursor::Cursor;
 use tpm_name::Name;
+use tpm_policy::state::Demand;
 use tpm_record::entity::{auth_value_of, name_of, protection_of};
 use tpm_record::keep::Keep;
 use tpm_session::session::Protection;
@@ -25,108 +26,64 @@ use tpm_types::locality::Locality;
 use tpm_types::rc::ResponseCode;
 use tpm_types::whole_command::Command;
 
-/// What an entry authorizes.
-#[derive(Clone, Copy, Debug, PartialEq, Eq)]
-pub struct Grant {
-    pub handle: Handle,
-}
-
-/// What the entries of a command authorize: each a handle, or nothing.
+/// What the entries of a command authorize, each a handle or nothing.
 #[derive(Drop)]
 pub struct Grants {
     pub entries: ArrayVec<Option<Grant>, 3>,
 }
 
-fn is_same(bytes: &[u8], others: &[u8]) -> bool
-    ensures { result ≡ pointwise nat_eq bytes.now others.now }
-{
-    bytes == others
-}
-
-fn is_zeros(bytes: &[u8]) -> bool
-    ensures { result ≡ list_all (λ byte. byte == 0) bytes.now }
-{
-    bytes.iter().all(|byte| *byte == 0)
-}
-
-/// Whether a password is an authorization value, apart from trailing zeros.
-fn is_password_of(value: &[u8], password: &[u8]) -> bool
-    ensures { result ≡ is_password_of value.now password.now }
-{
-    if password.len() < value.len() {
-        return false;
-    }
-    let (front, rest) = password.split_at(value.len());
-    is_same(front, value) && is_zeros(rest)
-}
-
-/// Checks that the entry of this number is a password for the handle that it authorizes.
+/// Checks that the entry of this number is a password for the handle that it is to authorize.
 #[tactic(auto, unfolding(crate::specs::Grant::password_grant))]
 fn check_password<K: Keep>(
     keep: &K,
     number: u8,
     used: Option<Handle>,
     entry: &AuthEntry,
-) -> Result<(), Refused>
+) -> Result<Option<Grant>, Refused>
     ensures { result ≡ password_grant (K.record_of keep.now) number used (entry_of entry.now) }
 {
-    let (value, protection) = match used {
-        Some(handle) => (auth_value_of(keep, handle), protection_of(handle)),
-        None => (&[][..], Protection::None),
+    let (grant, value, protection) = match used {
+        Some(handle) => {
+            let demand = Demand::None;
+            let value = auth_value_of(keep, handle);
+            (Some(Grant { handle, demand }), value, protection_of(handle))
+        }
+        None => (None, &[][..], Protection::None),
     };
     if is_password_of(value, entry.hmac) {
-        Ok(())
+        Ok(grant)
     } else {
-        Err(failure(check_of(used), number, protection))
+        Err(failure(check_of(grant), number, protection))
     }
 }
 
-/// Checks the entry of this number by its kind, for this handle or none.
-fn check_entry<K: Keep>(
+/// Checks the entry of this number, which is to authorize this handle or nothing, and tells what it
+/// authorizes.
+#[tactic(auto, unfolding(crate::specs::Grant::grant))]
+fn check_grant<K: Keep>(
     keep: &K,
-    command: &Command,
+    sent: Sent,
     hashes: &mut CommandHashes,
     number: u8,
     used: Option<Handle>,
     entry: &AuthEntry,
-) -> Result<(), Refused>
-    requires { hashes.old ≡ hashed_command (K.record_of keep.now) (whole_of command.now) }
-    ensures value { result ≡ grant_by (session_kind entry.now.session) (K.record_of keep.now)
-        (whole_of command.now) number used (entry_of entry.now) }
+) -> Result<Option<Grant>, Refused>
+    requires number { 1 ≤ number }
+    requires hashed { hashes.old ≡ hashed_command (K.record_of keep.now) (whole_of sent.command.now) }
+    ensures value { result ≡ grant (K.record_of keep.now) (whole_of sent.entry.command.now)
+        (locality_number sent.entry.locality) number used (entry_of entry.now) }
     ensures same { hashes.new ≡ hashes.old }
 {
     match entry.session.session_kind() {
         SessionKind::Password => check_password(keep, number, used, entry),
         SessionKind::Session => match keep.sessions().get(entry.session) {
-            Some(session) => check_session(keep, command, hashes, number, used, entry, session),
+            Some(session) => check_session(keep, sent, hashes, number, used, entry, session),
             None => Err(Refused::by(Check::Entries, reference_of(number))),
         },
         SessionKind::Other => {
             let rc = ResponseCode::Value.anywhere().at_session(number);
             Err(Refused::by(Check::Entries, rc))
         }
-    }
-}
-
-/// Checks the entry of this number, and tells what it authorizes: this handle, or nothing.
-#[tactic(auto, unfolding(crate::specs::Grant::grant))]
-fn check_grant<K: Keep>(
-    keep: &K,
-    command: &Command,
-    hashes: &mut CommandHashes,
-    number: u8,
-    used: Option<Handle>,
-    entry: &AuthEntry,
-) -> Result<Option<Grant>, Refused>
-    requires { hashes.old ≡ hashed_command (K.record_of keep.now) (whole_of command.now) }
-    ensures value { result ≡ grant (K.record_of keep.now) (whole_of command.now) number used
-        (entry_of entry.now) }
-    ensures same { hashes.new ≡ hashes.old }
-{
-    check_entry(keep, command, hashes, number, used, entry)?;
-    match used {
-        Some(handle) => Ok(Some(Grant { handle })),
-        None => Ok(None),
     }
 }
 
@@ -141,24 +98,25 @@ fn authorized<'a>(command: &'a Command) -> &'a [Handle]
 /// answered.
 fn check_grants<K: Keep>(
     keep: &K,
-    command: &Command,
+    sent: Sent,
     hashes: &mut CommandHashes,
     entries: &[AuthEntry],
     grants: &mut ArrayVec<Option<Grant>, 3>,
 ) -> Result<(), Refused>
-    requires hashed { hashes.old ≡ hashed_command (K.record_of keep.now) (whole_of command.now) }
+    requires hashed { hashes.old ≡ hashed_command (K.record_of keep.now) (whole_of sent.command.now) }
     requires few { length grants.old.items + length entries.now ≤ 3 }
-    ensures { AreGranted (grants_pass (K.record_of keep.now) (whole_of command.now) grants.old.items
-        (map entry_of entries.now)) result grants.new.items }
+    ensures { AreGranted (grants_pass (K.record_of keep.now) (whole_of sent.entry.command.now)
+        (locality_number sent.entry.locality) grants.old.items (map entry_of entries.now)) result
+        grants.new.items }
 {
     let [entry, entries @ ..] = entries else {
         return Ok(());
     };
     let before = grants.len();
-    let used = authorized(command).get(before).copied();
-    let grant = check_grant(keep, command, hashes, before as u8 + 1, used, entry)?;
+    let used = authorized(sent.command).get(before).copied();
+    let grant = check_grant(keep, sent, hashes, before as u8 + 1, used, entry)?;
     grants.push(grant);
-    check_grants(keep, command, hashes, entries, grants)
+    check_grants(keep, sent, hashes, entries, grants)
 }
 
 /// Whether the first parameter, a sized buffer, is not all there.
@@ -180,6 +138,23 @@ fn names_of<K: Keep>(keep: &K, handles: &[Handle]) -> ArrayVec<Name, 3>
     names
 }
 
+/// Checks each handle by the entry of its place, and the other entries, and tells what each
+/// authorizes. Nothing is hashed where there are none.
+fn check_all<K: Keep>(keep: &K, sent: Sent) -> Result<Grants, Refused>
+    ensures { IsGranted (grants_pass (K.record_of keep.now) (whole_of sent.entry.command.now)
+        (locality_number sent.entry.locality) [] (whole_of sent.entry.command.now).entries) result }
+{
+    let command = sent.command;
+    let mut entries = ArrayVec::new();
+    if !command.entries.is_empty() {
+        let names = names_of(keep, command.handles.as_slice());
+        let code = command.code.number();
+        let mut hashes = CommandHashes::new(code, names.as_slice(), command.parameters);
+        check_grants(keep, sent, &mut hashes, command.entries.as_slice(), &mut entries)?;
+    }
+    Ok(Grants { entries })
+}
+
 /// Checks the entries of a command, and by them the handles that need authorization: first each
 /// entry for itself, then that there are enough, then each handle and each other entry, and last
 /// that what a session decrypts is there.
@@ -187,9 +162,10 @@ fn names_of<K: Keep>(keep: &K, handles: &[Handle]) -> ArrayVec<Name, 3>
 pub fn authorize<K: Keep>(
     keep: &K,
     command: &Command,
-    _locality: Locality,
+    locality: Locality,
 ) -> Result<Grants, Refused>
-    ensures { IsGranted (authorize (K.record_of keep.now) (whole_of command.now)) result }
+    ensures { IsGranted (authorize (K.record_of keep.now) (whole_of command.now)
+        (locality_number locality)) result }
 {
     let entries = command.entries.as_slice();
     check_entries(keep, command.code, entries).map_err(|rc| Refused::by(Check::Entries, rc))?;
@@ -197,14 +173,10 @@ pub fn authorize<K: Keep>(
         let rc = ResponseCode::AuthMissing.anywhere();
         return Err(Refused::by(Check::Entries, rc));
     }
-    let names = names_of(keep, command.handles.as_slice());
-    let code = command.code.number();
-    let mut hashes = CommandHashes::new(code, names.as_slice(), command.parameters);
-    let mut grants = ArrayVec::new();
-    check_grants(keep, command, &mut hashes, entries, &mut grants)?;
+    let grants = check_all(keep, Sent { command, locality })?;
     if any_decrypts(entries) && is_cut(command.parameters) {
         let rc = ResponseCode::Insufficient.anywhere().at_parameter(1);
         return Err(Refused::by(Check::Others, rc));
     }
-    Ok(Grants { entries: grants })
+    Ok(grants)
 }

@@ -10,6 +10,7 @@
 //! keeping the record.
 
 pub mod check;
+pub mod comparison;
 pub mod entries;
 pub mod grant;
 mod hashes;

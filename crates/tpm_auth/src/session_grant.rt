@@ -3,23 +3,47 @@ ghost use Rattle.std.specs.Str.{bytes_eq};
 ghost use Rattle.tpm_types.specs.AuthEntry.{entry_of};
 ghost use Rattle.tpm_types.specs.Command.{whole_of};
 ghost use Rattle.tpm_auth.specs.Entries.{decrypts};
-ghost use Rattle.tpm_auth.specs.Grant.{binding_protection, check_of, entry_nonce, failure, hashed_command, is_authentic, is_bound_to, means_of, nonce_where, only_encrypts, or_protection, other_entries, session_grant, touched, used_auth_value};
+ghost use Rattle.tpm_types.specs.Locality.{locality_number};
+ghost use Rattle.tpm_policy.specs.Use.{parts_of};
+ghost use Rattle.tpm_session.specs.ParameterHash.{command_hash_of};
+ghost use Rattle.tpm_auth.specs.SessionGrant.{binding_protection, by_policy, comparison_holds, demanded, entry_nonce, hashed_command, is_authentic, is_bound_to, nonce_where, only_encrypts, or_protection, other_entries, session_grant, takes_value, touched, use_of, used_auth_value};
 
 use crate::check::Check;
+use crate::comparison::{check_of, failure, is_password_of};
 use crate::entries::{decrypts, encrypts};
 use crate::hashes::CommandHashes;
-use crate::refused::{Counted, Refused};
-use tpm_record::entity::{Means, auth_value_of, is_available, name_of, protection_of};
+use crate::refused::Refused;
+use tpm_policy::policy_use::Use;
+use tpm_policy::state::Demand;
+use tpm_record::entity::{
+    Means, auth_value_of, is_available, name_of, policy_of, protection_of,
+};
 use tpm_record::keep::Keep;
 use tpm_session::entry::CommandText;
-use tpm_session::session::{Protection, Session, SessionType};
+use tpm_session::session::{Protection, Session};
 use tpm_types::auth_entry::AuthEntry;
 use tpm_types::handle::Handle;
+use tpm_types::locality::Locality;
 use tpm_types::rc::ResponseCode;
+use tpm_types::session_type::SessionType;
 use tpm_types::whole_command::Command;
 
+/// What an entry authorizes: a handle, and what the policy demanded by which it does so.
+#[derive(Clone, Copy, Debug, PartialEq, Eq)]
+pub struct Grant {
+    pub handle: Handle,
+    pub demand: Demand,
+}
+
+/// A command, and where it comes from.
+#[derive(Clone, Copy)]
+pub struct Sent<'a, 'b> {
+    pub command: &'a Command<'b>,
+    pub locality: Locality,
+}
+
 /// Whether a session is bound to an entity, as that is now.
-#[tactic(auto, unfolding(crate::specs::Grant::is_bound_to))]
+#[tactic(auto, unfolding(crate::specs::SessionGrant::is_bound_to))]
 pub fn is_bound_to<K: Keep>(keep: &K, session: &Session, handle: Handle) -> bool
     ensures { result ≡ is_bound_to (K.record_of keep.now) session.now handle }
 {
@@ -32,18 +56,28 @@ pub fn is_bound_to<K: Keep>(keep: &K, session: &Session, handle: Handle) -> bool
     }
 }
 
-/// The authorization value in the key of an entry that authorizes this handle, or none.
-#[tactic(auto, unfolding(crate::specs::Grant::used_auth_value))]
+#[tactic(auto, unfolding(crate::specs::SessionGrant::takes_value))]
+fn takes_value<K: Keep>(keep: &K, session: &Session, grant: Grant) -> bool
+    ensures { result ≡ takes_value (K.record_of keep.now) session.now grant }
+{
+    match session.kind {
+        SessionType::Hmac => !is_bound_to(keep, session, grant.handle),
+        SessionType::Policy | SessionType::Trial => grant.demand == Demand::AuthValue,
+    }
+}
+
+/// The authorization value in the key of an entry that authorizes so, or nothing.
+#[tactic(auto, unfolding(crate::specs::SessionGrant::used_auth_value))]
 pub fn used_auth_value<'a, K: Keep>(
     keep: &'a K,
     session: &Session,
-    used: Option<Handle>,
+    grant: Option<Grant>,
 ) -> &'a [u8]
-    ensures value { result.now ≡ used_auth_value (K.record_of keep.now) session.now used }
+    ensures value { result.now ≡ used_auth_value (K.record_of keep.now) session.now grant }
     ensures fits { length result.now ≤ 32 }
 {
-    match used {
-        Some(handle) if !is_bound_to(keep, session, handle) => auth_value_of(keep, handle),
+    match grant {
+        Some(grant) if takes_value(keep, session, grant) => auth_value_of(keep, grant.handle),
         _ => &[],
     }
 }
@@ -59,7 +93,7 @@ fn nonce_of<'a, K: Keep>(keep: &'a K, entry: &AuthEntry) -> &'a [u8]
 }
 
 /// The nonce of the first entry that decrypts, or no byte.
-#[tactic(auto, unfolding(crate::specs::Grant::nonce_where))]
+#[tactic(auto, unfolding(crate::specs::SessionGrant::nonce_where))]
 fn decrypting_nonce<'a, K: Keep>(keep: &'a K, entries: &[AuthEntry]) -> &'a [u8]
     ensures { result.now ≡ nonce_where (K.record_of keep.now) decrypts (map entry_of entries.now) }
 {
@@ -71,7 +105,7 @@ fn decrypting_nonce<'a, K: Keep>(keep: &'a K, entries: &[AuthEntry]) -> &'a [u8]
 }
 
 /// The nonce of the first entry that encrypts and does not decrypt, or no byte.
-#[tactic(auto, unfolding(crate::specs::Grant::nonce_where))]
+#[tactic(auto, unfolding(crate::specs::SessionGrant::nonce_where))]
 fn encrypting_nonce<'a, K: Keep>(keep: &'a K, entries: &[AuthEntry]) -> &'a [u8]
     ensures { result.now ≡ nonce_where (K.record_of keep.now) only_encrypts (map entry_of entries.now) }
 {
@@ -103,23 +137,23 @@ fn is_equal(bytes: &[u8], others: &[u8]) -> bool
     bytes == others
 }
 
-/// Whether the HMAC of an entry is right, for the handle that it authorizes, or for none.
-#[tactic(auto, unfolding(crate::specs::Grant::is_authentic, crate::specs::Grant::entry_parts))]
+/// Whether the HMAC of an entry is right, that authorizes so, or nothing.
+#[tactic(auto, unfolding(crate::specs::SessionGrant::is_authentic, crate::specs::SessionGrant::entry_parts))]
 fn is_authentic<K: Keep>(
     keep: &K,
     command: &Command,
     hashes: &mut CommandHashes,
     number: u8,
-    used: Option<Handle>,
+    grant: Option<Grant>,
     entry: &AuthEntry,
     session: &Session,
 ) -> bool
     requires { hashes.old ≡ hashed_command (K.record_of keep.now) (whole_of command.now) }
-    ensures value { result ≡ is_authentic (K.record_of keep.now) (whole_of command.now) number used
+    ensures value { result ≡ is_authentic (K.record_of keep.now) (whole_of command.now) number grant
         (entry_of entry.now) session.now }
     ensures same { hashes.new ≡ hashes.old }
 {
-    let value = used_auth_value(keep, session, used);
+    let value = used_auth_value(keep, session, grant);
     if session.key.as_slice().is_empty() && value.is_empty() && entry.hmac.is_empty() {
         return true;
     }
@@ -155,82 +189,157 @@ fn or_protection(protection: Protection, other: Protection) -> Protection
 }
 
 /// How the entity is protected that an entry of a session touches.
-#[tactic(auto, unfolding(crate::specs::Grant::touched))]
-fn touched<K: Keep>(keep: &K, session: &Session, used: Option<Handle>) -> Protection
-    ensures { result ≡ touched (K.record_of keep.now) session.now used }
+#[tactic(auto, unfolding(crate::specs::SessionGrant::touched))]
+fn touched<K: Keep>(keep: &K, session: &Session, grant: Option<Grant>) -> Protection
+    ensures { result ≡ touched (K.record_of keep.now) session.now grant }
 {
     let bound = binding_protection(session);
-    match used {
-        Some(handle) if !is_bound_to(keep, session, handle) => {
-            or_protection(protection_of(handle), bound)
+    match grant {
+        Some(grant)
+            if takes_value(keep, session, grant) || grant.demand == Demand::Password =>
+        {
+            or_protection(protection_of(grant.handle), bound)
         }
         _ => bound,
     }
 }
 
-/// The refusal of a comparison that failed in the entry of this number.
-pub fn failure(check: Check, number: u8, protection: Protection) -> Refused
-    ensures { result ≡ failure check number protection }
+/// What is to be authorized by the entry of this number, of a policy session.
+#[tactic(auto, unfolding(crate::specs::SessionGrant::use_of))]
+fn use_of<'a, K: Keep>(
+    keep: &'a K,
+    sent: Sent,
+    cp_hash: &'a [u8],
+    number: u8,
+    handle: Handle,
+    session: &Session,
+) -> Use<'a>
+    requires number { 1 ≤ number }
+    requires hashed { cp_hash.now ≡ command_hash_of session.now.hash
+        (hashed_command (K.record_of keep.now) (whole_of sent.command.now)).code
+        (hashed_command (K.record_of keep.now) (whole_of sent.command.now)).names
+        (hashed_command (K.record_of keep.now) (whole_of sent.command.now)).parameters }
+    ensures { parts_of result ≡ use_of (K.record_of keep.now) (whole_of sent.entry.command.now)
+        (locality_number sent.entry.locality) number handle session.now }
 {
-    let (code, counted) = match protection {
-        Protection::None => (ResponseCode::BadAuth, Counted::None),
-        Protection::Tries => (ResponseCode::AuthFail, Counted::Try),
-        Protection::Lockout => (ResponseCode::AuthFail, Counted::Lockout),
-    };
-    Refused {
-        rc: code.anywhere().at_session(number),
-        check,
-        counted,
+    let code = sent.command.code;
+    Use {
+        number,
+        kind: session.kind,
+        hash: session.hash,
+        available: is_available(Means::Policy),
+        update_count: keep.fixed().banks.update_count(),
+        code,
+        role: code.role_at(usize::from(number) - 1),
+        cp_hash,
+        locality: sent.locality,
+        policy: policy_of(keep, handle),
     }
 }
 
-/// The check of an entry that authorizes this handle, or none.
-pub fn check_of(used: Option<Handle>) -> Check
-    ensures { result ≡ check_of used }
+/// What the policy of a session demands for this handle, if it authorizes that.
+fn policy_demand<K: Keep>(
+    keep: &K,
+    sent: Sent,
+    hashes: &mut CommandHashes,
+    number: u8,
+    handle: Handle,
+    session: &Session,
+) -> Result<Demand, Refused>
+    requires number { 1 ≤ number }
+    requires hashed { hashes.old ≡ hashed_command (K.record_of keep.now) (whole_of sent.command.now) }
+    ensures value { result ≡ by_policy (K.record_of keep.now) (whole_of sent.entry.command.now)
+        (locality_number sent.entry.locality) number handle session.now }
+    ensures same { hashes.new ≡ hashes.old }
 {
-    match used {
-        Some(_) => Check::Authorization,
-        None => Check::Others,
+    let cp_hash = hashes.by(session.hash);
+    let asked = use_of(keep, sent, cp_hash.as_slice(), number, handle, session);
+    match session.policy.check_use(&asked) {
+        Ok(demand) => Ok(demand),
+        Err(rc) => Err(Refused::by(Check::Authorization, rc)),
     }
 }
 
-fn means_of(kind: SessionType) -> Means
-    ensures { result ≡ means_of kind }
+/// What a session demands for this handle beside its comparison, if it can authorize it.
+#[tactic(auto, unfolding(crate::specs::SessionGrant::demanded))]
+fn demand_of<K: Keep>(
+    keep: &K,
+    sent: Sent,
+    hashes: &mut CommandHashes,
+    number: u8,
+    handle: Handle,
+    session: &Session,
+) -> Result<Demand, Refused>
+    requires number { 1 ≤ number }
+    requires hashed { hashes.old ≡ hashed_command (K.record_of keep.now) (whole_of sent.command.now) }
+    ensures value { result ≡ demanded (K.record_of keep.now) (whole_of sent.entry.command.now)
+        (locality_number sent.entry.locality) number handle session.now }
+    ensures same { hashes.new ≡ hashes.old }
 {
-    match kind {
-        SessionType::Hmac => Means::AuthValue,
-        SessionType::Policy | SessionType::Trial => Means::Policy,
+    match session.kind {
+        SessionType::Hmac if is_available(Means::AuthValue) => Ok(Demand::None),
+        SessionType::Hmac => {
+            let rc = ResponseCode::AuthUnavailable.anywhere();
+            Err(Refused::by(Check::Authorization, rc))
+        }
+        SessionType::Policy | SessionType::Trial => {
+            policy_demand(keep, sent, hashes, number, handle, session)
+        }
     }
 }
 
-/// Checks the entry of a session: a trial session authorizes nothing, the entity must be available
-/// to the session's type, and the HMAC must be right.
-#[tactic(auto, unfolding(crate::specs::Grant::session_grant))]
-pub fn check_session<K: Keep>(
+/// Whether the comparison of an entry holds: a password, where its policy demands one, else an HMAC.
+#[tactic(auto, unfolding(crate::specs::SessionGrant::comparison_holds))]
+fn comparison_holds<K: Keep>(
     keep: &K,
     command: &Command,
+    hashes: &mut CommandHashes,
+    number: u8,
+    grant: Option<Grant>,
+    entry: &AuthEntry,
+    session: &Session,
+) -> bool
+    requires { hashes.old ≡ hashed_command (K.record_of keep.now) (whole_of command.now) }
+    ensures value { result ≡ comparison_holds (K.record_of keep.now) (whole_of command.now) number
+        grant (entry_of entry.now) session.now }
+    ensures same { hashes.new ≡ hashes.old }
+{
+    match grant {
+        Some(grant) if grant.demand == Demand::Password => {
+            is_password_of(auth_value_of(keep, grant.handle), entry.hmac)
+        }
+        _ => is_authentic(keep, command, hashes, number, grant, entry, session),
+    }
+}
+
+/// What the entry of a session authorizes, this handle or nothing, if it can and its comparison
+/// holds.
+#[tactic(auto, unfolding(crate::specs::SessionGrant::session_grant))]
+pub fn check_session<K: Keep>(
+    keep: &K,
+    sent: Sent,
     hashes: &mut CommandHashes,
     number: u8,
     used: Option<Handle>,
     entry: &AuthEntry,
     session: &Session,
-) -> Result<(), Refused>
-    requires { hashes.old ≡ hashed_command (K.record_of keep.now) (whole_of command.now) }
-    ensures value { result ≡ session_grant (K.record_of keep.now) (whole_of command.now) number used
-        (entry_of entry.now) session.now }
+) -> Result<Option<Grant>, Refused>
+    requires number { 1 ≤ number }
+    requires hashed { hashes.old ≡ hashed_command (K.record_of keep.now) (whole_of sent.command.now) }
+    ensures value { result ≡ session_grant (K.record_of keep.now) (whole_of sent.entry.command.now)
+        (locality_number sent.entry.locality) number used (entry_of entry.now) session.now }
     ensures same { hashes.new ≡ hashes.old }
 {
-    let check = check_of(used);
-    if used.is_some() && session.kind == SessionType::Trial {
-        let rc = ResponseCode::Attributes.anywhere().at_session(number);
-        return Err(Refused::by(check, rc));
-    }
-    if used.is_some() && !is_available(means_of(session.kind)) {
-        return Err(Refused::by(check, ResponseCode::AuthUnavailable.anywhere()));
-    }
-    if is_authentic(keep, command, hashes, number, used, entry, session) {
-        Ok(())
+    let grant = match used {
+        Some(handle) => {
+            let demand = demand_of(keep, sent, hashes, number, handle, session)?;
+            Some(Grant { handle, demand })
+        }
+        None => None,
+    };
+    if comparison_holds(keep, sent.command, hashes, number, grant, entry, session) {
+        Ok(grant)
     } else {
-        Err(failure(check, number, touched(keep, session, used)))
+        Err(failure(check_of(grant), number, touched(keep, session, grant)))
     }
 }

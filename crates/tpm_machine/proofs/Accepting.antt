@@ -7,7 +7,7 @@ use Rattle.tpm_types.specs.Command.{Whole}
 use Rattle.tpm_types.specs.CommandCode.{code_number, shape_of}
 use Rattle.tpm_record.specs.Record.{Record}
 use Rattle.tpm_auth.specs.Grant.{authorize}
-use Rattle.tpm_auth.specs.declared.grant.Grant.{Grant}
+use Rattle.tpm_auth.specs.declared.session_grant.Grant.{Grant}
 use Rattle.tpm_auth.specs.declared.refused.Refused.{Refused}
 use Rattle.tpm_actions.specs.Request.{Request}
 use Rattle.tpm_actions.specs.Rows.{ActsIfRoom, RefusesOrStarves, Success}
@@ -39,13 +39,13 @@ row_accepts : (can : Bool) (c : Whole) (grants : List (Option Grant)) (row : Res
 row_accepts can c grants row old (Ok a) new is = ap (λ (r : Result Success Refused). r >>= accepted_as c grants) is
 row_accepts can c grants row old (Err e) new (same, is) = (same, starves can c grants row e is)
 
-pub accepts : (can : Bool) (r : Record) (c : Whole) (grants : List (Option Grant)) (locality : ℕ) (random : List ℕ) (q : Request) (result : Result Answer Refused) (new : Record) → authorize r c ≡ Ok grants → q ≡ request_in c (plain_parameters r c.entries grants c.parameters) locality random → ActsIfRoom ((shape_of c.code).grows && can) (row_of r c.code q) r result new → Accepts can (acceptance r c locality random) c grants r result new
+pub accepts : (can : Bool) (r : Record) (c : Whole) (grants : List (Option Grant)) (locality : ℕ) (random : List ℕ) (q : Request) (result : Result Answer Refused) (new : Record) → authorize r c locality ≡ Ok grants → q ≡ request_in c (plain_parameters r c.entries grants c.parameters) locality random → ActsIfRoom ((shape_of c.code).grows && can) (row_of r c.code q) r result new → Accepts can (acceptance r c locality random) c grants r result new
 unfolding acceptance
 accepts can r c grants locality random q result new granted asked acts =
     rw (granted, ← asked) (row_accepts can c grants (row_of r c.code q) r result new acts)
 
 -- a command that is not authorized is refused
-pub not_authorized : (can : Bool) (r : Record) (c : Whole) (locality : ℕ) (random : List ℕ) (e : Refused) → authorize r c ≡ Err e → AcceptsOrStarves can c (acceptance r c locality random) e
+pub not_authorized : (can : Bool) (r : Record) (c : Whole) (locality : ℕ) (random : List ℕ) (e : Refused) → authorize r c locality ≡ Err e → AcceptsOrStarves can c (acceptance r c locality random) e
 unfolding acceptance
 not_authorized can r c locality random e refused = rw (refused) refl
 

@@ -5,7 +5,7 @@ use Rattle.tpm_types.specs.declared.handle.Handle.{Handle}
 use Rattle.tpm_types.specs.AuthEntry.{Entry}
 use Rattle.tpm_types.specs.Command.{Whole}
 use Rattle.tpm_record.specs.Record.{Record}
-use Rattle.tpm_auth.specs.declared.grant.Grant.{Grant}
+use Rattle.tpm_auth.specs.declared.session_grant.Grant.{Grant}
 use Rattle.tpm_actions.specs.Rows.{Success}
 use Rattle.tpm_machine.specs.Answer.{answer_to, framed, handle_answer, success_text}
 use Rattle.tpm_machine.specs.Entries.{entries_answer, entries_ended, entries_rolled}
@@ -26,7 +26,7 @@ answered_by : (c : Whole) (grants : List (Option Grant)) (s : Success) (random :
     → parameters ≡ encrypted_answer mid c.entries grants s.answer
     → area ≡ entries_answer mid c.code parameters c.entries grants
     → text ≡ framed 0x8002 0 (handle_answer s.handle ++ to_be_bytes w32 (length parameters) ++ parameters ++ area)
-    → after ≡ entries_ended mid c.entries
+    → after ≡ entries_ended mid c.entries grants
     → record { response = text; after = after } ≡ answer_to c grants s random
 unfolding answer_to
 answered_by c grants s random mid after left parameters area text some rolled encrypted answered spelled ended =
@@ -40,7 +40,7 @@ pub answered_with : (c : Whole) (grants : List (Option Grant)) (s : Success) (ra
     → parameters ≡ encrypted_answer mid entries used plain
     → area ≡ entries_answer mid c.code sent entries used
     → text ≡ framed 0x8002 0 (handle_answer s.handle ++ to_be_bytes w32 (length sent) ++ sent ++ area)
-    → after ≡ entries_ended mid entries
+    → after ≡ entries_ended mid entries used
     → record { response = text; after = after } ≡ answer_to c grants s random
 answered_with c grants s random mid after entries used draws left plain parameters sent area text some entered granted drawn planned whole rolled encrypted answered spelled ended =
     answered_by c grants s random mid after left sent area text some
@@ -48,4 +48,4 @@ answered_with c grants s random mid after entries used draws left plain paramete
     (rw (← entered, ← granted, ← planned) (whole ∙ encrypted))
     (rw (← entered, ← granted) answered)
     spelled
-    (rw (← entered) ended)
+    (rw (← entered, ← granted) ended)

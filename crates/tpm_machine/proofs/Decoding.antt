@@ -29,7 +29,7 @@ use Rattle.tpm_types.specs.CommandCode.{shape_of}
 use Rattle.tpm_types.specs.Shape.{is_of_kind}
 use Rattle.tpm_record.specs.Entity.{absence_rc, is_present}
 use Rattle.tpm_record.specs.Record.{Record}
-use Rattle.tpm_auth.specs.declared.grant.Grant.{Grant}
+use Rattle.tpm_auth.specs.declared.session_grant.Grant.{Grant}
 use Rattle.tpm_auth.specs.Refused.{checked, refusal}
 use Rattle.tpm_auth.specs.declared.check.Check.{Check}
 use Rattle.tpm_auth.specs.declared.check.Check.TheVariants as check

@@ -10,7 +10,7 @@ use Rattle.tpm_actions.specs.declared.answer.Answer.{Answer}
 use Rattle.tpm_actions.specs.Rows.{Success}
 use Rattle.tpm_machine.specs.Entries.{Drawn, entries_answer, entries_ended, entries_rolled}
 use Rattle.tpm_machine.specs.Parameters.{encrypted_answer}
-use Rattle.tpm_auth.specs.declared.grant.Grant.{Grant}
+use Rattle.tpm_auth.specs.declared.session_grant.Grant.{Grant}
 use Rattle.tpm_auth.specs.declared.check.Check.{Check}
 use Rattle.tpm_auth.specs.declared.check.Check.TheVariants as check
 use Rattle.tpm_auth.specs.declared.refused.Refused.{Refused}
@@ -48,7 +48,7 @@ pub record Answered : Type 0 where
 
 -- what answers a success of a command, each of whose entries authorized this handle or none: behind
 -- its effect new nonces are drawn, then its parameters are encrypted where that is asked for, then each
--- entry is answered, and then sessions end
+-- entry is answered, and then policies return to their start and sessions end
 unfoldable pub answer_to : Whole → List (Option Grant) → Success → List ℕ → Answered
 answer_to c grants s random =
     let drawn : Drawn = entries_rolled s.after c.entries (drop s.drawn random) in
@@ -56,7 +56,7 @@ answer_to c grants s random =
     record {
       response = success_text c.entries s.handle answer
           (entries_answer drawn.after c.code answer c.entries grants);
-      after = entries_ended drawn.after c.entries;
+      after = entries_ended drawn.after c.entries grants;
     }
 
 abbrev pub success_of : Answer → Record → Success

@@ -1,20 +1,24 @@
 -- What a success does with the sessions of its entries, and what it answers for each entry. TPM 2.0
 -- Library, Part 1, section 19.6 (session nonces and HMACs), and Part 2, section 10.13.3
 -- (TPMS_AUTH_RESPONSE).
-use Rattle.std.specs.Prelude.{ℕ, ◌==◌, List, [], ◌∷◌, ◌++◌, length, take, drop, if◌then◌else◌, Option, option_map}
+use Rattle.std.specs.Prelude.{ℕ, ◌==◌, ◌||◌, not, List, [], ◌∷◌, ◌++◌, length, take, drop, if◌then◌else◌, Option, is_some}
 use Rattle.std.specs.Option.{option_map_or}
 use Rattle.tpm_bytes.specs.Writing.{sized_text}
+use Rattle.tpm_mac.specs.declared.algorithm.HashAlg.{HashAlg}
+use Rattle.tpm_policy.specs.State.{starting}
 use Rattle.tpm_session.specs.declared.session.Session.{Session}
 use Rattle.tpm_session.specs.EntryText.{response_mac_of}
 use Rattle.tpm_session.specs.ParameterHash.{response_hash_of}
-use Rattle.tpm_session.specs.Sessions.{flushed, rolled}
+use Rattle.tpm_session.specs.Sessions.{flushed, rolled, with_session_policy}
 use Rattle.tpm_types.specs.declared.command_code.CommandCode.{CommandCode}
+use Rattle.tpm_types.specs.declared.session_type.SessionType.{SessionType}
+use Rattle.tpm_types.specs.declared.session_type.SessionType.TheVariants as type
 use Rattle.tpm_types.specs.AuthEntry.{Entry, has_bits}
 use Rattle.tpm_types.specs.CommandCode.{code_number}
 use Rattle.tpm_record.specs.Record.{Record}
 use Rattle.tpm_auth.specs.Entries.{session_of}
-use Rattle.tpm_auth.specs.declared.grant.Grant.{Grant}
-use Rattle.tpm_auth.specs.Grant.{granted_handle, used_auth_value}
+use Rattle.tpm_auth.specs.declared.session_grant.Grant.{Grant}
+use Rattle.tpm_auth.specs.SessionGrant.{demands_password, used_auth_value}
 
 -- a record, and the random bytes that are left
 pub record Drawn : Type 0 where
@@ -51,11 +55,11 @@ pub record HashedResponse : Type 0 where
 -- the HMAC of an answer. Its key is made after the command's effect: of the entity's value as it is
 -- then, and a session whose entity's value was changed is no longer bound to it. Where the
 -- command's HMAC was empty this is empty too, even if the key is no longer empty (this device's
--- own)
+-- own), and where a policy demanded a password
 unfoldable pub answer_mac : Record → CommandCode → List ℕ → Option Grant → Entry → Session → List ℕ
 answer_mac r c answer grant e s =
-    if length e.hmac == 0 then []
-    else response_mac_of s (used_auth_value r s (option_map granted_handle grant))
+    if length e.hmac == 0 || demands_password grant then []
+    else response_mac_of s (used_auth_value r s grant)
     (response_hash_of s.hash (code_number c) answer) e.nonce e.attributes
 
 -- the answer to an entry of a session: its nonce, the attributes of the command's entry, the HMAC
@@ -74,11 +78,23 @@ entries_answer r c answer (e ∷ es) [] = []
 entries_answer r c answer (e ∷ es) (grant ∷ grants) =
     entry_answer r c answer grant e ++ entries_answer r c answer es grants
 
--- a session without continueSession (bit 0) ends
-unfoldable pub entry_ended : Record → Entry → Record
-entry_ended r e =
-    if has_bits 0x01 e.attributes then r else record r { sessions = flushed r.sessions e.session }
+-- a policy session that authorized returns to the policy with which it started
+abbrev pub restarted_by : SessionType → Record → Entry → HashAlg → Record
+restarted_by type.Hmac r e hash = r
+restarted_by type.Policy r e hash =
+    record r { sessions = with_session_policy r.sessions e.session (starting hash) }
+restarted_by type.Trial r e hash = r
 
-abbrev pub entries_ended : Record → List Entry → Record
-entries_ended r [] = r
-entries_ended r (e ∷ es) = entries_ended (entry_ended r e) es
+unfoldable pub entry_restarted : Record → Entry → Record
+entry_restarted r e = option_map_or (λ (s : Session). restarted_by s.kind r e s.hash) (session_of r e) r
+
+-- a session without continueSession (bit 0) ends
+unfoldable pub entry_ended : Record → Entry → Option Grant → Record
+entry_ended r e grant =
+    if not (has_bits 0x01 e.attributes) then record r { sessions = flushed r.sessions e.session }
+    else (if is_some grant then entry_restarted r e else r)
+
+abbrev pub entries_ended : Record → List Entry → List (Option Grant) → Record
+entries_ended r [] grants = r
+entries_ended r (e ∷ es) [] = r
+entries_ended r (e ∷ es) (grant ∷ grants) = entries_ended (entry_ended r e grant) es grants

@@ -8,7 +8,7 @@ use Rattle.tpm_session.specs.Encryption.{encrypted_parameter, plain_parameter}
 use Rattle.tpm_types.specs.AuthEntry.{Entry}
 use Rattle.tpm_record.specs.Entity.{auth_value_of}
 use Rattle.tpm_record.specs.Record.{Record}
-use Rattle.tpm_auth.specs.declared.grant.Grant.{Grant}
+use Rattle.tpm_auth.specs.declared.session_grant.Grant.{Grant}
 use Rattle.tpm_auth.specs.Entries.{decrypts, encrypts, session_of}
 
 -- the size that stands at the front of a text

@@ -11,7 +11,7 @@ use Rattle.tpm_record.specs.Record.{Record}
 use Rattle.tpm_record.specs.Tick.{ticked}
 use Rattle.tpm_auth.specs.Check.{check_number}
 use Rattle.tpm_auth.specs.Grant.{authorize}
-use Rattle.tpm_auth.specs.declared.grant.Grant.{Grant}
+use Rattle.tpm_auth.specs.declared.session_grant.Grant.{Grant}
 use Rattle.tpm_auth.specs.declared.refused.Counted.{Counted}
 use Rattle.tpm_auth.specs.declared.refused.Refused.{Refused}
 use Rattle.tpm_actions.specs.Request.{Request}
@@ -48,7 +48,7 @@ request_in c plain locality random =
 -- row
 unfoldable pub acceptance : Record → Whole → ℕ → List ℕ → Result Accepted Refused
 acceptance r c locality random = do
-  grants ← authorize r c
+  grants ← authorize r c locality
   let plain : List ℕ = plain_parameters r c.entries grants c.parameters
   success ← row_of r c.code (request_in c plain locality random)
   Ok (record { command = c; grants = grants; success = success })

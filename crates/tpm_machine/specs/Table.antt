@@ -1,7 +1,7 @@
 -- The table: the row of each command.
 use Rattle.std.specs.Prelude.{Result}
 use Rattle.tpm_types.specs.declared.command_code.CommandCode.{CommandCode}
-use Rattle.tpm_types.specs.declared.command_code.CommandCode.TheVariants.{HierarchyChangeAuth, PcrEvent, PcrReset, Startup, FlushContext, StartAuthSession, GetRandom, PcrRead, PcrExtend}
+use Rattle.tpm_types.specs.declared.command_code.CommandCode.TheVariants as command
 use Rattle.tpm_record.specs.Record.{Record}
 use Rattle.tpm_auth.specs.declared.refused.Refused.{Refused}
 use Rattle.tpm_actions.specs.Request.{Request}
@@ -15,15 +15,33 @@ use Rattle.tpm_actions.specs.PcrReset.{pcr_reset_row}
 use Rattle.tpm_actions.specs.FlushContext.{flush_context_row}
 use Rattle.tpm_actions.specs.HierarchyChangeAuth.{hierarchy_change_auth_row}
 use Rattle.tpm_actions.specs.StartAuthSession.{start_auth_session_row}
+use Rattle.tpm_actions_policy.specs.PolicyAuthValue.{policy_auth_value_row}
+use Rattle.tpm_actions_policy.specs.PolicyCommandCode.{policy_command_code_row}
+use Rattle.tpm_actions_policy.specs.PolicyGetDigest.{policy_get_digest_row}
+use Rattle.tpm_actions_policy.specs.PolicyLocality.{policy_locality_row}
+use Rattle.tpm_actions_policy.specs.PolicyOr.{policy_or_row}
+use Rattle.tpm_actions_policy.specs.PolicyPassword.{policy_password_row}
+use Rattle.tpm_actions_policy.specs.PolicyPcr.{policy_pcr_row}
+use Rattle.tpm_actions_policy.specs.PolicyRestart.{policy_restart_row}
+use Rattle.tpm_actions_policy.specs.PolicySecret.{policy_secret_row}
 
 -- what a command does to a record
 unfoldable pub row_of : Record → CommandCode → Request → Result Success Refused
-row_of r HierarchyChangeAuth q = hierarchy_change_auth_row r q
-row_of r PcrEvent q = pcr_event_row r q
-row_of r PcrReset q = pcr_reset_row r q
-row_of r Startup q = startup_row r q
-row_of r FlushContext q = flush_context_row r q
-row_of r StartAuthSession q = start_auth_session_row r q
-row_of r GetRandom q = get_random_row r q
-row_of r PcrRead q = pcr_read_row r q
-row_of r PcrExtend q = pcr_extend_row r q
+row_of r command.HierarchyChangeAuth q = hierarchy_change_auth_row r q
+row_of r command.PcrEvent q = pcr_event_row r q
+row_of r command.PcrReset q = pcr_reset_row r q
+row_of r command.Startup q = startup_row r q
+row_of r command.PolicySecret q = policy_secret_row r q
+row_of r command.FlushContext q = flush_context_row r q
+row_of r command.PolicyAuthValue q = policy_auth_value_row r q
+row_of r command.PolicyCommandCode q = policy_command_code_row r q
+row_of r command.PolicyLocality q = policy_locality_row r q
+row_of r command.PolicyOr q = policy_or_row r q
+row_of r command.StartAuthSession q = start_auth_session_row r q
+row_of r command.GetRandom q = get_random_row r q
+row_of r command.PcrRead q = pcr_read_row r q
+row_of r command.PolicyPcr q = policy_pcr_row r q
+row_of r command.PolicyRestart q = policy_restart_row r q
+row_of r command.PcrExtend q = pcr_extend_row r q
+row_of r command.PolicyGetDigest q = policy_get_digest_row r q
+row_of r command.PolicyPassword q = policy_password_row r q

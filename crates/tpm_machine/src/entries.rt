@@ -1,18 +1,20 @@
 ghost use Rattle.std.specs.Prelude.{◌≡◌, ◌+◌, ◌*◌, ◌≤◌, ◌++◌, length, map};
 ghost use Rattle.tpm_types.specs.AuthEntry.{entry_of};
 ghost use Rattle.tpm_types.specs.CommandCode.{code_number};
-ghost use Rattle.tpm_machine.specs.Entries.{answer_mac, draw_of, entries_answer, entries_ended, entries_rolled, entry_answer, entry_ended, entry_rolled, session_answer};
+ghost use Rattle.tpm_auth.specs.SessionGrant.{demands_password};
+ghost use Rattle.tpm_machine.specs.Entries.{answer_mac, draw_of, entries_answer, entries_ended, entries_rolled, entry_answer, entry_ended, entry_restarted, entry_rolled, session_answer};
 
 use crate::draws::Draws;
 use crate::response_hashes::ResponseHashes;
-use tpm_auth::grant::Grant;
-use tpm_auth::session_grant::used_auth_value;
+use tpm_auth::session_grant::{Grant, used_auth_value};
+use tpm_policy::state::{Demand, PolicyState};
 use tpm_bytes::sink::Sink;
 use tpm_mac::Digest;
 use tpm_record::keep::Keep;
 use tpm_session::session::Session;
 use tpm_types::auth_entry::AuthEntry;
 use tpm_types::command_code::CommandCode;
+use tpm_types::session_type::SessionType;
 
 /// The answer to a password entry: no nonce, continueSession, no HMAC (TPMS_AUTH_RESPONSE, TPM 2.0
 /// Library, Part 2, section 10.13.3).
@@ -59,6 +61,15 @@ pub fn roll_entries<K: Keep>(keep: &mut K, entries: &[AuthEntry], draws: &mut Dr
     }
 }
 
+fn demands_password(grant: Option<Grant>) -> bool
+    ensures { result ≡ demands_password grant }
+{
+    match grant {
+        Some(grant) => grant.demand == Demand::Password,
+        None => false,
+    }
+}
+
 /// The HMAC of the answer to an entry.
 #[tactic(auto, unfolding(crate::specs::Entries::answer_mac))]
 fn answer_mac<K: Keep>(
@@ -74,11 +85,10 @@ fn answer_mac<K: Keep>(
         (entry_of entry.now) session.now }
     ensures same { hashes.new ≡ hashes.old }
 {
-    if entry.hmac.is_empty() {
+    if entry.hmac.is_empty() || demands_password(grant) {
         return Digest::new();
     }
-    let used = grant.map(|grant| grant.handle);
-    let value = used_auth_value(keep, session, used);
+    let value = used_auth_value(keep, session, grant);
     let hash = hashes.by(session.hash);
     session.response_mac(value, hash.as_slice(), entry.nonce, entry.attributes)
 }
@@ -154,20 +164,42 @@ pub fn answer_entries<K: Keep>(
     answer_entries(keep, code, hashes, entries, grants, area);
 }
 
+/// Returns the policy of an entry's session to its start, if it is a policy session.
+#[tactic(auto, unfolding(crate::specs::Entries::entry_restarted))]
+fn restart_entry<K: Keep>(keep: &mut K, entry: &AuthEntry)
+    ensures { K.record_of keep.new ≡ entry_restarted (K.record_of keep.old) (entry_of entry.now) }
+{
+    let policy = match keep.sessions().get(entry.session) {
+        Some(session) if session.kind == SessionType::Policy => PolicyState::new(session.hash),
+        _ => return,
+    };
+    keep.sessions_mut().set_policy(entry.session, policy);
+}
+
 #[tactic(auto, unfolding(crate::specs::Entries::entry_ended))]
-fn end_entry<K: Keep>(keep: &mut K, entry: &AuthEntry)
-    ensures { K.record_of keep.new ≡ entry_ended (K.record_of keep.old) (entry_of entry.now) }
+fn end_entry<K: Keep>(keep: &mut K, entry: &AuthEntry, grant: Option<Grant>)
+    ensures { K.record_of keep.new
+        ≡ entry_ended (K.record_of keep.old) (entry_of entry.now) grant }
 {
     if !entry.attributes.has_any(CONTINUE_SESSION) {
         keep.sessions_mut().flush(entry.session);
+    } else if grant.is_some() {
+        restart_entry(keep, entry);
     }
 }
 
-/// Ends the sessions that do not continue.
-pub fn end_entries<K: Keep>(keep: &mut K, entries: &[AuthEntry])
-    ensures { K.record_of keep.new ≡ entries_ended (K.record_of keep.old) (map entry_of entries.now) }
+/// Ends the sessions that do not continue, and returns the policies of those that authorized to
+/// their start.
+pub fn end_entries<K: Keep>(keep: &mut K, entries: &[AuthEntry], grants: &[Option<Grant>])
+    ensures { K.record_of keep.new
+        ≡ entries_ended (K.record_of keep.old) (map entry_of entries.now) grants.now }
 {
-    for entry in entries {
-        end_entry(keep, entry);
-    }
+    let [entry, entries @ ..] = entries else {
+        return;
+    };
+    let [grant, grants @ ..] = grants else {
+        return;
+    };
+    end_entry(keep, entry, *grant);
+    end_entries(keep, entries, grants);
 }

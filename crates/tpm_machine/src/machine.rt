@@ -206,7 +206,7 @@ impl<K: Keep> Machine<K> {
         requires empty { text.old.items ≡ [] }
         requires size { length command.now.parameters.now ≤ 4096 }
         requires granted { authorization (state_of K.record_of self.old) (whole_of command.now)
-            ≡ Ok grants.now.entries.items }
+            (locality_number locality) ≡ Ok grants.now.entries.items }
         ensures answer { Answers K.can_refuse (state_of K.record_of self.old) random.now
             (in_command command.now.code (acceptance (state_of K.record_of self.old)
             (whole_of command.now) (locality_number locality) random.now))

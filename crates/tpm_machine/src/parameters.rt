@@ -4,7 +4,7 @@ ghost use Rattle.tpm_types.specs.AuthEntry.{entry_of};
 ghost use Rattle.tpm_machine.specs.Parameters.{FindsFirst, cipher_value, decrypted_by, encrypted_answer, encrypted_by, plain_parameters, with_first_buffer};
 
 use tpm_auth::entries::{decrypts, encrypts};
-use tpm_auth::grant::Grant;
+use tpm_auth::session_grant::Grant;
 use tpm_record::entity::auth_value_of;
 use tpm_record::keep::Keep;
 use tpm_session::session::Session;

@@ -13,8 +13,9 @@ use crate::response_hashes::ResponseHashes;
 use arrayvec::ArrayVec;
 use tpm_actions::answer::{ANSWER_LIMIT, Answer};
 use tpm_auth::check::Check;
-use tpm_auth::grant::{Grant, Grants};
+use tpm_auth::grant::Grants;
 use tpm_auth::refused::Refused;
+use tpm_auth::session_grant::Grant;
 use tpm_bytes::sink::Sink;
 use tpm_record::keep::Keep;
 use tpm_types::auth_entry::AuthEntry;
@@ -167,7 +168,7 @@ fn write_with_sessions<K: Keep>(
     let mut area = Sink::new();
     answer_entries(keep, command.code, &mut hashes, entries, grants, &mut area);
     write_with_area(answer.handle, parameters.as_slice(), area.as_slice(), text);
-    end_entries(keep, entries);
+    end_entries(keep, entries, grants);
 }
 
 /// Writes the response to a command that succeeded.

@@ -23,9 +23,19 @@ use tpm_actions::pcr_read::pcr_read;
 use tpm_actions::pcr_reset::pcr_reset;
 use tpm_actions::start_auth_session::start_auth_session;
 use tpm_actions::startup::startup;
+use tpm_actions_policy::policy_auth_value::policy_auth_value;
+use tpm_actions_policy::policy_command_code::policy_command_code;
+use tpm_actions_policy::policy_get_digest::policy_get_digest;
+use tpm_actions_policy::policy_locality::policy_locality;
+use tpm_actions_policy::policy_or::policy_or;
+use tpm_actions_policy::policy_password::policy_password;
+use tpm_actions_policy::policy_pcr::policy_pcr;
+use tpm_actions_policy::policy_restart::policy_restart;
+use tpm_actions_policy::policy_secret::policy_secret;
 use tpm_auth::entries::any_decrypts;
-use tpm_auth::grant::{Grant, Grants};
+use tpm_auth::grant::Grants;
 use tpm_auth::refused::Refused;
+use tpm_auth::session_grant::Grant;
 use tpm_record::keep::Keep;
 use tpm_types::auth_entry::AuthEntry;
 use tpm_types::command_code::CommandCode;
@@ -48,11 +58,20 @@ fn act<K: Keep>(keep: &mut K, code: CommandCode, call: &Call) -> Result<Answer, 
         CommandCode::PcrEvent => pcr_event(keep, call),
         CommandCode::PcrReset => pcr_reset(keep, call),
         CommandCode::Startup => startup(keep, call),
+        CommandCode::PolicySecret => policy_secret(keep, call),
         CommandCode::FlushContext => flush_context(keep, call),
+        CommandCode::PolicyAuthValue => policy_auth_value(keep, call),
+        CommandCode::PolicyCommandCode => policy_command_code(keep, call),
+        CommandCode::PolicyLocality => policy_locality(keep, call),
+        CommandCode::PolicyOr => policy_or(keep, call),
         CommandCode::StartAuthSession => start_auth_session(keep, call),
         CommandCode::GetRandom => get_random(keep, call),
         CommandCode::PcrRead => pcr_read(keep, call),
+        CommandCode::PolicyPcr => policy_pcr(keep, call),
+        CommandCode::PolicyRestart => policy_restart(keep, call),
         CommandCode::PcrExtend => pcr_extend(keep, call),
+        CommandCode::PolicyGetDigest => policy_get_digest(keep, call),
+        CommandCode::PolicyPassword => policy_password(keep, call),
     }
 }
 
@@ -111,7 +130,7 @@ pub fn accept<K: Keep>(
 ) -> Result<Answer, Refused>
     requires size { length command.now.parameters.now ≤ 4096 }
     requires granted { authorize (K.record_of keep.old) (whole_of command.now)
-        ≡ Ok grants.now.entries.items }
+        (locality_number locality) ≡ Ok grants.now.entries.items }
     ensures { Accepts K.can_refuse (acceptance (K.record_of keep.old) (whole_of command.now)
         (locality_number locality) random.now) (whole_of command.now) grants.now.entries.items
         (K.record_of keep.old) result (K.record_of keep.new) }

@@ -1,10 +1,11 @@
 -- What a handle's entity is: whether it is there, its Name, its authorization value, how that is
--- protected, and by what it can be authorized. TPM 2.0 Library, Part 1, sections 16 (Names), 19.2
+-- protected, its policy, and by what it can be authorized. TPM 2.0 Library, Part 1, sections 16 (Names), 19.2
 -- (roles), 19.7 (policies) and 19.8 (dictionary attacks). No object and no NV index can be there
 -- yet.
-use Rattle.std.specs.Prelude.{ℕ, ◌==◌, ◌||◌, not, Bool, true, false, is_some, List, [], if◌then◌else◌}
+use Rattle.std.specs.Prelude.{ℕ, ◌==◌, ◌||◌, not, Bool, true, false, is_some, List, [], if◌then◌else◌, Option, None}
 use Rattle.std.specs.Option.{option_map_or}
 use Rattle.tpm_name.specs.Name.{handle_name}
+use Rattle.tpm_policy.specs.Use.{EntityParts}
 use Rattle.tpm_session.specs.declared.session.Protection.{Protection}
 use Rattle.tpm_session.specs.declared.session.Protection.TheVariants as protection
 use Rattle.tpm_session.specs.Sessions.{session_at}
@@ -75,6 +76,10 @@ auth_value_of r handle =
 -- how it is protected: hierarchies, PCRs and TPM_RH_NULL are not, and lockoutAuth in its own way
 unfoldable pub protection_of : Handle → Protection
 protection_of handle = if handle.number == 0x4000_000a then protection.Lockout else protection.None
+
+-- its policy, if it has one: none that is served can have one yet
+unfoldable pub policy_of : Record → Handle → Option EntityParts
+policy_of r handle = None
 
 -- by what each entity that is served can be authorized: by its authorization value, and not by a
 -- policy, as none can be set yet

@@ -1,9 +1,11 @@
-ghost use Rattle.std.specs.Prelude.{◌≡◌, ◌≤◌, length};
-ghost use Rattle.tpm_record.specs.Entity.{absence_rc, auth_value_of, hierarchy_auth_value, is_available, is_present, name_of, names_kept, names_session, protection_of, reference_of_handle, with_hierarchy_auth};
+ghost use Rattle.std.specs.Prelude.{◌≡◌, ◌≤◌, length, option_map};
+ghost use Rattle.tpm_policy.specs.Use.{entity_parts};
+ghost use Rattle.tpm_record.specs.Entity.{absence_rc, auth_value_of, hierarchy_auth_value, is_available, is_present, name_of, names_kept, names_session, policy_of, protection_of, reference_of_handle, with_hierarchy_auth};
 
 use crate::hierarchy::Hierarchies;
 use crate::keep::Keep;
 use tpm_name::Name;
+use tpm_policy::policy_use::EntityPolicy;
 use tpm_session::session::Protection;
 use tpm_types::auth_value::AuthValue;
 use tpm_types::handle::{Handle, HierarchyAuth};
@@ -131,6 +133,14 @@ pub fn protection_of(handle: Handle) -> Protection
     } else {
         Protection::None
     }
+}
+
+/// The policy of an entity, if it has one.
+#[tactic(auto, unfolding(crate::specs::Entity::policy_of))]
+pub fn policy_of<'a, K: Keep>(_keep: &'a K, _handle: Handle) -> Option<EntityPolicy<'a>>
+    ensures { option_map entity_parts result ≡ policy_of (K.record_of _keep.now) _handle }
+{
+    None
 }
 
 /// Whether the entities that there are can be authorized by this.

@@ -5,8 +5,7 @@ use Rattle.std.proofs.lemmas.Bool.{le-ltb, lt-ltb, ltb-false, ltb-true}
 use Rattle.std.proofs.lemmas.List.{length-append}
 use Rattle.tpm_session.specs.declared.session.Session.{Session}
 use Rattle.tpm_session.specs.ListPlaces.{length-padded, padded}
-use Rattle.tpm_session.specs.Places.{at_place, lowest_free, nonce_set}
-use Rattle.tpm_session.specs.Session.{with_nonce}
+use Rattle.tpm_session.specs.Places.{at_place, changed_at, lowest_free}
 
 abbrev Cells : Type 0
 Cells = List (Option Session)
@@ -130,14 +129,14 @@ padded-push cells cell few =
     ∙ sym (set_first_free cells (15 - length cells) cell)
     ∙ ap (λ (n : ℕ). slice_set (cells ++ free n) (length cells) cell) (sym before)
 
--- ---- the nonce of a session
+-- ---- what is changed in a session
 
-pub nonce_set-padded : (cells : Cells) (place : ℕ) (s : Session) (nonce : List ℕ) → place < length cells → at_place cells place ≡ Some s → nonce_set (padded cells) place nonce ≡ padded (slice_set cells place (Some (with_nonce s nonce)))
-nonce_set-padded cells place s nonce below is =
-    rw (at_place-padded cells place ∙ is) (sym (padded-set cells place (Some (with_nonce s nonce)) below))
+pub changed_at-padded : (change : Session → Session) (cells : Cells) (place : ℕ) (s : Session) → place < length cells → at_place cells place ≡ Some s → changed_at change (padded cells) place ≡ padded (slice_set cells place (Some (change s)))
+changed_at-padded change cells place s below is =
+    rw (at_place-padded cells place ∙ is) (sym (padded-set cells place (Some (change s)) below))
 
-pub nonce_set-none : (cells : Cells) (place : ℕ) (nonce : List ℕ) → at_place cells place ≡ None → nonce_set (padded cells) place nonce ≡ padded cells
-nonce_set-none cells place nonce is = rw (at_place-padded cells place ∙ is) refl
+pub changed_at-none : (change : Session → Session) (cells : Cells) (place : ℕ) → at_place cells place ≡ None → changed_at change (padded cells) place ≡ padded cells
+changed_at-none change cells place is = rw (at_place-padded cells place ∙ is) refl
 
 -- what a read of the cells says of a place
 pub at_place-read : (cells : Cells) (place : ℕ) (cell d : Option Session) → place < length cells → get_or cells place d ≡ cell → at_place cells place ≡ cell

@@ -1,4 +1,4 @@
--- The sessions of a device as a map from handles: what is found after a start, a flush and a new nonce.
+-- The sessions of a device as a map from handles: what is found after a start, a flush and a change.
 use Rattle.std.proofs.Common.{◌≡◌, ◌≢◌, ℕ, zero, suc, ◌<◌, Bool, true, false, cond, eqb, List, [], ◌∷◌, length, Option, Some, None, slice_set, is_none, refl, sym, ap, subst, ◌∙◌, arith, inl, inr}
 use Rattle.std.specs.Prelude.{option_and_then}
 use Rattle.std.proofs.lemmas.Bool.{cases_eq, eqb-true, eq-eqb, ne_eqb}
@@ -7,8 +7,8 @@ use Rattle.tpm_types.specs.declared.handle.Handle.{Handle}
 use Rattle.tpm_types.specs.Handle.{handle_type}
 use Rattle.tpm_session.specs.declared.session.Session.{Session}
 use Rattle.tpm_session.specs.Places.{at_place, lowest_free}
-use Rattle.tpm_session.specs.Session.{type_byte, with_nonce}
-use Rattle.tpm_session.specs.Sessions.{flushed, handle_of, if_of_type, place_of, rolled, session_at}
+use Rattle.tpm_types.specs.SessionType.{type_byte}
+use Rattle.tpm_session.specs.Sessions.{changed, flushed, handle_of, if_of_type, place_of, session_at}
 use Rattle.tpm_session.proofs.Padding.{at_place-read}
 
 abbrev Places : Type 0
@@ -169,29 +169,32 @@ flushed-others places handle other apart = by (session_at places handle) refl
     by (Some s) is = ap (λ (p : Places). session_at p other) (flushed_some places handle s is) ∙ others_stay places handle other s None is apart (λ here. refl)
     by None is = ap (λ (p : Places). session_at p other) (flushed-absent places handle is)
 
--- ---- a new nonce
+-- ---- what is changed in a session, which keeps its type: a new nonce (`rolled`), another policy
+-- (`with_session_policy`)
 
-rolled_some : (places : Places) (handle : Handle) (s : Session) (nonce : List ℕ) → session_at places handle ≡ Some s → rolled places handle nonce ≡ slice_set places (place_of handle) (Some (with_nonce s nonce))
-unfolding rolled
-rolled_some places handle s nonce is = rw is refl
+abbrev Keeps : (Session → Session) → Type 0
+Keeps change = (s : Session) → (change s).kind ≡ s.kind
 
-pub rolled-absent : (places : Places) (handle : Handle) (nonce : List ℕ) → session_at places handle ≡ None → rolled places handle nonce ≡ places
-unfolding rolled
-rolled-absent places handle nonce is = rw is refl
+changed_some : (change : Session → Session) (places : Places) (handle : Handle) (s : Session) → session_at places handle ≡ Some s → changed change places handle ≡ slice_set places (place_of handle) (Some (change s))
+changed_some change places handle s is = rw is refl
 
-renewed : (places : Places) (handle : Handle) (s : Session) (nonce : List ℕ) → session_at places handle ≡ Some s → session_at (slice_set places (place_of handle) (Some (with_nonce s nonce))) handle ≡ Some (with_nonce s nonce)
+pub changed-absent : (change : Session → Session) (places : Places) (handle : Handle) → session_at places handle ≡ None → changed change places handle ≡ places
+changed-absent change places handle is = rw is refl
+
+changed_here : (change : Session → Session) (places : Places) (handle : Handle) (s : Session) → Keeps change → session_at places handle ≡ Some s → session_at (slice_set places (place_of handle) (Some (change s))) handle ≡ Some (change s)
 unfolding session_at
-renewed places handle s nonce is =
+changed_here change places handle s keeps is =
     let f = seen_some handle (at_place places (place_of handle)) s is in
-    ap (seen handle) (at_set-here places (place_of handle) (Some (with_nonce s nonce)) (at_inside places (place_of handle) s f.0))
-    ∙ seen_fits handle (with_nonce s nonce) f.1
+    ap (seen handle) (at_set-here places (place_of handle) (Some (change s)) (at_inside places (place_of handle) s f.0))
+    ∙ seen_fits handle (change s) (f.1 ∙ sym (ap type_byte (keeps s)))
 
-pub rolled-found : (places : Places) (handle : Handle) (s : Session) (nonce : List ℕ) → session_at places handle ≡ Some s → session_at (rolled places handle nonce) handle ≡ Some (with_nonce s nonce)
-rolled-found places handle s nonce is = ap (λ (p : Places). session_at p handle) (rolled_some places handle s nonce is) ∙ renewed places handle s nonce is
+pub changed-found : (change : Session → Session) (places : Places) (handle : Handle) (s : Session) → Keeps change → session_at places handle ≡ Some s → session_at (changed change places handle) handle ≡ Some (change s)
+changed-found change places handle s keeps is =
+    ap (λ (p : Places). session_at p handle) (changed_some change places handle s is) ∙ changed_here change places handle s keeps is
 
-pub rolled-others : (places : Places) (handle other : Handle) (nonce : List ℕ) → other ≢ handle → session_at (rolled places handle nonce) other ≡ session_at places other
-rolled-others places handle other nonce apart = by (session_at places handle) refl
+pub changed-others : (change : Session → Session) (places : Places) (handle other : Handle) → Keeps change → other ≢ handle → session_at (changed change places handle) other ≡ session_at places other
+changed-others change places handle other keeps apart = by (session_at places handle) refl
   where
-    by : (o : Option Session) → session_at places handle ≡ o → session_at (rolled places handle nonce) other ≡ session_at places other
-    by (Some s) is = ap (λ (p : Places). session_at p other) (rolled_some places handle s nonce is) ∙ others_stay places handle other s (Some (with_nonce s nonce)) is apart (λ here. hidden places handle other s (with_nonce s nonce) (found_at places handle s is) refl apart here)
-    by None is = ap (λ (p : Places). session_at p other) (rolled-absent places handle nonce is)
+    by : (o : Option Session) → session_at places handle ≡ o → session_at (changed change places handle) other ≡ session_at places other
+    by (Some s) is = ap (λ (p : Places). session_at p other) (changed_some change places handle s is) ∙ others_stay places handle other s (Some (change s)) is apart (λ here. hidden places handle other s (change s) (found_at places handle s is) (keeps s) apart here)
+    by None is = ap (λ (p : Places). session_at p other) (changed-absent change places handle is)

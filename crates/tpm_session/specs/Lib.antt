@@ -7,9 +7,11 @@ pub mod ParameterHash
 pub mod EntryText
 pub mod Encryption
 pub use Rattle.tpm_name.specs.Name
+pub use Rattle.tpm_policy.specs.State
 pub use Rattle.tpm_types.specs.AuthEntry
 pub use Rattle.tpm_types.specs.AuthValue
 pub use Rattle.tpm_types.specs.Handle
+pub use Rattle.tpm_types.specs.SessionType
 pub use Rattle.tpm_mac.specs.Digest
 pub use Rattle.tpm_mac.specs.Hmac
 pub use Rattle.tpm_mac.specs.Kdf

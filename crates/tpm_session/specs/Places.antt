@@ -1,10 +1,11 @@
 -- Sixteen places for sessions.
 use Rattle.std.specs.Prelude.{◌≡◌, ℕ, ◌<◌, Bool, true, is_none, List, Option, Some, None, option_and_then, Result, Ok, Err, slice_get, slice_set, position}
 use Rattle.std.specs.Option.{option_map_or}
+use Rattle.tpm_policy.specs.State.{Policy}
 use Rattle.tpm_session.specs.declared.session.Session.{Session}
 use Rattle.tpm_session.specs.declared.slots.SlotFault.{SlotFault}
 use Rattle.tpm_session.specs.declared.slots.SlotFault.TheVariants.{Full, NoMemory}
-use Rattle.tpm_session.specs.Session.{with_nonce}
+use Rattle.tpm_session.specs.Session.{with_nonce, with_policy}
 
 -- the session in a place
 abbrev pub at_place : List (Option Session) → ℕ → Option Session
@@ -13,11 +14,18 @@ at_place places place = option_and_then (λ s. s) (slice_get places place)
 abbrev pub lowest_free : List (Option Session) → Option ℕ
 lowest_free places = position is_none places
 
--- with another nonce in the session of a place, if one is there
-abbrev pub nonce_set : List (Option Session) → ℕ → List ℕ → List (Option Session)
-nonce_set places place nonce =
-    option_map_or (λ (s : Session). slice_set places place (Some (with_nonce s nonce)))
+-- with something changed in the session of a place, if one is there
+abbrev pub changed_at : (Session → Session) → List (Option Session) → ℕ → List (Option Session)
+changed_at change places place =
+    option_map_or (λ (s : Session). slice_set places place (Some (change s)))
     (at_place places place) places
+
+-- its nonce, or its policy
+abbrev pub nonce_set : List (Option Session) → ℕ → List ℕ → List (Option Session)
+nonce_set places place nonce = changed_at (λ s. with_nonce s nonce) places place
+
+abbrev pub policy_set : List (Option Session) → ℕ → Policy → List (Option Session)
+policy_set places place policy = changed_at (λ s. with_policy s policy) places place
 
 -- A session took the lowest free place, unless all are taken or memory was refused.
 abbrev pub Inserts : Bool → List (Option Session) → Session

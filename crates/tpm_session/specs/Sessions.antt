@@ -4,16 +4,18 @@
 use Rattle.std.specs.Prelude.{◌≡◌, ℕ, ◌+◌, ◌*◌, ◌%◌, ◌^◌, ◌==◌, Bool, true, false, is_some, List, Option, Some, None, option_and_then, Result, Ok, Err, if◌then◌else◌, length, slice_set}
 use Rattle.std.specs.Option.{option_map_or}
 use Rattle.tpm_types.specs.declared.handle.Handle.{Handle}
+use Rattle.tpm_types.specs.declared.session_type.SessionType.{SessionType}
 use Rattle.tpm_types.specs.Handle.{handle_type}
+use Rattle.tpm_types.specs.SessionType.{type_byte}
+use Rattle.tpm_policy.specs.State.{Policy, starting}
 use Rattle.tpm_session.specs.declared.session.Session.{Session}
-use Rattle.tpm_session.specs.declared.session.SessionType.{SessionType}
 use Rattle.tpm_session.specs.declared.sessions.Sessions.{Sessions}
 use Rattle.tpm_session.specs.declared.sessions.Start.{Start}
 use Rattle.tpm_session.specs.declared.sessions.StartFault.{StartFault}
 use Rattle.tpm_session.specs.declared.sessions.StartFault.TheVariants as fault
 use Rattle.tpm_session.specs.Key.{is_nonce_size, session_key}
 use Rattle.tpm_session.specs.Places.{at_place, lowest_free}
-use Rattle.tpm_session.specs.Session.{type_byte, with_nonce}
+use Rattle.tpm_session.specs.Session.{with_nonce, with_policy}
 
 -- the places of the sessions, by what shows those of their slots
 abbrev pub places_of : {S : Type 0}
@@ -36,11 +38,18 @@ if_of_type handle s = if handle_type handle == type_byte s.kind then Some s else
 unfoldable pub session_at : List (Option Session) → Handle → Option Session
 session_at places handle = option_and_then (if_of_type handle) (at_place places (place_of handle))
 
--- with another nonce in the session of a handle, if there is one
-unfoldable pub rolled : List (Option Session) → Handle → List ℕ → List (Option Session)
-rolled places handle nonce =
-    option_map_or (λ (s : Session). slice_set places (place_of handle) (Some (with_nonce s nonce)))
+-- with something changed in the session of a handle, if there is one
+abbrev pub changed : (Session → Session) → List (Option Session) → Handle → List (Option Session)
+changed change places handle =
+    option_map_or (λ (s : Session). slice_set places (place_of handle) (Some (change s)))
     (session_at places handle) places
+
+-- its nonce, or its policy
+unfoldable pub rolled : List (Option Session) → Handle → List ℕ → List (Option Session)
+rolled places handle nonce = changed (λ s. with_nonce s nonce) places handle
+
+unfoldable pub with_session_policy : List (Option Session) → Handle → Policy → List (Option Session)
+with_session_policy places handle policy = changed (λ s. with_policy s policy) places handle
 
 -- without the session of a handle
 unfoldable pub flushed : List (Option Session) → Handle → List (Option Session)
@@ -56,6 +65,7 @@ started_session start = record {
   nonce_tpm = start.nonce_tpm;
   key = session_key start.hash start.binding start.nonce_tpm start.nonce_caller.now;
   binding = start.binding;
+  policy = starting start.hash;
 }
 
 -- whether the caller's nonce has a size that it may have

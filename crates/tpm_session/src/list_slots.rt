@@ -4,6 +4,7 @@ use crate::nonce::Nonce;
 use crate::session::Session;
 use crate::slots::{SlotFault, Slots};
 use std::alloc::Global;
+use tpm_policy::state::PolicyState;
 
 /// How many places there are.
 const PLACES: usize = 16;
@@ -63,6 +64,14 @@ impl Slots for ListSlots {
         if place < self.cells.len() {
             if let Some(session) = &mut self.cells[place] {
                 session.nonce_tpm = nonce;
+            }
+        }
+    }
+
+    fn set_policy(&mut self, place: usize, policy: PolicyState) {
+        if place < self.cells.len() {
+            if let Some(session) = &mut self.cells[place] {
+                session.policy = policy;
             }
         }
     }

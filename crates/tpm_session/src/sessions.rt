@@ -1,13 +1,15 @@
 ghost use Rattle.std.specs.Prelude.{◌≡◌, ◌<◌, None, is_some, length, option_copied, replicate};
-ghost use Rattle.tpm_session.specs.Sessions.{Starts, flushed, handle_of, place_of, places_of, rolled, session_at, started_session};
+ghost use Rattle.tpm_session.specs.Sessions.{Starts, flushed, handle_of, place_of, places_of, rolled, session_at, started_session, with_session_policy};
 
 use crate::key::{SessionKey, is_nonce_size};
 use crate::nonce::Nonce;
-use crate::session::{Binding, Session, SessionType};
+use crate::session::{Binding, Session};
 use crate::slots::{SlotFault, Slots};
 use std::alloc::Global;
 use tpm_mac::HashAlg;
+use tpm_policy::state::PolicyState;
 use tpm_types::handle::Handle;
+use tpm_types::session_type::SessionType;
 use tpm_types::symmetric::SymmetricDefinition;
 
 /// With what a session starts (TPM 2.0 Library, Part 3, section 11.1).
@@ -75,6 +77,7 @@ fn started_session(start: Start) -> Session
         nonce_tpm: start.nonce_tpm,
         key,
         binding: start.binding,
+        policy: PolicyState::new(start.hash),
     }
 }
 
@@ -150,6 +153,20 @@ impl<S: Slots> Sessions<S> {
             return false;
         }
         self.slots.set_nonce(place_of(handle), nonce);
+        true
+    }
+
+    /// Gives the session of a handle another policy, and tells whether there was one.
+    #[tactic(auto, unfolding(crate::specs::Sessions::with_session_policy, crate::specs::Sessions::session_at))]
+    pub fn set_policy(&mut self, handle: Handle, policy: PolicyState) -> bool
+        ensures there { result ≡ is_some (session_at (places_of S.places self.old) handle) }
+        ensures after { places_of S.places self.new
+            ≡ with_session_policy (places_of S.places self.old) handle policy }
+    {
+        if self.get(handle).is_none() {
+            return false;
+        }
+        self.slots.set_policy(place_of(handle), policy);
         true
     }
 }

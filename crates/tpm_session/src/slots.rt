@@ -1,10 +1,11 @@
 ghost use Rattle.std.specs.Prelude.{◌≡◌, Bool, List, Option, None, length, option_copied, replicate, slice_set};
-ghost use Rattle.tpm_session.specs.Places.{Inserts, at_place, nonce_set};
+ghost use Rattle.tpm_session.specs.Places.{Inserts, at_place, nonce_set, policy_set};
 ghost use Rattle.tpm_session.specs.declared.session.Session.{Session as SessionParts};
 
 use crate::nonce::Nonce;
 use crate::session::Session;
 use std::alloc::Global;
+use tpm_policy::state::PolicyState;
 
 /// Why no place was taken.
 #[derive(Clone, Copy, Debug, PartialEq, Eq)]
@@ -38,6 +39,10 @@ pub trait Slots: Drop + Sized {
     /// Gives the session in a place another nonce of the TPM's, if one is there.
     fn set_nonce(&mut self, place: usize, nonce: Nonce)
         ensures { places self.new ≡ nonce_set (places self.old) place nonce };
+
+    /// Gives the session in a place another policy, if one is there.
+    fn set_policy(&mut self, place: usize, policy: PolicyState)
+        ensures { places self.new ≡ policy_set (places self.old) place policy };
 
     /// Frees a place.
     fn remove(&mut self, place: usize)

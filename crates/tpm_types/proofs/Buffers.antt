@@ -21,7 +21,7 @@ sized_within limit text x e =
     let few : n.0 ≤ limit = ltb-false _ _ g.0 in
     subst (λ (p : List ℕ × List ℕ). length p.0 ≤ limit) u.1 (omega (arith, few, length-take n.0 n.1))
 
-or_sized_ok : {X : Type 0} (r : Result X SizedFault) (x : X) → or_sized_rc r ≡ Ok x → r ≡ Ok x
+pub or_sized_ok : {X : Type 0} (r : Result X SizedFault) (x : X) → or_sized_rc r ≡ Ok x → r ≡ Ok x
 or_sized_ok (Ok y) x e = cc
 or_sized_ok (Err d) x e = absurd cc
 

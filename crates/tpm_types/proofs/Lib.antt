@@ -16,3 +16,4 @@ pub mod ValuesLaws
 pub mod Trimming
 pub mod SymmetricLaws
 pub mod Buffers
+pub mod DigestListLaws

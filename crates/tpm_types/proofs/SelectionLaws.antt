@@ -1,8 +1,8 @@
 -- Selections of PCRs: what is read was spelled so, and what is spelled so is read.
-use Rattle.std.proofs.Common.{◌≡◌, ℕ, zero, suc, ◌/◌, ◌%◌, ◌^◌, ◌<◌, Bool, true, false, List, [], ◌∷◌, ◌++◌, length, take, Ok, refl, sym, ap, subst, ◌∙◌, append_assoc, arith}
+use Rattle.std.proofs.Common.{◌≡◌, ℕ, zero, suc, ◌/◌, ◌%◌, ◌^◌, ◌<◌, Bool, true, false, ltb, List, [], ◌∷◌, ◌++◌, length, take, Ok, refl, sym, ap, subst, ◌∙◌, append_assoc, arith}
 use Rattle.std.specs.Prelude.{◌==◌, not}
 use Rattle.std.specs.Int.{w8, w16, w32, to_be_bytes, from_le_bytes, to_le_bytes}
-use Rattle.std.proofs.lemmas.Bool.{eqb-true}
+use Rattle.std.proofs.lemmas.Bool.{eqb-true, ltb-false, le-ltb}
 use Rattle.std.proofs.lemmas.Nat.{le_bytes_4, from_le_bytes-to_le_bytes_4}
 use Rattle.tpm_bytes.specs.Reading.{◌>>=◌, bytes_at, number_at, or_fault, refused_if}
 use Rattle.tpm_bytes.proofs.Fields.{AreBytes, Takes, Takes-then, bind_ok, or_fault_ok, passed, bytes_take, bytes_again, number_or_takes, number_or_again, wide8, ok_is}
@@ -84,9 +84,9 @@ bank_again bank rest small =
 pub selection_takes : (bytes : List ℕ) (x : List BankSelection × List ℕ) → AreBytes bytes → selection_at bytes ≡ Ok x → (bytes ≡ selection_text x.0 ++ x.1) × IsSelection x.0
 unfolding selection_at selection_text banks_text
 selection_takes bytes x fits e =
-    let t = counted_takes 16 bank_text IsBank bank_at bank_takes bytes x fits e in
-    (t.0, record { few = t.1; each = t.2 })
+    let t = counted_takes (ltb 16) bank_text IsBank bank_at bank_takes bytes x fits e in
+    (t.0, record { few = ltb-false _ _ t.1; each = t.2 })
 
 pub selection_again : (banks : List BankSelection) (rest : List ℕ) → IsSelection banks → selection_at (selection_text banks ++ rest) ≡ Ok (banks, rest)
 unfolding selection_at selection_text banks_text
-selection_again banks rest is = counted_again 16 bank_text IsBank bank_at bank_again (omega arith) banks rest is.few is.each
+selection_again banks rest is = counted_again (ltb 16) bank_text IsBank bank_at bank_again banks rest (omega (arith, is.few)) (le-ltb _ _ is.few) is.each

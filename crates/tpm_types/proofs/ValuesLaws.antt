@@ -1,6 +1,7 @@
 -- Digests with their algorithms: what is read was spelled so, and what is spelled so is read.
-use Rattle.std.proofs.Common.{◌≡◌, ℕ, List, ◌++◌, Ok, refl, sym, ap, subst, ◌∙◌, append_assoc, arith}
+use Rattle.std.proofs.Common.{◌≡◌, ℕ, ltb, List, ◌++◌, Ok, refl, sym, ap, subst, ◌∙◌, append_assoc, arith}
 use Rattle.std.specs.Int.{w16, to_be_bytes}
+use Rattle.std.proofs.lemmas.Bool.{ltb-false, le-ltb}
 use Rattle.tpm_bytes.specs.Reading.{bytes_at}
 use Rattle.tpm_bytes.proofs.Fields.{AreBytes, Takes, Takes-then, bind_ok, bytes_again, bytes_take, ok_is, or_fault_ok}
 use Rattle.tpm_mac.specs.declared.algorithm.HashAlg.{HashAlg}
@@ -55,9 +56,9 @@ digest_value_again value rest is =
 pub digest_values_takes : (bytes : List ℕ) (x : List DigestValue × List ℕ) → AreBytes bytes → digest_values_at bytes ≡ Ok x → (bytes ≡ digest_values_text x.0 ++ x.1) × IsDigestValues x.0
 unfolding digest_values_at digest_values_text values_text
 digest_values_takes bytes x fits e =
-    let t = counted_takes 2 digest_value_text IsDigestValue digest_value_at digest_value_takes bytes x fits e in
-    (t.0, record { few = t.1; each = t.2 })
+    let t = counted_takes (ltb 2) digest_value_text IsDigestValue digest_value_at digest_value_takes bytes x fits e in
+    (t.0, record { few = ltb-false _ _ t.1; each = t.2 })
 
 pub digest_values_again : (values : List DigestValue) (rest : List ℕ) → IsDigestValues values → digest_values_at (digest_values_text values ++ rest) ≡ Ok (values, rest)
 unfolding digest_values_at digest_values_text values_text
-digest_values_again values rest is = counted_again 2 digest_value_text IsDigestValue digest_value_at digest_value_again (omega arith) values rest is.few is.each
+digest_values_again values rest is = counted_again (ltb 2) digest_value_text IsDigestValue digest_value_at digest_value_again values rest (omega (arith, is.few)) (le-ltb _ _ is.few) is.each

@@ -1,10 +1,16 @@
 -- Lists of digests. TPM 2.0 Library, Part 2, section 10.9.5 (TPML_DIGEST): how many, and each as a
 -- sized buffer.
-use Rattle.std.specs.Prelude.{ℕ, List, ◌++◌, length, map}
-use Rattle.std.specs.List.{flat_map}
+use Rattle.std.specs.Prelude.{ℕ, ◌≤◌, ◌||◌, nat_lt, List, ◌++◌, length, map, Result}
+use Rattle.std.specs.List.{flat_map, AllByRecursion}
 use Rattle.std.specs.Int.{w32, to_be_bytes}
 use Rattle.arrayvec.specs.ArrayVec.{ArrayVec}
+use Rattle.tpm_bytes.specs.Many.{many_at}
+use Rattle.tpm_bytes.specs.Reading.{◌>>=◌, number_at, or_fault, refused_if}
 use Rattle.tpm_bytes.specs.Writing.{sized_text}
+use Rattle.tpm_types.specs.declared.rc.Rc.{Rc}
+use Rattle.tpm_types.specs.declared.rc.ResponseCode.TheVariants as code
+use Rattle.tpm_types.specs.Buffer.{buffer_at}
+use Rattle.tpm_types.specs.Rc.{plain}
 
 -- digests as their bytes
 abbrev pub digests_of : List (ArrayVec ℕ) → List (List ℕ)
@@ -15,3 +21,24 @@ digests_text digests = flat_map sized_text digests
 
 unfoldable pub digest_list_text : List (List ℕ) → List ℕ
 digest_list_text digests = to_be_bytes w32 (length digests) ++ digests_text digests
+
+-- a digest has at most 32 bytes
+abbrev pub IsDigest : List ℕ → Type 0
+IsDigest digest = length digest ≤ 32
+
+-- a list that is read has two to eight digests, as that of TPM2_PolicyOR (Part 3, section 23.6)
+pub record IsDigestList (digests : List (List ℕ)) : Type 0 where
+  pub several : 2 ≤ length digests
+  pub few : length digests ≤ 8
+  pub each : AllByRecursion IsDigest digests
+
+-- reading, with the first fault
+
+abbrev pub digest_at : List ℕ → Result (List ℕ × List ℕ) Rc
+digest_at text = buffer_at 32 text
+
+unfoldable pub digest_list_at : List ℕ → Result (List (List ℕ) × List ℕ) Rc
+digest_list_at text = do
+  count ← or_fault (number_at w32 text) (plain code.Insufficient)
+  sized ← refused_if (nat_lt count.0 2 || nat_lt 8 count.0) (plain code.Size)
+  many_at digest_at count.0 count.1

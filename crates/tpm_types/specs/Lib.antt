@@ -1,6 +1,7 @@
 pub mod Rc
 pub mod Tag
 pub mod CommandCode
+pub mod CommandNumber
 pub mod Shape
 pub mod Locality
 pub mod Algorithm
@@ -15,6 +16,8 @@ pub mod Command
 pub mod DigestList
 pub mod DigestValues
 pub mod StartupType
+pub mod SessionType
+pub mod ActionCheck
 pub mod Buffer
 pub mod Symmetric
 pub mod AuthValue

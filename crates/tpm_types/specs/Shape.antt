@@ -1,7 +1,7 @@
 -- Every fact of a command but its number and what it does. TPM 2.0 Library, Part 3, the tables of
 -- each command's own section: its handles and who authorizes them, its parameters, and whether it
 -- may have sessions.
-use Rattle.std.specs.Prelude.{ℕ, ◌==◌, ◌||◌, is_some, count_by, Bool, true, false, List, [], ◌∷◌, length, Some, None}
+use Rattle.std.specs.Prelude.{ℕ, ◌==◌, ◌||◌, ◌&&◌, not, is_some, count_by, Bool, true, false, List, [], ◌∷◌, length, Some, None}
 use Rattle.tpm_types.specs.declared.handle.Handle.{Handle}
 use Rattle.tpm_types.specs.declared.shape.HandleKind.{HandleKind}
 use Rattle.tpm_types.specs.declared.shape.HandleKind.TheVariants as kind
@@ -20,13 +20,17 @@ is_entity handle =
     handle.number == null_handle.number || is_some (hierarchy_auth_of handle) || is_some (pcr_of handle)
     || handle_type handle == 0x01 || handle_type handle == 0x80 || handle_type handle == 0x81
 
--- whether a handle is of a kind: a PCR (TPMI_DH_PCR of Part 2, section 9), or that or TPM_RH_NULL
+-- whether a handle is of a kind: a PCR (TPMI_DH_PCR of Part 2, section 9), or that or TPM_RH_NULL;
+-- a policy session (03: TPMI_SH_POLICY); the others as above
 abbrev pub is_of_kind : HandleKind → Handle → Bool
 is_of_kind kind.Pcr handle = is_some (pcr_of handle)
 is_of_kind kind.PcrOrNull handle = is_some (pcr_of handle) || handle.number == null_handle.number
 is_of_kind kind.Null handle = handle.number == null_handle.number
 is_of_kind kind.HierarchyAuth handle = is_some (hierarchy_auth_of handle)
 is_of_kind kind.Entity handle = is_entity handle
+is_of_kind kind.EntityNotNull handle =
+    is_entity handle && not (handle.number == null_handle.number)
+is_of_kind kind.PolicySession handle = handle_type handle == 0x03
 
 -- whether a parameter is a sized buffer (TPM2B of Part 2, section 10.4)
 abbrev pub is_sized : ParameterKind → Bool
@@ -39,6 +43,7 @@ is_sized parameter.Hash = false
 is_sized parameter.Symmetric = false
 is_sized parameter.Selection = false
 is_sized parameter.Digests = false
+is_sized parameter.DigestList = false
 
 -- a shape, wherever its lists lie in memory: its handles and who authorizes each, its parameters,
 -- whether the first parameter of its answer is a sized buffer, whether a handle stands before

@@ -1,7 +1,7 @@
 ghost use Rattle.std.specs.Prelude.{◌≡◌, ◌≤◌, ◌==◌, IfSome, length};
 
 use crate::shape::ParameterKind::{
-    Buffer, Digests, Hash, Selection, StartupType, Symmetric, U8, U16, U32,
+    Buffer, DigestList, Digests, Hash, Selection, StartupType, Symmetric, U8, U16, U32,
 };
 use crate::shape::{HandleKind, HandleRule, Role, Shape};
 
@@ -13,11 +13,20 @@ pub enum CommandCode {
     PcrEvent = 0x13c,
     PcrReset = 0x13d,
     Startup = 0x144,
+    PolicySecret = 0x151,
     FlushContext = 0x165,
+    PolicyAuthValue = 0x16b,
+    PolicyCommandCode = 0x16c,
+    PolicyLocality = 0x16f,
+    PolicyOr = 0x171,
     StartAuthSession = 0x176,
     GetRandom = 0x17b,
     PcrRead = 0x17e,
+    PolicyPcr = 0x17f,
+    PolicyRestart = 0x180,
     PcrExtend = 0x182,
+    PolicyGetDigest = 0x189,
+    PolicyPassword = 0x18c,
 }
 
 const USER_PCR: HandleRule = HandleRule {
@@ -45,6 +54,16 @@ const ENTITY: HandleRule = HandleRule {
     role: None,
 };
 
+const USER_ENTITY: HandleRule = HandleRule {
+    kind: HandleKind::EntityNotNull,
+    role: Some(Role::User),
+};
+
+const POLICY_SESSION: HandleRule = HandleRule {
+    kind: HandleKind::PolicySession,
+    role: None,
+};
+
 /// A shape with these handles and parameters, of which the named facts hold and no others.
 macro_rules! shape {
     ([$($handle:expr),*], [$($parameter:expr),*] $(, $fact:ident)*) => {{
@@ -62,20 +81,29 @@ macro_rules! shape {
 }
 
 impl CommandCode {
-    ghost use Rattle.tpm_types.specs.CommandCode.{authorized_handles, code_named, code_number, handle_count, has_sized_parameter, shape_of};
+    ghost use Rattle.tpm_types.specs.CommandCode.{authorized_handles, code_named, code_number, handle_count, has_sized_parameter, role_at, shape_of};
     ghost use Rattle.tpm_types.specs.Shape.{facts_of};
 
     /// All of them, ascending by number.
-    pub const ALL: [CommandCode; 9] = [
+    pub const ALL: [CommandCode; 18] = [
         CommandCode::HierarchyChangeAuth,
         CommandCode::PcrEvent,
         CommandCode::PcrReset,
         CommandCode::Startup,
+        CommandCode::PolicySecret,
         CommandCode::FlushContext,
+        CommandCode::PolicyAuthValue,
+        CommandCode::PolicyCommandCode,
+        CommandCode::PolicyLocality,
+        CommandCode::PolicyOr,
         CommandCode::StartAuthSession,
         CommandCode::GetRandom,
         CommandCode::PcrRead,
+        CommandCode::PolicyPcr,
+        CommandCode::PolicyRestart,
         CommandCode::PcrExtend,
+        CommandCode::PolicyGetDigest,
+        CommandCode::PolicyPassword,
     ];
 
     /// The number on the wire.
@@ -112,7 +140,16 @@ impl CommandCode {
             CommandCode::PcrEvent => shape!([USER_PCR_OR_NULL], [Buffer(1024)]),
             CommandCode::PcrReset => shape!([USER_PCR], []),
             CommandCode::Startup => shape!([], [StartupType], forbids_sessions),
+            CommandCode::PolicySecret => shape!(
+                [USER_ENTITY, POLICY_SESSION],
+                [Buffer(32), Buffer(32), Buffer(32), U32],
+                sized_answer
+            ),
             CommandCode::FlushContext => shape!([], [U32], forbids_sessions),
+            CommandCode::PolicyAuthValue => shape!([POLICY_SESSION], []),
+            CommandCode::PolicyCommandCode => shape!([POLICY_SESSION], [U32]),
+            CommandCode::PolicyLocality => shape!([POLICY_SESSION], [U8]),
+            CommandCode::PolicyOr => shape!([POLICY_SESSION], [DigestList]),
             CommandCode::StartAuthSession => shape!(
                 [NULL, ENTITY],
                 [Buffer(32), Buffer(32), U8, Symmetric, Hash],
@@ -122,7 +159,11 @@ impl CommandCode {
             ),
             CommandCode::GetRandom => shape!([], [U16], sized_answer),
             CommandCode::PcrRead => shape!([], [Selection]),
+            CommandCode::PolicyPcr => shape!([POLICY_SESSION], [Buffer(32), Selection]),
+            CommandCode::PolicyRestart => shape!([POLICY_SESSION], []),
             CommandCode::PcrExtend => shape!([USER_PCR_OR_NULL], [Digests]),
+            CommandCode::PolicyGetDigest => shape!([POLICY_SESSION], [], sized_answer),
+            CommandCode::PolicyPassword => shape!([POLICY_SESSION], []),
         }
     }
 
@@ -144,6 +185,16 @@ impl CommandCode {
             .iter()
             .filter(|rule| rule.role.is_some())
             .count()
+    }
+
+    /// The role in which the handle of this place, from 0, is authorized.
+    pub fn role_at(self, place: usize) -> Role
+        ensures { result ≡ role_at self place }
+    {
+        match self.shape().handles.get(place) {
+            Some(rule) => rule.role.unwrap_or(Role::User),
+            None => Role::User,
+        }
     }
 
     /// Whether its first parameter is a sized buffer, which a session can encrypt.

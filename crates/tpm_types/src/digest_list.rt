@@ -1,9 +1,50 @@
-ghost use Rattle.std.specs.Prelude.{◌≡◌, ◌+◌, ◌≤◌, ◌++◌, length};
+ghost use Rattle.std.specs.Prelude.{◌≡◌, ◌+◌, ◌≤◌, ℕ, List, ◌++◌, length, Ok, IfOk};
+ghost use Rattle.tpm_bytes.specs.Reading.{Reads};
 ghost use Rattle.tpm_bytes.specs.Writing.{Puts};
+ghost use Rattle.tpm_types.specs.DigestList.{digest_at};
 
+use crate::buffer::read_buffer;
+use crate::grammar::bytes_fit;
+use crate::rc::{Rc, ResponseCode};
 use arrayvec::ArrayVec;
+use tpm_bytes::cursor::Cursor;
+use tpm_bytes::many::{Readable, read_many};
 use tpm_bytes::sink::{Full, Sink};
 use tpm_mac::Digest;
+
+/// How many digests a list that is read has at least.
+pub const FEWEST_DIGESTS: u32 = 2;
+
+/// How many it has at most.
+pub const MOST_DIGESTS: u32 = 8;
+
+/// One digest of a list, where it lies in the text.
+#[derive(Drop)]
+struct ListedDigest<'a> {
+    bytes: &'a [u8],
+    ghost fits: { length bytes.now ≤ 32 },
+}
+
+impl<'a> Default for ListedDigest<'a> {
+    fn default() -> ListedDigest<'a> {
+        ListedDigest { bytes: &[] }
+    }
+}
+
+impl<'a> Readable<'a> for ListedDigest<'a> {
+    type Fault = Rc;
+
+    ghost Seen = { List ℕ };
+
+    ghost seen = { λ listed. listed.bytes.now };
+
+    ghost at = { digest_at };
+
+    fn read(text: &mut Cursor<'a>) -> Result<ListedDigest<'a>, Rc> {
+        let bytes = read_buffer(text, 32)?;
+        Ok(ListedDigest { bytes })
+    }
+}
 
 /// Up to eight digests: TPML_DIGEST of TPM 2.0 Library, Part 2, section 10.9.5.
 #[derive(Drop)]
@@ -12,7 +53,45 @@ pub struct DigestList {
 }
 
 impl DigestList {
-    ghost use Rattle.tpm_types.specs.DigestList.{digest_list_text, digests_of};
+    ghost use Rattle.tpm_types.specs.DigestList.{IsDigestList, digest_list_at, digest_list_text, digests_of};
+
+    /// Reads a list of two to eight digests: INSUFFICIENT where it is cut, SIZE where it has fewer
+    /// or more, and the first fault of a digest.
+    pub fn read(text: &mut Cursor) -> Result<DigestList, Rc>
+        // Which digests or which fault it is.
+        ensures exact { Reads (λ list. digests_of list.digests.items) (digest_list_at text.old)
+            text.old result text.new }
+        // What is read was spelled so.
+        ensures found { IfOk result (λ list. IsDigestList (digests_of list.digests.items)
+            × (text.old ≡ digest_list_text (digests_of list.digests.items) ++ text.new)) }
+        // What is spelled so is read.
+        ensures only { (digests : List (List ℕ)) (rest : List ℕ) → IsDigestList digests
+            → text.old ≡ digest_list_text digests ++ rest
+            → Reads (λ list. digests_of list.digests.items) (Ok (digests, rest))
+            text.old result text.new }
+    {
+        bytes_fit(text.rest());
+        DigestList::read_fields(text)
+    }
+
+    #[tactic(auto, unfolding(crate::specs::DigestList::digest_list_at))]
+    fn read_fields(text: &mut Cursor) -> Result<DigestList, Rc>
+        ensures { Reads (λ list. digests_of list.digests.items) (digest_list_at text.old)
+            text.old result text.new }
+    {
+        let mut ahead = Cursor::new(text.rest());
+        let count = ahead
+            .u32()
+            .map_err(|_| ResponseCode::Insufficient.anywhere())?;
+        if count < FEWEST_DIGESTS || count > MOST_DIGESTS {
+            return Err(ResponseCode::Size.anywhere());
+        }
+        let listed = read_many::<ListedDigest, 8>(&mut ahead, count as usize)?;
+        *text = ahead;
+        Ok(DigestList {
+            digests: copied(listed.as_slice()),
+        })
+    }
 
     /// Writes the list at the end, at most 276 bytes, or nothing where it does not fit.
     pub fn write<const N: usize>(&self, sink: &mut Sink<N>) -> Result<(), Full>
@@ -37,7 +116,7 @@ impl DigestList {
     }
 }
 
-ghost use Rattle.std.specs.Prelude.{◌*◌};
+ghost use Rattle.std.specs.Prelude.{◌*◌, map};
 ghost use Rattle.tpm_types.specs.DigestList.{digests_of, digests_text};
 
 fn write_digests<const N: usize>(digests: &[Digest], sink: &mut Sink<N>)
@@ -47,4 +126,18 @@ fn write_digests<const N: usize>(digests: &[Digest], sink: &mut Sink<N>)
     for digest in digests {
         let _ = sink.put_sized(digest.as_slice());
     }
+}
+
+/// The digests, copied from the text.
+fn copied(listed: &[ListedDigest]) -> ArrayVec<Digest, 8>
+    requires { length listed.now ≤ 8 }
+    ensures { digests_of result.items ≡ map (λ one. one.bytes.now) listed.now }
+{
+    let mut digests = ArrayVec::new();
+    for one in listed {
+        let mut digest = ArrayVec::new();
+        let _ = digest.try_extend_from_slice(one.bytes);
+        digests.push(digest);
+    }
+    digests
 }

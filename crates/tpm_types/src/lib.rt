@@ -8,10 +8,11 @@
 //!
 //! It stands on `tpm_bytes` for the bytes and on `tpm_mac` for digests and hash algorithms. A read
 //! gives the value or the first fault, as the response code that the standard has for it, and a
-//! refused read or write changes nothing. Selections of PCRs, digests with their algorithms,
-//! symmetric definitions, authorization entries and commands have one text a value: what is read
-//! was spelled so, and what is spelled so is read. No call here takes memory.
+//! refused read or write changes nothing. Selections of PCRs, digests with their algorithms, lists
+//! of digests, symmetric definitions, authorization entries and commands have one text a value:
+//! what is read was spelled so, and what is spelled so is read. No call here takes memory.
 
+pub mod action_check;
 pub mod algorithm;
 pub mod auth_area;
 pub mod auth_entry;
@@ -19,6 +20,7 @@ pub mod auth_value;
 pub mod buffer;
 pub mod command;
 pub mod command_code;
+pub mod command_number;
 pub mod digest_list;
 pub mod digest_values;
 pub mod grammar;
@@ -28,6 +30,7 @@ pub mod locality;
 pub mod pcr;
 pub mod pcr_selection;
 pub mod rc;
+pub mod session_type;
 pub mod shape;
 pub mod startup_type;
 pub mod symmetric;

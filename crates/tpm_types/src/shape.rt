@@ -16,6 +16,10 @@ pub enum HandleKind {
     HierarchyAuth,
     /// TPMI_DH_ENTITY+: whatever has an authorization value, or TPM_RH_NULL.
     Entity,
+    /// TPMI_DH_ENTITY: the same without TPM_RH_NULL.
+    EntityNotNull,
+    /// TPMI_SH_POLICY: a policy session, a trial one too.
+    PolicySession,
 }
 
 /// Whether the handle is one of an entity that has an authorization value, or TPM_RH_NULL.
@@ -40,6 +44,8 @@ impl HandleKind {
             HandleKind::Null => handle == Handle::NULL,
             HandleKind::HierarchyAuth => handle.hierarchy_auth().is_some(),
             HandleKind::Entity => is_entity(handle),
+            HandleKind::EntityNotNull => is_entity(handle) && handle != Handle::NULL,
+            HandleKind::PolicySession => handle.type_byte() == 0x03,
         }
     }
 }
@@ -78,6 +84,8 @@ pub enum ParameterKind {
     Selection,
     /// TPML_DIGEST_VALUES.
     Digests,
+    /// TPML_DIGEST.
+    DigestList,
     /// A TPM2B of at most so many bytes.
     Buffer(u16),
 }
@@ -98,7 +106,8 @@ impl ParameterKind {
             | ParameterKind::Hash
             | ParameterKind::Symmetric
             | ParameterKind::Selection
-            | ParameterKind::Digests => false,
+            | ParameterKind::Digests
+            | ParameterKind::DigestList => false,
         }
     }
 }

@@ -11,6 +11,7 @@ mod bytes;
 mod ciphers;
 mod counters;
 mod digests;
+mod policies;
 mod rows;
 mod session_parts;
 mod sessions;

@@ -30,6 +30,24 @@ const FLUSH_CONTEXT: u32 = 0x165;
 
 const HIERARCHY_CHANGE_AUTH: u32 = 0x129;
 
+const POLICY_SECRET: u32 = 0x151;
+
+const POLICY_AUTH_VALUE: u32 = 0x16b;
+
+const POLICY_COMMAND_CODE: u32 = 0x16c;
+
+const POLICY_LOCALITY: u32 = 0x16f;
+
+const POLICY_OR: u32 = 0x171;
+
+const POLICY_PCR: u32 = 0x17f;
+
+const POLICY_RESTART: u32 = 0x180;
+
+const POLICY_GET_DIGEST: u32 = 0x189;
+
+const POLICY_PASSWORD: u32 = 0x18c;
+
 const CLEAR: &[u8] = &[0, 0];
 
 const STATE: &[u8] = &[0, 1];
@@ -48,6 +66,34 @@ const HMAC: &[u8] = &[0, 0, 16, 0, 11];
 
 /// The same of policy sessions.
 const POLICY: &[u8] = &[1, 0, 16, 0, 11];
+
+/// And of a type that there is not.
+const NO_TYPE: &[u8] = &[2, 0, 16, 0, 11];
+
+/// The first session, as a policy session.
+const POLICY_0: &[u8] = &[3, 0, 0, 0];
+
+/// An area of one entry, that session with no nonce, continueSession and no HMAC.
+const BY_POLICY: &[u8] = &[0, 0, 0, 9, 3, 0, 0, 0, 0, 0, 1, 0, 0];
+
+/// A digest that no policy has, twice.
+const BRANCHES: &[u8] = &[0, 0, 0, 2, 0, 1, 7, 0, 1, 7];
+
+/// The code of TPM2_GetRandom.
+const RANDOM: &[u8] = &[0, 0, 1, 0x7b];
+
+/// A number that is no command's.
+const NO_CODE: &[u8] = &[0, 0, 9, 0x99];
+
+/// No nonce, no cpHash, no reference, and an expiration.
+const EXPIRING: &[u8] = &[0, 0, 0, 0, 0, 0, 0, 0, 0, 1];
+
+/// The same with a cpHash of one byte, with a nonce of one byte, and with nothing.
+const SHORT_HASH: &[u8] = &[0, 0, 0, 1, 0, 0, 0, 0, 0, 0, 0];
+
+const OTHER_NONCE: &[u8] = &[0, 1, 7, 0, 0, 0, 0, 0, 0, 0, 0];
+
+const SECRET: &[u8] = &[0, 0, 0, 0, 0, 0, 0, 0, 0, 0];
 
 /// The first session.
 const SESSION_0: &[u8] = &[2, 0, 0, 0];
@@ -182,7 +228,7 @@ fn each_check_of_sessions_is_reported(rt: HostRuntime) -> Result<(), Fail> {
         case(
             NO_SESSIONS,
             START_AUTH_SESSION,
-            &[HANDLE_NULL, OWNER, NONCE, NO_DATA, POLICY],
+            &[HANDLE_NULL, OWNER, NONCE, NO_DATA, NO_TYPE],
             "G11",
         ),
         case(
@@ -221,6 +267,40 @@ fn each_check_of_sessions_is_reported(rt: HostRuntime) -> Result<(), Fail> {
         case(NO_SESSIONS, FLUSH_CONTEXT, &[ABSENT_OBJECT], "A2"),
         case(NO_SESSIONS, FLUSH_CONTEXT, &[SESSION_0], "ok"),
         case(SESSIONS, PCR_RESET, &[PCR_16, BY_SESSION], "G8"),
+    ];
+    check_rows(&rt, rt.alloc(), &cases)
+}
+
+#[test]
+fn each_check_of_policies_is_reported(rt: HostRuntime) -> Result<(), Fail> {
+    let cases = [
+        case(NO_SESSIONS, STARTUP, &[CLEAR], "ok"),
+        case(NO_SESSIONS, POLICY_GET_DIGEST, &[POLICY_0], "G6"),
+        case(
+            NO_SESSIONS,
+            START_AUTH_SESSION,
+            &[HANDLE_NULL, HANDLE_NULL, NONCE, NO_DATA, POLICY],
+            "ok",
+        ),
+        case(SESSIONS, PCR_RESET, &[PCR_16, BY_POLICY], "G9"),
+        case(NO_SESSIONS, POLICY_OR, &[POLICY_0, BRANCHES], "A1"),
+        case(NO_SESSIONS, POLICY_LOCALITY, &[POLICY_0, &[0]], "A1"),
+        case(NO_SESSIONS, POLICY_LOCALITY, &[POLICY_0, &[1]], "ok"),
+        case(NO_SESSIONS, POLICY_COMMAND_CODE, &[POLICY_0, NO_CODE], "A2"),
+        case(NO_SESSIONS, POLICY_COMMAND_CODE, &[POLICY_0, RANDOM], "ok"),
+        case(NO_SESSIONS, POLICY_COMMAND_CODE, &[POLICY_0, NO_CODE], "A1"),
+        case(NO_SESSIONS, POLICY_PCR, &[POLICY_0, NO_DATA, NONE], "ok"),
+        case(NO_SESSIONS, POLICY_PCR, &[POLICY_0, SALT, NONE], "A2"),
+        case(SESSIONS, PCR_RESET, &[PCR_16, PASSWORD], "ok"),
+        case(NO_SESSIONS, POLICY_PCR, &[POLICY_0, NO_DATA, NONE], "A1"),
+        case(SESSIONS, POLICY_SECRET, &[OWNER, POLICY_0, PASSWORD, EXPIRING], "A1"),
+        case(SESSIONS, POLICY_SECRET, &[OWNER, POLICY_0, PASSWORD, SHORT_HASH], "A2"),
+        case(SESSIONS, POLICY_SECRET, &[OWNER, POLICY_0, PASSWORD, OTHER_NONCE], "A3"),
+        case(SESSIONS, POLICY_SECRET, &[OWNER, POLICY_0, PASSWORD, SECRET], "ok"),
+        case(NO_SESSIONS, POLICY_AUTH_VALUE, &[POLICY_0], "ok"),
+        case(NO_SESSIONS, POLICY_PASSWORD, &[POLICY_0], "ok"),
+        case(NO_SESSIONS, POLICY_RESTART, &[POLICY_0], "ok"),
+        case(NO_SESSIONS, POLICY_GET_DIGEST, &[POLICY_0], "ok"),
     ];
     check_rows(&rt, rt.alloc(), &cases)
 }

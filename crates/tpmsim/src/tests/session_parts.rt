@@ -5,17 +5,19 @@ ghost use Rattle.std.specs.Prelude.{◌≤◌, length};
 
 use tpm_mac::HashAlg;
 use tpm_name::Name;
+use tpm_policy::state::PolicyState;
 use tpm_session::encryption::SymmetricFault;
 use tpm_session::entry::CommandText;
 use tpm_session::key::{SessionKey, is_nonce_size};
 use tpm_session::list_slots::ListSlots;
 use tpm_session::nonce::Nonce;
 use tpm_session::parameter_hash::{command_hash, response_hash};
-use tpm_session::session::{Binding, Protection, Session, SessionType};
+use tpm_session::session::{Binding, Protection, Session};
 use tpm_session::sessions::{Sessions, Start, StartFault};
 use tpm_types::auth_entry::SessionAttributes;
 use tpm_types::auth_value::AuthValue;
 use tpm_types::handle::Handle;
+use tpm_types::session_type::SessionType;
 use tpm_types::symmetric::SymmetricDefinition;
 
 const NONCE_CALLER: &[u8] = &[0xaa; 16];
@@ -170,6 +172,7 @@ fn bound_session(symmetric: SymmetricDefinition) -> Session {
         nonce_tpm: Nonce::of(short(NONCE_TPM)),
         key: SessionKey::derived(HashAlg::Sha256, &binding, NONCE_TPM, NONCE_CALLER),
         binding,
+        policy: PolicyState::new(HashAlg::Sha256),
     }
 }
 

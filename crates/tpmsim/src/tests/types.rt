@@ -10,6 +10,7 @@ use tpm_name::Name;
 use tpm_types::auth_entry::{AuthEntry, SessionAttributes};
 use tpm_types::buffer::read_buffer;
 use tpm_types::command_code::CommandCode;
+use tpm_types::command_number::is_command_number;
 use tpm_types::digest_list::DigestList;
 use tpm_types::digest_values::{DigestValue, DigestValues};
 use tpm_types::handle::Handle;
@@ -17,6 +18,7 @@ use tpm_types::handle_area::read_handles;
 use tpm_types::pcr::PcrSelect;
 use tpm_types::pcr_selection::{BankSelection, PcrSelection};
 use tpm_types::rc::ResponseCode;
+use tpm_types::session_type::SessionType;
 use tpm_types::shape::{HandleKind, ParameterKind};
 use tpm_types::startup_type::StartupType;
 use tpm_types::whole_command::Command;
@@ -63,6 +65,7 @@ fn commands_have_numbers(rt: HostRuntime) {
     assert!(rt; is_numbered(CommandCode::GetRandom, 0x17b));
     assert!(rt; is_numbered(CommandCode::PcrRead, 0x17e));
     assert!(rt; is_numbered(CommandCode::PcrExtend, 0x182));
+    assert!(rt; is_numbered(CommandCode::PolicyPassword, 0x18c));
     assert_eq!(rt; CommandCode::named(0x143), None);
 }
 
@@ -218,4 +221,14 @@ fn a_list_of_no_digests_is_written(rt: HostRuntime) {
     let mut sink: Sink<4> = Sink::new();
     assert_eq!(rt; DigestList { digests }.write(&mut sink), Ok(()));
     assert_eq!(rt; sink.as_slice(), b"\x00\x00\x00\x00".as_slice());
+}
+
+#[test]
+fn policies_are_asked_for(rt: HostRuntime) {
+    let mut text = Cursor::new(b"\x01\x02");
+    assert_eq!(rt; SessionType::read(&mut text), Ok(SessionType::Policy));
+    let refused = SessionType::read(&mut text);
+    assert_eq!(rt; refused, Err(ResponseCode::Value.anywhere()));
+    assert!(rt; is_command_number(0x17b));
+    assert!(rt; !is_command_number(0x17c));
 }

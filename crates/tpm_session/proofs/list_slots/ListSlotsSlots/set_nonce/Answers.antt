@@ -1,7 +1,8 @@
 use Rattle.std.proofs.Common.{◌≡◌, Some, None, sym, ap, ◌∙◌, ◌<◌, length, arith}
 use Rattle.tpm_session.specs.ListPlaces.{padded}
 use Rattle.tpm_session.specs.Places.{at_place}
-use Rattle.tpm_session.proofs.Padding.{at_behind, at_place-read, nonce_set-none, nonce_set-padded, set_same}
+use Rattle.tpm_session.specs.Session.{with_nonce}
+use Rattle.tpm_session.proofs.Padding.{at_behind, at_place-read, changed_at-none, changed_at-padded, set_same}
 use Rattle.tpm_session.proofs.list_slots.ListSlotsSlots.set_nonce.Goals as goal
 
 pub returns-in-Some : goal.returns-in-Some
@@ -9,7 +10,7 @@ returns-in-Some c =
     let cells = c.args.self.now.cells.items in
     let below : c.args.place < length cells = omega arith in
     let there : at_place cells c.args.place ≡ Some c.in-Some.session = at_place-read cells c.args.place _ c.index_mut.result.now below (sym c.index_mut.ensures.value ∙ c.in-Some.is) in
-    sym (nonce_set-padded cells c.args.place c.in-Some.session c.args.nonce below there)
+    sym (changed_at-padded (λ s. with_nonce s c.args.nonce) cells c.args.place c.in-Some.session below there)
 
 pub returns-in_default : goal.returns-in_default
 returns-in_default c =
@@ -17,9 +18,9 @@ returns-in_default c =
     let below : c.args.place < length cells = omega arith in
     let none : at_place cells c.args.place ≡ None = at_place-read cells c.args.place _ c.index_mut.result.now below (sym c.index_mut.ensures.value ∙ c.in_default.is) in
     ap padded (set_same cells c.args.place c.index_mut.result.now (sym c.index_mut.ensures.value))
-    ∙ sym (nonce_set-none cells c.args.place c.args.nonce none)
+    ∙ sym (changed_at-none (λ s. with_nonce s c.args.nonce) cells c.args.place none)
 
 pub returns-else-place-len : goal.returns-else-place-len
 returns-else-place-len c =
     let cells = c.args.self.now.cells.items in
-    sym (nonce_set-none cells c.args.place c.args.nonce (at_behind cells c.args.place (omega arith)))
+    sym (changed_at-none (λ s. with_nonce s c.args.nonce) cells c.args.place (at_behind cells c.args.place (omega arith)))

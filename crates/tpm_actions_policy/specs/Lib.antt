@@ -1,0 +1,10 @@
+pub mod Assertions
+pub mod PolicyRestart
+pub mod PolicyPcr
+pub mod PolicyOr
+pub mod PolicyAuthValue
+pub mod PolicyPassword
+pub mod PolicyCommandCode
+pub mod PolicyLocality
+pub mod PolicySecret
+pub mod PolicyGetDigest

@@ -1,0 +1,17 @@
+-- TPM2_PolicyRestart. TPM 2.0 Library, Part 3, section 11.2.
+use Rattle.std.specs.Prelude.{[], Result, Ok}
+use Rattle.tpm_bytes.specs.Reading.{◌>>=◌}
+use Rattle.tpm_policy.specs.State.{starting}
+use Rattle.tpm_record.specs.Record.{Record}
+use Rattle.tpm_auth.specs.declared.refused.Refused.{Refused}
+use Rattle.tpm_actions.specs.Request.{Request, first_handle}
+use Rattle.tpm_actions.specs.Rows.{Success, all_read}
+use Rattle.tpm_actions_policy.specs.Assertions.{policy_session, with_answer}
+
+-- the session's policy is as it started; no parameters
+unfoldable pub policy_restart_row : Record → Request → Result Success Refused
+policy_restart_row r q = do
+  handle ← first_handle q.handles
+  ended ← all_read q.parameters
+  s ← policy_session r handle
+  Ok (with_answer r handle [] (starting s.hash))

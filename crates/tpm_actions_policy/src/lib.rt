@@ -1,0 +1,18 @@
+#![tactic(auto)]
+
+//! What each policy command does: a file a command, as in tpm_actions, on which it stands (TPM 2.0
+//! Library, Part 3, section 23).
+//!
+//! A command reads its parameters, makes an assertion on a copy of the session's policy, which can
+//! refuse it, and keeps what the assertion made of that. What an assertion is stands in tpm_policy.
+
+mod assertions;
+pub mod policy_auth_value;
+pub mod policy_command_code;
+pub mod policy_get_digest;
+pub mod policy_locality;
+pub mod policy_or;
+pub mod policy_password;
+pub mod policy_pcr;
+pub mod policy_restart;
+pub mod policy_secret;

@@ -1,0 +1,33 @@
+ghost use Rattle.std.specs.Prelude.{◌≡◌};
+ghost use Rattle.tpm_actions.specs.Request.{request_of};
+ghost use Rattle.tpm_actions.specs.Rows.{Acts};
+ghost use Rattle.tpm_actions_policy.specs.PolicyLocality.{policy_locality_row};
+
+use crate::assertions::{by_its_check, policy_session};
+use tpm_actions::answer::Answer;
+use tpm_actions::call::Call;
+use tpm_actions::reading::{at_parameter, end};
+use tpm_auth::refused::Refused;
+use tpm_bytes::cursor::Cursor;
+use tpm_record::keep::Keep;
+use tpm_types::rc::ResponseCode;
+
+/// TPM2_PolicyLocality: allows some of the localities that are left.
+#[tactic(auto, unfolding(crate::specs::PolicyLocality::policy_locality_row))]
+pub fn policy_locality<K: Keep>(keep: &mut K, call: &Call) -> Result<Answer, Refused>
+    ensures { Acts (policy_locality_row (K.record_of keep.old) (request_of call.now))
+        (K.record_of keep.old) result (K.record_of keep.new) }
+{
+    let handle = call.first_handle()?;
+    let mut parameters = Cursor::new(call.parameters);
+    let number = parameters
+        .u8()
+        .map_err(|_| at_parameter(1, ResponseCode::Insufficient.anywhere()))?;
+    end(&parameters)?;
+    let session = policy_session(keep, handle)?;
+    let mut policy = session.policy.copy();
+    let asserted = policy.locality(session.hash, number);
+    asserted.map_err(by_its_check)?;
+    keep.sessions_mut().set_policy(handle, policy);
+    Ok(Answer::empty())
+}

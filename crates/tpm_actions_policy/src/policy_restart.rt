@@ -1,0 +1,26 @@
+ghost use Rattle.std.specs.Prelude.{◌≡◌};
+ghost use Rattle.tpm_actions.specs.Request.{request_of};
+ghost use Rattle.tpm_actions.specs.Rows.{Acts};
+ghost use Rattle.tpm_actions_policy.specs.PolicyRestart.{policy_restart_row};
+
+use crate::assertions::policy_session;
+use tpm_actions::answer::Answer;
+use tpm_actions::call::Call;
+use tpm_actions::reading::end;
+use tpm_auth::refused::Refused;
+use tpm_bytes::cursor::Cursor;
+use tpm_policy::state::PolicyState;
+use tpm_record::keep::Keep;
+
+/// TPM2_PolicyRestart: returns the policy of a session to its start.
+#[tactic(auto, unfolding(crate::specs::PolicyRestart::policy_restart_row))]
+pub fn policy_restart<K: Keep>(keep: &mut K, call: &Call) -> Result<Answer, Refused>
+    ensures { Acts (policy_restart_row (K.record_of keep.old) (request_of call.now))
+        (K.record_of keep.old) result (K.record_of keep.new) }
+{
+    let handle = call.first_handle()?;
+    end(&Cursor::new(call.parameters))?;
+    let policy = PolicyState::new(policy_session(keep, handle)?.hash);
+    keep.sessions_mut().set_policy(handle, policy);
+    Ok(Answer::empty())
+}

@@ -1,0 +1,37 @@
+-- Comparisons of authorization values, and how they fail. TPM 2.0 Library, Part 1, sections 19.4
+-- (password authorizations) and 19.8 (dictionary attacks).
+use Rattle.std.specs.Prelude.{ℕ, ◌==◌, ◌&&◌, nat_le, nat_eq, Bool, List, length, take, drop, Option, Some, None}
+use Rattle.std.specs.List.{list_all}
+use Rattle.std.specs.Cmp.Lexicographic.{pointwise}
+use Rattle.tpm_session.specs.declared.session.Protection.{Protection}
+use Rattle.tpm_session.specs.declared.session.Protection.TheVariants as protection
+use Rattle.tpm_types.specs.declared.rc.ResponseCode.TheVariants as code
+use Rattle.tpm_auth.specs.Entries.{entry_fault}
+use Rattle.tpm_auth.specs.Refused.{refusal}
+use Rattle.tpm_auth.specs.declared.check.Check.{Check}
+use Rattle.tpm_auth.specs.declared.check.Check.TheVariants as check
+use Rattle.tpm_auth.specs.declared.refused.Counted.TheVariants as counted
+use Rattle.tpm_auth.specs.declared.refused.Refused.{Refused}
+use Rattle.tpm_auth.specs.declared.session_grant.Grant.{Grant}
+
+-- a password counts without its trailing zeros: it is the authorization value, and behind that
+-- zeros alone
+abbrev pub is_password_of : List ℕ → List ℕ → Bool
+is_password_of value password =
+    nat_le (length value) (length password)
+    && pointwise nat_eq (take (length value) password) value
+    && list_all (λ byte. byte == 0) (drop (length value) password)
+
+-- a comparison that failed in entry n: AUTH_FAIL where a protected entity is touched, which counts,
+-- and else BAD_AUTH
+abbrev pub failure : Check → ℕ → Protection → Refused
+failure check n protection.None = refusal check (entry_fault n code.BadAuth)
+failure check n protection.Tries =
+    record { rc = entry_fault n code.AuthFail; check = check; counted = counted.Try }
+failure check n protection.Lockout =
+    record { rc = entry_fault n code.AuthFail; check = check; counted = counted.Lockout }
+
+-- G9 for an entry that authorizes a handle, G10 for the others
+abbrev pub check_of : Option Grant → Check
+check_of (Some grant) = check.Authorization
+check_of None = check.Others

@@ -1,0 +1,196 @@
+-- What the entry of a session authorizes. TPM 2.0 Library, Part 1, sections 19.6 (HMAC sessions), 19.7
+-- (policies) and 19.8 (dictionary attacks), and Part 3, section 5.6 (authorization checks).
+use Rattle.std.specs.Prelude.{ℕ, ◌-◌, ◌==◌, ◌&&◌, ◌||◌, not, nat_lt, Bool, true, false, List, [], length, map, drop, if◌then◌else◌, Option, Some, None, Result, Ok, Err}
+use Rattle.std.specs.List.{find}
+use Rattle.std.specs.Option.{option_map_or}
+use Rattle.std.specs.Str.{bytes_eq}
+use Rattle.tpm_bytes.specs.Reading.{◌>>=◌, refused_if}
+use Rattle.tpm_policy.specs.declared.state.Demand.{Demand}
+use Rattle.tpm_policy.specs.declared.state.Demand.TheVariants as demand
+use Rattle.tpm_policy.specs.Use.{UseParts, use_passes}
+use Rattle.tpm_session.specs.declared.session.Binding.{Binding}
+use Rattle.tpm_session.specs.declared.session.Protection.{Protection}
+use Rattle.tpm_session.specs.declared.session.Protection.TheVariants as protection
+use Rattle.tpm_session.specs.declared.session.Session.{Session}
+use Rattle.tpm_session.specs.EntryText.{EntryParts, command_mac_of, entry_key}
+use Rattle.tpm_session.specs.ParameterHash.{command_hash_of}
+use Rattle.tpm_types.specs.declared.handle.Handle.{Handle}
+use Rattle.tpm_types.specs.declared.rc.ResponseCode.TheVariants as code
+use Rattle.tpm_types.specs.declared.session_type.SessionType.{SessionType}
+use Rattle.tpm_types.specs.declared.session_type.SessionType.TheVariants as type
+use Rattle.tpm_types.specs.AuthEntry.{Entry}
+use Rattle.tpm_types.specs.Command.{Whole}
+use Rattle.tpm_types.specs.CommandCode.{authorized_handles, code_number, role_at}
+use Rattle.tpm_types.specs.Rc.{plain}
+use Rattle.tpm_record.specs.declared.entity.Means.TheVariants as means
+use Rattle.tpm_record.specs.Entity.{auth_value_of, is_available, name_of, policy_of, protection_of}
+use Rattle.tpm_record.specs.Record.{Record}
+use Rattle.tpm_auth.specs.Comparison.{check_of, failure, is_password_of}
+use Rattle.tpm_auth.specs.Entries.{decrypts, encrypts, session_of}
+use Rattle.tpm_auth.specs.Hashes.{HashedCommand}
+use Rattle.tpm_auth.specs.Refused.{checked, refusal}
+use Rattle.tpm_auth.specs.declared.check.Check.TheVariants as check
+use Rattle.tpm_auth.specs.declared.refused.Refused.{Refused}
+use Rattle.tpm_auth.specs.declared.session_grant.Grant.{Grant}
+
+-- a session is bound to an entity as long as that has the Name and the authorization value of the
+-- session's start
+unfoldable pub is_bound_to : Record → Session → Handle → Bool
+is_bound_to r s handle =
+    option_map_or (λ (b : Binding).
+    bytes_eq b.name (name_of r handle) && bytes_eq b.auth_value (auth_value_of r handle)) s.binding false
+
+-- whether a policy demands the authorization value in the key of the HMAC, or as a password
+abbrev pub is_in_key : Demand → Bool
+is_in_key demand.None = false
+is_in_key demand.AuthValue = true
+is_in_key demand.Password = false
+
+abbrev pub is_password_demand : Demand → Bool
+is_password_demand demand.None = false
+is_password_demand demand.AuthValue = false
+is_password_demand demand.Password = true
+
+-- whether the HMAC's key has the authorization value of the handle that an entry authorizes: that of
+-- an HMAC session unless it is bound to the handle, that of a policy session only where the policy
+-- demands it, and then although it is bound
+abbrev pub has_value_in_key : SessionType → (bound : Bool) → Demand → Bool
+has_value_in_key type.Hmac bound demand = not bound
+has_value_in_key type.Policy bound demand = is_in_key demand
+has_value_in_key type.Trial bound demand = is_in_key demand
+
+unfoldable pub takes_value : Record → Session → Grant → Bool
+takes_value r s grant = has_value_in_key s.kind (is_bound_to r s grant.handle) grant.demand
+
+-- the authorization value in the key of an entry
+unfoldable pub used_auth_value : Record → Session → Option Grant → List ℕ
+used_auth_value r s None = []
+used_auth_value r s (Some grant) = if takes_value r s grant then auth_value_of r grant.handle else []
+
+-- the nonceTPM of an entry's session
+abbrev pub entry_nonce : Record → Entry → List ℕ
+entry_nonce r e = option_map_or (λ (s : Session). s.nonce_tpm) (session_of r e) []
+
+-- and of the first entry that passes a test
+unfoldable pub nonce_where : Record → (Entry → Bool) → List Entry → List ℕ
+nonce_where r test entries = option_map_or (entry_nonce r) (find test entries) []
+
+-- the entries whose sessions' nonces may stand in the text of entry n: for the first, where it
+-- authorizes a handle, those after it; for any other none
+abbrev pub other_entries : Whole → ℕ → List Entry
+other_entries c n = if n == 1 && nat_lt 0 (authorized_handles c.code) then drop 1 c.entries else []
+
+-- an entry that encrypts, and is not the one that decrypts
+abbrev pub only_encrypts : Entry → Bool
+only_encrypts e = encrypts e && not (decrypts e)
+
+-- what a command's hash is about
+abbrev pub hashed_command : Record → Whole → HashedCommand
+hashed_command r c =
+    record { code = code_number c.code; names = map (name_of r) c.handles; parameters = c.parameters }
+
+-- what entry n of a command authenticates by its session's hash: the command as it was sent
+unfoldable pub entry_parts : Record → Whole → ℕ → Entry → Session → EntryParts
+entry_parts r c n e s = record {
+  hash = command_hash_of s.hash (code_number c.code) (map (name_of r) c.handles) c.parameters;
+  nonce_caller = e.nonce;
+  decrypt_nonce = nonce_where r decrypts (other_entries c n);
+  encrypt_nonce = nonce_where r only_encrypts (other_entries c n);
+  attributes = e.attributes;
+}
+
+-- whether the HMAC of an entry is right: it is that of its key and text, or key and HMAC are both
+-- empty
+unfoldable pub is_authentic : Record → Whole → ℕ → Option Grant → Entry → Session → Bool
+is_authentic r c n grant e s =
+    let value = used_auth_value r s grant in
+    length (entry_key s value) == 0 && length e.hmac == 0
+    || bytes_eq e.hmac (command_mac_of s value (entry_parts r c n e s))
+
+-- whether a policy demands a password of an entry
+abbrev pub demands_password : Option Grant → Bool
+demands_password None = false
+demands_password (Some grant) = is_password_demand grant.demand
+
+-- the authorization value of what an entry authorizes
+abbrev pub granted_value : Record → Option Grant → List ℕ
+granted_value r None = []
+granted_value r (Some grant) = auth_value_of r grant.handle
+
+-- whether the comparison of entry n holds: where its policy demands a password, its HMAC field is
+-- that and nothing else
+unfoldable pub comparison_holds : Record → Whole → ℕ → Option Grant → Entry → Session → Bool
+comparison_holds r c n grant e s =
+    if demands_password grant then is_password_of (granted_value r grant) e.hmac
+    else is_authentic r c n grant e s
+
+-- how what a session was bound to was protected at its start
+abbrev pub binding_protection : Session → Protection
+binding_protection s = option_map_or (λ (b : Binding). b.protection) s.binding protection.None
+
+abbrev pub or_protection : Protection → Protection → Protection
+or_protection protection.None other = other
+or_protection protection.Tries other = protection.Tries
+or_protection protection.Lockout other = protection.Lockout
+
+-- the protection that a wrong entry of a session comes up against: that of the entity whose
+-- authorization value is compared, in a key or as a password, else that of what its session was bound
+-- to
+unfoldable pub touched : Record → Session → Option Grant → Protection
+touched r s None = binding_protection s
+touched r s (Some grant) =
+    if takes_value r s grant || is_password_demand grant.demand
+    then or_protection (protection_of grant.handle) (binding_protection s)
+    else binding_protection s
+
+-- what is to be authorized by entry n of a policy session
+unfoldable pub use_of : Record → Whole → (locality n : ℕ) → Handle → Session → UseParts
+use_of r c locality n handle s = record {
+  number = n;
+  kind = s.kind;
+  hash = s.hash;
+  available = is_available means.Policy;
+  update_count = r.fixed.banks.update_count;
+  code = code_number c.code;
+  role = role_at c.code (n - 1);
+  cp_hash = command_hash_of s.hash (code_number c.code) (map (name_of r) c.handles) c.parameters;
+  locality = locality;
+  policy = policy_of r handle;
+}
+
+-- what stands before the comparison of an entry that authorizes a handle, and what its policy demands
+-- of that: an HMAC session authorizes what is available by its authorization value
+abbrev by_value : Result Demand Refused
+by_value = do
+  available ← refused_if (not (is_available means.AuthValue))
+      (refusal check.Authorization (plain code.AuthUnavailable))
+  Ok demand.None
+
+-- and a policy session what its policy is for; a trial session nothing
+abbrev pub by_policy : Record → Whole → (locality n : ℕ) → Handle → Session → Result Demand Refused
+by_policy r c locality n handle s =
+    checked check.Authorization (use_passes s.policy (use_of r c locality n handle s))
+
+abbrev pub demand_by : SessionType
+    → Record → Whole → (locality n : ℕ) → Handle → Session → Result Demand Refused
+demand_by type.Hmac r c locality n handle s = by_value
+demand_by type.Policy r c locality n handle s = by_policy r c locality n handle s
+demand_by type.Trial r c locality n handle s = by_policy r c locality n handle s
+
+unfoldable pub demanded : Record → Whole → (locality n : ℕ) → Handle → Session → Result Demand Refused
+demanded r c locality n handle s = demand_by s.kind r c locality n handle s
+
+-- entry n is compared
+abbrev pub comparison : Record → Whole → ℕ → Option Grant → Entry → Session → Result (Option Grant) Refused
+comparison r c n grant e s = do
+  compared ← refused_if (not (comparison_holds r c n grant e s))
+      (failure (check_of grant) n (touched r s grant))
+  Ok grant
+
+-- entry n is of a session, and is to authorize this handle or none
+unfoldable pub session_grant : Record
+    → Whole → (locality n : ℕ) → Option Handle → Entry → Session → Result (Option Grant) Refused
+session_grant r c locality n None e s = comparison r c n None e s
+session_grant r c locality n (Some handle) e s = do
+  demand ← demanded r c locality n handle s
+  comparison r c n (Some (record { handle = handle; demand = demand })) e s

@@ -1,0 +1,198 @@
+-- The assertions of policies. TPM 2.0 Library, Part 3, section 23, and Part 1, section 19.7: each
+-- hashes itself into the policy digest, and records what is compared when the session authorizes.
+-- Whether the session is a trial one stands before an assertion that asks for it: a trial session
+-- computes a digest, and compares nothing with what it would take to authorize.
+use Rattle.std.specs.Prelude.{◌≡◌, ℕ, ◌==◌, ◌&&◌, ◌||◌, not, nat_lt, bit_and, if◌then◌else◌}
+use Rattle.std.specs.Prelude.{Bool, false, List, [], ◌∷◌, ◌++◌, length, replicate}
+use Rattle.std.specs.Prelude.{Option, Some, None, Result, Ok, Err}
+use Rattle.std.specs.Int.{w32, to_be_bytes}
+use Rattle.std.specs.List.{flat_map, list_any}
+use Rattle.std.specs.Str.{bytes_eq}
+use Rattle.tpm_bytes.specs.Reading.{◌>>=◌, refused_if}
+use Rattle.tpm_mac.specs.Digest.{digest_size, hash_of}
+use Rattle.tpm_mac.specs.declared.algorithm.HashAlg.{HashAlg}
+use Rattle.tpm_types.specs.CommandNumber.{is_command_number}
+use Rattle.tpm_types.specs.PcrSelection.{selection_text}
+use Rattle.tpm_types.specs.Rc.{at, plain}
+use Rattle.tpm_types.specs.declared.action_check.ActionCheck.{ActionCheck}
+use Rattle.tpm_types.specs.declared.action_check.ActionCheck.TheVariants as action
+use Rattle.tpm_types.specs.declared.rc.Place.TheVariants as place
+use Rattle.tpm_types.specs.declared.rc.Rc.{Rc}
+use Rattle.tpm_types.specs.declared.rc.ResponseCode.{ResponseCode}
+use Rattle.tpm_types.specs.declared.rc.ResponseCode.TheVariants as code
+use Rattle.tpm_policy.specs.State.{Policy}
+use Rattle.tpm_policy.specs.declared.fault.PolicyFault.{PolicyFault}
+use Rattle.tpm_policy.specs.declared.pcr.PcrAssertion.{PcrAssertion}
+use Rattle.tpm_policy.specs.declared.secret.SecretAssertion.{SecretAssertion}
+use Rattle.tpm_policy.specs.declared.state.Demand.{Demand}
+use Rattle.tpm_policy.specs.declared.state.Demand.TheVariants as demand
+
+-- what TPM2_PolicyPCR is about: the digest that the caller gives, the selection's text, the digest
+-- of the values of the selected PCRs, and how often PCRs have been changed
+pub record PcrParts : Type 0 where
+  pub given : List ℕ
+  pub selection : List ℕ
+  pub digest : List ℕ
+  pub update_count : ℕ
+
+-- what TPM2_PolicySecret is about: the Name of the entity whose authorization is shown, the nonce
+-- that the caller gives, the session's nonceTPM, cpHashA, policyRef, and expiration
+pub record SecretParts : Type 0 where
+  pub name : List ℕ
+  pub nonce : List ℕ
+  pub nonce_tpm : List ℕ
+  pub cp_hash : List ℕ
+  pub reference : List ℕ
+  pub expiration : ℕ
+
+-- the same, wherever its bytes lie in memory
+abbrev pub pcr_parts : PcrAssertion → PcrParts
+pcr_parts asserted = record {
+  given = asserted.given.now;
+  selection = selection_text asserted.selection.now.banks.items;
+  digest = asserted.digest.now;
+  update_count = asserted.update_count;
+}
+
+abbrev pub secret_parts : SecretAssertion → SecretParts
+secret_parts asserted = record {
+  name = asserted.name.now;
+  nonce = asserted.nonce.now;
+  nonce_tpm = asserted.nonce_tpm.now;
+  cp_hash = asserted.cp_hash.now;
+  reference = asserted.reference.now;
+  expiration = asserted.expiration;
+}
+
+-- an assertion, with what it speaks of
+pub data Assertion : Type 0 where
+  Pcr : PcrParts → Assertion
+  Or : (digests : List (List ℕ)) → Assertion
+  AuthValue : Assertion
+  Password : Assertion
+  CommandCode : (number : ℕ) → Assertion
+  Locality : (localities : ℕ) → Assertion
+  Secret : SecretParts → Assertion
+
+-- a fault of a check, with no place, or in a parameter
+abbrev pub fault_of : ActionCheck → Rc → PolicyFault
+fault_of check rc = record { check = check; rc = rc }
+
+abbrev pub parameter_fault : ActionCheck → ResponseCode → ℕ → PolicyFault
+parameter_fault check code number = fault_of check (at (place.Parameter number) (plain code))
+
+-- an empty buffer gives nothing to compare
+abbrev pub is_given : List ℕ → Bool
+is_given bytes = not (length bytes == 0)
+
+-- whether something else is recorded
+abbrev pub is_other : Option ℕ → ℕ → Bool
+is_other None number = false
+is_other (Some recorded) number = not (recorded == number)
+
+abbrev pub is_other_hash : Option (List ℕ) → List ℕ → Bool
+is_other_hash None hash = false
+is_other_hash (Some recorded) hash = not (bytes_eq recorded hash)
+
+-- policyDigest := H(policyDigest || commandCode || what the assertion is about)
+abbrev pub extended : HashAlg → (command : ℕ) → (about : List ℕ) → Policy → Policy
+extended hash command about policy =
+    record policy { digest = hash_of hash (policy.digest ++ to_be_bytes w32 command ++ about) }
+
+-- TPM2_PolicyPCR (section 23.7): the digest of the values is taken, and in a trial session the
+-- given one where one is given
+abbrev pub taken_digest : (trial : Bool) → PcrParts → List ℕ
+taken_digest trial pcr = if trial && is_given pcr.given then pcr.given else pcr.digest
+
+unfoldable pub pcr_asserted : HashAlg → (trial : Bool) → PcrParts
+    → Policy → Result Policy PolicyFault
+pcr_asserted hash trial pcr policy = do
+  a1 ← refused_if (not trial && is_other policy.counter pcr.update_count)
+      (fault_of action.First (plain code.PcrChanged))
+  a2 ← refused_if (not trial && is_given pcr.given && not (bytes_eq pcr.given pcr.digest))
+      (parameter_fault action.Second code.Value 1)
+  Ok (record (extended hash 0x17f (pcr.selection ++ taken_digest trial pcr) policy) {
+    counter = Some pcr.update_count;
+  })
+
+-- TPM2_PolicyOR (section 23.6): the digest is among these, and what comes after stands on all of
+-- them, as if nothing had come before
+unfoldable pub or_digest : HashAlg → (digests : List (List ℕ)) → List ℕ
+or_digest hash digests =
+    hash_of hash (replicate (digest_size hash) 0 ++ to_be_bytes w32 0x171
+    ++ flat_map (λ digest. digest) digests)
+
+unfoldable pub or_asserted : HashAlg → (trial : Bool) → (digests : List (List ℕ))
+    → Policy → Result Policy PolicyFault
+or_asserted hash trial digests policy = do
+  a1 ← refused_if (not trial && not (list_any (λ digest. bytes_eq digest policy.digest) digests))
+      (parameter_fault action.First code.Value 1)
+  Ok (record policy { digest = or_digest hash digests })
+
+-- TPM2_PolicyAuthValue (section 23.17), and TPM2_PolicyPassword (section 23.18), which has the same
+-- digest: they demand the authorization value of the entity, in an HMAC's key or in plain
+abbrev demanding : HashAlg → Demand → Policy → Policy
+demanding hash demand policy = record (extended hash 0x16b [] policy) { demand = demand }
+
+unfoldable pub auth_value_asserted : HashAlg → Policy → Policy
+auth_value_asserted hash policy = demanding hash demand.AuthValue policy
+
+unfoldable pub password_asserted : HashAlg → Policy → Policy
+password_asserted hash policy = demanding hash demand.Password policy
+
+-- TPM2_PolicyCommandCode (section 23.11): only this command
+unfoldable pub command_code_asserted : HashAlg → (number : ℕ)
+    → Policy → Result Policy PolicyFault
+command_code_asserted hash number policy = do
+  a1 ← refused_if (is_other policy.code number) (parameter_fault action.First code.Value 1)
+  a2 ← refused_if (not (is_command_number number)) (parameter_fault action.Second code.PolicyCc 1)
+  Ok (record (extended hash 0x16c (to_be_bytes w32 number) policy) { code = Some number })
+
+-- TPM2_PolicyLocality (section 23.8): of the localities so far only these, of which some are left;
+-- extended localities, 32 and up, are not served
+unfoldable pub locality_asserted : HashAlg → (localities : ℕ)
+    → Policy → Result Policy PolicyFault
+locality_asserted hash localities policy = do
+  a1 ← refused_if
+      (localities == 0 || nat_lt 31 localities || bit_and policy.localities localities == 0)
+      (parameter_fault action.First code.Range 1)
+  Ok (record (extended hash 0x16f (localities ∷ []) policy) {
+    localities = bit_and policy.localities localities;
+  })
+
+-- TPM2_PolicySecret (section 23.4): policyRef is hashed behind the rest, also where it is empty; no
+-- policy expires
+abbrev pub secret_digest : HashAlg → (digest name reference : List ℕ) → List ℕ
+secret_digest hash digest name reference =
+    hash_of hash (hash_of hash (digest ++ to_be_bytes w32 0x151 ++ name) ++ reference)
+
+unfoldable pub secret_asserted : HashAlg → (trial : Bool) → SecretParts
+    → Policy → Result Policy PolicyFault
+secret_asserted hash trial s policy = do
+  a1 ← refused_if (not (s.expiration == 0)) (parameter_fault action.First code.Value 4)
+  a2 ← refused_if (is_given s.cp_hash && not (length s.cp_hash == digest_size hash))
+      (parameter_fault action.Second code.Size 2)
+  a3 ← refused_if (not trial && is_given s.nonce && not (bytes_eq s.nonce s.nonce_tpm))
+      (parameter_fault action.Third code.Nonce 1)
+  a4 ← refused_if (not trial && is_given s.cp_hash && is_other_hash policy.cp_hash s.cp_hash)
+      (fault_of action.Fourth (plain code.Cphash))
+  Ok (record policy {
+    digest = secret_digest hash policy.digest s.name s.reference;
+    cp_hash = if is_given s.cp_hash then Some s.cp_hash else policy.cp_hash;
+  })
+
+-- what an assertion makes of a policy, or the first check that refuses it
+abbrev pub asserted : HashAlg → (trial : Bool) → Assertion → Policy → Result Policy PolicyFault
+asserted hash trial (Pcr pcr) policy = pcr_asserted hash trial pcr policy
+asserted hash trial (Or digests) policy = or_asserted hash trial digests policy
+asserted hash trial AuthValue policy = Ok (auth_value_asserted hash policy)
+asserted hash trial Password policy = Ok (password_asserted hash policy)
+asserted hash trial (CommandCode number) policy = command_code_asserted hash number policy
+asserted hash trial (Locality localities) policy = locality_asserted hash localities policy
+asserted hash trial (Secret secret) policy = secret_asserted hash trial secret policy
+
+-- An assertion did what it should; a refused one changes nothing.
+abbrev pub Asserts : Result Policy PolicyFault
+    → Policy → Result (Unit {0}) PolicyFault → Policy → Type 0
+Asserts change old (Ok u) new = change ≡ Ok new
+Asserts change old (Err fault) new = (change ≡ Err fault) × (new ≡ old)

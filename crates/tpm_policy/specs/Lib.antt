@@ -1,0 +1,11 @@
+pub mod State
+pub mod Assertion
+pub mod Use
+pub use Rattle.tpm_name.specs.Name
+pub use Rattle.tpm_types.specs.CommandCode
+pub use Rattle.tpm_types.specs.CommandNumber
+pub use Rattle.tpm_types.specs.DigestList
+pub use Rattle.tpm_types.specs.Locality
+pub use Rattle.tpm_types.specs.PcrSelection
+pub use Rattle.tpm_types.specs.SessionType
+pub use Rattle.tpm_mac.specs.Digest

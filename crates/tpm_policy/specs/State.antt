@@ -1,0 +1,30 @@
+-- The state of a policy session. TPM 2.0 Library, Part 1, section 19.7 (enhanced authorization):
+-- the policy digest, and beside it what assertions record, which is compared when the session
+-- authorizes.
+use Rattle.std.specs.Prelude.{ℕ, List, Option, None, replicate}
+use Rattle.tpm_mac.specs.Digest.{digest_size}
+use Rattle.tpm_mac.specs.declared.algorithm.HashAlg.{HashAlg}
+use Rattle.tpm_policy.specs.declared.state.Demand.{Demand}
+use Rattle.tpm_policy.specs.declared.state.Demand.TheVariants as demand
+
+-- the policy digest; how often PCRs had been changed when their values were compared, the number of
+-- the one command that is allowed, and its cpHash, each where an assertion recorded it; the
+-- localities that are allowed, bit n for locality n; and what the policy demands beside itself
+pub record Policy : Type 0 where
+  pub digest : List ℕ
+  pub counter : Option ℕ
+  pub code : Option ℕ
+  pub cp_hash : Option (List ℕ)
+  pub localities : ℕ
+  pub demand : Demand
+
+-- a session starts with a digest of zeros, and allows everything from localities 0 to 4
+abbrev pub starting : HashAlg → Policy
+starting hash = record {
+  digest = replicate (digest_size hash) 0;
+  counter = None;
+  code = None;
+  cp_hash = None;
+  localities = 0x1f;
+  demand = demand.None;
+}

@@ -1,0 +1,96 @@
+-- The use of a policy session to authorize. TPM 2.0 Library, Part 1, section 19.7, and Part 3,
+-- section 5.6 (authorization checks): what was recorded is compared, and then the digest.
+use Rattle.std.specs.Prelude.{ℕ, ◌==◌, ◌&&◌, ◌||◌, not, Bool, true, false, List, Option, Some, None, is_none, option_map, Result, Ok}
+use Rattle.std.specs.Int.{bit_at}
+use Rattle.std.specs.Str.{bytes_eq}
+use Rattle.tpm_bytes.specs.Reading.{◌>>=◌, refused_if}
+use Rattle.tpm_mac.specs.declared.algorithm.HashAlg.{HashAlg}
+use Rattle.tpm_types.specs.Algorithm.{hash_number}
+use Rattle.tpm_types.specs.CommandCode.{code_number}
+use Rattle.tpm_types.specs.Locality.{locality_number}
+use Rattle.tpm_types.specs.Rc.{at, plain}
+use Rattle.tpm_types.specs.declared.rc.Place.TheVariants as place
+use Rattle.tpm_types.specs.declared.rc.Rc.{Rc}
+use Rattle.tpm_types.specs.declared.rc.ResponseCode.{ResponseCode}
+use Rattle.tpm_types.specs.declared.rc.ResponseCode.TheVariants as code
+use Rattle.tpm_types.specs.declared.session_type.SessionType.{SessionType}
+use Rattle.tpm_types.specs.declared.session_type.SessionType.TheVariants as type
+use Rattle.tpm_types.specs.declared.shape.Role.{Role}
+use Rattle.tpm_types.specs.declared.shape.Role.TheVariants as role
+use Rattle.tpm_policy.specs.Assertion.{is_other, is_other_hash}
+use Rattle.tpm_policy.specs.State.{Policy}
+use Rattle.tpm_policy.specs.declared.policy_use.EntityPolicy.{EntityPolicy}
+use Rattle.tpm_policy.specs.declared.policy_use.Use.{Use}
+use Rattle.tpm_policy.specs.declared.state.Demand.{Demand}
+
+-- the policy of an entity: nameAlg and authPolicy
+pub record EntityParts : Type 0 where
+  pub hash : HashAlg
+  pub digest : List ℕ
+
+-- what a use is about, wherever its bytes lie in memory: the number of the entry, the session's
+-- type and hash, whether the entity is available, how often PCRs have been changed, the command's
+-- number, the role in which it is authorized, its cpHash, where it comes from, and the entity's
+-- policy, if it has one
+pub record UseParts : Type 0 where
+  pub number : ℕ
+  pub kind : SessionType
+  pub hash : HashAlg
+  pub available : Bool
+  pub update_count : ℕ
+  pub code : ℕ
+  pub role : Role
+  pub cp_hash : List ℕ
+  pub locality : ℕ
+  pub policy : Option EntityParts
+
+abbrev pub entity_parts : EntityPolicy → EntityParts
+entity_parts policy = record { hash = policy.hash; digest = policy.digest.now }
+
+abbrev pub parts_of : Use → UseParts
+parts_of u = record {
+  number = u.number;
+  kind = u.kind;
+  hash = u.hash;
+  available = u.available;
+  update_count = u.update_count;
+  code = code_number u.code;
+  role = u.role;
+  cp_hash = u.cp_hash.now;
+  locality = locality_number u.locality;
+  policy = option_map entity_parts u.policy;
+}
+
+-- a trial session authorizes nothing
+abbrev pub is_trial : SessionType → Bool
+is_trial type.Hmac = false
+is_trial type.Policy = false
+is_trial type.Trial = true
+
+-- the role of the administrator takes a policy that names the command
+abbrev pub lacks_code : Role → Option ℕ → Bool
+lacks_code role.User code = false
+lacks_code role.Admin code = is_none code
+
+-- whether this is the policy of an entity: by its nameAlg, and its digest is authPolicy
+abbrev pub is_policy_of : HashAlg → List ℕ → Option EntityParts → Bool
+is_policy_of hash digest None = false
+is_policy_of hash digest (Some policy) =
+    hash_number policy.hash == hash_number hash && bytes_eq digest policy.digest
+
+abbrev pub session_fault : ResponseCode → ℕ → Rc
+session_fault code number = at (place.Session number) (plain code)
+
+-- whether a policy authorizes this, and what it demands beside itself
+unfoldable pub use_passes : Policy → UseParts → Result Demand Rc
+use_passes policy u = do
+  trial ← refused_if (is_trial u.kind) (session_fault code.Attributes u.number)
+  available ← refused_if (not u.available) (plain code.AuthUnavailable)
+  counter ← refused_if (is_other policy.counter u.update_count) (plain code.PcrChanged)
+  command ← refused_if (is_other policy.code u.code) (session_fault code.PolicyCc u.number)
+  call ← refused_if (lacks_code u.role policy.code || is_other_hash policy.cp_hash u.cp_hash)
+      (session_fault code.PolicyFail u.number)
+  locality ← refused_if (bit_at policy.localities u.locality == 0) (plain code.Locality)
+  digest ← refused_if (not (is_policy_of u.hash policy.digest u.policy))
+      (session_fault code.PolicyFail u.number)
+  Ok policy.demand

@@ -1,0 +1,153 @@
+ghost use Rattle.std.specs.Prelude.{◌≡◌, ◌++◌, ◌≤◌, length, map};
+ghost use Rattle.std.specs.Int.{w32, to_be_bytes};
+ghost use Rattle.std.specs.List.{list_any};
+ghost use Rattle.std.specs.Str.{bytes_eq};
+ghost use Rattle.tpm_mac.specs.Digest.{digest_size, hash_of};
+ghost use Rattle.tpm_types.specs.DigestList.{digests_of};
+ghost use Rattle.tpm_policy.specs.Assertion.{Asserts, auth_value_asserted, command_code_asserted, extended, is_other, locality_asserted, or_asserted, or_digest, password_asserted};
+
+use crate::fault::PolicyFault;
+use crate::state::{Demand, PolicyState};
+use arrayvec::ArrayVec;
+use tpm_mac::{Digest, HashAlg, digest_parts};
+use tpm_types::action_check::ActionCheck;
+use tpm_types::command_number::is_command_number;
+use tpm_types::digest_list::DigestList;
+use tpm_types::rc::ResponseCode;
+
+/// TPM_CC_PolicyAuthValue, which TPM2_PolicyPassword hashes too.
+const AUTH_VALUE: u32 = 0x16b;
+
+const COMMAND_CODE: u32 = 0x16c;
+
+const LOCALITY: u32 = 0x16f;
+
+const OR: u32 = 0x171;
+
+/// The most that an assertion of localities may name: 0 to 4, each by its bit.
+const MOST_LOCALITIES: u8 = 31;
+
+/// Whether the bytes are the same.
+pub(crate) fn is_equal(bytes: &[u8], others: &[u8]) -> bool
+    ensures { result ≡ bytes_eq bytes.now others.now }
+{
+    bytes == others
+}
+
+/// The hash of a digest, a command code, and what an assertion is about.
+fn extended_digest(hash: HashAlg, digest: &[u8], command: u32, about: &[u8]) -> Digest
+    ensures { result.items ≡ hash_of hash (digest.now ++ to_be_bytes w32 command ++ about.now) }
+{
+    digest_parts(hash, &[digest, &command.to_be_bytes(), about])
+}
+
+/// Whether the digest is one of these.
+fn is_among(digest: &[u8], digests: &[Digest]) -> bool
+    ensures { result ≡ list_any (λ other. bytes_eq other digest.now) (digests_of digests.now) }
+{
+    match digests {
+        [first, others @ ..] => is_equal(first.as_slice(), digest) || is_among(digest, others),
+        [] => false,
+    }
+}
+
+/// The digest of a policy that goes on from any of these.
+#[tactic(auto, unfolding(crate::specs::Assertion::or_digest))]
+fn or_digest(hash: HashAlg, list: &DigestList) -> Digest
+    ensures { result.items ≡ or_digest hash (digests_of list.now.digests.items) }
+{
+    let zeros = [0; 32];
+    let code = OR.to_be_bytes();
+    let mut parts: ArrayVec<&[u8], 10> = ArrayVec::new();
+    parts.push(&zeros[..hash.size()]);
+    parts.push(&code);
+    for digest in list.digests.as_slice() {
+        parts.push(digest.as_slice());
+    }
+    digest_parts(hash, parts.as_slice())
+}
+
+impl PolicyState {
+    /// Whether another number than this is recorded for the command.
+    pub(crate) fn records_other_code(&self, number: u32) -> bool
+        ensures { result ≡ is_other self.now.code number }
+    {
+        match self.code {
+            Some(recorded) => recorded != number,
+            None => false,
+        }
+    }
+
+    fn extend(&mut self, hash: HashAlg, command: u32, about: &[u8])
+        ensures { self.new ≡ extended hash command about.now self.old }
+    {
+        self.digest = extended_digest(hash, self.digest.as_slice(), command, about);
+    }
+
+    /// TPM2_PolicyOR: VALUE where the digest is none of these. A trial session takes any.
+    #[tactic(auto, unfolding(crate::specs::Assertion::or_asserted))]
+    pub fn or(&mut self, hash: HashAlg, trial: bool, list: &DigestList) -> Result<(), PolicyFault>
+        ensures { Asserts (or_asserted hash trial (digests_of list.now.digests.items) self.old)
+            self.old result self.new }
+    {
+        if !trial && !is_among(self.digest.as_slice(), list.digests.as_slice()) {
+            let check = ActionCheck::First;
+            return Err(PolicyFault::in_parameter(check, ResponseCode::Value, 1));
+        }
+        self.digest = or_digest(hash, list);
+        Ok(())
+    }
+
+    /// TPM2_PolicyAuthValue: the entity's authorization value is to be in the key of an HMAC.
+    #[tactic(auto, unfolding(crate::specs::Assertion::auth_value_asserted))]
+    pub fn auth_value(&mut self, hash: HashAlg)
+        ensures { self.new ≡ auth_value_asserted hash self.old }
+    {
+        self.extend(hash, AUTH_VALUE, &[]);
+        self.demand = Demand::AuthValue;
+    }
+
+    /// TPM2_PolicyPassword: the entity's authorization value is to be given in plain.
+    #[tactic(auto, unfolding(crate::specs::Assertion::password_asserted))]
+    pub fn password(&mut self, hash: HashAlg)
+        ensures { self.new ≡ password_asserted hash self.old }
+    {
+        self.extend(hash, AUTH_VALUE, &[]);
+        self.demand = Demand::Password;
+    }
+
+    /// TPM2_PolicyCommandCode: VALUE where another command is recorded, POLICY_CC where there is no
+    /// such command.
+    #[tactic(auto, unfolding(crate::specs::Assertion::command_code_asserted))]
+    pub fn command_code(&mut self, hash: HashAlg, number: u32) -> Result<(), PolicyFault>
+        ensures { Asserts (command_code_asserted hash number self.old) self.old result self.new }
+    {
+        if self.records_other_code(number) {
+            let check = ActionCheck::First;
+            return Err(PolicyFault::in_parameter(check, ResponseCode::Value, 1));
+        }
+        if !is_command_number(number) {
+            let check = ActionCheck::Second;
+            return Err(PolicyFault::in_parameter(check, ResponseCode::PolicyCc, 1));
+        }
+        self.extend(hash, COMMAND_CODE, &number.to_be_bytes());
+        self.code = Some(number);
+        Ok(())
+    }
+
+    /// TPM2_PolicyLocality: RANGE where no locality is named, an extended one, or none of those
+    /// that are left.
+    #[tactic(auto, unfolding(crate::specs::Assertion::locality_asserted))]
+    pub fn locality(&mut self, hash: HashAlg, localities: u8) -> Result<(), PolicyFault>
+        ensures { Asserts (locality_asserted hash localities self.old) self.old result self.new }
+    {
+        let left = self.localities & localities;
+        if localities == 0 || localities > MOST_LOCALITIES || left == 0 {
+            let check = ActionCheck::First;
+            return Err(PolicyFault::in_parameter(check, ResponseCode::Range, 1));
+        }
+        self.extend(hash, LOCALITY, &[localities]);
+        self.localities = left;
+        Ok(())
+    }
+}

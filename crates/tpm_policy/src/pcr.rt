@@ -1,0 +1,96 @@
+ghost use Rattle.std.specs.Prelude.{◌≡◌, ◌++◌};
+ghost use Rattle.std.specs.Int.{w32, to_be_bytes};
+ghost use Rattle.tpm_mac.specs.Digest.{hash_of};
+ghost use Rattle.tpm_types.specs.PcrSelection.{selection_text};
+ghost use Rattle.tpm_policy.specs.Assertion as assertion;
+ghost use Rattle.tpm_policy.specs.Assertion.{Asserts, asserted, is_other, pcr_parts, taken_digest};
+
+use crate::assertions::is_equal;
+use crate::fault::PolicyFault;
+use crate::state::PolicyState;
+use tpm_bytes::sink::Sink;
+use tpm_mac::{Digest, HashAlg, digest_parts};
+use tpm_types::action_check::ActionCheck;
+use tpm_types::pcr_selection::PcrSelection;
+use tpm_types::rc::ResponseCode;
+
+/// TPM_CC_PolicyPCR.
+const PCR: u32 = 0x17f;
+
+/// What TPM2_PolicyPCR is about.
+#[derive(Clone, Copy)]
+pub struct PcrAssertion<'a> {
+    /// The digest that the caller gives, or no byte.
+    pub given: &'a [u8],
+    pub selection: &'a PcrSelection,
+    /// The digest of the values of the selected PCRs.
+    pub digest: &'a [u8],
+    /// How often PCRs have been changed.
+    pub update_count: u64,
+}
+
+impl<'a> PcrAssertion<'a> {
+    /// The digest that the policy takes: in a trial session the given one, where one is given.
+    fn taken(&self, trial: bool) -> &'a [u8]
+        ensures { result.now ≡ taken_digest trial (pcr_parts self.now) }
+    {
+        if trial && !self.given.is_empty() {
+            self.given
+        } else {
+            self.digest
+        }
+    }
+}
+
+impl PolicyState {
+    /// Whether PCRs had been changed another number of times when they were compared.
+    pub(crate) fn records_other_count(&self, update_count: u64) -> bool
+        ensures { result ≡ is_other self.now.counter update_count }
+    {
+        match self.counter {
+            Some(recorded) => recorded != update_count,
+            None => false,
+        }
+    }
+
+    /// The policy digest behind the assertion.
+    fn pcr_digest(&self, hash: HashAlg, trial: bool, about: &PcrAssertion) -> Digest
+        ensures { result.items ≡ hash_of hash (self.now.digest ++ to_be_bytes w32 0x17f
+            ++ (selection_text about.now.selection.now.banks.items
+            ++ taken_digest trial (pcr_parts about.now))) }
+    {
+        let mut selection: Sink<100> = Sink::new();
+        let _ = about.selection.write(&mut selection);
+        let code = PCR.to_be_bytes();
+        let (digest, taken) = (self.digest.as_slice(), about.taken(trial));
+        digest_parts(hash, &[digest, &code, selection.as_slice(), taken])
+    }
+
+    /// TPM2_PolicyPCR: PCR_CHANGED where PCRs changed since they were compared first, VALUE where
+    /// their values have another digest than the given one. A trial session takes any.
+    #[tactic(auto, unfolding(crate::specs::Assertion::pcr_asserted))]
+    pub fn pcr(
+        &mut self,
+        hash: HashAlg,
+        trial: bool,
+        about: &PcrAssertion,
+    ) -> Result<(), PolicyFault>
+        ensures { Asserts (asserted hash trial (assertion.Pcr (pcr_parts about.now)) self.old)
+            self.old result self.new }
+    {
+        let (given, digest) = (about.given, about.digest);
+        if !trial && self.records_other_count(about.update_count) {
+            return Err(PolicyFault {
+                check: ActionCheck::First,
+                rc: ResponseCode::PcrChanged.anywhere(),
+            });
+        }
+        if !trial && !given.is_empty() && !is_equal(given, digest) {
+            let check = ActionCheck::Second;
+            return Err(PolicyFault::in_parameter(check, ResponseCode::Value, 1));
+        }
+        self.digest = self.pcr_digest(hash, trial, about);
+        self.counter = Some(about.update_count);
+        Ok(())
+    }
+}

@@ -1,0 +1,128 @@
+ghost use Rattle.std.specs.Prelude.{◌≡◌, ◌==◌, option_map};
+ghost use Rattle.std.specs.Int.{bit_at};
+ghost use Rattle.tpm_types.specs.Locality.{locality_number};
+ghost use Rattle.tpm_policy.specs.Use.{entity_parts, is_policy_of, is_trial, lacks_code, parts_of, session_fault, use_passes};
+
+use crate::assertions::is_equal;
+use crate::state::{Demand, PolicyState};
+use tpm_mac::HashAlg;
+use tpm_types::algorithm::hash_number;
+use tpm_types::command_code::CommandCode;
+use tpm_types::locality::Locality;
+use tpm_types::rc::{Rc, ResponseCode};
+use tpm_types::session_type::SessionType;
+use tpm_types::shape::Role;
+
+/// The policy of an entity.
+#[derive(Clone, Copy)]
+pub struct EntityPolicy<'a> {
+    /// nameAlg.
+    pub hash: HashAlg,
+    /// authPolicy.
+    pub digest: &'a [u8],
+}
+
+/// What a policy session is to authorize.
+#[derive(Clone, Copy)]
+pub struct Use<'a> {
+    /// The number of the authorization entry.
+    pub number: u8,
+    /// The session's.
+    pub kind: SessionType,
+    /// The session's.
+    pub hash: HashAlg,
+    /// Whether the entity can be used now.
+    pub available: bool,
+    /// How often PCRs have been changed.
+    pub update_count: u64,
+    pub code: CommandCode,
+    /// In which role the entity is authorized.
+    pub role: Role,
+    /// The hash of the command.
+    pub cp_hash: &'a [u8],
+    pub locality: Locality,
+    /// The entity's, if it has one.
+    pub policy: Option<EntityPolicy<'a>>,
+}
+
+fn session_fault(code: ResponseCode, number: u8) -> Rc
+    ensures { result ≡ session_fault code number }
+{
+    code.anywhere().at_session(number)
+}
+
+fn is_trial(kind: SessionType) -> bool
+    ensures { result ≡ is_trial kind }
+{
+    match kind {
+        SessionType::Hmac | SessionType::Policy => false,
+        SessionType::Trial => true,
+    }
+}
+
+impl PolicyState {
+    /// Whether the role takes a policy that names the command, and this one names none.
+    fn lacks_code(&self, role: Role) -> bool
+        ensures { result ≡ lacks_code role self.now.code }
+    {
+        match role {
+            Role::User => false,
+            Role::Admin => self.code.is_none(),
+        }
+    }
+
+    /// Whether commands from this locality are not allowed.
+    #[tactic(auto, using(std::proofs::lemmas::Nat::Bits::shr_and_one))]
+    fn forbids(&self, locality: Locality) -> bool
+        ensures { result ≡ (bit_at self.now.localities (locality_number locality) == 0) }
+    {
+        (self.localities >> locality.number()) & 1 == 0
+    }
+
+    /// Whether it is the entity's policy, of a session with this hash.
+    fn is_policy_of(&self, hash: HashAlg, policy: Option<EntityPolicy>) -> bool
+        ensures { result
+            ≡ is_policy_of hash self.now.digest (option_map entity_parts policy.entry) }
+    {
+        match policy {
+            Some(policy) => {
+                hash_number(policy.hash) == hash_number(hash)
+                    && is_equal(self.digest.as_slice(), policy.digest)
+            }
+            None => false,
+        }
+    }
+
+    /// Whether the policy authorizes this, and what it demands beside itself. The first that does
+    /// not hold refuses: ATTRIBUTES for a trial session, AUTH_UNAVAILABLE, PCR_CHANGED, POLICY_CC
+    /// for another command, POLICY_FAIL for the role or another cpHash, LOCALITY, and POLICY_FAIL
+    /// for another policy than the entity's.
+    #[tactic(auto, unfolding(crate::specs::Use::use_passes))]
+    pub fn check_use(&self, asked: &Use) -> Result<Demand, Rc>
+        ensures { result ≡ use_passes self.now (parts_of asked.now) }
+    {
+        let number = asked.number;
+        if is_trial(asked.kind) {
+            return Err(session_fault(ResponseCode::Attributes, number));
+        }
+        if !asked.available {
+            return Err(ResponseCode::AuthUnavailable.anywhere());
+        }
+        if self.records_other_count(asked.update_count) {
+            return Err(ResponseCode::PcrChanged.anywhere());
+        }
+        if self.records_other_code(asked.code.number()) {
+            return Err(session_fault(ResponseCode::PolicyCc, number));
+        }
+        if self.lacks_code(asked.role) || self.records_other_hash(asked.cp_hash) {
+            return Err(session_fault(ResponseCode::PolicyFail, number));
+        }
+        if self.forbids(asked.locality) {
+            return Err(ResponseCode::Locality.anywhere());
+        }
+        if !self.is_policy_of(asked.hash, asked.policy) {
+            return Err(session_fault(ResponseCode::PolicyFail, number));
+        }
+        Ok(self.demand)
+    }
+}

@@ -1,0 +1,92 @@
+ghost use Rattle.std.specs.Prelude.{◌≡◌};
+ghost use Rattle.tpm_policy.specs.Assertion as assertion;
+ghost use Rattle.tpm_policy.specs.Assertion.{Asserts, asserted, is_other_hash, secret_digest, secret_parts};
+
+use crate::assertions::is_equal;
+use crate::fault::PolicyFault;
+use crate::state::{PolicyState, copied};
+use tpm_mac::{Digest, HashAlg, digest_parts};
+use tpm_name::Name;
+use tpm_types::action_check::ActionCheck;
+use tpm_types::rc::ResponseCode;
+
+/// TPM_CC_PolicySecret.
+const SECRET: u32 = 0x151;
+
+/// What TPM2_PolicySecret is about. A buffer of no byte gives nothing.
+#[derive(Clone, Copy)]
+pub struct SecretAssertion<'a> {
+    /// Of the entity whose authorization is shown.
+    pub name: &'a Name,
+    /// The nonce that the caller gives.
+    pub nonce: &'a [u8],
+    /// The session's.
+    pub nonce_tpm: &'a [u8],
+    /// The hash of the one command that is to be allowed.
+    pub cp_hash: &'a [u8],
+    /// policyRef.
+    pub reference: &'a [u8],
+    pub expiration: u32,
+}
+
+/// The policy digest behind the assertion.
+fn secret_digest(hash: HashAlg, digest: &[u8], name: &Name, reference: &[u8]) -> Digest
+    ensures { result.items ≡ secret_digest hash digest.now name.now reference.now }
+{
+    let code = SECRET.to_be_bytes();
+    let first = digest_parts(hash, &[digest, &code, name.as_slice()]);
+    digest_parts(hash, &[first.as_slice(), reference])
+}
+
+impl PolicyState {
+    /// Whether the hash of another command is recorded.
+    pub(crate) fn records_other_hash(&self, cp_hash: &[u8]) -> bool
+        ensures { result ≡ is_other_hash self.now.cp_hash cp_hash.now }
+    {
+        match &self.cp_hash {
+            Some(recorded) => !is_equal(recorded.as_slice(), cp_hash),
+            None => false,
+        }
+    }
+
+    /// TPM2_PolicySecret: VALUE where it is to expire, SIZE where cpHashA is no digest, NONCE where
+    /// another nonce than the session's is given, CPHASH where another command's hash is recorded.
+    /// A trial session takes any nonce and any hash.
+    #[tactic(auto, unfolding(crate::specs::Assertion::secret_asserted))]
+    pub fn secret(
+        &mut self,
+        hash: HashAlg,
+        trial: bool,
+        about: &SecretAssertion,
+    ) -> Result<(), PolicyFault>
+        ensures { Asserts
+            (asserted hash trial (assertion.Secret (secret_parts about.now)) self.old)
+            self.old result self.new }
+    {
+        let (cp_hash, nonce) = (about.cp_hash, about.nonce);
+        if about.expiration != 0 {
+            let check = ActionCheck::First;
+            return Err(PolicyFault::in_parameter(check, ResponseCode::Value, 4));
+        }
+        if !cp_hash.is_empty() && cp_hash.len() != hash.size() {
+            let check = ActionCheck::Second;
+            return Err(PolicyFault::in_parameter(check, ResponseCode::Size, 2));
+        }
+        if !trial && !nonce.is_empty() && !is_equal(nonce, about.nonce_tpm) {
+            let check = ActionCheck::Third;
+            return Err(PolicyFault::in_parameter(check, ResponseCode::Nonce, 1));
+        }
+        if !trial && !cp_hash.is_empty() && self.records_other_hash(cp_hash) {
+            return Err(PolicyFault {
+                check: ActionCheck::Fourth,
+                rc: ResponseCode::Cphash.anywhere(),
+            });
+        }
+        let digest = self.digest.as_slice();
+        self.digest = secret_digest(hash, digest, about.name, about.reference);
+        if !cp_hash.is_empty() {
+            self.cp_hash = Some(copied(cp_hash));
+        }
+        Ok(())
+    }
+}

@@ -1,0 +1,128 @@
+ghost use Rattle.std.specs.Prelude.{◌≡◌, ◌≤◌, length, replicate};
+ghost use Rattle.tpm_mac.specs.Digest.{digest_size};
+
+use arrayvec::ArrayVec;
+use std::marker::Model;
+use tpm_mac::{Digest, HashAlg};
+
+/// What a policy demands beside itself.
+#[derive(Clone, Copy, Debug, PartialEq, Eq)]
+pub enum Demand {
+    /// Nothing.
+    None,
+    /// An HMAC whose key has the entity's authorization value.
+    AuthValue,
+    /// The entity's authorization value in plain.
+    Password,
+}
+
+/// The state of a policy session (TPM 2.0 Library, Part 1, section 19.7). Contracts see it as a
+/// `Policy`, a plain record.
+#[derive(Drop)]
+pub struct PolicyState {
+    pub(crate) digest: Digest,
+    /// How often PCRs had been changed when their values were compared.
+    pub(crate) counter: Option<u64>,
+    /// The number of the one command that is allowed.
+    pub(crate) code: Option<u32>,
+    /// The hash of the one command that is allowed.
+    pub(crate) cp_hash: Option<Digest>,
+    /// The localities that are allowed, bit n for locality n.
+    pub(crate) localities: u8,
+    pub(crate) demand: Demand,
+}
+
+impl Model for PolicyState {
+    ghost use Rattle.std.specs.Prelude.{option_map};
+    ghost use Rattle.tpm_policy.specs.State.{Policy};
+
+    ghost Value = { Policy };
+
+    ghost view = { λ s. record {
+      digest = s.digest.items;
+      counter = s.counter;
+      code = s.code;
+      cp_hash = option_map (λ hash. hash.items) s.cp_hash;
+      localities = s.localities;
+      demand = s.demand;
+    } };
+}
+
+/// The localities 0 to 4.
+const ALL_LOCALITIES: u8 = 0x1f;
+
+/// A digest of zeros.
+fn zeros(hash: HashAlg) -> Digest
+    ensures { result.items ≡ replicate (digest_size hash) 0 }
+{
+    let mut digest = ArrayVec::new();
+    let _ = match hash {
+        HashAlg::Sha1 => digest.try_extend_from_slice(&[0; 20]),
+        HashAlg::Sha256 => digest.try_extend_from_slice(&[0; 32]),
+    };
+    digest
+}
+
+/// The bytes, copied.
+pub(crate) fn copied(bytes: &[u8]) -> Digest
+    requires { length bytes.now ≤ 32 }
+    ensures { result.items ≡ bytes.now }
+{
+    let mut copy = ArrayVec::new();
+    let _ = copy.try_extend_from_slice(bytes);
+    copy
+}
+
+impl PolicyState {
+    ghost use Rattle.tpm_policy.specs.State.{starting};
+
+    /// The state in which a session starts.
+    pub fn new(hash: HashAlg) -> PolicyState
+        ensures { result ≡ starting hash }
+    {
+        PolicyState {
+            digest: zeros(hash),
+            counter: None,
+            code: None,
+            cp_hash: None,
+            localities: ALL_LOCALITIES,
+            demand: Demand::None,
+        }
+    }
+
+    /// Makes it the state in which a session starts.
+    pub fn restart(&mut self, hash: HashAlg)
+        ensures { self.new ≡ starting hash }
+    {
+        *self = PolicyState::new(hash);
+    }
+
+    /// The policy digest.
+    pub fn digest(&self) -> &[u8]
+        ensures value { result.now ≡ self.now.digest }
+        ensures fits { length result.now ≤ 32 }
+    {
+        self.digest.as_slice()
+    }
+
+    /// What the policy demands beside itself.
+    pub fn demand(&self) -> Demand
+        ensures { result ≡ self.now.demand }
+    {
+        self.demand
+    }
+
+    /// The same state.
+    pub fn copy(&self) -> PolicyState
+        ensures { result ≡ self.now }
+    {
+        PolicyState {
+            digest: copied(self.digest.as_slice()),
+            counter: self.counter,
+            code: self.code,
+            cp_hash: self.cp_hash.as_ref().map(|hash| copied(hash.as_slice())),
+            localities: self.localities,
+            demand: self.demand,
+        }
+    }
+}

@@ -1,0 +1,34 @@
+-- The types of sessions. TPM 2.0 Library, Part 2, section 6.11 (TPM_SE) and section 7.2 (TPM_HT).
+use Rattle.std.specs.Prelude.{ℕ, ◌==◌, List, if◌then◌else◌, Option, Some, None, Result, Ok, ok_or}
+use Rattle.std.specs.Int.{w8}
+use Rattle.tpm_bytes.specs.Reading.{◌>>=◌, number_at, or_fault}
+use Rattle.tpm_types.specs.declared.rc.Rc.{Rc}
+use Rattle.tpm_types.specs.declared.rc.ResponseCode.TheVariants as code
+use Rattle.tpm_types.specs.declared.session_type.SessionType.{SessionType}
+use Rattle.tpm_types.specs.declared.session_type.SessionType.TheVariants.{Hmac, Policy, Trial}
+use Rattle.tpm_types.specs.Rc.{plain}
+
+abbrev pub type_number : SessionType → ℕ
+type_number Hmac = 0x00
+type_number Policy = 0x01
+type_number Trial = 0x03
+
+-- the session type of a number
+abbrev pub type_named : ℕ → Option SessionType
+type_named number =
+    if number == 0x00 then Some Hmac
+    else (if number == 0x01 then Some Policy
+    else (if number == 0x03 then Some Trial else None))
+
+-- the highest byte of a handle: an HMAC session (02), or a policy session, a trial one too (03)
+abbrev pub type_byte : SessionType → ℕ
+type_byte Hmac = 0x02
+type_byte Policy = 0x03
+type_byte Trial = 0x03
+
+-- a session type, and what is after it
+unfoldable pub session_type_at : List ℕ → Result (SessionType × List ℕ) Rc
+session_type_at text = do
+  number ← or_fault (number_at w8 text) (plain code.Insufficient)
+  type ← ok_or (type_named number.0) (plain code.Value)
+  Ok (type, number.1)

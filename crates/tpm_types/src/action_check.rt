@@ -1,0 +1,24 @@
+ghost use Rattle.std.specs.Prelude.{◌≡◌};
+
+/// Which of a command's own checks refused it, by its place in the command's section.
+#[derive(Clone, Copy, Debug, PartialEq, Eq)]
+pub enum ActionCheck {
+    First = 1,
+    Second = 2,
+    Third = 3,
+    Fourth = 4,
+    Fifth = 5,
+    Sixth = 6,
+    Seventh = 7,
+}
+
+impl ActionCheck {
+    ghost use Rattle.tpm_types.specs.ActionCheck.{action_number};
+
+    /// Its place, from 1.
+    pub fn number(self) -> u8
+        ensures { result ≡ action_number self }
+    {
+        self as u8
+    }
+}

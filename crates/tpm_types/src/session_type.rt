@@ -1,0 +1,70 @@
+ghost use Rattle.std.specs.Prelude.{◌≡◌};
+ghost use Rattle.tpm_bytes.specs.Reading.{Reads};
+
+use crate::rc::{Rc, ResponseCode};
+use tpm_bytes::cursor::Cursor;
+
+/// The type of a session: TPM_SE of TPM 2.0 Library, Part 2, section 6.11.
+#[derive(Clone, Copy, Debug, PartialEq, Eq)]
+pub enum SessionType {
+    /// It authorizes by the entity's authorization value.
+    Hmac,
+    /// It authorizes by a policy.
+    Policy,
+    /// It computes a policy, and authorizes nothing.
+    Trial,
+}
+
+impl SessionType {
+    ghost use Rattle.tpm_types.specs.SessionType.{session_type_at, type_byte, type_named, type_number};
+
+    /// The number on the wire.
+    pub fn number(self) -> u8
+        ensures { result ≡ type_number self }
+    {
+        match self {
+            SessionType::Hmac => 0x00,
+            SessionType::Policy => 0x01,
+            SessionType::Trial => 0x03,
+        }
+    }
+
+    /// The type of this number.
+    pub fn named(number: u8) -> Option<SessionType>
+        ensures { result ≡ type_named number }
+    {
+        match number {
+            0x00 => Some(SessionType::Hmac),
+            0x01 => Some(SessionType::Policy),
+            0x03 => Some(SessionType::Trial),
+            _ => None,
+        }
+    }
+
+    /// The highest byte of the handle of such a session (TPM_HT, Part 2, section 7.2).
+    pub fn handle_byte(self) -> u32
+        ensures { result ≡ type_byte self }
+    {
+        match self {
+            SessionType::Hmac => 0x02,
+            SessionType::Policy | SessionType::Trial => 0x03,
+        }
+    }
+
+    /// Reads a session type: INSUFFICIENT where it is cut, VALUE where it is none.
+    #[tactic(auto, unfolding(crate::specs::SessionType::session_type_at))]
+    pub fn read(text: &mut Cursor) -> Result<SessionType, Rc>
+        ensures { Reads (λ kind. kind) (session_type_at text.old) text.old result text.new }
+    {
+        let mut ahead = Cursor::new(text.rest());
+        let number = ahead
+            .u8()
+            .map_err(|_| ResponseCode::Insufficient.anywhere())?;
+        let kind = match SessionType::named(number) {
+            Some(kind) => kind,
+            None => return Err(ResponseCode::Value.anywhere()),
+        };
+        *text = ahead;
+        Ok(kind)
+    }
+}

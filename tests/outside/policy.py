@@ -1,0 +1,130 @@
+"""Policies: what a session was told, and what each assertion makes of its digest.
+
+The equations are those of the TPM 2.0 Library, Part 1, section 19.7 and Part 3, section 23. `old`
+is the digest before an assertion; a policy session and a trial session have the same.
+"""
+
+from dataclasses import dataclass
+
+from frames import (
+    POLICY_AUTH_VALUE,
+    POLICY_COMMAND_CODE,
+    POLICY_LOCALITY,
+    POLICY_OR,
+    POLICY_PCR,
+    POLICY_SECRET,
+    number,
+)
+from general import Refusal
+from sessions import digest, digest_bytes, name_of
+
+# A bit for each of the localities 0 to 4.
+ALL_LOCALITIES = 0x1F
+
+# What a policy asks of the entry that it authorizes by, beside itself.
+PASSWORD, AUTH_VALUE = "password", "authorization value"
+
+# How many digests TPM2_PolicyOR takes.
+LEAST_BRANCHES, MOST_BRANCHES = 2, 8
+
+# The commands that TPM2_PolicyCommandCode knows, served or not.
+COMMANDS = {
+    *(0x120, 0x122, 0x126, 0x127, 0x129, 0x12A, 0x131, 0x134, 0x135, 0x136, 0x137, 0x138, 0x139),
+    *(0x13A, 0x13B, 0x13C, 0x13D, 0x143, 0x144, 0x145, 0x149, 0x14E, 0x14F, 0x151, 0x153, 0x155),
+    *(0x157, 0x15E, 0x165, 0x169, 0x16B, 0x16C, 0x16F, 0x171, 0x173, 0x176, 0x17A, 0x17B, 0x17E),
+    *(0x17F, 0x180, 0x181, 0x182, 0x189, 0x18C),
+}
+
+
+@dataclass
+class State:
+    """A policy as far as it was told: its digest, and what a use of it will be held against. What
+    is None was not told.
+    """
+
+    digest: bytes
+    update_counter: int = None
+    code: int = None
+    cp_hash: bytes = None
+    localities: int = ALL_LOCALITIES
+    demand: str = None
+
+
+def starting_state(algorithm):
+    return State(bytes(digest_bytes(algorithm)))
+
+
+# The digest behind each assertion.
+
+
+def after_pcr(algorithm, old, selection, values_digest):
+    """`selection` is the text of the selection, as it is sent."""
+    return digest(algorithm, old + number(POLICY_PCR, 4) + selection + values_digest)
+
+
+def after_or(algorithm, branches):
+    """What was before is one of the branches, and no more in the digest."""
+    zeros = bytes(digest_bytes(algorithm))
+    return digest(algorithm, zeros + number(POLICY_OR, 4) + b"".join(branches))
+
+
+def after_auth_value(algorithm, old):
+    """TPM2_PolicyPassword makes the same digest."""
+    return digest(algorithm, old + number(POLICY_AUTH_VALUE, 4))
+
+
+def after_command_code(algorithm, old, code):
+    return digest(algorithm, old + number(POLICY_COMMAND_CODE, 4) + number(code, 4))
+
+
+def after_locality(algorithm, old, localities):
+    return digest(algorithm, old + number(POLICY_LOCALITY, 4) + number(localities, 1))
+
+
+def after_secret(algorithm, old, handle, policy_ref):
+    """Two hashes, also where policyRef is empty."""
+    named = digest(algorithm, old + number(POLICY_SECRET, 4) + name_of(handle))
+    return digest(algorithm, named + policy_ref)
+
+
+# A policy that authorizes.
+
+
+@dataclass(frozen=True)
+class Use:
+    """What a policy is held against as it authorizes a command: the command, and the device."""
+
+    code: int
+    is_admin: bool
+    cp_hash: bytes
+    update_counter: int
+    locality: int
+
+
+@dataclass(frozen=True)
+class Entity:
+    """An entity that a policy can authorize."""
+
+    name_algorithm: int
+    auth_policy: bytes
+
+
+def check_use(session, entity, use, place):
+    """What refuses the entry of a place, before its hmac is looked at. `entity` is None where no
+    policy can authorize it.
+    """
+    told = session.policy
+    if session.is_trial:
+        raise Refusal(f"ATTRIBUTES/s{place}")
+    if entity is None:
+        raise Refusal("AUTH_UNAVAILABLE")
+    if told.update_counter not in (None, use.update_counter):
+        raise Refusal("PCR_CHANGED")
+    if told.code not in (None, use.code):
+        raise Refusal(f"POLICY_CC/s{place}")
+    if use.is_admin and told.code is None or told.cp_hash not in (None, use.cp_hash):
+        raise Refusal(f"POLICY_FAIL/s{place}")
+    if not told.localities >> use.locality & 1:
+        raise Refusal("LOCALITY")
+    if (session.algorithm, told.digest) != (entity.name_algorithm, entity.auth_policy):
+        raise Refusal(f"POLICY_FAIL/s{place}")
