@@ -132,4 +132,25 @@ for session in caller.each_session():
         caller.branches(session, current, current, current, count=2),
     )
     caller.digest_is("No refusal changed the digest", session, current)
+
+script.chapter("What was recorded before a list stays behind it.")
+session = caller.policy("A policy session is started")
+cp_hash = digest(session.algorithm, b"a command")
+caller.says(
+    "A command, localities, PCRs and a cpHash are recorded",
+    "SUCCESS",
+    caller.command_code(session, frames.GET_RANDOM),
+    caller.locality(session, 0b01100),
+    caller.pcrs(session, [(frames.SHA256, [0])]),
+    caller.secret(session, cp_hash=cp_hash),
+)
+response = caller.says("Its digest", "SUCCESS", caller.get_digest(session))
+current = response[-len(zeros(session)) :]
+joins("The digest is the first of two", session, current, *other(session, 1))
+caller.says("Another command", "VALUE/p1", caller.command_code(session, frames.PCR_READ))
+caller.says("Localities of which none is left", "RANGE/p1", caller.locality(session, 0b10011))
+another = digest(session.algorithm, b"another command")
+caller.says("Another cpHash", "CPHASH", caller.secret(session, cp_hash=another))
+caller.accepted("TPM2_PCR_Reset of PCR 16", caller.reset(b""))
+caller.says("PCRs, of which one changed", "PCR_CHANGED", caller.pcrs(session, [(frames.SHA256, [0])]))
 script.write()

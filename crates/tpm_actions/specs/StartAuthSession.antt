@@ -3,13 +3,12 @@ use Rattle.std.specs.Prelude.{◌≡◌, ℕ, ◌==◌, not, List, length, take,
 use Rattle.tpm_bytes.specs.Reading.{◌>>=◌, refused_if}
 use Rattle.tpm_bytes.specs.Writing.{sized_text}
 use Rattle.tpm_mac.specs.declared.algorithm.HashAlg.{HashAlg}
-use Rattle.tpm_policy.specs.State.{starting}
 use Rattle.tpm_session.specs.declared.session.Binding.{Binding}
 use Rattle.tpm_session.specs.declared.session.Session.{Session}
 use Rattle.tpm_types.specs.declared.session_type.SessionType.{SessionType}
-use Rattle.tpm_session.specs.Key.{is_nonce_size, session_key}
+use Rattle.tpm_session.specs.Key.{is_nonce_size}
 use Rattle.tpm_session.specs.Places.{lowest_free}
-use Rattle.tpm_session.specs.Sessions.{handle_of}
+use Rattle.tpm_session.specs.Sessions.{handle_of, new_session}
 use Rattle.tpm_types.specs.declared.handle.Handle.{Handle}
 use Rattle.tpm_types.specs.declared.rc.ResponseCode.TheVariants as code
 use Rattle.tpm_types.specs.declared.rc.Place.TheVariants as place
@@ -88,16 +87,8 @@ binding_of r bind =
     })
 
 -- the session that is started with a nonce of the TPM's
-abbrev pub new_session : Parameters → Option Binding → List ℕ → Session
-new_session p binding nonce = record {
-  kind = p.kind;
-  hash = p.hash;
-  symmetric = p.symmetric;
-  nonce_tpm = nonce;
-  key = session_key p.hash binding nonce p.nonce_caller;
-  binding = binding;
-  policy = starting p.hash;
-}
+abbrev pub session_with : Parameters → Option Binding → List ℕ → Session
+session_with p binding nonce = new_session p.kind p.hash p.symmetric binding nonce p.nonce_caller
 
 -- A3: there is no place for the session; answered: its handle and its nonce
 abbrev pub started : Record → Parameters → Session → Option ℕ → Result Success Refused
@@ -116,5 +107,5 @@ start_auth_session_row r q = do
   bind ← second_handle q.handles
   p ← parameters_in q.parameters
   passed ← parameters_pass p
-  let s : Session = new_session p (binding_of r bind) (take (length p.nonce_caller) q.random)
+  let s : Session = session_with p (binding_of r bind) (take (length p.nonce_caller) q.random)
   started r p s (lowest_free r.sessions)

@@ -3,9 +3,9 @@ ghost use Rattle.std.specs.Prelude.{◌≡◌, ◌≤◌, [], None};
 use tpm_bytes::sink::Sink;
 use tpm_types::handle::Handle;
 
-/// The most bytes of a response's parameters: TPM2_PCR_Read's are the longest so far, a counter of 4
-/// bytes, a selection of sixteen banks in 100 and a list of eight digests in 276. It is no more than
-/// that, since an answer is cleared and moved for each command.
+/// The most bytes of a response's parameters: TPM2_PCR_Read's are the longest so far, a counter of
+/// 4 bytes, a selection of sixteen banks in 100 and a list of eight digests in 276. It is no more
+/// than that, since an answer is cleared and moved for each command.
 pub const ANSWER_LIMIT: usize = 380;
 
 /// A response's parameters.

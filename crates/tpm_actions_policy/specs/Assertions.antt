@@ -1,5 +1,5 @@
--- What the policy commands share: the session that a command's handle names, and an assertion on it.
--- TPM 2.0 Library, Part 3, section 23.
+-- What the policy commands share: the session that a command's handle names, and an assertion on
+-- it. TPM 2.0 Library, Part 3, section 23.
 use Rattle.std.specs.Prelude.{◌≡◌, ℕ, List, None, Result, Ok, Err, ok_or}
 use Rattle.std.specs.Borrow.{Bor}
 use Rattle.tpm_bytes.specs.Reading.{◌>>=◌}
@@ -18,10 +18,11 @@ use Rattle.tpm_auth.specs.declared.refused.Refused.{Refused}
 use Rattle.tpm_auth.specs.Refused.{refusal}
 use Rattle.tpm_actions.specs.Rows.{Success}
 
--- the policy or trial session of a handle; without one no row acts. That does not occur: the general
--- checks have found it
+-- the policy or trial session of a handle; without one no row acts. That does not occur: the
+-- general checks have found it
 abbrev pub policy_session : Record → Handle → Result Session Refused
-policy_session r handle = ok_or (session_at r.sessions handle) (refusal check.Handles (plain code.Failure))
+policy_session r handle =
+    ok_or (session_at r.sessions handle) (refusal check.Handles (plain code.Failure))
 
 -- an assertion that is refused refuses its command, by the same check
 abbrev pub by_its_check : Result Policy PolicyFault → Result Policy Refused
@@ -29,8 +30,8 @@ by_its_check (Ok policy) = Ok policy
 by_its_check (Err fault) = Err (refusal (check.Action fault.check) fault.rc)
 
 -- the session of a handle with another policy, and this answer
-abbrev pub with_answer : Record → Handle → List ℕ → Policy → Success
-with_answer r handle answer policy = record {
+abbrev pub policy_success : Record → Handle → List ℕ → Policy → Success
+policy_success r handle answer policy = record {
   handle = None;
   answer = answer;
   drawn = 0;
@@ -42,7 +43,7 @@ abbrev pub assertion_on : Record → Handle → (Session → Assertion) → List
 assertion_on r handle assertion answer = do
   s ← policy_session r handle
   policy ← by_its_check (asserted s.hash (is_trial s.kind) (assertion s) s.policy)
-  Ok (with_answer r handle answer policy)
+  Ok (policy_success r handle answer policy)
 
 -- The code's search for a session stands for the definition's.
 abbrev pub IsSession : Result Session Refused → Result (Bor Session) Refused → Type 0

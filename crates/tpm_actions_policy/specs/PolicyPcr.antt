@@ -13,7 +13,8 @@ use Rattle.tpm_actions.specs.Request.{Request, first_handle}
 use Rattle.tpm_actions.specs.Rows.{Success, all_read, parameter}
 use Rattle.tpm_actions_policy.specs.Assertions.{assertion_on}
 
--- the given digest, and a selection of PCRs with the digest of their values now, by the session's hash
+-- the given digest, and a selection of PCRs with the digest of their values now, by the session's
+-- hash
 abbrev pub pcr_parts_of : Record → List ℕ → List BankSelection → Session → PcrParts
 pcr_parts_of r given selection s = record {
   given = given;

@@ -6,7 +6,7 @@ use Rattle.tpm_record.specs.Record.{Record}
 use Rattle.tpm_auth.specs.declared.refused.Refused.{Refused}
 use Rattle.tpm_actions.specs.Request.{Request, first_handle}
 use Rattle.tpm_actions.specs.Rows.{Success, all_read}
-use Rattle.tpm_actions_policy.specs.Assertions.{policy_session, with_answer}
+use Rattle.tpm_actions_policy.specs.Assertions.{policy_session, policy_success}
 
 -- the session's policy is as it started; no parameters
 unfoldable pub policy_restart_row : Record → Request → Result Success Refused
@@ -14,4 +14,4 @@ policy_restart_row r q = do
   handle ← first_handle q.handles
   ended ← all_read q.parameters
   s ← policy_session r handle
-  Ok (with_answer r handle [] (starting s.hash))
+  Ok (policy_success r handle [] (starting s.hash))

@@ -1,6 +1,6 @@
--- What the entries of a command authorize. TPM 2.0 Library, Part 1, section 19 (authorizations), and
--- Part 3, section 5.6 (authorization checks).
-use Rattle.std.specs.Prelude.{◌≡◌, ℕ, ◌+◌, ◌&&◌, not, nat_lt, Bool, true, false, List, [], ◌∷◌, ◌++◌, length, take, Option, Some, None, option_map, slice_get, Result, Ok, Err}
+-- What the entries of a command authorize. TPM 2.0 Library, Part 1, section 19 (authorizations),
+-- and Part 3, section 5.6 (authorization checks).
+use Rattle.std.specs.Prelude.{◌≡◌, ℕ, ◌+◌, ◌&&◌, not, nat_lt, Bool, true, false, List, [], ◌∷◌, ◌++◌, length, take, Option, Some, None, is_some, option_map, slice_get, Result, Ok, Err}
 use Rattle.std.specs.List.{list_any}
 use Rattle.std.specs.Option.{option_map_or}
 use Rattle.tpm_bytes.specs.Reading.{◌>>=◌, refused_if, sized_at}
@@ -17,7 +17,8 @@ use Rattle.tpm_types.specs.Command.{Whole}
 use Rattle.tpm_types.specs.CommandCode.{authorized_handles}
 use Rattle.tpm_types.specs.Handle.{session_kind}
 use Rattle.tpm_types.specs.Rc.{at, plain}
-use Rattle.tpm_record.specs.Entity.{protection_of}
+use Rattle.tpm_record.specs.declared.entity.Means.TheVariants as means
+use Rattle.tpm_record.specs.Entity.{is_available, protection_of}
 use Rattle.tpm_record.specs.Record.{Record}
 use Rattle.tpm_auth.specs.Comparison.{check_of, failure, is_password_of}
 use Rattle.tpm_auth.specs.Entries.{decrypts, entries_pass, entry_fault, reference_of, session_of}
@@ -32,10 +33,12 @@ use Rattle.tpm_auth.specs.declared.session_grant.Grant.{Grant}
 abbrev pub undemanding : Handle → Grant
 undemanding handle = record { handle = handle; demand = demand.None }
 
--- entry n is a password for what it authorizes
+-- entry n is a password for what it authorizes, which must be available by its authorization value
 unfoldable pub password_grant : Record → ℕ → Option Handle → Entry → Result (Option Grant) Refused
 password_grant r n used e = do
   let grant : Option Grant = option_map undemanding used
+  available ← refused_if (is_some used && not (is_available means.AuthValue))
+      (refusal check.Authorization (plain code.AuthUnavailable))
   compared ← refused_if (not (is_password_of (granted_value r grant) e.hmac))
       (failure (check_of grant) n (option_map_or protection_of used protection.None))
   Ok grant
@@ -48,7 +51,8 @@ session_grant_if r c locality n used e (Some s) = session_grant r c locality n u
 abbrev pub grant_by : SessionKind → Record
     → Whole → (locality n : ℕ) → Option Handle → Entry → Result (Option Grant) Refused
 grant_by kind.Password r c locality n used e = password_grant r n used e
-grant_by kind.Session r c locality n used e = session_grant_if r c locality n used e (session_of r e)
+grant_by kind.Session r c locality n used e =
+    session_grant_if r c locality n used e (session_of r e)
 grant_by kind.Other r c locality n used e = Err (refusal check.Entries (entry_fault n code.Value))
 
 -- entry n of a command from this locality, which is to authorize this handle or none

@@ -1,6 +1,6 @@
--- What the entry of a session authorizes. TPM 2.0 Library, Part 1, sections 19.6 (HMAC sessions), 19.7
--- (policies) and 19.8 (dictionary attacks), and Part 3, section 5.6 (authorization checks).
-use Rattle.std.specs.Prelude.{ℕ, ◌-◌, ◌==◌, ◌&&◌, ◌||◌, not, nat_lt, Bool, true, false, List, [], length, map, drop, if◌then◌else◌, Option, Some, None, Result, Ok, Err}
+-- What the entry of a session authorizes. TPM 2.0 Library, Part 1, sections 19.6 (HMAC sessions),
+-- 19.7 (policies) and 19.8 (dictionary attacks), and Part 3, section 5.6 (authorization checks).
+use Rattle.std.specs.Prelude.{ℕ, ◌-◌, ◌==◌, ◌&&◌, ◌||◌, not, nat_lt, Bool, true, false, List, [], length, map, drop, if◌then◌else◌, Option, Some, None, Result, Ok}
 use Rattle.std.specs.List.{find}
 use Rattle.std.specs.Option.{option_map_or}
 use Rattle.std.specs.Str.{bytes_eq}
@@ -38,7 +38,8 @@ use Rattle.tpm_auth.specs.declared.session_grant.Grant.{Grant}
 unfoldable pub is_bound_to : Record → Session → Handle → Bool
 is_bound_to r s handle =
     option_map_or (λ (b : Binding).
-    bytes_eq b.name (name_of r handle) && bytes_eq b.auth_value (auth_value_of r handle)) s.binding false
+    bytes_eq b.name (name_of r handle) && bytes_eq b.auth_value (auth_value_of r handle))
+    s.binding false
 
 -- whether a policy demands the authorization value in the key of the HMAC, or as a password
 abbrev pub is_in_key : Demand → Bool
@@ -51,9 +52,9 @@ is_password_demand demand.None = false
 is_password_demand demand.AuthValue = false
 is_password_demand demand.Password = true
 
--- whether the HMAC's key has the authorization value of the handle that an entry authorizes: that of
--- an HMAC session unless it is bound to the handle, that of a policy session only where the policy
--- demands it, and then although it is bound
+-- whether the HMAC's key has the authorization value of the handle that an entry authorizes: that
+-- of an HMAC session unless it is bound to the handle, that of a policy session only where the
+-- policy demands it, and then although it is bound
 abbrev pub has_value_in_key : SessionType → (bound : Bool) → Demand → Bool
 has_value_in_key type.Hmac bound demand = not bound
 has_value_in_key type.Policy bound demand = is_in_key demand
@@ -65,7 +66,8 @@ takes_value r s grant = has_value_in_key s.kind (is_bound_to r s grant.handle) g
 -- the authorization value in the key of an entry
 unfoldable pub used_auth_value : Record → Session → Option Grant → List ℕ
 used_auth_value r s None = []
-used_auth_value r s (Some grant) = if takes_value r s grant then auth_value_of r grant.handle else []
+used_auth_value r s (Some grant) =
+    if takes_value r s grant then auth_value_of r grant.handle else []
 
 -- the nonceTPM of an entry's session
 abbrev pub entry_nonce : Record → Entry → List ℕ
@@ -87,7 +89,11 @@ only_encrypts e = encrypts e && not (decrypts e)
 -- what a command's hash is about
 abbrev pub hashed_command : Record → Whole → HashedCommand
 hashed_command r c =
-    record { code = code_number c.code; names = map (name_of r) c.handles; parameters = c.parameters }
+    record {
+      code = code_number c.code;
+      names = map (name_of r) c.handles;
+      parameters = c.parameters;
+    }
 
 -- what entry n of a command authenticates by its session's hash: the command as it was sent
 unfoldable pub entry_parts : Record → Whole → ℕ → Entry → Session → EntryParts
@@ -118,7 +124,7 @@ granted_value r None = []
 granted_value r (Some grant) = auth_value_of r grant.handle
 
 -- whether the comparison of entry n holds: where its policy demands a password, its HMAC field is
--- that and nothing else
+-- that as a password
 unfoldable pub comparison_holds : Record → Whole → ℕ → Option Grant → Entry → Session → Bool
 comparison_holds r c n grant e s =
     if demands_password grant then is_password_of (granted_value r grant) e.hmac
@@ -134,8 +140,8 @@ or_protection protection.Tries other = protection.Tries
 or_protection protection.Lockout other = protection.Lockout
 
 -- the protection that a wrong entry of a session comes up against: that of the entity whose
--- authorization value is compared, in a key or as a password, else that of what its session was bound
--- to
+-- authorization value is compared, in a key or as a password, if it is protected; else that of what
+-- its session was bound to
 unfoldable pub touched : Record → Session → Option Grant → Protection
 touched r s None = binding_protection s
 touched r s (Some grant) =
@@ -146,20 +152,20 @@ touched r s (Some grant) =
 -- what is to be authorized by entry n of a policy session
 unfoldable pub use_of : Record → Whole → (locality n : ℕ) → Handle → Session → UseParts
 use_of r c locality n handle s = record {
-  number = n;
+  entry = n;
   kind = s.kind;
   hash = s.hash;
   available = is_available means.Policy;
   update_count = r.fixed.banks.update_count;
-  code = code_number c.code;
+  command = code_number c.code;
   role = role_at c.code (n - 1);
   cp_hash = command_hash_of s.hash (code_number c.code) (map (name_of r) c.handles) c.parameters;
   locality = locality;
-  policy = policy_of r handle;
+  entity = policy_of r handle;
 }
 
--- what stands before the comparison of an entry that authorizes a handle, and what its policy demands
--- of that: an HMAC session authorizes what is available by its authorization value
+-- what stands before the comparison of an entry that authorizes a handle, and what its policy
+-- demands of that: an HMAC session authorizes what is available by its authorization value
 abbrev by_value : Result Demand Refused
 by_value = do
   available ← refused_if (not (is_available means.AuthValue))
@@ -177,17 +183,20 @@ demand_by type.Hmac r c locality n handle s = by_value
 demand_by type.Policy r c locality n handle s = by_policy r c locality n handle s
 demand_by type.Trial r c locality n handle s = by_policy r c locality n handle s
 
-unfoldable pub demanded : Record → Whole → (locality n : ℕ) → Handle → Session → Result Demand Refused
+unfoldable pub demanded : Record
+    → Whole → (locality n : ℕ) → Handle → Session → Result Demand Refused
 demanded r c locality n handle s = demand_by s.kind r c locality n handle s
 
 -- entry n is compared
-abbrev pub comparison : Record → Whole → ℕ → Option Grant → Entry → Session → Result (Option Grant) Refused
+abbrev pub comparison : Record
+    → Whole → ℕ → Option Grant → Entry → Session → Result (Option Grant) Refused
 comparison r c n grant e s = do
   compared ← refused_if (not (comparison_holds r c n grant e s))
       (failure (check_of grant) n (touched r s grant))
   Ok grant
 
--- entry n is of a session, and is to authorize this handle or none
+-- entry n is of a session, and is to authorize this handle or none; a trial session may authorize
+-- none, and be there to encrypt (this device's own)
 unfoldable pub session_grant : Record
     → Whole → (locality n : ℕ) → Option Handle → Entry → Session → Result (Option Grant) Refused
 session_grant r c locality n None e s = comparison r c n None e s

@@ -17,7 +17,7 @@ use arrayvec::ArrayVec;
 use tpm_bytes::cursor::Cursor;
 use tpm_name::Name;
 use tpm_policy::state::Demand;
-use tpm_record::entity::{auth_value_of, name_of, protection_of};
+use tpm_record::entity::{Means, auth_value_of, is_available, name_of, protection_of};
 use tpm_record::keep::Keep;
 use tpm_session::session::Protection;
 use tpm_types::auth_entry::AuthEntry;
@@ -42,6 +42,10 @@ fn check_password<K: Keep>(
 ) -> Result<Option<Grant>, Refused>
     ensures { result ≡ password_grant (K.record_of keep.now) number used (entry_of entry.now) }
 {
+    if used.is_some() && !is_available(Means::AuthValue) {
+        let rc = ResponseCode::AuthUnavailable.anywhere();
+        return Err(Refused::by(Check::Authorization, rc));
+    }
     let (grant, value, protection) = match used {
         Some(handle) => {
             let demand = Demand::None;
@@ -69,7 +73,8 @@ fn check_grant<K: Keep>(
     entry: &AuthEntry,
 ) -> Result<Option<Grant>, Refused>
     requires number { 1 ≤ number }
-    requires hashed { hashes.old ≡ hashed_command (K.record_of keep.now) (whole_of sent.command.now) }
+    requires hashed { hashes.old
+        ≡ hashed_command (K.record_of keep.now) (whole_of sent.command.now) }
     ensures value { result ≡ grant (K.record_of keep.now) (whole_of sent.entry.command.now)
         (locality_number sent.entry.locality) number used (entry_of entry.now) }
     ensures same { hashes.new ≡ hashes.old }
@@ -103,7 +108,8 @@ fn check_grants<K: Keep>(
     entries: &[AuthEntry],
     grants: &mut ArrayVec<Option<Grant>, 3>,
 ) -> Result<(), Refused>
-    requires hashed { hashes.old ≡ hashed_command (K.record_of keep.now) (whole_of sent.command.now) }
+    requires hashed { hashes.old
+        ≡ hashed_command (K.record_of keep.now) (whole_of sent.command.now) }
     requires few { length grants.old.items + length entries.now ≤ 3 }
     ensures { AreGranted (grants_pass (K.record_of keep.now) (whole_of sent.entry.command.now)
         (locality_number sent.entry.locality) grants.old.items (map entry_of entries.now)) result

@@ -107,7 +107,8 @@ fn decrypting_nonce<'a, K: Keep>(keep: &'a K, entries: &[AuthEntry]) -> &'a [u8]
 /// The nonce of the first entry that encrypts and does not decrypt, or no byte.
 #[tactic(auto, unfolding(crate::specs::SessionGrant::nonce_where))]
 fn encrypting_nonce<'a, K: Keep>(keep: &'a K, entries: &[AuthEntry]) -> &'a [u8]
-    ensures { result.now ≡ nonce_where (K.record_of keep.now) only_encrypts (map entry_of entries.now) }
+    ensures { result.now
+        ≡ nonce_where (K.record_of keep.now) only_encrypts (map entry_of entries.now) }
 {
     match entries {
         [first, ..] if encrypts(first) && !decrypts(first) => nonce_of(keep, first),
@@ -233,7 +234,7 @@ fn use_of<'a, K: Keep>(
         role: code.role_at(usize::from(number) - 1),
         cp_hash,
         locality: sent.locality,
-        policy: policy_of(keep, handle),
+        entity: policy_of(keep, handle),
     }
 }
 
@@ -247,7 +248,8 @@ fn policy_demand<K: Keep>(
     session: &Session,
 ) -> Result<Demand, Refused>
     requires number { 1 ≤ number }
-    requires hashed { hashes.old ≡ hashed_command (K.record_of keep.now) (whole_of sent.command.now) }
+    requires hashed { hashes.old
+        ≡ hashed_command (K.record_of keep.now) (whole_of sent.command.now) }
     ensures value { result ≡ by_policy (K.record_of keep.now) (whole_of sent.entry.command.now)
         (locality_number sent.entry.locality) number handle session.now }
     ensures same { hashes.new ≡ hashes.old }
@@ -271,7 +273,8 @@ fn demand_of<K: Keep>(
     session: &Session,
 ) -> Result<Demand, Refused>
     requires number { 1 ≤ number }
-    requires hashed { hashes.old ≡ hashed_command (K.record_of keep.now) (whole_of sent.command.now) }
+    requires hashed { hashes.old
+        ≡ hashed_command (K.record_of keep.now) (whole_of sent.command.now) }
     ensures value { result ≡ demanded (K.record_of keep.now) (whole_of sent.entry.command.now)
         (locality_number sent.entry.locality) number handle session.now }
     ensures same { hashes.new ≡ hashes.old }
@@ -288,7 +291,8 @@ fn demand_of<K: Keep>(
     }
 }
 
-/// Whether the comparison of an entry holds: a password, where its policy demands one, else an HMAC.
+/// Whether the comparison of an entry holds: of a password, where its policy demands one, else of
+/// an HMAC.
 #[tactic(auto, unfolding(crate::specs::SessionGrant::comparison_holds))]
 fn comparison_holds<K: Keep>(
     keep: &K,
@@ -325,7 +329,8 @@ pub fn check_session<K: Keep>(
     session: &Session,
 ) -> Result<Option<Grant>, Refused>
     requires number { 1 ≤ number }
-    requires hashed { hashes.old ≡ hashed_command (K.record_of keep.now) (whole_of sent.command.now) }
+    requires hashed { hashes.old
+        ≡ hashed_command (K.record_of keep.now) (whole_of sent.command.now) }
     ensures value { result ≡ session_grant (K.record_of keep.now) (whole_of sent.entry.command.now)
         (locality_number sent.entry.locality) number used (entry_of entry.now) session.now }
     ensures same { hashes.new ≡ hashes.old }

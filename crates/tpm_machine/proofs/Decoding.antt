@@ -1,5 +1,5 @@
 -- What the general checks decode is what the whole buffer spells.
-use Rattle.std.proofs.Common.{arith, refl, sym, cond, Bool, true, false, Some, None, ◌≤◌, ◌*◌, ◌≡◌, ℕ, not, List, [], ◌∷◌, ◌+◌, length, Result, Ok, Err, IfOk, ap, ◌∙◌, Option}
+use Rattle.std.proofs.Common.{arith, refl, sym, cond, Bool, true, false, ◌≤◌, ◌*◌, ◌≡◌, ℕ, not, List, [], ◌∷◌, ◌+◌, length, Result, Ok, Err, IfOk, ap, ◌∙◌, Option}
 use Rattle.std.proofs.lemmas.Bool.{false≢true}
 use Rattle.std.specs.Prelude.{◌||◌}
 use Rattle.std.specs.List.{list_any}
@@ -7,7 +7,7 @@ use Rattle.std.specs.Int.{w32}
 use Rattle.tpm_bytes.proofs.Fields.{AreBytes}
 use Rattle.tpm_types.proofs.CommandLaws.{command_size-is, command_takes, length-body}
 use Rattle.tpm_auth.specs.Entries.{decrypts}
-use Rattle.tpm_machine.specs.Parameters.{decrypted_by, plain_parameters}
+use Rattle.tpm_machine.specs.Parameters.{entry_decryption, plain_parameters}
 use Rattle.tpm_bytes.specs.Many.{each_at}
 use Rattle.tpm_bytes.specs.Reading.{◌>>=◌, number_at, or_fault, refused_if}
 use Rattle.tpm_bytes.proofs.Fields.{bind_ok, ok_is}
@@ -125,4 +125,4 @@ pub plain_as_sent : (r : Record) (entries : List Entry) (grants : List (Option G
 plain_as_sent r [] grants text none = refl
 plain_as_sent r (e ∷ es) [] text none = refl
 plain_as_sent r (e ∷ es) (grant ∷ grants) text none =
-    not_decrypted (decrypts e) (list_any decrypts es) (decrypted_by r grant e text) (plain_parameters r es grants text) text none (λ others. plain_as_sent r es grants text others)
+    not_decrypted (decrypts e) (list_any decrypts es) (entry_decryption r grant e text) (plain_parameters r es grants text) text none (λ others. plain_as_sent r es grants text others)

@@ -46,9 +46,9 @@ pub record Answered : Type 0 where
   pub response : List ℕ
   pub after : Record
 
--- what answers a success of a command, each of whose entries authorized this handle or none: behind
--- its effect new nonces are drawn, then its parameters are encrypted where that is asked for, then each
--- entry is answered, and then policies return to their start and sessions end
+-- what answers a success of a command, each of whose entries authorized this handle or none:
+-- behind its effect new nonces are drawn, then its parameters are encrypted where that is asked for,
+-- then each entry is answered, and then policies return to their start and sessions end
 unfoldable pub answer_to : Whole → List (Option Grant) → Success → List ℕ → Answered
 answer_to c grants s random =
     let drawn : Drawn = entries_rolled s.after c.entries (drop s.drawn random) in
@@ -60,4 +60,9 @@ answer_to c grants s random =
     }
 
 abbrev pub success_of : Answer → Record → Success
-success_of a after = record { handle = a.handle; answer = a.parameters; drawn = a.drawn; after = after }
+success_of a after = record {
+  handle = a.handle;
+  answer = a.parameters;
+  drawn = a.drawn;
+  after = after;
+}

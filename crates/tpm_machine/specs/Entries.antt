@@ -55,7 +55,7 @@ pub record HashedResponse : Type 0 where
 -- the HMAC of an answer. Its key is made after the command's effect: of the entity's value as it is
 -- then, and a session whose entity's value was changed is no longer bound to it. Where the
 -- command's HMAC was empty this is empty too, even if the key is no longer empty (this device's
--- own), and where a policy demanded a password
+-- own); it is also empty where a policy demanded a password
 unfoldable pub answer_mac : Record → CommandCode → List ℕ → Option Grant → Entry → Session → List ℕ
 answer_mac r c answer grant e s =
     if length e.hmac == 0 || demands_password grant then []
@@ -63,16 +63,19 @@ answer_mac r c answer grant e s =
     (response_hash_of s.hash (code_number c) answer) e.nonce e.attributes
 
 -- the answer to an entry of a session: its nonce, the attributes of the command's entry, the HMAC
-unfoldable pub session_answer : Record → CommandCode → List ℕ → Option Grant → Entry → Session → List ℕ
+unfoldable pub session_answer : Record
+    → CommandCode → List ℕ → Option Grant → Entry → Session → List ℕ
 session_answer r c answer grant e s =
-    sized_text s.nonce_tpm ++ e.attributes.octet ∷ [] ++ sized_text (answer_mac r c answer grant e s)
+    sized_text s.nonce_tpm ++ e.attributes.octet ∷ []
+    ++ sized_text (answer_mac r c answer grant e s)
 
 unfoldable pub entry_answer : Record → CommandCode → List ℕ → Option Grant → Entry → List ℕ
 entry_answer r c answer grant e =
     option_map_or (session_answer r c answer grant e) (session_of r e) password_answer
 
 -- the answers to the entries of a command, each of which authorized this handle or none
-abbrev pub entries_answer : Record → CommandCode → List ℕ → List Entry → List (Option Grant) → List ℕ
+abbrev pub entries_answer : Record
+    → CommandCode → List ℕ → List Entry → List (Option Grant) → List ℕ
 entries_answer r c answer [] grants = []
 entries_answer r c answer (e ∷ es) [] = []
 entries_answer r c answer (e ∷ es) (grant ∷ grants) =
@@ -86,7 +89,8 @@ restarted_by type.Policy r e hash =
 restarted_by type.Trial r e hash = r
 
 unfoldable pub entry_restarted : Record → Entry → Record
-entry_restarted r e = option_map_or (λ (s : Session). restarted_by s.kind r e s.hash) (session_of r e) r
+entry_restarted r e =
+    option_map_or (λ (s : Session). restarted_by s.kind r e s.hash) (session_of r e) r
 
 -- a session without continueSession (bit 0) ends
 unfoldable pub entry_ended : Record → Entry → Option Grant → Record

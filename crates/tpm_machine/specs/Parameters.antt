@@ -38,28 +38,30 @@ unfoldable pub cipher_value : Record → Option Grant → List ℕ
 cipher_value r grant = option_map_or (λ (g : Grant). auth_value_of r g.handle) grant []
 
 -- the parameters as the entry's session decrypts them, between the caller's nonce and the TPM's
-unfoldable pub decrypted_by : Record → Option Grant → Entry → List ℕ → List ℕ
-decrypted_by r grant e text =
+unfoldable pub entry_decryption : Record → Option Grant → Entry → List ℕ → List ℕ
+entry_decryption r grant e text =
     option_map_or (λ (s : Session).
-    with_first_buffer (plain_parameter s (cipher_value r grant) e.nonce s.nonce_tpm) text) (session_of r e) text
+    with_first_buffer (plain_parameter s (cipher_value r grant) e.nonce s.nonce_tpm) text)
+    (session_of r e) text
 
 -- the parameters of a command, each of whose entries authorizes this handle or none
 abbrev pub plain_parameters : Record → List Entry → List (Option Grant) → List ℕ → List ℕ
 plain_parameters r [] grants text = text
 plain_parameters r (e ∷ es) [] text = text
 plain_parameters r (e ∷ es) (grant ∷ grants) text =
-    if decrypts e then decrypted_by r grant e text else plain_parameters r es grants text
+    if decrypts e then entry_decryption r grant e text else plain_parameters r es grants text
 
 -- the answer's parameters as the entry's session encrypts them, between the TPM's new nonce and the
 -- caller's
-unfoldable pub encrypted_by : Record → Option Grant → Entry → List ℕ → List ℕ
-encrypted_by r grant e text =
+unfoldable pub entry_encryption : Record → Option Grant → Entry → List ℕ → List ℕ
+entry_encryption r grant e text =
     option_map_or (λ (s : Session).
-    with_first_buffer (encrypted_parameter s (cipher_value r grant) s.nonce_tpm e.nonce) text) (session_of r e) text
+    with_first_buffer (encrypted_parameter s (cipher_value r grant) s.nonce_tpm e.nonce) text)
+    (session_of r e) text
 
 -- and the parameters of its answer
 abbrev pub encrypted_answer : Record → List Entry → List (Option Grant) → List ℕ → List ℕ
 encrypted_answer r [] grants text = text
 encrypted_answer r (e ∷ es) [] text = text
 encrypted_answer r (e ∷ es) (grant ∷ grants) text =
-    if encrypts e then encrypted_by r grant e text else encrypted_answer r es grants text
+    if encrypts e then entry_encryption r grant e text else encrypted_answer r es grants text

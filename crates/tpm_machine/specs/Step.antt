@@ -60,8 +60,8 @@ RefusesOrStarves can c (Err refused) e = e ≡ refused
 RefusesOrStarves can c (Ok a) e =
     (can ≡ true) × (a.command ≡ c) × ((shape_of c.code).grows ≡ true) × (e ≡ memory_refused)
 
--- The code's acceptance of a command with these grants stands for the definition's; a refusal leaves
--- the record.
+-- The code's acceptance of a command with these grants stands for the definition's; a refusal
+-- leaves the record.
 abbrev pub Accepts : Bool → Result Accepted Refused → Whole → List (Option Grant)
     → Record → Result Answer Refused → Record → Type 0
 Accepts can a c grants old (Ok answer) new =

@@ -81,8 +81,8 @@ fn answer_mac<K: Keep>(
     session: &Session,
 ) -> Digest
     requires { hashes.old.code ≡ code_number code }
-    ensures value { result.items ≡ answer_mac (K.record_of keep.now) code hashes.old.parameters grant
-        (entry_of entry.now) session.now }
+    ensures value { result.items ≡ answer_mac (K.record_of keep.now) code hashes.old.parameters
+        grant (entry_of entry.now) session.now }
     ensures same { hashes.new ≡ hashes.old }
 {
     if entry.hmac.is_empty() || demands_password(grant) {
@@ -151,8 +151,8 @@ pub fn answer_entries<K: Keep>(
 )
     requires code { hashes.old.code ≡ code_number code }
     requires room { length area.old + 69 * length entries.now ≤ AREA_LIMIT }
-    ensures { area.new ≡ area.old ++ entries_answer (K.record_of keep.now) code hashes.old.parameters
-        (map entry_of entries.now) grants.now }
+    ensures { area.new ≡ area.old ++ entries_answer (K.record_of keep.now) code
+        hashes.old.parameters (map entry_of entries.now) grants.now }
 {
     let [entry, entries @ ..] = entries else {
         return;

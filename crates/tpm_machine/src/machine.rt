@@ -105,7 +105,11 @@ impl<K: Keep> Machine<K> {
     fn advance(&mut self, event: &Event, text: &mut Response) -> Row
         requires { text.old.items ≡ [] }
         ensures steps { Steps K.can_refuse (state_of K.record_of self.old) (happening event.now)
-            (record { response = text.new.items; row = result; after = state_of K.record_of self.new }) }
+            (record {
+              response = text.new.items;
+              row = result;
+              after = state_of K.record_of self.new;
+            }) }
         ensures modest { result.check ≡ 0
             → AcceptsModestly (state_of K.record_of self.old) (happening event.now) }
         ensures fits { length text.new.items ≤ 2273 }
@@ -170,7 +174,11 @@ impl<K: Keep> Machine<K> {
         requires { text.old.items ≡ [] }
         ensures answer { Answers K.can_refuse (state_of K.record_of self.old) random.now
             (accepted (state_of K.record_of self.old) buffer.now (locality_number locality) random.now)
-            (record { response = text.new.items; row = result; after = state_of K.record_of self.new }) }
+            (record {
+              response = text.new.items;
+              row = result;
+              after = state_of K.record_of self.new;
+            }) }
         ensures modest { result.check ≡ 0 → IfOk
             (accepted (state_of K.record_of self.old) buffer.now (locality_number locality) random.now)
             IsModest }
@@ -210,7 +218,11 @@ impl<K: Keep> Machine<K> {
         ensures answer { Answers K.can_refuse (state_of K.record_of self.old) random.now
             (in_command command.now.code (acceptance (state_of K.record_of self.old)
             (whole_of command.now) (locality_number locality) random.now))
-            (record { response = text.new.items; row = result; after = state_of K.record_of self.new }) }
+            (record {
+              response = text.new.items;
+              row = result;
+              after = state_of K.record_of self.new;
+            }) }
         ensures modest { result.check ≡ 0 → IfOk (acceptance (state_of K.record_of self.old)
             (whole_of command.now) (locality_number locality) random.now) IsModest }
         ensures fits { length text.new.items ≤ 2273 }

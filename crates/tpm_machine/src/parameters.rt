@@ -1,7 +1,7 @@
 ghost use Rattle.std.specs.Prelude.{◌≡◌, ◌≤◌, length, map};
 ghost use Rattle.tpm_session.specs.Encryption.{encrypted_parameter, plain_parameter};
 ghost use Rattle.tpm_types.specs.AuthEntry.{entry_of};
-ghost use Rattle.tpm_machine.specs.Parameters.{FindsFirst, cipher_value, decrypted_by, encrypted_answer, encrypted_by, plain_parameters, with_first_buffer};
+ghost use Rattle.tpm_machine.specs.Parameters.{FindsFirst, cipher_value, entry_decryption, encrypted_answer, entry_encryption, plain_parameters, with_first_buffer};
 
 use tpm_auth::entries::{decrypts, encrypts};
 use tpm_auth::session_grant::Grant;
@@ -61,9 +61,9 @@ fn encrypt_first(session: &Session, value: &[u8], newer: &[u8], older: &[u8], te
     }
 }
 
-#[tactic(auto, unfolding(crate::specs::Parameters::decrypted_by))]
+#[tactic(auto, unfolding(crate::specs::Parameters::entry_decryption))]
 fn decrypt_by<K: Keep>(keep: &K, grant: Option<Grant>, entry: &AuthEntry, text: &mut [u8])
-    ensures { text.new ≡ decrypted_by (K.record_of keep.now) grant (entry_of entry.now) text.old }
+    ensures { text.new ≡ entry_decryption (K.record_of keep.now) grant (entry_of entry.now) text.old }
 {
     if let Some(session) = keep.sessions().get(entry.session) {
         let value = cipher_value(keep, grant);
@@ -84,7 +84,8 @@ pub fn decrypt<K: Keep>(
     grants: &[Option<Grant>],
     text: &mut [u8],
 )
-    ensures { text.new ≡ plain_parameters (K.record_of keep.now) (map entry_of entries.now) grants.now text.old }
+    ensures { text.new ≡ plain_parameters (K.record_of keep.now) (map entry_of entries.now)
+        grants.now text.old }
 {
     let [entry, entries @ ..] = entries else {
         return;
@@ -99,9 +100,9 @@ pub fn decrypt<K: Keep>(
     }
 }
 
-#[tactic(auto, unfolding(crate::specs::Parameters::encrypted_by))]
+#[tactic(auto, unfolding(crate::specs::Parameters::entry_encryption))]
 fn encrypt_by<K: Keep>(keep: &K, grant: Option<Grant>, entry: &AuthEntry, text: &mut [u8])
-    ensures { text.new ≡ encrypted_by (K.record_of keep.now) grant (entry_of entry.now) text.old }
+    ensures { text.new ≡ entry_encryption (K.record_of keep.now) grant (entry_of entry.now) text.old }
 {
     if let Some(session) = keep.sessions().get(entry.session) {
         let value = cipher_value(keep, grant);
@@ -122,7 +123,8 @@ pub fn encrypt<K: Keep>(
     grants: &[Option<Grant>],
     text: &mut [u8],
 )
-    ensures { text.new ≡ encrypted_answer (K.record_of keep.now) (map entry_of entries.now) grants.now text.old }
+    ensures { text.new ≡ encrypted_answer (K.record_of keep.now) (map entry_of entries.now)
+        grants.now text.old }
 {
     let [entry, entries @ ..] = entries else {
         return;

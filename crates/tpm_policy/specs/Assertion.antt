@@ -1,7 +1,7 @@
 -- The assertions of policies. TPM 2.0 Library, Part 3, section 23, and Part 1, section 19.7: each
--- hashes itself into the policy digest, and records what is compared when the session authorizes.
--- Whether the session is a trial one stands before an assertion that asks for it: a trial session
--- computes a digest, and compares nothing with what it would take to authorize.
+-- changes the policy digest, and most record what is compared when the session authorizes. In a trial
+-- session TPM2_PolicyPCR, TPM2_PolicyOR and TPM2_PolicySecret do not compare anything with the PCRs,
+-- the digest so far, nonceTPM or a recorded cpHash. The order of the checks is this device's own.
 use Rattle.std.specs.Prelude.{◌≡◌, ℕ, ◌==◌, ◌&&◌, ◌||◌, not, nat_lt, bit_and, if◌then◌else◌}
 use Rattle.std.specs.Prelude.{Bool, false, List, [], ◌∷◌, ◌++◌, length, replicate}
 use Rattle.std.specs.Prelude.{Option, Some, None, Result, Ok, Err}
@@ -107,16 +107,16 @@ taken_digest trial pcr = if trial && is_given pcr.given then pcr.given else pcr.
 unfoldable pub pcr_asserted : HashAlg → (trial : Bool) → PcrParts
     → Policy → Result Policy PolicyFault
 pcr_asserted hash trial pcr policy = do
-  a1 ← refused_if (not trial && is_other policy.counter pcr.update_count)
+  a1 ← refused_if (not trial && is_other policy.update_count pcr.update_count)
       (fault_of action.First (plain code.PcrChanged))
   a2 ← refused_if (not trial && is_given pcr.given && not (bytes_eq pcr.given pcr.digest))
       (parameter_fault action.Second code.Value 1)
   Ok (record (extended hash 0x17f (pcr.selection ++ taken_digest trial pcr) policy) {
-    counter = Some pcr.update_count;
+    update_count = Some pcr.update_count;
   })
 
--- TPM2_PolicyOR (section 23.6): the digest is among these, and what comes after stands on all of
--- them, as if nothing had come before
+-- TPM2_PolicyOR (section 23.6): the digest is among these, and starts over from zeros with all of
+-- them; what was recorded stays
 unfoldable pub or_digest : HashAlg → (digests : List (List ℕ)) → List ℕ
 or_digest hash digests =
     hash_of hash (replicate (digest_size hash) 0 ++ to_be_bytes w32 0x171
@@ -132,7 +132,7 @@ or_asserted hash trial digests policy = do
 -- TPM2_PolicyAuthValue (section 23.17), and TPM2_PolicyPassword (section 23.18), which has the same
 -- digest: they demand the authorization value of the entity, in an HMAC's key or in plain
 abbrev demanding : HashAlg → Demand → Policy → Policy
-demanding hash demand policy = record (extended hash 0x16b [] policy) { demand = demand }
+demanding hash wanted policy = record (extended hash 0x16b [] policy) { demand = wanted }
 
 unfoldable pub auth_value_asserted : HashAlg → Policy → Policy
 auth_value_asserted hash policy = demanding hash demand.AuthValue policy
@@ -144,12 +144,12 @@ password_asserted hash policy = demanding hash demand.Password policy
 unfoldable pub command_code_asserted : HashAlg → (number : ℕ)
     → Policy → Result Policy PolicyFault
 command_code_asserted hash number policy = do
-  a1 ← refused_if (is_other policy.code number) (parameter_fault action.First code.Value 1)
+  a1 ← refused_if (is_other policy.command number) (parameter_fault action.First code.Value 1)
   a2 ← refused_if (not (is_command_number number)) (parameter_fault action.Second code.PolicyCc 1)
-  Ok (record (extended hash 0x16c (to_be_bytes w32 number) policy) { code = Some number })
+  Ok (record (extended hash 0x16c (to_be_bytes w32 number) policy) { command = Some number })
 
--- TPM2_PolicyLocality (section 23.8): of the localities so far only these, of which some are left;
--- extended localities, 32 and up, are not served
+-- TPM2_PolicyLocality (section 23.8): only those of these localities that were still allowed, of
+-- which there must be one; extended localities, 32 and up, are not served
 unfoldable pub locality_asserted : HashAlg → (localities : ℕ)
     → Policy → Result Policy PolicyFault
 locality_asserted hash localities policy = do
@@ -160,25 +160,26 @@ locality_asserted hash localities policy = do
     localities = bit_and policy.localities localities;
   })
 
--- TPM2_PolicySecret (section 23.4): policyRef is hashed behind the rest, also where it is empty; no
--- policy expires
+-- TPM2_PolicySecret (section 23.4): policyRef is hashed behind the rest, also where it is empty. No
+-- policy expires: expiration must be 0, in a trial session too, and cpHashA is checked for its size
+-- in one too (this device's own)
 abbrev pub secret_digest : HashAlg → (digest name reference : List ℕ) → List ℕ
 secret_digest hash digest name reference =
     hash_of hash (hash_of hash (digest ++ to_be_bytes w32 0x151 ++ name) ++ reference)
 
 unfoldable pub secret_asserted : HashAlg → (trial : Bool) → SecretParts
     → Policy → Result Policy PolicyFault
-secret_asserted hash trial s policy = do
-  a1 ← refused_if (not (s.expiration == 0)) (parameter_fault action.First code.Value 4)
-  a2 ← refused_if (is_given s.cp_hash && not (length s.cp_hash == digest_size hash))
+secret_asserted hash trial secret policy = do
+  a1 ← refused_if (not (secret.expiration == 0)) (parameter_fault action.First code.Value 4)
+  a2 ← refused_if (is_given secret.cp_hash && not (length secret.cp_hash == digest_size hash))
       (parameter_fault action.Second code.Size 2)
-  a3 ← refused_if (not trial && is_given s.nonce && not (bytes_eq s.nonce s.nonce_tpm))
+  a3 ← refused_if (not trial && is_given secret.nonce && not (bytes_eq secret.nonce secret.nonce_tpm))
       (parameter_fault action.Third code.Nonce 1)
-  a4 ← refused_if (not trial && is_given s.cp_hash && is_other_hash policy.cp_hash s.cp_hash)
+  a4 ← refused_if (not trial && is_given secret.cp_hash && is_other_hash policy.cp_hash secret.cp_hash)
       (fault_of action.Fourth (plain code.Cphash))
   Ok (record policy {
-    digest = secret_digest hash policy.digest s.name s.reference;
-    cp_hash = if is_given s.cp_hash then Some s.cp_hash else policy.cp_hash;
+    digest = secret_digest hash policy.digest secret.name secret.reference;
+    cp_hash = if is_given secret.cp_hash then Some secret.cp_hash else policy.cp_hash;
   })
 
 -- what an assertion makes of a policy, or the first check that refuses it

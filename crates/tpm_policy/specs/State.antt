@@ -7,13 +7,14 @@ use Rattle.tpm_mac.specs.declared.algorithm.HashAlg.{HashAlg}
 use Rattle.tpm_policy.specs.declared.state.Demand.{Demand}
 use Rattle.tpm_policy.specs.declared.state.Demand.TheVariants as demand
 
--- the policy digest; how often PCRs had been changed when their values were compared, the number of
--- the one command that is allowed, and its cpHash, each where an assertion recorded it; the
--- localities that are allowed, bit n for locality n; and what the policy demands beside itself
+-- the policy digest; the update counter of PCRs at the last TPM2_PolicyPCR, the number of the one
+-- command that is allowed, and its cpHash, each where an assertion recorded it; the localities that
+-- are allowed, bit n for locality n; and what is demanded in addition to the digest. Timeouts, name
+-- hashes, physical presence and written indices are not served
 pub record Policy : Type 0 where
   pub digest : List ℕ
-  pub counter : Option ℕ
-  pub code : Option ℕ
+  pub update_count : Option ℕ
+  pub command : Option ℕ
   pub cp_hash : Option (List ℕ)
   pub localities : ℕ
   pub demand : Demand
@@ -22,8 +23,8 @@ pub record Policy : Type 0 where
 abbrev pub starting : HashAlg → Policy
 starting hash = record {
   digest = replicate (digest_size hash) 0;
-  counter = None;
-  code = None;
+  update_count = None;
+  command = None;
   cp_hash = None;
   localities = 0x1f;
   demand = demand.None;

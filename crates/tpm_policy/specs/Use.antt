@@ -1,5 +1,6 @@
 -- The use of a policy session to authorize. TPM 2.0 Library, Part 1, section 19.7, and Part 3,
--- section 5.6 (authorization checks): what was recorded is compared, and then the digest.
+-- section 5.6 (authorization checks). The order of the checks is this device's own: what was recorded
+-- is compared, and then the digest.
 use Rattle.std.specs.Prelude.{ℕ, ◌==◌, ◌&&◌, ◌||◌, not, Bool, true, false, List, Option, Some, None, is_none, option_map, Result, Ok}
 use Rattle.std.specs.Int.{bit_at}
 use Rattle.std.specs.Str.{bytes_eq}
@@ -33,32 +34,32 @@ pub record EntityParts : Type 0 where
 -- number, the role in which it is authorized, its cpHash, where it comes from, and the entity's
 -- policy, if it has one
 pub record UseParts : Type 0 where
-  pub number : ℕ
+  pub entry : ℕ
   pub kind : SessionType
   pub hash : HashAlg
   pub available : Bool
   pub update_count : ℕ
-  pub code : ℕ
+  pub command : ℕ
   pub role : Role
   pub cp_hash : List ℕ
   pub locality : ℕ
-  pub policy : Option EntityParts
+  pub entity : Option EntityParts
 
 abbrev pub entity_parts : EntityPolicy → EntityParts
 entity_parts policy = record { hash = policy.hash; digest = policy.digest.now }
 
 abbrev pub parts_of : Use → UseParts
 parts_of u = record {
-  number = u.number;
+  entry = u.number;
   kind = u.kind;
   hash = u.hash;
   available = u.available;
   update_count = u.update_count;
-  code = code_number u.code;
+  command = code_number u.code;
   role = u.role;
   cp_hash = u.cp_hash.now;
   locality = locality_number u.locality;
-  policy = option_map entity_parts u.policy;
+  entity = option_map entity_parts u.entity;
 }
 
 -- a trial session authorizes nothing
@@ -68,29 +69,29 @@ is_trial type.Policy = false
 is_trial type.Trial = true
 
 -- the role of the administrator takes a policy that names the command
-abbrev pub lacks_code : Role → Option ℕ → Bool
-lacks_code role.User code = false
-lacks_code role.Admin code = is_none code
+abbrev pub lacks_command : Role → Option ℕ → Bool
+lacks_command role.User command = false
+lacks_command role.Admin command = is_none command
 
 -- whether this is the policy of an entity: by its nameAlg, and its digest is authPolicy
 abbrev pub is_policy_of : HashAlg → List ℕ → Option EntityParts → Bool
 is_policy_of hash digest None = false
-is_policy_of hash digest (Some policy) =
-    hash_number policy.hash == hash_number hash && bytes_eq digest policy.digest
+is_policy_of hash digest (Some entity) =
+    hash_number entity.hash == hash_number hash && bytes_eq digest entity.digest
 
 abbrev pub session_fault : ResponseCode → ℕ → Rc
-session_fault code number = at (place.Session number) (plain code)
+session_fault fault entry = at (place.Session entry) (plain fault)
 
--- whether a policy authorizes this, and what it demands beside itself
+-- whether a policy authorizes this, and what it demands in addition
 unfoldable pub use_passes : Policy → UseParts → Result Demand Rc
 use_passes policy u = do
-  trial ← refused_if (is_trial u.kind) (session_fault code.Attributes u.number)
+  trial ← refused_if (is_trial u.kind) (session_fault code.Attributes u.entry)
   available ← refused_if (not u.available) (plain code.AuthUnavailable)
-  counter ← refused_if (is_other policy.counter u.update_count) (plain code.PcrChanged)
-  command ← refused_if (is_other policy.code u.code) (session_fault code.PolicyCc u.number)
-  call ← refused_if (lacks_code u.role policy.code || is_other_hash policy.cp_hash u.cp_hash)
-      (session_fault code.PolicyFail u.number)
+  counter ← refused_if (is_other policy.update_count u.update_count) (plain code.PcrChanged)
+  command ← refused_if (is_other policy.command u.command) (session_fault code.PolicyCc u.entry)
+  call ← refused_if (lacks_command u.role policy.command || is_other_hash policy.cp_hash u.cp_hash)
+      (session_fault code.PolicyFail u.entry)
   locality ← refused_if (bit_at policy.localities u.locality == 0) (plain code.Locality)
-  digest ← refused_if (not (is_policy_of u.hash policy.digest u.policy))
-      (session_fault code.PolicyFail u.number)
+  digest ← refused_if (not (is_policy_of u.hash policy.digest u.entity))
+      (session_fault code.PolicyFail u.entry)
   Ok policy.demand

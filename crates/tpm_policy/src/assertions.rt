@@ -70,9 +70,9 @@ fn or_digest(hash: HashAlg, list: &DigestList) -> Digest
 impl PolicyState {
     /// Whether another number than this is recorded for the command.
     pub(crate) fn records_other_code(&self, number: u32) -> bool
-        ensures { result ≡ is_other self.now.code number }
+        ensures { result ≡ is_other self.now.command number }
     {
-        match self.code {
+        match self.command {
             Some(recorded) => recorded != number,
             None => false,
         }
@@ -131,7 +131,7 @@ impl PolicyState {
             return Err(PolicyFault::in_parameter(check, ResponseCode::PolicyCc, 1));
         }
         self.extend(hash, COMMAND_CODE, &number.to_be_bytes());
-        self.code = Some(number);
+        self.command = Some(number);
         Ok(())
     }
 

@@ -45,9 +45,9 @@ impl<'a> PcrAssertion<'a> {
 impl PolicyState {
     /// Whether PCRs had been changed another number of times when they were compared.
     pub(crate) fn records_other_count(&self, update_count: u64) -> bool
-        ensures { result ≡ is_other self.now.counter update_count }
+        ensures { result ≡ is_other self.now.update_count update_count }
     {
-        match self.counter {
+        match self.update_count {
             Some(recorded) => recorded != update_count,
             None => false,
         }
@@ -90,7 +90,7 @@ impl PolicyState {
             return Err(PolicyFault::in_parameter(check, ResponseCode::Value, 1));
         }
         self.digest = self.pcr_digest(hash, trial, about);
-        self.counter = Some(about.update_count);
+        self.update_count = Some(about.update_count);
         Ok(())
     }
 }

@@ -1,7 +1,7 @@
 ghost use Rattle.std.specs.Prelude.{◌≡◌, ◌==◌, option_map};
 ghost use Rattle.std.specs.Int.{bit_at};
 ghost use Rattle.tpm_types.specs.Locality.{locality_number};
-ghost use Rattle.tpm_policy.specs.Use.{entity_parts, is_policy_of, is_trial, lacks_code, parts_of, session_fault, use_passes};
+ghost use Rattle.tpm_policy.specs.Use.{entity_parts, is_policy_of, is_trial, lacks_command, parts_of, session_fault, use_passes};
 
 use crate::assertions::is_equal;
 use crate::state::{Demand, PolicyState};
@@ -41,8 +41,8 @@ pub struct Use<'a> {
     /// The hash of the command.
     pub cp_hash: &'a [u8],
     pub locality: Locality,
-    /// The entity's, if it has one.
-    pub policy: Option<EntityPolicy<'a>>,
+    /// The policy of the entity, if it has one.
+    pub entity: Option<EntityPolicy<'a>>,
 }
 
 fn session_fault(code: ResponseCode, number: u8) -> Rc
@@ -62,12 +62,12 @@ fn is_trial(kind: SessionType) -> bool
 
 impl PolicyState {
     /// Whether the role takes a policy that names the command, and this one names none.
-    fn lacks_code(&self, role: Role) -> bool
-        ensures { result ≡ lacks_code role self.now.code }
+    fn lacks_command(&self, role: Role) -> bool
+        ensures { result ≡ lacks_command role self.now.command }
     {
         match role {
             Role::User => false,
-            Role::Admin => self.code.is_none(),
+            Role::Admin => self.command.is_none(),
         }
     }
 
@@ -80,20 +80,20 @@ impl PolicyState {
     }
 
     /// Whether it is the entity's policy, of a session with this hash.
-    fn is_policy_of(&self, hash: HashAlg, policy: Option<EntityPolicy>) -> bool
+    fn is_policy_of(&self, hash: HashAlg, entity: Option<EntityPolicy>) -> bool
         ensures { result
-            ≡ is_policy_of hash self.now.digest (option_map entity_parts policy.entry) }
+            ≡ is_policy_of hash self.now.digest (option_map entity_parts entity.entry) }
     {
-        match policy {
-            Some(policy) => {
-                hash_number(policy.hash) == hash_number(hash)
-                    && is_equal(self.digest.as_slice(), policy.digest)
+        match entity {
+            Some(entity) => {
+                hash_number(entity.hash) == hash_number(hash)
+                    && is_equal(self.digest.as_slice(), entity.digest)
             }
             None => false,
         }
     }
 
-    /// Whether the policy authorizes this, and what it demands beside itself. The first that does
+    /// Whether the policy authorizes this, and what it demands in addition. The first that does
     /// not hold refuses: ATTRIBUTES for a trial session, AUTH_UNAVAILABLE, PCR_CHANGED, POLICY_CC
     /// for another command, POLICY_FAIL for the role or another cpHash, LOCALITY, and POLICY_FAIL
     /// for another policy than the entity's.
@@ -114,13 +114,13 @@ impl PolicyState {
         if self.records_other_code(asked.code.number()) {
             return Err(session_fault(ResponseCode::PolicyCc, number));
         }
-        if self.lacks_code(asked.role) || self.records_other_hash(asked.cp_hash) {
+        if self.lacks_command(asked.role) || self.records_other_hash(asked.cp_hash) {
             return Err(session_fault(ResponseCode::PolicyFail, number));
         }
         if self.forbids(asked.locality) {
             return Err(ResponseCode::Locality.anywhere());
         }
-        if !self.is_policy_of(asked.hash, asked.policy) {
+        if !self.is_policy_of(asked.hash, asked.entity) {
             return Err(session_fault(ResponseCode::PolicyFail, number));
         }
         Ok(self.demand)

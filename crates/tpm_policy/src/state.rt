@@ -5,7 +5,7 @@ use arrayvec::ArrayVec;
 use std::marker::Model;
 use tpm_mac::{Digest, HashAlg};
 
-/// What a policy demands beside itself.
+/// What a policy demands in addition to its digest.
 #[derive(Clone, Copy, Debug, PartialEq, Eq)]
 pub enum Demand {
     /// Nothing.
@@ -21,10 +21,10 @@ pub enum Demand {
 #[derive(Drop)]
 pub struct PolicyState {
     pub(crate) digest: Digest,
-    /// How often PCRs had been changed when their values were compared.
-    pub(crate) counter: Option<u64>,
+    /// How often PCRs had been changed at the last TPM2_PolicyPCR.
+    pub(crate) update_count: Option<u64>,
     /// The number of the one command that is allowed.
-    pub(crate) code: Option<u32>,
+    pub(crate) command: Option<u32>,
     /// The hash of the one command that is allowed.
     pub(crate) cp_hash: Option<Digest>,
     /// The localities that are allowed, bit n for locality n.
@@ -40,8 +40,8 @@ impl Model for PolicyState {
 
     ghost view = { λ s. record {
       digest = s.digest.items;
-      counter = s.counter;
-      code = s.code;
+      update_count = s.update_count;
+      command = s.command;
       cp_hash = option_map (λ hash. hash.items) s.cp_hash;
       localities = s.localities;
       demand = s.demand;
@@ -82,8 +82,8 @@ impl PolicyState {
     {
         PolicyState {
             digest: zeros(hash),
-            counter: None,
-            code: None,
+            update_count: None,
+            command: None,
             cp_hash: None,
             localities: ALL_LOCALITIES,
             demand: Demand::None,
@@ -105,7 +105,7 @@ impl PolicyState {
         self.digest.as_slice()
     }
 
-    /// What the policy demands beside itself.
+    /// What the policy demands in addition to its digest.
     pub fn demand(&self) -> Demand
         ensures { result ≡ self.now.demand }
     {
@@ -118,8 +118,8 @@ impl PolicyState {
     {
         PolicyState {
             digest: copied(self.digest.as_slice()),
-            counter: self.counter,
-            code: self.code,
+            update_count: self.update_count,
+            command: self.command,
             cp_hash: self.cp_hash.as_ref().map(|hash| copied(hash.as_slice())),
             localities: self.localities,
             demand: self.demand,

@@ -1,7 +1,7 @@
 -- What a handle's entity is: whether it is there, its Name, its authorization value, how that is
--- protected, its policy, and by what it can be authorized. TPM 2.0 Library, Part 1, sections 16 (Names), 19.2
--- (roles), 19.7 (policies) and 19.8 (dictionary attacks). No object and no NV index can be there
--- yet.
+-- protected, its policy, and by what it can be authorized. TPM 2.0 Library, Part 1, sections 16
+-- (Names), 19.2 (roles), 19.7 (policies) and 19.8 (dictionary attacks). No object and no NV index
+-- can be there yet.
 use Rattle.std.specs.Prelude.{ℕ, ◌==◌, ◌||◌, not, Bool, true, false, is_some, List, [], if◌then◌else◌, Option, None}
 use Rattle.std.specs.Option.{option_map_or}
 use Rattle.tpm_name.specs.Name.{handle_name}
@@ -30,7 +30,8 @@ names_session handle = handle_type handle == 0x02 || handle_type handle == 0x03
 -- or that of what is kept under numbers: an NV index (01), a transient object (80), a persistent
 -- object (81)
 abbrev pub names_kept : Handle → Bool
-names_kept handle = handle_type handle == 0x01 || handle_type handle == 0x80 || handle_type handle == 0x81
+names_kept handle =
+    handle_type handle == 0x01 || handle_type handle == 0x80 || handle_type handle == 0x81
 
 -- whether there is what a handle names: permanent entities and PCRs always are
 unfoldable pub is_present : Record → Handle → Bool

@@ -5,9 +5,12 @@ use Rattle.std.specs.Prelude.{◌≡◌, ℕ, ◌+◌, ◌*◌, ◌%◌, ◌^◌
 use Rattle.std.specs.Option.{option_map_or}
 use Rattle.tpm_types.specs.declared.handle.Handle.{Handle}
 use Rattle.tpm_types.specs.declared.session_type.SessionType.{SessionType}
+use Rattle.tpm_types.specs.declared.symmetric.SymmetricDefinition.{SymmetricDefinition}
 use Rattle.tpm_types.specs.Handle.{handle_type}
 use Rattle.tpm_types.specs.SessionType.{type_byte}
+use Rattle.tpm_mac.specs.declared.algorithm.HashAlg.{HashAlg}
 use Rattle.tpm_policy.specs.State.{Policy, starting}
+use Rattle.tpm_session.specs.declared.session.Binding.{Binding}
 use Rattle.tpm_session.specs.declared.session.Session.{Session}
 use Rattle.tpm_session.specs.declared.sessions.Sessions.{Sessions}
 use Rattle.tpm_session.specs.declared.sessions.Start.{Start}
@@ -56,17 +59,22 @@ unfoldable pub flushed : List (Option Session) → Handle → List (Option Sessi
 flushed places handle =
     if is_some (session_at places handle) then slice_set places (place_of handle) None else places
 
--- the session that is started
-abbrev pub started_session : Start → Session
-started_session start = record {
-  kind = start.kind;
-  hash = start.hash;
-  symmetric = start.symmetric;
-  nonce_tpm = start.nonce_tpm;
-  key = session_key start.hash start.binding start.nonce_tpm start.nonce_caller.now;
-  binding = start.binding;
-  policy = starting start.hash;
+-- a session as it starts, between these nonces
+abbrev pub new_session : SessionType → HashAlg → SymmetricDefinition
+    → Option Binding → (nonce_tpm nonce_caller : List ℕ) → Session
+new_session kind hash symmetric binding nonce_tpm nonce_caller = record {
+  kind = kind;
+  hash = hash;
+  symmetric = symmetric;
+  nonce_tpm = nonce_tpm;
+  key = session_key hash binding nonce_tpm nonce_caller;
+  binding = binding;
+  policy = starting hash;
 }
+
+abbrev pub started_session : Start → Session
+started_session start =
+    new_session start.kind start.hash start.symmetric start.binding start.nonce_tpm start.nonce_caller.now
 
 -- whether the caller's nonce has a size that it may have
 abbrev pub has_nonce_size : Start → Bool

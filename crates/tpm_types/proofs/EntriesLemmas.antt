@@ -6,9 +6,9 @@ use Rattle.std.specs.List.{flat_map, AllByRecursion}
 use Rattle.tpm_bytes.proofs.Putting.{fits_more, written_more}
 use Rattle.tpm_types.specs.declared.auth_entry.AuthEntry.{AuthEntry}
 use Rattle.tpm_bytes.specs.Reading.{◌>>=◌}
-use Rattle.tpm_types.specs.AuthEntry.{Entry, HasSizes, PutsEntry, entry_at, entry_of, entry_text}
+use Rattle.tpm_types.specs.AuthEntry.{Entry, HasSizes, PutsEntry, entry_at, entry_of, auth_entry_text}
 use Rattle.tpm_types.specs.AuthArea.{entries_in, entries_text}
-use Rattle.tpm_types.proofs.EntryLaws.{length-entry_text}
+use Rattle.tpm_types.proofs.EntryLaws.{length-auth_entry_text}
 use Rattle.tpm_types.specs.declared.rc.Rc.{Rc}
 use Rattle.tpm_types.specs.declared.rc.ResponseCode.TheVariants as code
 use Rattle.tpm_types.specs.Rc.{plain}
@@ -52,14 +52,14 @@ entry_too_many front most (byte ∷ bytes) e some = ap (λ k. behind front (entr
 -- ---- entries, written one after the other
 
 abbrev pub text_in : AuthEntry → List ℕ
-text_in entry = entry_text (entry_of entry)
+text_in entry = auth_entry_text (entry_of entry)
 
 -- what a loop takes for an entry beyond the last
 abbrev pub no_entry : AuthEntry
 no_entry = record { session = record { number = 0 }; nonce = record { ref_ptr = (0, 0); now = [] }; attributes = record { octet = 0 }; hmac = record { ref_ptr = (0, 0); now = [] } }
 
 pub entries_text-is : (entries : List AuthEntry) → entries_text (map entry_of entries) ≡ flat_map text_in entries
-entries_text-is entries = flat_map-map entry_text entry_of entries
+entries_text-is entries = flat_map-map auth_entry_text entry_of entries
 
 -- each has the sizes that all have
 pub sizes_at : (entries : List AuthEntry) (i : ℕ) (d : AuthEntry) → AllByRecursion HasSizes (map entry_of entries) → i < length entries → HasSizes (entry_of (get_or entries i d))
@@ -81,16 +81,16 @@ length_more entries i bytes more d below so now =
     let next = text_in (get_or entries i d) in
     rw (so, now) (sym (length-append before next) ∙ ap length (written_more text_in entries i d (get_or entries i d) [] before (before ++ next) below refl refl refl))
 
-pub small_text : (bytes i more : ℕ) (entry : Entry) → bytes ≤ i * 131_079 → HasSizes entry → more ≡ length (entry_text entry) → bytes + more ≤ (i + 1) * 131_079
+pub small_text : (bytes i more : ℕ) (entry : Entry) → bytes ≤ i * 131_079 → HasSizes entry → more ≡ length (auth_entry_text entry) → bytes + more ≤ (i + 1) * 131_079
 small_text bytes i more entry so sizes is =
     let nonce = sizes.0 in
     let hmac = sizes.1 in
-    omega (arith, length-entry_text entry)
+    omega (arith, length-auth_entry_text entry)
 
 -- an entry that has a text is written where it fits
-entry_fits : {E : Type 0} (capacity : ℕ) (entry : Entry) (old new : List ℕ) (result : Result (Unit {0}) E) → PutsEntry capacity entry old result new → HasSizes entry → length old + length (entry_text entry) ≤ capacity → new ≡ old ++ entry_text entry
+entry_fits : {E : Type 0} (capacity : ℕ) (entry : Entry) (old new : List ℕ) (result : Result (Unit {0}) E) → PutsEntry capacity entry old result new → HasSizes entry → length old + length (auth_entry_text entry) ≤ capacity → new ≡ old ++ auth_entry_text entry
 entry_fits capacity entry old new (Ok x) puts sizes fits = puts.1
-entry_fits capacity entry old new (Err e) puts sizes fits = absurd (false≢true (puts.0.1 (sizes.0, sizes.1, omega (arith, length-entry_text entry))))
+entry_fits capacity entry old new (Err e) puts sizes fits = absurd (false≢true (puts.0.1 (sizes.0, sizes.1, omega (arith, length-auth_entry_text entry))))
 
 pub entry_written : {E : Type 0} (capacity : ℕ) (entries : List AuthEntry) (i : ℕ) (d : AuthEntry) (start so_far new : List ℕ) (result : Result (Unit {0}) E) → i < length entries → so_far ≡ start ++ flat_map text_in (take i entries) → AllByRecursion HasSizes (map entry_of entries) → length start + length (flat_map text_in entries) ≤ capacity → PutsEntry capacity (entry_of (get_or entries i d)) so_far result new → new ≡ start ++ flat_map text_in (take (i + 1) entries)
 entry_written capacity entries i d start so_far new result below so sizes room puts =

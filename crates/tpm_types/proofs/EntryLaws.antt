@@ -9,7 +9,7 @@ use Rattle.tpm_bytes.specs.Writing.{sized_text}
 use Rattle.tpm_bytes.proofs.Fields.{AreBytes, Takes, Takes-then, bind_ok, or_fault_ok, passed, bytes_take, bytes_again, number_or_takes, number_or_again, sized_takes, sized_again, wide8, wide32, ok_is}
 use Rattle.tpm_types.specs.declared.rc.ResponseCode.TheVariants as code
 use Rattle.tpm_types.specs.Rc.{plain}
-use Rattle.tpm_types.specs.AuthEntry.{Entry, IsEntry, entry_at, entry_text}
+use Rattle.tpm_types.specs.AuthEntry.{Entry, IsEntry, entry_at, auth_entry_text}
 use Rattle.tpm_types.specs.AuthArea.{area_at, area_text, entries_in, entries_text}
 
 -- ---- an entry
@@ -17,7 +17,7 @@ use Rattle.tpm_types.specs.AuthArea.{area_at, area_text, entries_in, entries_tex
 abbrev entry_with : ℕ → List ℕ → ℕ → List ℕ × List ℕ → Entry × List ℕ
 entry_with session nonce octet hmac = (record { session = record { number = session }; nonce = nonce; attributes = record { octet = octet }; hmac = hmac.0 }, hmac.1)
 
-pub entry_takes : (bytes : List ℕ) (x : Entry × List ℕ) → AreBytes bytes → entry_at bytes ≡ Ok x → Takes bytes (entry_text x.0) x.1 × IsEntry x.0
+pub entry_takes : (bytes : List ℕ) (x : Entry × List ℕ) → AreBytes bytes → entry_at bytes ≡ Ok x → Takes bytes (auth_entry_text x.0) x.1 × IsEntry x.0
 unfolding entry_at
 entry_takes bytes x fits e =
     let f = plain code.Authsize in
@@ -32,9 +32,9 @@ entry_takes bytes x fits e =
     let t01 = Takes-then bytes (to_be_bytes w32 a.0.0) a.0.1 (sized_text b.0.0) b.0.1 t0.0 t1.0 in
     let t02 = Takes-then bytes (to_be_bytes w32 a.0.0 ++ sized_text b.0.0) b.0.1 (to_be_bytes w8 c.0.0) c.0.1 t01 t2.0 in
     let t03 = Takes-then bytes (to_be_bytes w32 a.0.0 ++ sized_text b.0.0 ++ to_be_bytes w8 c.0.0) c.0.1 (sized_text d.0.0) d.0.1 t02 t3.0 in
-    subst (λ (y : Entry × List ℕ). Takes bytes (entry_text y.0) y.1 × IsEntry y.0) (ok_is (entry_with a.0.0 b.0.0 c.0.0 d.0) x d.2) (t03, record { session = t0.1; nonce = t1.1; attributes = t2.1; hmac = t3.1 })
+    subst (λ (y : Entry × List ℕ). Takes bytes (auth_entry_text y.0) y.1 × IsEntry y.0) (ok_is (entry_with a.0.0 b.0.0 c.0.0 d.0) x d.2) (t03, record { session = t0.1; nonce = t1.1; attributes = t2.1; hmac = t3.1 })
 
-pub entry_again : (entry : Entry) (rest : List ℕ) → IsEntry entry → entry_at (entry_text entry ++ rest) ≡ Ok (entry, rest)
+pub entry_again : (entry : Entry) (rest : List ℕ) → IsEntry entry → entry_at (auth_entry_text entry ++ rest) ≡ Ok (entry, rest)
 unfolding entry_at
 entry_again entry rest is =
     let f = plain code.Authsize in
@@ -42,7 +42,7 @@ entry_again entry rest is =
     let nonce = sized_text entry.nonce in
     let octet = to_be_bytes w8 entry.attributes.octet in
     let hmac = sized_text entry.hmac in
-    let regrouped : entry_text entry ++ rest ≡ number ++ (nonce ++ (octet ++ (hmac ++ rest))) = append_assoc (number ++ nonce ++ octet) hmac rest ∙ append_assoc (number ++ nonce) octet (hmac ++ rest) ∙ append_assoc number nonce (octet ++ (hmac ++ rest)) in
+    let regrouped : auth_entry_text entry ++ rest ≡ number ++ (nonce ++ (octet ++ (hmac ++ rest))) = append_assoc (number ++ nonce ++ octet) hmac rest ∙ append_assoc (number ++ nonce) octet (hmac ++ rest) ∙ append_assoc number nonce (octet ++ (hmac ++ rest)) in
     let nonce_fits = is.nonce in
     let hmac_fits = is.hmac in
     ap entry_at regrouped
@@ -53,10 +53,10 @@ entry_again entry rest is =
       sized_again 0xffff f entry.hmac rest hmac_fits (omega arith),
     ) refl
 
-pub length-entry_text : (entry : Entry) → length (entry_text entry) ≡ 9 + length entry.nonce + length entry.hmac
-length-entry_text entry = omega (arith, length-append (to_be_bytes w32 entry.session.number ++ sized_text entry.nonce ++ to_be_bytes w8 entry.attributes.octet) (sized_text entry.hmac), length-append (to_be_bytes w32 entry.session.number ++ sized_text entry.nonce) (to_be_bytes w8 entry.attributes.octet), length-append (to_be_bytes w32 entry.session.number) (sized_text entry.nonce))
+pub length-auth_entry_text : (entry : Entry) → length (auth_entry_text entry) ≡ 9 + length entry.nonce + length entry.hmac
+length-auth_entry_text entry = omega (arith, length-append (to_be_bytes w32 entry.session.number ++ sized_text entry.nonce ++ to_be_bytes w8 entry.attributes.octet) (sized_text entry.hmac), length-append (to_be_bytes w32 entry.session.number ++ sized_text entry.nonce) (to_be_bytes w8 entry.attributes.octet), length-append (to_be_bytes w32 entry.session.number) (sized_text entry.nonce))
 
-pub ruleset entry_sizes = (length-entry_text)
+pub ruleset entry_sizes = (length-auth_entry_text)
 
 -- ---- the entries of an area
 
@@ -65,7 +65,7 @@ pub entries_in_some : (most : ℕ) (left : List ℕ) → 0 < length left → ent
 entries_in_some most [] some = absurd (omega arith)
 entries_in_some most (byte ∷ bytes) some = refl
 
-entries_take_some : (most : ℕ) (bytes : List ℕ) (entries : List Entry) → AreBytes bytes → 0 < length bytes → entries_in (suc most) bytes ≡ Ok entries → (first : Entry × List ℕ) × (others : List Entry) × Takes bytes (entry_text first.0) first.1 × IsEntry first.0 × (entries_in most first.1 ≡ Ok others) × (first.0 ∷ others ≡ entries)
+entries_take_some : (most : ℕ) (bytes : List ℕ) (entries : List Entry) → AreBytes bytes → 0 < length bytes → entries_in (suc most) bytes ≡ Ok entries → (first : Entry × List ℕ) × (others : List Entry) × Takes bytes (auth_entry_text first.0) first.1 × IsEntry first.0 × (entries_in most first.1 ≡ Ok others) × (first.0 ∷ others ≡ entries)
 entries_take_some most bytes entries fits some e =
     let a = bind_ok (entry_at bytes) (λ first. entries_in most first.1 >>= λ others. Ok (first.0 ∷ others)) entries (sym (entries_in_some most bytes some) ∙ e) in
     let b = bind_ok (entries_in most a.0.1) (λ others. Ok (a.0.0 ∷ others)) entries a.2 in
@@ -82,7 +82,7 @@ entries_take (suc most) [] entries fits e = subst (AreThese (suc most) []) (ok_i
 entries_take (suc most) (byte ∷ bytes) entries fits e =
     let a = entries_take_some most (byte ∷ bytes) entries fits (omega arith) e in
     let others = entries_take most a.0.1 a.1 a.2.rest_fits a.4 in
-    let whole : byte ∷ bytes ≡ entry_text a.0.0 ++ entries_text a.1 = a.2.parts ∙ ap (λ (l : List ℕ). entry_text a.0.0 ++ l) others.0 in
+    let whole : byte ∷ bytes ≡ auth_entry_text a.0.0 ++ entries_text a.1 = a.2.parts ∙ ap (λ (l : List ℕ). auth_entry_text a.0.0 ++ l) others.0 in
     subst (AreThese (suc most) (byte ∷ bytes)) a.5 (whole, omega (arith, others.1), (a.3, others.2))
 
 pub entries_again : (most : ℕ) (entries : List Entry) → length entries ≤ most → AllByRecursion IsEntry entries → entries_in most (entries_text entries) ≡ Ok entries
@@ -90,8 +90,8 @@ entries_again zero [] few are = refl
 entries_again (suc most) [] few are = refl
 entries_again zero (entry ∷ entries) few are = absurd (omega arith)
 entries_again (suc most) (entry ∷ entries) few are =
-    let some : 0 < length (entry_text entry ++ entries_text entries) = omega (arith, length-append (entry_text entry) (entries_text entries), length-entry_text entry) in
-    entries_in_some most (entry_text entry ++ entries_text entries) some
+    let some : 0 < length (auth_entry_text entry ++ entries_text entries) = omega (arith, length-append (auth_entry_text entry) (entries_text entries), length-auth_entry_text entry) in
+    entries_in_some most (auth_entry_text entry ++ entries_text entries) some
     ∙ rw (entry_again entry (entries_text entries) are.0, entries_again most entries (omega arith) are.1) refl
 
 -- ---- an area
@@ -120,6 +120,6 @@ area_again [] rest some few are small = absurd (omega arith)
 area_again (entry ∷ entries) rest some few are small =
     let f = plain code.Authsize in
     let all = entries_text (entry ∷ entries) in
-    let nine : ltb (length all) 9 ≡ false = le-ltb _ _ (omega (arith, length-append (entry_text entry) (entries_text entries), length-entry_text entry)) in
+    let nine : ltb (length all) 9 ≡ false = le-ltb _ _ (omega (arith, length-append (auth_entry_text entry) (entries_text entries), length-auth_entry_text entry)) in
     ap area_at (append_assoc (to_be_bytes w32 (length all)) all rest)
     ∙ rw (number_or_again w32 (2 ^ 32) wide32 f (length all) (all ++ rest) small, nine, bytes_again all rest (length all) refl, entries_again 3 (entry ∷ entries) few are) refl

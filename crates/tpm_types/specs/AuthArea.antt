@@ -9,11 +9,11 @@ use Rattle.tpm_types.specs.declared.auth_entry.AuthEntry.{AuthEntry}
 use Rattle.arrayvec.specs.ArrayVec.{ArrayVec}
 use Rattle.tpm_types.specs.declared.rc.Rc.{Rc}
 use Rattle.tpm_types.specs.declared.rc.ResponseCode.TheVariants as code
-use Rattle.tpm_types.specs.AuthEntry.{Entry, entry_at, entry_of, entry_text}
+use Rattle.tpm_types.specs.AuthEntry.{Entry, entry_at, entry_of, auth_entry_text}
 use Rattle.tpm_types.specs.Rc.{plain}
 
 abbrev pub entries_text : List Entry → List ℕ
-entries_text entries = flat_map entry_text entries
+entries_text entries = flat_map auth_entry_text entries
 
 abbrev pub area_text : List Entry → List ℕ
 area_text entries = to_be_bytes w32 (length (entries_text entries)) ++ entries_text entries

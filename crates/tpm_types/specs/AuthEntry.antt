@@ -32,8 +32,8 @@ entry_of e = record {
 }
 
 -- the session's handle, the nonce, the attributes, and the HMAC or password
-abbrev pub entry_text : Entry → List ℕ
-entry_text e =
+abbrev pub auth_entry_text : Entry → List ℕ
+auth_entry_text e =
     to_be_bytes w32 e.session.number ++ sized_text e.nonce
     ++ to_be_bytes w8 e.attributes.octet ++ sized_text e.hmac
 
@@ -71,5 +71,5 @@ PutsEntry capacity e old result new =
     (IsOk result
     ↔ ((length e.nonce < 2 ^ 16) × (length e.hmac < 2 ^ 16)
     × (length old + (9 + length e.nonce + length e.hmac) ≤ capacity)))
-    × OnOk result (new ≡ old ++ entry_text e)
+    × OnOk result (new ≡ old ++ auth_entry_text e)
     × OnErr result (new ≡ old)

@@ -66,7 +66,10 @@ start_parameters =
     parameter.Buffer 32 ∷ parameter.Buffer 32 ∷ parameter.U8
     ∷ parameter.Symmetric ∷ parameter.Hash ∷ []
 
--- nonceTPM, cpHashA, policyRef, expiration
+-- authHandle, policySession; nonceTPM, cpHashA, policyRef, expiration
+abbrev pub secret_handles : List HandleRule
+secret_handles = user kind.EntityNotNull ∷ unauthorized kind.PolicySession ∷ []
+
 abbrev pub secret_parameters : List ParameterKind
 secret_parameters =
     parameter.Buffer 32 ∷ parameter.Buffer 32 ∷ parameter.Buffer 32 ∷ parameter.U32 ∷ []
@@ -82,9 +85,7 @@ shape_of code.PcrEvent = shape_with (user kind.PcrOrNull ∷ []) (parameter.Buff
 shape_of code.PcrReset = shape_with (user kind.Pcr ∷ []) []
 shape_of code.Startup = record (shape_with [] (parameter.StartupType ∷ [])) { forbids_sessions = true }
 shape_of code.PolicySecret =
-    record (shape_with (user kind.EntityNotNull ∷ unauthorized kind.PolicySession ∷ []) secret_parameters) {
-      sized_answer = true;
-    }
+    record (shape_with secret_handles secret_parameters) { sized_answer = true }
 shape_of code.FlushContext = record (shape_with [] (parameter.U32 ∷ [])) { forbids_sessions = true }
 shape_of code.PolicyAuthValue = on_policy []
 shape_of code.PolicyCommandCode = on_policy (parameter.U32 ∷ [])

@@ -12,7 +12,7 @@ use Rattle.tpm_types.specs.declared.shape.Role.TheVariants as role
 use Rattle.tpm_types.specs.declared.shape.Shape.{Shape}
 use Rattle.tpm_types.specs.Handle.{handle_type, hierarchy_auth_of, null_handle, pcr_of}
 
--- whether a handle is one of what has an authorization value, there or not: a permanent entity, a
+-- whether a handle is one of what has an authorization value, there or not: a hierarchy or lockout, a
 -- PCR, an NV index (01), a transient object (80) or a persistent one (81); or TPM_RH_NULL
 -- (TPMI_DH_ENTITY)
 abbrev pub is_entity : Handle → Bool
@@ -20,8 +20,10 @@ is_entity handle =
     handle.number == null_handle.number || is_some (hierarchy_auth_of handle) || is_some (pcr_of handle)
     || handle_type handle == 0x01 || handle_type handle == 0x80 || handle_type handle == 0x81
 
--- whether a handle is of a kind: a PCR (TPMI_DH_PCR of Part 2, section 9), or that or TPM_RH_NULL;
--- a policy session (03: TPMI_SH_POLICY); the others as above
+-- whether a handle is of a kind, after Part 2, section 9: a PCR (TPMI_DH_PCR), or that or
+-- TPM_RH_NULL; TPM_RH_NULL alone, where the standard has a key too; a hierarchy or lockout
+-- (TPMI_RH_HIERARCHY_AUTH); an entity as above, with TPM_RH_NULL or without; a policy session, which
+-- a trial session is too (03: TPMI_SH_POLICY)
 abbrev pub is_of_kind : HandleKind → Handle → Bool
 is_of_kind kind.Pcr handle = is_some (pcr_of handle)
 is_of_kind kind.PcrOrNull handle = is_some (pcr_of handle) || handle.number == null_handle.number

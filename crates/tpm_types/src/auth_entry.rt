@@ -38,7 +38,7 @@ pub struct AuthEntry<'a> {
 
 impl<'a> AuthEntry<'a> {
     ghost use Rattle.tpm_types.specs.AuthEntry.{Entry, HasSizes, IsEntry, PutsEntry};
-    ghost use Rattle.tpm_types.specs.AuthEntry.{entry_at, entry_of, entry_text};
+    ghost use Rattle.tpm_types.specs.AuthEntry.{entry_at, entry_of, auth_entry_text};
 
     /// Reads an entry: AUTHSIZE where it is cut.
     pub fn read(text: &mut Cursor<'a>) -> Result<AuthEntry<'a>, Rc>
@@ -46,10 +46,10 @@ impl<'a> AuthEntry<'a> {
         ensures exact { Reads entry_of (entry_at text.old) text.old result text.new }
         // What is read was spelled so.
         ensures found { IfOk result (λ entry. IsEntry (entry_of entry)
-            × (text.old ≡ entry_text (entry_of entry) ++ text.new)) }
+            × (text.old ≡ auth_entry_text (entry_of entry) ++ text.new)) }
         // What is spelled so is read.
         ensures only { (entry : Entry) (rest : List ℕ) → IsEntry entry
-            → text.old ≡ entry_text entry ++ rest
+            → text.old ≡ auth_entry_text entry ++ rest
             → Reads entry_of (Ok (entry, rest)) text.old result text.new }
     {
         bytes_fit(text.rest());
@@ -79,7 +79,7 @@ impl<'a> AuthEntry<'a> {
     #[tactic(auto, using(crate::proofs::EntryLaws::entry_sizes))]
     pub fn text_len(&self) -> Option<usize>
         ensures { SomeIff result (HasSizes (entry_of self.now))
-            (length (entry_text (entry_of self.now))) }
+            (length (auth_entry_text (entry_of self.now))) }
     {
         let (nonce, hmac) = (self.nonce.len(), self.hmac.len());
         if nonce > 0xffff || hmac > 0xffff {
