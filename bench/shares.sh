@@ -4,9 +4,7 @@
 # lines: the difference of two lengths under callgrind, so that start and end do not count.
 # Needs valgrind, and rt where the program is not built yet. Not part of the gate.
 #
-# `Machine::execute` is inlined into what does the text of a line. What is the device's there is the
-# call of `Machine::command`, and nearly all that is cleared and copied beside that call: the room
-# for the response. So these two are told apart from the rest, which is the text.
+# The device's is what `Machine::execute_into` and all that it calls take; the rest is the text.
 set -eu
 
 top=$(CDPATH='' cd "$(dirname "$0")/.." && pwd -P)
@@ -18,8 +16,8 @@ trap 'rm -rf "$folder"' EXIT
 # it uses one repeated instruction, which callgrind counts again for each byte.
 limits=glibc.cpu.x86_rep_stosb_threshold=1000000:glibc.cpu.x86_rep_movsb_threshold=1000000
 
-# counts LINES: the instructions of a script of this many lines: all, those of `Machine::command`
-# and what it calls, and those that clear and copy in the function that calls it.
+# counts LINES: the instructions of a script of this many lines: all, those of
+# `Machine::execute_into` with what it calls, and of these those that clear and copy.
 counts() {
     "$top/bench/script.sh" "$1" >"$folder/script"
     GLIBC_TUNABLES=$limits valgrind --tool=callgrind --callgrind-out-file="$folder/calls" \
@@ -27,13 +25,15 @@ counts() {
         cat "$folder/log" >&2
         exit 1
     }
-    callgrind_annotate --threshold=100 --tree=calling "$folder/calls" | awk '
+    callgrind_annotate --threshold=100 --inclusive=yes "$folder/calls" >"$folder/inclusive"
+    callgrind_annotate --threshold=100 --tree=calling "$folder/calls" >"$folder/tree"
+    cat "$folder/inclusive" "$folder/tree" | awk '
         { gsub(",", "", $1) }
         / PROGRAM TOTALS/ { all = $1 }
+        /:tpm_machine::machine::Machine::execute_into[ :]/ && !/ > / && !device { device = $1 }
         / \* / { caller = $0 }
-        / > / && /:tpm_machine::machine::Machine::command[ :]/ { command += $1; place = caller }
-        / > / && /:[a-z_]*mem(set|cpy|move)_/ { moved[caller] += $1 }
-        END { print all + 0, command + 0, moved[place] + 0 }'
+        / > / && /:[a-z_]*mem(set|cpy|move)_/ && caller ~ /Machine::execute_into[ :]/ { moved += $1 }
+        END { print all + 0, device + 0, moved + 0 }'
 }
 
 "$top/tpmsim" run /dev/null # builds the program where it is not built
@@ -45,15 +45,14 @@ echo "$short $long" | awk -v name="$0" '
     }
     {
         all = ($4 - $1) / 4000
-        command = ($5 - $2) / 4000
+        device = ($5 - $2) / 4000
         moved = ($6 - $3) / 4000
-        if (command == 0 || moved == 0) {
-            print name ": no call of Machine::command, or no memset and memcpy beside it" \
-                > "/dev/stderr"
+        if (device == 0) {
+            print name ": no call of Machine::execute_into" > "/dev/stderr"
             exit 1
         }
         say("each GetRandom line", all)
-        say("Machine::command", command)
-        say("clearing and copying beside it", moved)
-        say("the text, which is the rest", all - command - moved)
+        say("Machine::execute_into", device)
+        say("of it clearing and copying", moved)
+        say("the text, which is the rest", all - device)
     }'

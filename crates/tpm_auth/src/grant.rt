@@ -156,7 +156,13 @@ fn check_all<K: Keep>(keep: &K, sent: Sent) -> Result<Grants, Refused>
         let names = names_of(keep, command.handles.as_slice());
         let code = command.code.number();
         let mut hashes = CommandHashes::new(code, names.as_slice(), command.parameters);
-        check_grants(keep, sent, &mut hashes, command.entries.as_slice(), &mut entries)?;
+        check_grants(
+            keep,
+            sent,
+            &mut hashes,
+            command.entries.as_slice(),
+            &mut entries,
+        )?;
     }
     Ok(Grants { entries })
 }

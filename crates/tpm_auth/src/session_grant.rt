@@ -15,9 +15,7 @@ use crate::hashes::CommandHashes;
 use crate::refused::Refused;
 use tpm_policy::policy_use::Use;
 use tpm_policy::state::Demand;
-use tpm_record::entity::{
-    Means, auth_value_of, is_available, name_of, policy_of, protection_of,
-};
+use tpm_record::entity::{Means, auth_value_of, is_available, name_of, policy_of, protection_of};
 use tpm_record::keep::Keep;
 use tpm_session::entry::CommandText;
 use tpm_session::session::{Protection, Session};
@@ -196,9 +194,7 @@ fn touched<K: Keep>(keep: &K, session: &Session, grant: Option<Grant>) -> Protec
 {
     let bound = binding_protection(session);
     match grant {
-        Some(grant)
-            if takes_value(keep, session, grant) || grant.demand == Demand::Password =>
-        {
+        Some(grant) if takes_value(keep, session, grant) || grant.demand == Demand::Password => {
             or_protection(protection_of(grant.handle), bound)
         }
         _ => bound,

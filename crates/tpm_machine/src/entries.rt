@@ -7,9 +7,9 @@ ghost use Rattle.tpm_machine.specs.Entries.{answer_mac, draw_of, entries_answer,
 use crate::draws::Draws;
 use crate::response_hashes::ResponseHashes;
 use tpm_auth::session_grant::{Grant, used_auth_value};
-use tpm_policy::state::{Demand, PolicyState};
 use tpm_bytes::sink::Sink;
 use tpm_mac::Digest;
+use tpm_policy::state::{Demand, PolicyState};
 use tpm_record::keep::Keep;
 use tpm_session::session::Session;
 use tpm_types::auth_entry::AuthEntry;

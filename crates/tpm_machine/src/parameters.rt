@@ -78,12 +78,7 @@ fn decrypt_by<K: Keep>(keep: &K, grant: Option<Grant>, entry: &AuthEntry, text: 
 }
 
 /// Decrypts the parameters of a command, each of whose entries authorizes this handle or none.
-pub fn decrypt<K: Keep>(
-    keep: &K,
-    entries: &[AuthEntry],
-    grants: &[Option<Grant>],
-    text: &mut [u8],
-)
+pub fn decrypt<K: Keep>(keep: &K, entries: &[AuthEntry], grants: &[Option<Grant>], text: &mut [u8])
     ensures { text.new ≡ plain_parameters (K.record_of keep.now) (map entry_of entries.now)
         grants.now text.old }
 {
@@ -117,12 +112,7 @@ fn encrypt_by<K: Keep>(keep: &K, grant: Option<Grant>, entry: &AuthEntry, text: 
 }
 
 /// Encrypts the parameters of the answer to such a command.
-pub fn encrypt<K: Keep>(
-    keep: &K,
-    entries: &[AuthEntry],
-    grants: &[Option<Grant>],
-    text: &mut [u8],
-)
+pub fn encrypt<K: Keep>(keep: &K, entries: &[AuthEntry], grants: &[Option<Grant>], text: &mut [u8])
     ensures { text.new ≡ encrypted_answer (K.record_of keep.now) (map entry_of entries.now)
         grants.now text.old }
 {

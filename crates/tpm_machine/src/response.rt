@@ -103,12 +103,7 @@ fn write_plain(handle: Option<Handle>, parameters: &[u8], text: &mut Response)
 }
 
 /// Writes a success whose entries are answered so.
-fn write_with_area(
-    handle: Option<Handle>,
-    parameters: &[u8],
-    area: &[u8],
-    text: &mut Response,
-)
+fn write_with_area(handle: Option<Handle>, parameters: &[u8], area: &[u8], text: &mut Response)
     requires empty { text.old.items ≡ [] }
     requires parameters { length parameters.now ≤ 2048 }
     requires area { length area.now ≤ AREA_LIMIT }

@@ -143,7 +143,13 @@ pub fn accept<K: Keep>(
         random,
     };
     if any_decrypts(entries) {
-        act_decrypted(keep, command.code, &call, entries, grants.entries.as_slice())
+        act_decrypted(
+            keep,
+            command.code,
+            &call,
+            entries,
+            grants.entries.as_slice(),
+        )
     } else {
         act(keep, command.code, &call)
     }

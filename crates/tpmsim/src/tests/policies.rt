@@ -1,13 +1,13 @@
 //! Digests that were computed outside, by Python's `hashlib`, and what refuses the use of a policy.
 
+use tpm_bytes::cursor::Cursor;
+use tpm_mac::HashAlg;
+use tpm_name::Name;
 use tpm_policy::fault::PolicyFault;
 use tpm_policy::pcr::PcrAssertion;
 use tpm_policy::policy_use::{EntityPolicy, Use};
 use tpm_policy::secret::SecretAssertion;
 use tpm_policy::state::{Demand, PolicyState};
-use tpm_bytes::cursor::Cursor;
-use tpm_mac::HashAlg;
-use tpm_name::Name;
 use tpm_types::action_check::ActionCheck;
 use tpm_types::command_code::CommandCode;
 use tpm_types::digest_list::DigestList;
