@@ -2,4 +2,5 @@ pub mod AllBytes
 pub mod Steps
 pub mod TextBlocks
 pub mod Undone
+pub mod Vectors
 pub mod Words

@@ -1,7 +1,7 @@
 //! Published digests (FIPS 180-4 examples) and HMACs (RFC 2202, RFC 4231), and keys by KDFa that
 //! were computed by Python's `hmac`.
 
-use tpm_mac::{HashAlg, Hasher, digest_parts, hmac_parts, kdfa};
+use tpm_mac::{Digest, HashAlg, Hasher, digest_parts, hmac_parts, kdfa};
 
 const TWO_BLOCKS: &[u8] = b"abcdbcdecdefdefgefghfghighijhijkijkljklmklmnlmnomnopnopq";
 
@@ -180,6 +180,14 @@ fn macs_of_published_texts_at_every_cut(rt: HostRuntime) {
     }
 }
 
+const KEY: &[u8] = b"key of a session";
+
+const LABEL: &[u8] = b"ATH";
+
+const CONTEXT_U: &[u8] = b"newer nonce";
+
+const CONTEXT_V: &[u8] = b"older nonce";
+
 struct KeyCase {
     alg: HashAlg,
     derived: &'static [u8],
@@ -205,14 +213,34 @@ const KEYS: [KeyCase; 2] = [
 fn keys_are_derived(rt: HostRuntime) {
     for case in &KEYS {
         let mut key = [0x55; 45];
-        kdfa(
-            case.alg,
-            b"key of a session",
-            b"ATH",
-            b"newer nonce",
-            b"older nonce",
-            &mut key,
-        );
+        kdfa(case.alg, KEY, LABEL, CONTEXT_U, CONTEXT_V, &mut key);
         assert_eq!(rt; key.as_slice(), case.derived);
+    }
+}
+
+// The block of the counter by HMAC alone, of which KDFa wants so many bits in all.
+fn block_by_hmac(alg: HashAlg, counter: u32, bits: u32) -> Digest {
+    let counter: &[u8] = &counter.to_be_bytes();
+    let bits: &[u8] = &bits.to_be_bytes();
+    hmac_parts(
+        alg,
+        KEY,
+        &[counter, LABEL, &[0], CONTEXT_U, CONTEXT_V, bits],
+    )
+}
+
+#[test]
+fn derived_keys_are_the_front_of_the_blocks(rt: HostRuntime) {
+    for alg in [HashAlg::Sha1, HashAlg::Sha256] {
+        for size in [0, 1, 20, 32, 33, 64u32] {
+            let mut buffer = [0x55u8; 80];
+            let (out, behind) = buffer.split_at_mut(size as usize);
+            kdfa(alg, KEY, LABEL, CONTEXT_U, CONTEXT_V, out);
+            for (counter, written) in (1..5u32).zip(out.chunks(alg.size())) {
+                let block = block_by_hmac(alg, counter, size * 8);
+                assert!(rt; block.as_slice().starts_with(written));
+            }
+            assert!(rt; behind.iter().all(|byte| *byte == 0x55));
+        }
     }
 }

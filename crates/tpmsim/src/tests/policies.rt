@@ -134,7 +134,7 @@ fn assert_all(state: &mut PolicyState, selection: &PcrSelection) -> Result<(), P
 
 /// A use of that policy in which every condition from this number on does not hold.
 fn spoiled_from(condition: u8, digest: &[u8], locality: Locality) -> Use<'_> {
-    let policy = EntityPolicy {
+    let entity = EntityPolicy {
         hash: HashAlg::Sha256,
         digest,
     };
@@ -156,7 +156,7 @@ fn spoiled_from(condition: u8, digest: &[u8], locality: Locality) -> Use<'_> {
         role: Role::Admin,
         cp_hash: if condition <= 5 { &[] } else { CP_HASH },
         locality,
-        policy: if condition <= 7 { None } else { Some(policy) },
+        entity: if condition <= 7 { None } else { Some(entity) },
     }
 }
 
