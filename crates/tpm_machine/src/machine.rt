@@ -163,7 +163,7 @@ impl<K: Keep> Machine<K> {
 
     /// Executes a command's buffer, after its time has passed: writes the response, and gives the
     /// row.
-    #[tactic(auto, using(crate::proofs::Refusals::answers_exactly, crate::proofs::Refusals::refused_answers), unfolding(crate::specs::Step::accepted))]
+    #[tactic(auto, unfolding(crate::specs::Step::accepted))]
     fn command(
         &mut self,
         buffer: &[u8],
