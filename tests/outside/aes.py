@@ -1,7 +1,15 @@
 """AES-128 (FIPS 197) and its cipher feedback mode with whole blocks (SP 800-38A, 6.3), by the book.
 
     python3 tests/outside/aes.py    compares with the examples of both, as every import does
+
+Run so it also compares texts of many lengths with `openssl enc` and with Python's `cryptography`,
+where these are installed, and says with which it did. It agreed with OpenSSL 3.0.19 and with
+cryptography 38.0.4, both of Debian 12, and with cryptography 48.0.0.
 """
+
+import hashlib
+import shutil
+import subprocess
 
 BLOCK = 16
 ROUNDS = 10
@@ -114,4 +122,49 @@ def self_test():
         assert cfb_decrypt(key, iv, masked[:length]) == text[:length]
 
 
+# Other programs, where there are any.
+
+
+def texts():
+    """Keys, first blocks and texts, of each length up to five blocks."""
+    for length in range(5 * BLOCK + 1):
+        given = hashlib.sha512(b"%d" % length).digest()
+        yield given[:BLOCK], given[BLOCK : 2 * BLOCK], (given + given)[:length]
+
+
+def by_openssl(key, iv, text, direction):
+    words = ["openssl", "enc", direction, "-aes-128-cfb", "-K", key.hex(), "-iv", iv.hex()]
+    return subprocess.run(words, input=text, capture_output=True, check=True).stdout
+
+
+def compare_with_openssl():
+    for key, iv, text in texts():
+        assert cfb_encrypt(key, iv, text) == by_openssl(key, iv, text, "-e")
+        assert cfb_decrypt(key, iv, text) == by_openssl(key, iv, text, "-d")
+    return subprocess.run(["openssl", "version"], capture_output=True, text=True).stdout.strip()
+
+
+def compare_with_cryptography():
+    import cryptography
+    from cryptography.hazmat.primitives.ciphers import Cipher, algorithms, modes
+
+    for key, iv, text in texts():
+        cipher = Cipher(algorithms.AES(key), modes.CFB(iv))
+        encryptor, decryptor = cipher.encryptor(), cipher.decryptor()
+        assert cfb_encrypt(key, iv, text) == encryptor.update(text) + encryptor.finalize()
+        assert cfb_decrypt(key, iv, text) == decryptor.update(text) + decryptor.finalize()
+    return f"cryptography {cryptography.__version__}"
+
+
+def compare():
+    if shutil.which("openssl"):
+        print(f"agrees with {compare_with_openssl()}")
+    try:
+        print(f"agrees with {compare_with_cryptography()}")
+    except ImportError:
+        pass
+
+
 self_test()
+if __name__ == "__main__":
+    compare()

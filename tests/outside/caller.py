@@ -1,7 +1,8 @@
 """The caller of a device: it starts sessions, authorizes commands by them, and checks responses.
 
-It learns nonces from responses alone, knows the authorization values because it set them, and
-stops where a response's hmac is not the one that it computes itself.
+It learns nonces from responses alone, knows the authorization values because it set them and the
+Names of objects because it was answered their public areas, and stops where a response's hmac is
+not the one that it computes itself.
 """
 
 import contextlib
@@ -9,6 +10,8 @@ import hashlib
 from dataclasses import dataclass, replace
 
 import frames
+import general
+import policy
 import sessions
 from frames import (
     CONTINUE_SESSION,
@@ -31,18 +34,24 @@ ON_A_HANDLE = (
     frames.PCR_RESET,
     frames.HIERARCHY_CHANGE_AUTH,
     frames.POLICY_SECRET,
+    frames.CREATE_PRIMARY,
+    frames.CREATE,
+    frames.LOAD,
+    frames.UNSEAL,
+    frames.HMAC,
 )
+ANSWERING_A_HANDLE = (frames.START_AUTH_SESSION, frames.CREATE_PRIMARY, frames.LOAD)
 
 
 @dataclass
 class Session:
-    """A session as its caller knows it."""
+    """A session as its caller knows it; `bind` is a Name."""
 
     handle: int
     algorithm: int
     nonce_tpm: bytes
     key: bytes
-    bind: int
+    bind: bytes
     bind_auth: bytes
     kind: int = SE_HMAC
 
@@ -50,12 +59,14 @@ class Session:
 @dataclass
 class Use:
     """How a session is used in an entry. With `shows_empty_key` the hmac of an empty key is sent,
-    which may be left out."""
+    which may be left out. `demand` is what its policy was told to ask for.
+    """
 
     session: Session
     attributes: int = CONTINUE_SESSION
     nonce: bytes = None
     shows_empty_key: bool = False
+    demand: str = None
 
 
 @dataclass
@@ -97,7 +108,8 @@ def flipped(data, at=-1):
 
 class Caller:
     def __init__(self, script):
-        self.script, self.auth_values, self.nonces = script, {}, 0
+        self.script, self.nonces = script, 0
+        self.auth_values, self.names = {}, {}
 
     def nonce(self, size=NONCE_BYTES):
         self.nonces += 1
@@ -105,6 +117,9 @@ class Caller:
 
     def auth_value(self, handle):
         return self.auth_values.get(handle, b"")
+
+    def name(self, handle):
+        return self.names.get(handle) or sessions.name_of(handle)
 
     @contextlib.contextmanager
     def breaking(self, **rules):
@@ -140,7 +155,7 @@ class Caller:
         key = b""
         if bind != RH_NULL:
             key = sessions.session_key(algorithm, bind_auth, nonce_tpm, nonce)
-        return Session(handle, algorithm, nonce_tpm, key, bind, bind_auth, kind)
+        return Session(handle, algorithm, nonce_tpm, key, self.name(bind), bind_auth, kind)
 
     def prepare(self, code, handles, parameters=b"", *uses):
         """A command with an entry for each use: a password's bytes, a session, or a `Use`."""
@@ -160,14 +175,20 @@ class Caller:
         """The handle that the entry of a place authorizes, if any."""
         return handles[0] if place == 1 and code in ON_A_HANDLE else None
 
-    def key(self, session, handle):
-        """The key of an hmac: the authorization value is in it, but where the session is bound to
-        the entity and that has the value that it had at the start.
+    def key(self, use, handle):
+        """The key of an hmac. In an HMAC session the authorization value is in it, but where the
+        session is bound to the entity and that has the value that it had at the start; in a policy
+        session where the policy asks for it.
         """
-        auth_value = self.auth_value(handle)
-        if handle is not None and (session.bind, session.bind_auth) == (handle, auth_value):
+        session = use.session
+        if handle is None:
             return session.key
-        return session.key + auth_value
+        auth_value = self.auth_value(handle)
+        if general.is_policy(session.handle):
+            is_in_key = use.demand == policy.AUTH_VALUE
+        else:
+            is_in_key = (session.bind, session.bind_auth) != (self.name(handle), auth_value)
+        return session.key + (auth_value if is_in_key else b"")
 
     def encrypted(self, use, handle, parameters):
         session = use.session
@@ -188,13 +209,16 @@ class Caller:
             return Entry(RS_PW, b"", CONTINUE_SESSION, use)
         session = use.session
         handle = self.authorized(prepared.code, prepared.handles, place)
-        key, hmac = self.key(session, handle), b""
-        if key or use.shows_empty_key:
+        key, hmac = self.key(use, handle), b""
+        if use.demand == policy.PASSWORD:
+            hmac = self.auth_value(handle)
+        elif key or use.shows_empty_key:
+            names = map(self.name, prepared.handles)
             hmac = sessions.entry_hmac(
                 session.algorithm,
                 key,
                 sessions.command_hash(
-                    session.algorithm, prepared.code, prepared.handles, prepared.parameters
+                    session.algorithm, prepared.code, names, prepared.parameters
                 ),
                 use.nonce,
                 session.nonce_tpm,
@@ -233,7 +257,7 @@ class Caller:
         tag, size, code = fields.number(2), fields.number(4), fields.number(4)
         assert (size, code) == (len(response), 0)
         assert tag == (frames.SESSIONS if prepared.entries else frames.NO_SESSIONS)
-        handle = fields.number(4) if prepared.code == frames.START_AUTH_SESSION else None
+        handle = fields.number(4) if prepared.code in ANSWERING_A_HANDLE else None
         if prepared.code == frames.HIERARCHY_CHANGE_AUTH:
             self.note_new_auth_value(prepared)
         if not prepared.entries:
@@ -269,13 +293,13 @@ class Caller:
         nonce_tpm, attributes, hmac = answer
         assert attributes == entry.attributes and len(nonce_tpm) == len(session.nonce_tpm)
         session.nonce_tpm = nonce_tpm
-        if not entry.hmac:
+        if not entry.hmac or use.demand == policy.PASSWORD:
             assert not hmac
             return
         handle = self.authorized(prepared.code, prepared.handles, place)
         assert hmac == sessions.entry_hmac(
             session.algorithm,
-            self.key(session, handle),
+            self.key(use, handle),
             sessions.response_hash(session.algorithm, prepared.code, parameters),
             nonce_tpm,
             entry.nonce,

@@ -1,17 +1,13 @@
 #!/usr/bin/env python3
 """Writes tests/cut_commands.tpm: each command that succeeds, cut to every shorter length.
 
-A cut buffer whose commandSize is left as it was is refused for that. With commandSize corrected it
-is refused where it is cut: each command says here, in words and codes, up to which length by what.
+Those of objects are in tests/cut_object_commands.tpm.
 """
 
-import pathlib
-
+import cuts
 import frames
+from cuts import AREA, HANDLE
 from frames import SHA1, SHA256, area, command, digests, entry, number, on_handle, sized
-
-SCRIPT = pathlib.Path(__file__).resolve().parent.parent / "cut_commands.tpm"
-HEADER_BYTES = 10
 
 HEAD = """\
 # Each command that succeeds, cut to every shorter length: first as it is, and then with its
@@ -19,12 +15,6 @@ HEAD = """\
 # TPM2_GetRandom with a password, which are refused whole too. Written by
 # tests/outside/cut_commands.py.
 """
-
-# Where the pieces of a command end: the handle, and then the area with one empty password.
-HANDLE = (14, "within its handle", "INSUFFICIENT/h1")
-AREA = (27, "within the authorization area", "AUTHSIZE")
-
-STARTUP = command(frames.STARTUP, number(0, 2))
 
 # A session that is bound to nothing, and so has neither a key nor an hmac.
 SESSION = 0x0200_0000
@@ -56,12 +46,7 @@ def policy(code, parameters=b""):
 
 
 COMMANDS = [
-    (
-        "TPM2_Startup(CLEAR)",
-        STARTUP,
-        [(12, "within startupType", "INSUFFICIENT/p1")],
-        "SUCCESS",
-    ),
+    cuts.STARTUP,
     (
         "TPM2_GetRandom of 32 bytes",
         command(frames.GET_RANDOM, number(32, 2)),
@@ -219,31 +204,4 @@ COMMANDS = [
 ]
 
 
-def comment(what, outcome):
-    """A comment that names an outcome, with its number where it is a code."""
-    shown = outcome if outcome == "SUCCESS" else f"{outcome} ({frames.code_of(outcome):03X})"
-    return f"# {what}: {shown}.\n"
-
-
-def line(buffer):
-    return f"cmd {buffer.hex()}\n" if buffer else "cmd\n"
-
-
-def with_size(buffer):
-    """The buffer with its length as commandSize."""
-    return buffer[:2] + number(len(buffer), 4) + buffer[6:]
-
-
-def cuts(name, whole, pieces, outcome):
-    text = f"\n# {name}.\n" + comment("Cut, with commandSize as it was", "COMMAND_SIZE")
-    text += "".join(line(whole[:length]) for length in range(len(whole)))
-    start = HEADER_BYTES
-    for end, where, code in pieces:
-        text += "\n" + comment(f"Cut {where}, with commandSize corrected", code)
-        text += "".join(line(with_size(whole[:length])) for length in range(start, end))
-        start = end
-    assert start == len(whole)
-    return text + "\n" + comment("Whole", outcome) + line(whole)
-
-
-SCRIPT.write_text(HEAD + "".join(cuts(*it) for it in COMMANDS), "ascii")
+cuts.write("cut_commands.tpm", HEAD, COMMANDS)

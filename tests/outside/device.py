@@ -1,33 +1,41 @@
 """The device once more, in plain Python: what it answers to each event, and what it then is.
 
 It knows nothing of the product's code, and its rules are those of docs/TABLE.md. What no command
-shows yet is left out: seeds and proofs, time, and the counting of tries.
+shows yet is left out: time, and the counting of tries.
 """
 
-from dataclasses import dataclass
+from dataclasses import dataclass, replace
 
+import aes
 import frames
 import general
+import objects
 import policy
 import sessions
-from frames import DECRYPT, ENCRYPT, RH_LOCKOUT, RH_NULL, RH_PLATFORM, RS_PW, SHA1, SHA256
-from frames import number, sized
+from frames import ALG_NULL, DECRYPT, ENCRYPT, KEYEDHASH, RH_ENDORSEMENT, RH_LOCKOUT, RH_NULL
+from frames import RH_OWNER, RH_PLATFORM, RS_PW, SHA1, SHA256, TRANSIENT, number, sized
 from general import PCRS, Fields, Refusal, Short
-from sessions import HASHES, digest, digest_bytes, trimmed
+from objects import Attribute
+from parameters import DIGEST_BYTES, Parameters
+from sessions import HASHES, digest, digest_bytes, mac, trimmed
 
 DYNAMIC_PCRS = range(17, 23)
 LOCALITIES = range(5)
 
-# How many values TPM2_PCR_Read gives at once, how many banks a selection and how many digests a
-# list may have, how many bytes TPM2_GetRandom gives, and how many TPM2_PCR_Event takes.
-VALUES_AT_ONCE, MOST_BANKS, MOST_DIGESTS = 8, 16, 2
+# How many values TPM2_PCR_Read gives at once, how many digests a list may have, how many bytes
+# TPM2_GetRandom gives, and how many TPM2_PCR_Event and TPM2_HMAC take.
+VALUES_AT_ONCE, MOST_DIGESTS = 8, 2
 RANDOM_AT_ONCE = 32
 EVENT_BYTES = 1024
 
-# How many sessions there may be; bounds of a nonce, a salt and an authorization value.
-SESSIONS = 16
+# How many sessions and transient objects there may be, and the least size of a nonce.
+SESSIONS, OBJECTS = 16, 8
 LEAST_NONCE = 16
-DIGEST_BYTES = 32
+
+# The device is manufactured with the bytes 00 to ff: the seeds of these, and then their proofs.
+WITH_SEEDS = RH_OWNER, RH_ENDORSEMENT, RH_PLATFORM, RH_NULL
+SEED_BYTES = 32
+MANUFACTURED = bytes(range(2 * len(WITH_SEEDS) * SEED_BYTES))
 
 # What the handle of a session of each kind begins with; the rest of it is its place.
 HANDLE_KINDS = {
@@ -52,82 +60,11 @@ def reset_from(pcr):
     return LOCALITIES if pcr in (16, 23) else (4,) if pcr in DYNAMIC_PCRS else ()
 
 
-class Parameters:
-    """A command's parameters, read in order; a fault is at the place of the one that is read."""
-
-    def __init__(self, data):
-        self.fields, self.place = Fields(data), 0
-
-    def next(self):
-        self.place += 1
-        return self
-
-    def refusal(self, code):
-        return Refusal(f"{code}/p{self.place}")
-
-    def take(self, count):
-        try:
-            return self.fields.take(count)
-        except Short:
-            raise self.refusal("INSUFFICIENT") from None
-
-    def number(self, size):
-        return int.from_bytes(self.take(size), "big")
-
-    def one_of(self, size, allowed, code):
-        value = self.number(size)
-        if value not in allowed:
-            raise self.refusal(code)
-        return value
-
-    def sized(self, most):
-        size = self.number(2)
-        if size > most:
-            raise self.refusal("SIZE")
-        return self.take(size)
-
-    def hash(self):
-        return self.one_of(2, HASHES, "HASH")
-
-    def count(self, most):
-        count = self.number(4)
-        if count > most:
-            raise self.refusal("SIZE")
-        return count
-
-    def selection(self):
-        """The banks of a selection of PCRs, each with its hash algorithm and the PCRs' numbers."""
-        banks = []
-        for _ in range(self.count(MOST_BANKS)):
-            algorithm = self.hash()
-            self.one_of(1, (3,), "VALUE")
-            bits = int.from_bytes(self.take(3), "little")
-            banks.append((algorithm, [pcr for pcr in PCRS if bits >> pcr & 1]))
-        return banks
-
-    def sized_list(self, least, most):
-        count = self.count(most)
-        if count < least:
-            raise self.refusal("SIZE")
-        return [self.sized(DIGEST_BYTES) for _ in range(count)]
-
-    def symmetric(self):
-        """Whether a session encrypts, which it does by AES-128 in mode CFB."""
-        if self.one_of(2, (frames.AES, frames.ALG_NULL), "SYMMETRIC") == frames.ALG_NULL:
-            return False
-        self.one_of(2, (frames.AES_KEY_BITS,), "VALUE")
-        self.one_of(2, (frames.CFB,), "MODE")
-        return True
-
-    def end(self):
-        if self.fields.data:
-            raise Refusal("SIZE")
-
-
 @dataclass
 class Session:
-    """A session, with the entity that it was bound to and its authorization value at the start;
-    `policy` is what a policy or a trial session was told.
+    """A session, with what it was bound to: the Name, the authorization value, and whether wrong
+    values were counted, all of them at the start. `policy` is what a policy or a trial session was
+    told.
     """
 
     kind: int
@@ -135,8 +72,9 @@ class Session:
     aes: bool
     nonce_tpm: bytes
     key: bytes
-    bind: int
+    bind: bytes
     bind_auth: bytes
+    bind_is_protected: bool
     policy: policy.State
 
     @property
@@ -153,25 +91,32 @@ class Answer:
     drawn: int = 0
 
 
+def pieces(text):
+    return [text[at : at + SEED_BYTES] for at in range(0, len(text), SEED_BYTES)]
+
+
 class Device:
     """The PCRs in both banks and how often a value was written, the hierarchies' authorization
-    values, and the sessions.
+    values, seeds and proofs, the transient objects, and the sessions.
     """
 
     def __init__(self):
         self.auth_values = {}
+        seeds_and_proofs = pieces(MANUFACTURED)
+        self.seeds = dict(zip(WITH_SEEDS, seeds_and_proofs))
+        self.proofs = dict(zip(WITH_SEEDS, seeds_and_proofs[len(WITH_SEEDS) :]))
         self.power_cycle()
 
     def power_cycle(self):
         self.started = False
         self.banks = {alg: [starting_value(alg, pcr) for pcr in PCRS] for alg in HASHES}
         self.update_counter = 0
-        self.sessions = {}
+        self.objects, self.sessions = {}, {}
 
     def execute(self, buffer, locality, random):
         """The response to a command, and the name of its refusal, or None for a success."""
         try:
-            command = general.decode(buffer, self.started, self.sessions)
+            command = general.decode(buffer, self.started, self.sessions, self.objects)
             self.authorize(command, locality)
             parameters = Parameters(self.plain_parameters(command))
             answer = ROWS[command.code](self, command.handles, parameters, locality, random)
@@ -180,36 +125,75 @@ class Device:
             return frames.refusal(frames.code_of(name)), name
         return self.success(command, answer, random), None
 
-    # Authorization.
+    # Entities.
 
-    def auth_policy(self, handle):
-        """A hierarchy and a PCR are authorized by their values alone, and there is nothing else."""
-        return None
+    def name(self, handle):
+        if handle in self.objects:
+            return self.objects[handle].name
+        return sessions.name_of(handle)
+
+    def names(self, command):
+        return [self.name(it) for it in command.handles]
 
     def auth_value(self, handle):
         """That of a PCR and of TPM_RH_NULL is empty, and so is that of no entity."""
+        if handle in self.objects:
+            return self.objects[handle].sensitive.auth_value
         return self.auth_values.get(handle, b"")
 
-    def is_bound(self, session, handle):
-        """A binding holds while the entity's authorization value is that of the start."""
-        return session.bind == handle and session.bind_auth == self.auth_value(handle)
+    def is_protected(self, handle):
+        """Whether wrong authorization values are counted."""
+        if handle in self.objects:
+            return not self.objects[handle].public.has(Attribute.NO_DA)
+        return handle == RH_LOCKOUT
 
-    def key(self, session, handle):
+    def takes_auth_value(self, handle):
+        """Whether it can be authorized without a policy."""
+        if handle in self.objects:
+            return self.objects[handle].public.has(Attribute.USER_WITH_AUTH)
+        return True
+
+    def policy_entity(self, handle):
+        """An entity that a policy can authorize: an object that has one."""
+        if handle not in self.objects or not self.objects[handle].public.auth_policy:
+            return None
+        public = self.objects[handle].public
+        return policy.Entity(public.name_algorithm, public.auth_policy)
+
+    # Authorization.
+
+    def is_bound(self, session, handle):
+        """A binding holds while Name and authorization value are those of the start."""
+        now = self.name(handle), self.auth_value(handle)
+        return (session.bind, session.bind_auth) == now
+
+    def uses_auth_value(self, entry, handle):
+        """Whether the authorization value of the handle is the password, or in the hmac's key."""
+        if handle is None:
+            return False
+        if entry.handle == RS_PW:
+            return True
+        if general.is_policy(entry.handle):
+            return entry.demand is not None
+        return not self.is_bound(self.sessions[entry.handle], handle)
+
+    def key(self, entry, handle):
         """The key of an entry's hmac, the handle being what it authorizes, if anything."""
-        bound = handle is not None and self.is_bound(session, handle)
-        return session.key + (b"" if bound else self.auth_value(handle))
+        uses = self.uses_auth_value(entry, handle)
+        return self.sessions[entry.handle].key + (self.auth_value(handle) if uses else b"")
 
     def encryption_key(self, session, handle):
         """That of parameters has the authorization value whether the session is bound or not."""
         return session.key + self.auth_value(handle)
 
-    def touches_lockout(self, session, handle):
-        """Whether a wrong entry was a try at lockoutAuth: where it counts as the key or the
+    def touches_protected(self, entry, handle):
+        """Whether a wrong entry was a try at a protected value: where that counts as the key or the
         password, and else where the session's key was made of it.
         """
-        if handle == RH_LOCKOUT and (session is None or not self.is_bound(session, handle)):
+        if self.uses_auth_value(entry, handle) and self.is_protected(handle):
             return True
-        return session is not None and session.bind == RH_LOCKOUT
+        session = self.sessions.get(entry.handle)
+        return session is not None and session.bind_is_protected
 
     def nonces_of_others(self, command, place, handle):
         """The nonces of the sessions that decrypt and encrypt, for the first entry alone."""
@@ -223,17 +207,17 @@ class Device:
         return [self.sessions[command.entries[it - 1].handle].nonce_tpm for it in places]
 
     def accepts(self, command, place, entry, handle):
-        if entry.handle == RS_PW:
+        if entry.handle == RS_PW or entry.demand == policy.PASSWORD:
             return trimmed(entry.hmac) == self.auth_value(handle)
         session = self.sessions[entry.handle]
-        key = self.key(session, handle)
+        key = self.key(entry, handle)
         if not key and not entry.hmac:
             return True
         wanted = sessions.entry_hmac(
             session.algorithm,
             key,
             sessions.command_hash(
-                session.algorithm, command.code, command.handles, command.parameters
+                session.algorithm, command.code, self.names(command), command.parameters
             ),
             entry.nonce,
             session.nonce_tpm,
@@ -246,18 +230,21 @@ class Device:
         """What refuses a policy session that is to authorize a handle."""
         session = self.sessions[entry.handle]
         cp_hash = sessions.command_hash(
-            session.algorithm, command.code, command.handles, command.parameters
+            session.algorithm, command.code, self.names(command), command.parameters
         )
         # No served command has a handle in the ADMIN role yet.
         use = policy.Use(command.code, False, cp_hash, self.update_counter, locality)
-        policy.check_use(session, self.auth_policy(handle), use, place)
+        policy.check_use(session, self.policy_entity(handle), use, place)
+        entry.demand = session.policy.demand
 
     def authorize(self, command, locality):
         for place, entry, handle in command.places():
             if handle is not None and general.is_policy(entry.handle):
                 self.check_policy(command, place, entry, handle, locality)
+            elif handle is not None and not self.takes_auth_value(handle):
+                raise Refusal("AUTH_UNAVAILABLE")
             if not self.accepts(command, place, entry, handle):
-                touches = self.touches_lockout(self.sessions.get(entry.handle), handle)
+                touches = self.touches_protected(entry, handle)
                 raise Refusal(f"{'AUTH_FAIL' if touches else 'BAD_AUTH'}/s{place}")
 
     def plain_parameters(self, command):
@@ -290,10 +277,19 @@ class Device:
             self.entry_answer(command, parameters, entry, handle)
             for _, entry, handle in command.places()
         ]
-        for entry in command.entries:
-            if entry.handle != RS_PW and not entry.attributes & frames.CONTINUE_SESSION:
-                del self.sessions[entry.handle]
+        for _, entry, handle in command.places():
+            self.end_use(entry, handle)
         return frames.success(parameters, entries, answer.handle)
+
+    def end_use(self, entry, handle):
+        """A session ends, or goes on: what it was told of a policy counts for one authorization."""
+        if entry.handle == RS_PW:
+            return
+        if not entry.attributes & frames.CONTINUE_SESSION:
+            del self.sessions[entry.handle]
+        elif handle is not None:
+            session = self.sessions[entry.handle]
+            session.policy = policy.starting_state(session.algorithm)
 
     def draw_nonces(self, command, random):
         """A new nonce of its size for each session, in the order of the entries."""
@@ -322,11 +318,11 @@ class Device:
             return frames.entry_answer()
         session = self.sessions[entry.handle]
         hmac = b""
-        # An empty hmac was accepted by an empty key, and is answered by another.
-        if entry.hmac:
+        # An empty hmac was accepted by an empty key, and is answered by another; so is a password.
+        if entry.hmac and entry.demand != policy.PASSWORD:
             hmac = sessions.entry_hmac(
                 session.algorithm,
-                self.key(session, handle),
+                self.key(entry, handle),
                 sessions.response_hash(session.algorithm, command.code, parameters),
                 session.nonce_tpm,
                 entry.nonce,
@@ -345,12 +341,17 @@ class Device:
         self.started = True
         self.update_counter = 0
         self.auth_values.pop(RH_PLATFORM, None)
+        self.seeds[RH_NULL], self.proofs[RH_NULL] = pieces(random)[:2]
         return Answer()
 
     def get_random(self, handles, parameters, locality, random):
         count = min(parameters.next().number(2), RANDOM_AT_ONCE)
         parameters.end()
         return Answer(sized(random[:count]), drawn=count)
+
+    def values(self, selection):
+        """The values of all selected PCRs, in the selection's order."""
+        return b"".join(self.banks[bank][pcr] for bank, pcrs in selection for pcr in pcrs)
 
     def pcr_read(self, handles, parameters, locality, random):
         """The update counter, the selection of the values that follow, and these."""
@@ -417,9 +418,10 @@ class Device:
         kind = general.first_byte(handle)
         if kind not in (frames.HMAC_SESSION, frames.POLICY_SESSION, frames.TRANSIENT):
             raise Refusal("VALUE/p1")
-        if handle not in self.sessions:
+        held = self.objects if kind == TRANSIENT else self.sessions
+        if handle not in held:
             raise Refusal("HANDLE/p1")
-        del self.sessions[handle]
+        del held[handle]
         return Answer()
 
     def start_auth_session(self, handles, parameters, locality, random):
@@ -447,7 +449,15 @@ class Device:
         handle = HANDLE_KINDS[kind] << 24 | free[0]
         told = policy.starting_state(algorithm)
         self.sessions[handle] = Session(
-            kind, algorithm, aes, nonce_tpm, key, bind, bind_auth, told
+            kind,
+            algorithm,
+            aes,
+            nonce_tpm,
+            key,
+            self.name(bind),
+            bind_auth,
+            self.is_protected(bind),
+            told,
         )
         return Answer(sized(nonce_tpm), number(handle, 4), drawn=size)
 
@@ -466,8 +476,7 @@ class Device:
 
         session = self.sessions[handles[0]]
         told, algorithm = session.policy, session.algorithm
-        values = (self.banks[bank][pcr] for bank, pcrs in selection for pcr in pcrs)
-        values_digest = digest(algorithm, b"".join(values))
+        values_digest = digest(algorithm, self.values(selection))
         if not session.is_trial and told.update_counter not in (None, self.update_counter):
             raise Refusal("PCR_CHANGED")
         if not session.is_trial and given not in (b"", values_digest):
@@ -549,7 +558,9 @@ class Device:
         other = cp_hash and told.cp_hash not in (None, cp_hash)
         if not session.is_trial and other:
             raise Refusal("CPHASH")
-        told.digest = policy.after_secret(algorithm, told.digest, entity, policy_ref)
+        told.digest = policy.after_secret(
+            algorithm, told.digest, self.name(entity), policy_ref
+        )
         told.cp_hash = cp_hash or told.cp_hash
         # Nothing expires, so there is no timeout.
         return Answer(sized(b"") + frames.NULL_TICKET)
@@ -557,6 +568,111 @@ class Device:
     def policy_get_digest(self, handles, parameters, locality, random):
         parameters.end()
         return Answer(sized(self.sessions[handles[0]].policy.digest))
+
+    # Objects.
+
+    def free_object(self):
+        """The lowest number that is free, as a transient object's handle."""
+        taken = [it & PLACE_BITS for it in self.objects]
+        free = [it for it in range(OBJECTS) if it not in taken]
+        if not free:
+            raise Refusal("OBJECT_MEMORY")
+        return TRANSIENT << 24 | free[0]
+
+    def parent(self, handle):
+        parent = self.objects[handle]
+        if not parent.public.is_parent:
+            raise Refusal("TYPE/h1")
+        return parent
+
+    def creation(self, template, public, parent, hierarchy, locality):
+        """What both commands answer of a creation: the public area, the creation data, their hash,
+        and the ticket.
+        """
+        values = self.values(template.pcrs)
+        data = objects.creation_data(template, parent, hierarchy, values, locality)
+        data_hash = digest(public.name_algorithm, data)
+        proof = self.proofs[hierarchy]
+        made_here = objects.creation_ticket(hierarchy, proof, public.name, data_hash)
+        return sized(public.text) + sized(data) + sized(data_hash) + made_here
+
+    def create_primary(self, handles, parameters, locality, random):
+        template = objects.read_template(parameters)
+        parameters.end()
+
+        objects.check_public(template.public, parent=None)
+        objects.check_sensitive(template)
+        handle = self.free_object()
+
+        (hierarchy,) = handles
+        primary = objects.primary(template, hierarchy, self.seeds[hierarchy])
+        self.objects[handle] = primary
+        creation = self.creation(template, primary.public, None, hierarchy, locality)
+        return Answer(creation + sized(primary.name), number(handle, 4))
+
+    def create(self, handles, parameters, locality, random):
+        template = objects.read_template(parameters)
+        parameters.end()
+
+        parent = self.parent(handles[0])
+        objects.check_public(template.public, parent)
+        objects.check_sensitive(template)
+
+        public, sensitive, drawn = objects.created(template, random)
+        iv = random[drawn : drawn + aes.BLOCK]
+        private = objects.wrapped(parent, public.name, sensitive, iv)
+        creation = self.creation(template, public, parent, parent.hierarchy, locality)
+        return Answer(sized(private) + creation, drawn=drawn + aes.BLOCK)
+
+    def load(self, handles, parameters, locality, random):
+        private = parameters.next().sized(objects.PRIVATE_BYTES)
+        public = parameters.next().structure(objects.read_public)
+        parameters.end()
+
+        parent = self.parent(handles[0])
+        objects.check_public(public, parent)
+        sensitive = objects.unwrapped(parent, public, private)
+        handle = self.free_object()
+
+        sensitive = replace(sensitive, auth_value=trimmed(sensitive.auth_value))
+        self.objects[handle] = objects.loaded(
+            public, sensitive, parent.hierarchy, parent.qualified_name
+        )
+        return Answer(sized(public.name), number(handle, 4))
+
+    def read_public(self, handles, parameters, locality, random):
+        parameters.end()
+        asked = self.objects[handles[0]]
+        return Answer(sized(asked.public.text) + sized(asked.name) + sized(asked.qualified_name))
+
+    def unseal(self, handles, parameters, locality, random):
+        parameters.end()
+        sealed = self.objects[handles[0]]
+        if sealed.public.kind != KEYEDHASH:
+            raise Refusal("TYPE/h1")
+        if sealed.public.has(Attribute.SIGN):
+            raise Refusal("ATTRIBUTES/h1")
+        return Answer(sized(sealed.sensitive.data))
+
+    def hmac(self, handles, parameters, locality, random):
+        data = parameters.next().sized(EVENT_BYTES)
+        asked = parameters.next().one_of(2, (ALG_NULL, *HASHES), "HASH")
+        parameters.end()
+
+        key = self.objects[handles[0]]
+        scheme = key.public.scheme
+        if key.public.kind != KEYEDHASH:
+            raise Refusal("TYPE/h1")
+        if key.public.has(Attribute.RESTRICTED):
+            raise Refusal("ATTRIBUTES/h1")
+        if not key.public.has(Attribute.SIGN):
+            raise Refusal("KEY/h1")
+        # The scheme's hash algorithm is the key's; with scheme NULL its user names one.
+        chosen = {scheme, asked} - {ALG_NULL}
+        if len(chosen) != 1:
+            raise Refusal("VALUE/p2")
+        (algorithm,) = chosen
+        return Answer(sized(mac(algorithm, key.sensitive.data, data)))
 
 
 ROWS = {
@@ -578,4 +694,10 @@ ROWS = {
     frames.POLICY_LOCALITY: Device.policy_locality,
     frames.POLICY_SECRET: Device.policy_secret,
     frames.POLICY_GET_DIGEST: Device.policy_get_digest,
+    frames.CREATE_PRIMARY: Device.create_primary,
+    frames.CREATE: Device.create,
+    frames.LOAD: Device.load,
+    frames.READ_PUBLIC: Device.read_public,
+    frames.UNSEAL: Device.unseal,
+    frames.HMAC: Device.hmac,
 }

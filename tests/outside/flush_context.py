@@ -8,7 +8,8 @@ from script import Script
 
 script = Script(
     "tests/flush_context.tpm",
-    "TPM2_FlushContext ends a session. The handle is its parameter, and needs no authorization.",
+    "TPM2_FlushContext ends a session. The handle is its parameter, and needs no authorization. "
+    "Objects are flushed in tests/flush_objects.tpm.",
 )
 caller = Caller(script)
 

@@ -8,9 +8,8 @@ GET_RANDOM, PCR_READ, PCR_EXTEND = 0x17B, 0x17E, 0x182
 POLICY_SECRET, POLICY_AUTH_VALUE, POLICY_COMMAND_CODE = 0x151, 0x16B, 0x16C
 POLICY_LOCALITY, POLICY_OR, POLICY_PCR = 0x16F, 0x171, 0x17F
 POLICY_RESTART, POLICY_GET_DIGEST, POLICY_PASSWORD = 0x180, 0x189, 0x18C
-
-# Commands that are not served, but that a policy can name.
-UNSEAL = 0x15E
+CREATE_PRIMARY, CREATE, LOAD, READ_PUBLIC = 0x131, 0x153, 0x157, 0x173
+UNSEAL, HMAC = 0x15E, 0x155
 
 RH_OWNER, RH_NULL, RS_PW = 0x4000_0001, 0x4000_0007, 0x4000_0009
 RH_LOCKOUT, RH_ENDORSEMENT, RH_PLATFORM = 0x4000_000A, 0x4000_000B, 0x4000_000C
@@ -20,6 +19,9 @@ NV, HMAC_SESSION, POLICY_SESSION, TRANSIENT, PERSISTENT = 0x01, 0x02, 0x03, 0x80
 
 SHA1, AES, SHA256, ALG_NULL, CFB = 0x0004, 0x0006, 0x000B, 0x0010, 0x0043
 AES_KEY_BITS = 128
+
+# The types of objects, and the scheme of a KEYEDHASH that makes HMACs (Part 2, section 6.3).
+KEYEDHASH, SYMCIPHER, ALG_HMAC = 0x0008, 0x0025, 0x0005
 
 # What a session is for, and attributes of its entries (Part 2, section 8.4).
 SE_HMAC, SE_POLICY, SE_TRIAL = 0x00, 0x01, 0x03
@@ -34,14 +36,18 @@ CODES = {
     "HASH": 0x083,
     "VALUE": 0x084,
     "MODE": 0x089,
+    "TYPE": 0x08A,
     "HANDLE": 0x08B,
     "RANGE": 0x08D,
     "AUTH_FAIL": 0x08E,
     "NONCE": 0x08F,
+    "SCHEME": 0x092,
     "SIZE": 0x095,
     "SYMMETRIC": 0x096,
     "INSUFFICIENT": 0x09A,
+    "KEY": 0x09C,
     "POLICY_FAIL": 0x09D,
+    "INTEGRITY": 0x09F,
     "RESERVED_BITS": 0x0A1,
     "BAD_AUTH": 0x0A2,
     "POLICY_CC": 0x0A4,
@@ -55,6 +61,7 @@ CODES = {
     "AUTHSIZE": 0x144,
     "AUTH_CONTEXT": 0x145,
     "CPHASH": 0x151,
+    "OBJECT_MEMORY": 0x902,
     "SESSION_MEMORY": 0x903,
     "LOCALITY": 0x907,
     "REFERENCE_H0": 0x910,
@@ -143,9 +150,44 @@ def policy_secret(nonce_tpm=b"", cp_hash=b"", policy_ref=b"", expiration=0):
     return sized(nonce_tpm) + sized(cp_hash) + sized(policy_ref) + number(expiration, 4)
 
 
+def sensitive_create(user_auth=b"", data=b""):
+    """A TPM2B_SENSITIVE_CREATE: what an object is to have as its authorization value, and what is
+    to be sealed, or used as its key.
+    """
+    return sized(sized(user_auth) + sized(data))
+
+
+def scheme(algorithm):
+    """How a KEYEDHASH makes HMACs: by a hash algorithm, or by one that its user names."""
+    if algorithm == ALG_NULL:
+        return number(ALG_NULL, 2)
+    return number(ALG_HMAC, 2) + number(algorithm, 2)
+
+
+def public_area(kind, name_algorithm, attributes, auth_policy, details, unique):
+    """A TPMT_PUBLIC; its details are a KEYEDHASH's scheme, or the cipher of a SYMCIPHER."""
+    head = number(kind, 2) + number(name_algorithm, 2) + number(attributes, 4)
+    return head + sized(auth_policy) + details + sized(unique)
+
+
+def creation(sensitive, public, outside_info=b"", pcrs=()):
+    """The parameters of TPM2_CreatePrimary and TPM2_Create, of which the first two have their
+    sizes already.
+    """
+    return sensitive + public + sized(outside_info) + selection(*pcrs)
+
+
+# What a ticket is for: that an object was created so, and that an assertion was made (Part 2,
+# section 6.9).
+ST_CREATION, ST_AUTH_SECRET = 0x8021, 0x8023
+
+
+def ticket(tag, hierarchy, digest):
+    return number(tag, 2) + number(hierarchy, 4) + sized(digest)
+
+
 # The ticket of an assertion that does not expire: of TPM_RH_NULL, and with an empty digest.
-ST_AUTH_SECRET = 0x8023
-NULL_TICKET = number(ST_AUTH_SECRET, 2) + number(RH_NULL, 4) + sized(b"")
+NULL_TICKET = ticket(ST_AUTH_SECRET, RH_NULL, b"")
 
 
 # Responses.

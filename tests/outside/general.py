@@ -29,6 +29,7 @@ HEADER_BYTES, COMMAND_BYTES = 10, 4096
 LEAST_AREA, MOST_ENTRIES, MOST_NONCE_OR_HMAC = 9, 3, 32
 PCRS = range(24)
 HIERARCHIES = (RH_OWNER, RH_ENDORSEMENT, RH_PLATFORM, RH_LOCKOUT)
+PRIMARY_HIERARCHIES = (RH_OWNER, RH_ENDORSEMENT, RH_PLATFORM, RH_NULL)
 
 
 class Refusal(Exception):
@@ -78,6 +79,16 @@ def is_hierarchy(handle):
     return handle in HIERARCHIES
 
 
+def has_primaries(handle):
+    """A hierarchy that can have objects."""
+    return handle in PRIMARY_HIERARCHIES
+
+
+def is_object(handle):
+    """The handle of an object, transient or persistent, whether that is there or not."""
+    return first_byte(handle) in (TRANSIENT, PERSISTENT)
+
+
 def is_policy(handle):
     """The handle of a policy or a trial session, whether that is there or not."""
     return first_byte(handle) == POLICY_SESSION
@@ -88,7 +99,8 @@ def is_authorized_entity(handle):
     return (
         is_pcr(handle)
         or is_hierarchy(handle)
-        or first_byte(handle) in (NV, TRANSIENT, PERSISTENT)
+        or is_object(handle)
+        or first_byte(handle) == NV
     )
 
 
@@ -133,15 +145,24 @@ SHAPES = {
         (is_authorized_entity, is_policy), 1, sized_parameter=True, sized_answer=True
     ),
     frames.POLICY_GET_DIGEST: Shape((is_policy,), sized_answer=True),
+    frames.CREATE_PRIMARY: Shape((has_primaries,), 1, sized_parameter=True, sized_answer=True),
+    frames.CREATE: Shape((is_object,), 1, sized_parameter=True, sized_answer=True),
+    frames.LOAD: Shape((is_object,), 1, sized_parameter=True, sized_answer=True),
+    frames.READ_PUBLIC: Shape((is_object,), sized_answer=True),
+    frames.UNSEAL: Shape((is_object,), 1, sized_answer=True),
+    frames.HMAC: Shape((is_object,), 1, sized_parameter=True, sized_answer=True),
 }
 
 
 @dataclass
 class Entry:
+    """An entry of an authorization area. `demand` is what a policy asks of it as it authorizes."""
+
     handle: int
     nonce: bytes
     attributes: int
     hmac: bytes
+    demand: str = None
 
 
 @dataclass
@@ -186,7 +207,7 @@ def read_header(fields, length):
     return tag, code
 
 
-def read_handles(fields, kinds, sessions):
+def read_handles(fields, kinds, sessions, objects):
     handles = []
     for place, is_of_kind in enumerate(kinds, 1):
         try:
@@ -195,10 +216,11 @@ def read_handles(fields, kinds, sessions):
             raise Refusal(f"INSUFFICIENT/h{place}") from None
         if not is_of_kind(handle):
             raise Refusal(f"VALUE/h{place}")
-        # There are no objects and no NV indices yet.
-        is_absent = is_policy(handle) and handle not in sessions
-        if first_byte(handle) == TRANSIENT or is_absent:
+        if is_policy(handle) and handle not in sessions:
             raise Refusal(f"REFERENCE_H{place - 1}")
+        if first_byte(handle) == TRANSIENT and handle not in objects:
+            raise Refusal(f"REFERENCE_H{place - 1}")
+        # There are no persistent objects and no NV indices yet.
         if first_byte(handle) in (NV, PERSISTENT):
             raise Refusal(f"HANDLE/h{place}")
         handles.append(handle)
@@ -251,14 +273,14 @@ def check_entry(command, place, entry, handle, sessions):
         raise Refusal(f"SYMMETRIC/s{place}")
 
 
-def decode(buffer, started, sessions):
+def decode(buffer, started, sessions, objects):
     """The command of a buffer, or its first refusal that no authorization value decides."""
     fields = Fields(buffer)
     tag, code = read_header(fields, len(buffer))
     shape = SHAPES[code]
     if started == (code == frames.STARTUP):
         raise Refusal("INITIALIZE")
-    handles = read_handles(fields, shape.handles, sessions)
+    handles = read_handles(fields, shape.handles, sessions, objects)
     if tag == frames.SESSIONS and not shape.sessions:
         raise Refusal("AUTH_CONTEXT")
     if tag == frames.NO_SESSIONS and shape.authorized:

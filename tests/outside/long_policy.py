@@ -6,7 +6,7 @@ import policy
 from frames import RH_OWNER, SHA1, SHA256, UNSEAL
 from policy_caller import HASHES, PolicyCaller, zeros
 from script import Script
-from sessions import digest
+from sessions import digest, name_of
 
 BANKS = [(SHA1, [0, 7]), (SHA256, [0, 1, 2, 3, 4, 5, 6, 7, 8])]
 REFERENCE = b"first of January"
@@ -62,7 +62,7 @@ for algorithm, name in HASHES:
             "TPM2_PolicySecret of TPM_RH_OWNER, with a policyRef",
             caller.secret(it, b"owner", of=RH_OWNER, policy_ref=REFERENCE),
         )
-    wanted = policy.after_secret(algorithm, wanted, RH_OWNER, REFERENCE)
+    wanted = policy.after_secret(algorithm, wanted, name_of(RH_OWNER), REFERENCE)
 
     both("For Unseal", trial, session, lambda it: caller.command_code(it, UNSEAL))
     wanted = policy.after_command_code(algorithm, wanted, UNSEAL)

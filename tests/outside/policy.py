@@ -16,7 +16,7 @@ from frames import (
     number,
 )
 from general import Refusal
-from sessions import digest, digest_bytes, name_of
+from sessions import digest, digest_bytes
 
 # A bit for each of the localities 0 to 4.
 ALL_LOCALITIES = 0x1F
@@ -81,9 +81,9 @@ def after_locality(algorithm, old, localities):
     return digest(algorithm, old + number(POLICY_LOCALITY, 4) + number(localities, 1))
 
 
-def after_secret(algorithm, old, handle, policy_ref):
-    """Two hashes, also where policyRef is empty."""
-    named = digest(algorithm, old + number(POLICY_SECRET, 4) + name_of(handle))
+def after_secret(algorithm, old, name, policy_ref):
+    """Of the Name of authHandle. Two hashes, also where policyRef is empty."""
+    named = digest(algorithm, old + number(POLICY_SECRET, 4) + name)
     return digest(algorithm, named + policy_ref)
 
 

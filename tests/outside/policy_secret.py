@@ -16,7 +16,7 @@ from frames import (
 )
 from policy_caller import PolicyCaller, is_trial, zeros
 from script import Script
-from sessions import digest_bytes
+from sessions import digest_bytes, name_of
 
 ENTITIES = (
     (RH_OWNER, "TPM_RH_OWNER"),
@@ -37,7 +37,7 @@ caller = PolicyCaller(script)
 
 
 def after(session, old, of=RH_ENDORSEMENT, policy_ref=b""):
-    return policy.after_secret(session.algorithm, old, of, policy_ref)
+    return policy.after_secret(session.algorithm, old, name_of(of), policy_ref)
 
 
 def raw(session, text):

@@ -6,6 +6,7 @@ from caller import Use, flipped
 from frames import RH_ENDORSEMENT, RH_LOCKOUT, RH_OWNER, RH_PLATFORM, SHA1, SHA256
 from policy_caller import HASHES, PolicyCaller, zeros
 from script import Script
+from sessions import name_of
 
 VALUES = (
     (RH_OWNER, "TPM_RH_OWNER", b"owner"),
@@ -42,7 +43,7 @@ def accepted(what, session, *uses, of, **parameters):
     caller.accepted(what, caller.secret(session, *uses, of=of, **parameters))
     policy_ref = parameters.get("policy_ref", b"")
     old = after[session.handle]
-    after[session.handle] = policy.after_secret(session.algorithm, old, of, policy_ref)
+    after[session.handle] = policy.after_secret(session.algorithm, old, name_of(of), policy_ref)
 
 
 for handle, name, value in VALUES:

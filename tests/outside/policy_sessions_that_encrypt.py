@@ -17,7 +17,7 @@ from frames import (
 )
 from policy_caller import HASHES, KINDS, PolicyCaller, zeros
 from script import Script
-from sessions import digest
+from sessions import digest, name_of
 
 DECRYPTS, ENCRYPTS = CONTINUE_SESSION | DECRYPT, CONTINUE_SESSION | ENCRYPT
 
@@ -127,7 +127,7 @@ for algorithm, hash_name in HASHES:
             caller.secret(session, b"owner", Use(session, ENCRYPTS), of=RH_OWNER),
         )
         for _ in range(4):
-            told = policy.after_secret(algorithm, told, RH_OWNER, b"")
+            told = policy.after_secret(algorithm, told, name_of(RH_OWNER), b"")
         caller.digest_is("Its digest", session, told)
         if kind == SE_POLICY:
             given = caller.secret(

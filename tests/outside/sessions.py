@@ -28,7 +28,7 @@ def trimmed(auth_value):
 
 
 def name_of(handle):
-    """The Name of a PCR or a permanent entity is its handle (section 16)."""
+    """The Name of what is neither an object nor an NV index is its handle (section 16)."""
     return number(handle, 4)
 
 
@@ -48,10 +48,11 @@ def session_key(algorithm, auth_value, nonce_tpm, nonce_caller):
     return kdfa(algorithm, auth_value, b"ATH", nonce_tpm, nonce_caller, size)
 
 
-def command_hash(algorithm, code, handles, parameters):
-    """cpHash (18.7), of the parameters as they are sent, the first one encrypted where it is."""
-    names = b"".join(map(name_of, handles))
-    return digest(algorithm, number(code, 4) + names + parameters)
+def command_hash(algorithm, code, names, parameters):
+    """cpHash (18.7), of the Names of the handles, and of the parameters as they are sent, the first
+    one encrypted where it is.
+    """
+    return digest(algorithm, number(code, 4) + b"".join(names) + parameters)
 
 
 def response_hash(algorithm, code, parameters):

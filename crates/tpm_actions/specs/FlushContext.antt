@@ -10,6 +10,7 @@ use Rattle.tpm_types.specs.Handle.{handle_type}
 use Rattle.tpm_types.specs.HandleArea.{numbered}
 use Rattle.tpm_types.specs.Rc.{at, plain}
 use Rattle.tpm_record.specs.Entity.{names_session}
+use Rattle.tpm_record.specs.Objects.{object_at, without_object}
 use Rattle.tpm_record.specs.Record.{Record}
 use Rattle.tpm_auth.specs.Refused.{refusal}
 use Rattle.tpm_types.specs.declared.action_check.ActionCheck.TheVariants as action
@@ -22,6 +23,17 @@ use Rattle.tpm_actions.specs.Rows.{Success, all_read, parameter}
 abbrev pub can_be_flushed : Handle → Bool
 can_be_flushed handle = names_session handle || handle_type handle == 0x80
 
+-- whether a session or a transient object has a handle
+abbrev pub is_loaded : Record → Handle → Bool
+is_loaded r handle = is_some (session_at r.sessions handle) || is_some (object_at r.objects handle)
+
+-- the record without the session or the object of a handle
+abbrev pub without : Record → Handle → Record
+without r handle = record r {
+  sessions = flushed r.sessions handle;
+  objects = without_object r.objects handle;
+}
+
 -- flushHandle. A1: it is neither a session's nor a transient object's; A2: there is none of that
 -- handle
 unfoldable pub flush_context_row : Record → Request → Result Success Refused
@@ -30,11 +42,6 @@ flush_context_row r q = do
   ended ← all_read number.1
   a1 ← refused_if (not (can_be_flushed (numbered number.0)))
       (refusal (check.Action action.First) (at (place.Parameter 1) (plain code.Value)))
-  a2 ← refused_if (not (is_some (session_at r.sessions (numbered number.0))))
+  a2 ← refused_if (not (is_loaded r (numbered number.0)))
       (refusal (check.Action action.Second) (at (place.Parameter 1) (plain code.Handle)))
-  Ok (record {
-    handle = None;
-    answer = [];
-    drawn = 0;
-    after = record r { sessions = flushed r.sessions (numbered number.0) };
-  })
+  Ok (record { handle = None; answer = []; drawn = 0; after = without r (numbered number.0) })

@@ -83,7 +83,7 @@ binding_of r bind =
     else Some (record {
       name = name_of r bind;
       auth_value = auth_value_of r bind;
-      protection = protection_of bind;
+      protection = protection_of r bind;
     })
 
 -- the session that is started with a nonce of the TPM's

@@ -3,10 +3,10 @@ ghost use Rattle.std.specs.Prelude.{◌≡◌, ◌≤◌, [], None};
 use tpm_bytes::sink::Sink;
 use tpm_types::handle::Handle;
 
-/// The most bytes of a response's parameters: TPM2_PCR_Read's are the longest so far, a counter of
-/// 4 bytes, a selection of sixteen banks in 100 and a list of eight digests in 276. It is no more
-/// than that, since an answer is cleared and moved for each command.
-pub const ANSWER_LIMIT: usize = 380;
+/// The most bytes of a response's parameters: TPM2_Create's are the longest so far, a private area
+/// of 256 bytes with its size, a public area of 84, creation data of 247, their hash of 34 and a
+/// ticket of 40. It is no more than that, since an answer is cleared and moved for each command.
+pub const ANSWER_LIMIT: usize = 661;
 
 /// A response's parameters.
 pub type Parameters = Sink<ANSWER_LIMIT>;

@@ -1,5 +1,5 @@
 ghost use Rattle.std.specs.Prelude.{◌≡◌};
-ghost use Rattle.tpm_actions.specs.FlushContext.{can_be_flushed, flush_context_row};
+ghost use Rattle.tpm_actions.specs.FlushContext.{can_be_flushed, flush_context_row, is_loaded};
 ghost use Rattle.tpm_actions.specs.Request.{request_of};
 ghost use Rattle.tpm_actions.specs.Rows.{Acts};
 
@@ -20,7 +20,13 @@ fn can_be_flushed(handle: Handle) -> bool
     matches!(handle.type_byte(), 0x02 | 0x03 | 0x80)
 }
 
-/// TPM2_FlushContext: ends a session.
+fn is_loaded<K: Keep>(keep: &K, handle: Handle) -> bool
+    ensures { result ≡ is_loaded (K.record_of keep.now) handle }
+{
+    keep.sessions().get(handle).is_some() || keep.object(handle).is_some()
+}
+
+/// TPM2_FlushContext: ends a session, or removes a transient object.
 #[tactic(auto, unfolding(crate::specs::FlushContext::flush_context_row))]
 pub fn flush_context<K: Keep>(keep: &mut K, call: &Call) -> Result<Answer, Refused>
     ensures { Acts (flush_context_row (K.record_of keep.old) (request_of call.now))
@@ -36,10 +42,11 @@ pub fn flush_context<K: Keep>(keep: &mut K, call: &Call) -> Result<Answer, Refus
         let rc = ResponseCode::Value.anywhere().at_parameter(1);
         return Err(Refused::by(Check::Action(ActionCheck::First), rc));
     }
-    if keep.sessions().get(handle).is_none() {
+    if !is_loaded(keep, handle) {
         let rc = ResponseCode::Handle.anywhere().at_parameter(1);
         return Err(Refused::by(Check::Action(ActionCheck::Second), rc));
     }
     keep.sessions_mut().flush(handle);
+    keep.remove_object(handle);
     Ok(Answer::empty())
 }

@@ -86,7 +86,7 @@ fn binding_of<K: Keep>(keep: &K, bind: Handle) -> Option<Binding>
     Some(Binding {
         name: name_of(keep, bind),
         auth_value: copied_auth_value(keep, bind),
-        protection: protection_of(bind),
+        protection: protection_of(keep, bind),
     })
 }
 

@@ -1,4 +1,4 @@
--- Decryption undoes encryption.
+-- Decryption undoes encryption, and encryption undoes decryption.
 use Rattle.std.proofs.Common.{◌≡◌, ℕ, zero, suc, ◌+◌, ◌-◌, ◌*◌, ◌/◌, ◌%◌, ◌<◌, ◌≤◌, List, [], ◌∷◌, ◌++◌, add-one, ap, arith, bit_xor, drop, length, length-append, length-drop, min, refl, sym, take, ◌∙◌, inl, inr}
 use Rattle.std.proofs.lemmas.Bool.{cases_lt}
 use Rattle.std.proofs.lemmas.List.{drop-append-le, drop_at, take-append-le, take_all}
@@ -6,7 +6,7 @@ use Rattle.std.proofs.Math.Seq.{take-add}
 use Rattle.std.specs.Int.Bits.{xor_assoc, xor_self, xor_zero_r}
 use Rattle.tpm_aes.proofs.TextBlocks.{block_count-covers, block_count-inside, length-block_at, pieces_to, pieces_to-add-one, pieces_to-suc, pieces_to-zero}
 use Rattle.tpm_aes.specs.Cfb.{block_at, block_before, block_count, cfb_decrypt_of, cfb_encrypt_of, cipher_block, plain_block}
-use Rattle.tpm_aes.specs.Cipher.{aes_of, xor_of}
+use Rattle.tpm_aes.specs.Cipher.{aes_of, next_round_key, round_key, scheduled_word, shift_rows, state_after, sub_bytes, xor_of}
 
 -- no more bytes than the first list has
 length-xor_of : (xs ys : List ℕ) → length (xor_of xs ys) ≤ length xs
@@ -142,3 +142,101 @@ cfb_undone key iv text whole =
     ap (pieces_to (plain_block key iv cipher)) count
     ∙ pieces_to-same (plain_block key iv cipher) (block_at text) n each
     ∙ pieces_to-block_at text n ∙ take_all (16 * n) text (block_count-covers text)
+
+-- encryption gives the blocks of a cipher text back, where the text's blocks are those that it was
+-- decrypted to
+encrypted_again : (key iv cipher text : List ℕ) (n : ℕ)
+    → ((i : ℕ) → i < n → block_at text i ≡ plain_block key iv cipher i)
+    → ((i : ℕ) → i < n → length (plain_block key iv cipher i) ≡ length (block_at cipher i))
+    → (i : ℕ) → i ≤ n → cipher_block key iv text i ≡ block_before iv cipher i
+encrypted_again key iv cipher text n at full zero low = cipher_block_none key iv text
+encrypted_again key iv cipher text n at full (suc i) low =
+    ap (cipher_block key iv text) (sym (add-one i)) ∙ cipher_block_more key iv text i
+    ∙ ap (λ (b : List ℕ). xor_of b (aes_of key (cipher_block key iv text i))) (at i (omega arith))
+    ∙ ap (λ (b : List ℕ). xor_of (plain_block key iv cipher i) (aes_of key b))
+    (encrypted_again key iv cipher text n at full i (omega arith))
+    ∙ xor_of-twice (block_at cipher i) (aes_of key (block_before iv cipher i)) (full i (omega arith))
+
+-- where the decryption is as long as the cipher text, its encryption is the cipher text
+pub cfb_redone : (key iv cipher : List ℕ) → length (cfb_decrypt_of key iv cipher) ≡ length cipher
+    → cfb_encrypt_of key iv (cfb_decrypt_of key iv cipher) ≡ cipher
+unfolding pieces_to
+cfb_redone key iv cipher whole =
+    let piece : ℕ → List ℕ = plain_block key iv cipher in
+    let text : List ℕ = cfb_decrypt_of key iv cipher in
+    let n : ℕ = block_count cipher in
+    let short : (i : ℕ) → length (piece i) ≤ length (block_at cipher i) =
+    λ i. length-xor_of (block_at cipher i) (aes_of key (block_before iv cipher i)) in
+    let sizes : (i : ℕ) → i ≤ n → length (pieces_to piece i) ≡ min (16 * i) (length cipher) =
+    λ i low. length-pieces_whole piece cipher short (n - i) i (omega arith) whole in
+    let at : (i : ℕ) → i < n → block_at text i ≡ piece i =
+    block_at-pieces_to piece n (λ i low. sizes i (omega arith) ∙ omega (arith, block_count-inside cipher i low))
+    (λ i. omega (arith, short i, length-block_at cipher i)) in
+    let full : (i : ℕ) → i < n → length (piece i) ≡ length (block_at cipher i) =
+    λ i low. omega (
+      arith,
+      sizes i (omega arith),
+      sizes (i + 1) (omega arith),
+      length-block_at cipher i,
+      length-more piece i,
+    ) in
+    let each : (i : ℕ) → i < n → cipher_piece key iv text i ≡ block_at cipher i =
+    λ i low.
+    ap (cipher_block key iv text) (add-one i) ∙ encrypted_again key iv cipher text n at full (suc i) (omega arith) in
+    let count : block_count text ≡ n = ap (λ (k : ℕ). k / 16 + min 1 (k % 16)) whole in
+    ap (pieces_to (cipher_piece key iv text)) count
+    ∙ pieces_to-same (cipher_piece key iv text) (block_at cipher) n each
+    ∙ pieces_to-block_at cipher n ∙ take_all (16 * n) cipher (block_count-covers cipher)
+
+-- ---- a cipher text is as long as its text
+
+-- the bytes of one list, where the other has as many
+length-xor_of-whole : (xs ys : List ℕ) → length xs ≤ length ys → length (xor_of xs ys) ≡ length xs
+length-xor_of-whole [] ys fits = refl
+length-xor_of-whole (x ∷ xs) [] fits = absurd (omega arith)
+length-xor_of-whole (x ∷ xs) (y ∷ ys) fits = omega (arith, length-xor_of-whole xs ys (omega arith))
+
+length-next_round_key : (n : ℕ) (key : List ℕ) → length (next_round_key n key) ≡ 16
+unfolding next_round_key scheduled_word
+length-next_round_key n key = refl
+
+length-round_key : (key : List ℕ) (n : ℕ) → length (round_key key (suc n)) ≡ 16
+unfolding round_key
+length-round_key key n = length-next_round_key (suc n) (round_key key n)
+
+length-shift_rows : (state : List ℕ) → length (shift_rows state) ≡ 16
+unfolding shift_rows
+length-shift_rows state = refl
+
+-- an encrypted block has sixteen bytes
+length-aes_of : (key block : List ℕ) → length (aes_of key block) ≡ 16
+unfolding aes_of
+length-aes_of key block =
+    let state : List ℕ = shift_rows (sub_bytes (state_after key block 9)) in
+    length-xor_of-whole state (round_key key 10) (omega (arith, length-shift_rows (sub_bytes (state_after key block 9)), length-round_key key 9))
+    ∙ length-shift_rows (sub_bytes (state_after key block 9))
+
+length-cipher_piece : (key iv text : List ℕ) (i : ℕ) → length (cipher_piece key iv text i) ≡ length (block_at text i)
+length-cipher_piece key iv text i =
+    let stream : List ℕ = aes_of key (cipher_block key iv text i) in
+    ap length (cipher_block_more key iv text i)
+    ∙ length-xor_of-whole (block_at text i) stream
+    (omega (arith, length-block_at text i, length-aes_of key (cipher_block key iv text i)))
+
+-- pieces that are as long as a text's blocks
+length-pieces_full : (piece : ℕ → List ℕ) (text : List ℕ) → ((i : ℕ) → length (piece i) ≡ length (block_at text i))
+    → (n : ℕ) → length (pieces_to piece n) ≡ min (16 * n) (length text)
+length-pieces_full piece text full zero = rw (pieces_to-zero piece) (omega arith)
+length-pieces_full piece text full (suc n) =
+    rw (pieces_to-suc piece n, length-append)
+    (omega (arith, length-pieces_full piece text full n, full n, length-block_at text n))
+
+pub length-cfb_encrypt_of : (key iv text : List ℕ) → length (cfb_encrypt_of key iv text) ≡ length text
+unfolding pieces_to
+length-cfb_encrypt_of key iv text =
+    length-pieces_full (cipher_piece key iv text) text (length-cipher_piece key iv text) (block_count text)
+    ∙ omega (arith, block_count-covers text)
+
+-- so decryption undoes every encryption
+pub cfb_undone-each : (key iv text : List ℕ) → cfb_decrypt_of key iv (cfb_encrypt_of key iv text) ≡ text
+cfb_undone-each key iv text = cfb_undone key iv text (length-cfb_encrypt_of key iv text)

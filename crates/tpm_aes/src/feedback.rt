@@ -24,9 +24,11 @@ impl Aes128 {
         }
     }
 
-    /// Decrypts the text in place: undoes `cfb_encrypt` under the same key and IV.
+    /// Decrypts the text in place: undoes `cfb_encrypt` under the same key and IV, and is undone by
+    /// it.
     pub fn cfb_decrypt(&self, iv: &[u8; 16], text: &mut [u8])
-        ensures { text.new ≡ cfb_decrypt_of self.now iv.now text.old }
+        ensures value { text.new ≡ cfb_decrypt_of self.now iv.now text.old }
+        ensures undone { cfb_encrypt_of self.now iv.now text.new ≡ text.old }
     {
         let mut feedback = *iv;
         for index in 0..text.len().div_ceil(BLOCK_SIZE) {

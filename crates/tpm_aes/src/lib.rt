@@ -2,7 +2,7 @@
 //! 128 bits (SP 800-38A, 6.3).
 //!
 //! It stands on nothing. Each call equals its definition in `specs/` for every length of its data,
-//! and decryption undoes encryption. None takes memory or refuses.
+//! and decryption and encryption undo each other. None takes memory or refuses.
 
 #![tactic(auto)]
 

@@ -13,8 +13,7 @@ use Rattle.tpm_types.specs.declared.rc.Rc.{Rc}
 use Rattle.tpm_types.specs.declared.rc.ResponseCode.{ResponseCode}
 use Rattle.tpm_types.specs.declared.rc.ResponseCode.TheVariants as code
 use Rattle.tpm_types.specs.declared.rc.Place.TheVariants as place
-use Rattle.tpm_types.specs.declared.symmetric.SymmetricDefinition.{SymmetricDefinition}
-use Rattle.tpm_types.specs.declared.symmetric.SymmetricDefinition.TheVariants as symmetric
+use Rattle.tpm_types.specs.Symmetric.{is_null}
 use Rattle.tpm_types.specs.AuthEntry.{Entry, has_bits}
 use Rattle.tpm_types.specs.CommandCode.{authorized_handles, has_sized_parameter, shape_of}
 use Rattle.tpm_types.specs.Handle.{session_kind}
@@ -67,14 +66,11 @@ has_wrong_attributes c before e =
     || decrypts e && (list_any decrypts before || not (has_sized_parameter c))
     || encrypts e && (list_any encrypts before || not (shape_of c).sized_answer)
 
-abbrev is_null : SymmetricDefinition → Bool
-is_null symmetric.Null = true
-is_null symmetric.Aes128Cfb = false
-
 -- decrypt or encrypt by a session that has no symmetric algorithm
 abbrev pub lacks_cipher : Record → Entry → Bool
 lacks_cipher r e =
-    has_bits 0x60 e.attributes && option_map_or (λ (s : Session). is_null s.symmetric) (session_of r e) false
+    has_bits 0x60 e.attributes
+    && option_map_or (λ (s : Session). is_null s.symmetric) (session_of r e) false
 
 -- an entry behind these others of its command: the sizes of its nonce and HMAC, its session, the
 -- reserved bits 3 and 4, the other attributes, the session's algorithm

@@ -33,14 +33,19 @@ use Rattle.tpm_auth.specs.declared.session_grant.Grant.{Grant}
 abbrev pub undemanding : Handle → Grant
 undemanding handle = record { handle = handle; demand = demand.None }
 
+-- whether what an entry is to authorize cannot be authorized by its authorization value
+abbrev pub is_unavailable : Record → Option Handle → Bool
+is_unavailable r used =
+    option_map_or (λ handle. not (is_available r handle means.AuthValue)) used false
+
 -- entry n is a password for what it authorizes, which must be available by its authorization value
 unfoldable pub password_grant : Record → ℕ → Option Handle → Entry → Result (Option Grant) Refused
 password_grant r n used e = do
   let grant : Option Grant = option_map undemanding used
-  available ← refused_if (is_some used && not (is_available means.AuthValue))
+  available ← refused_if (is_unavailable r used)
       (refusal check.Authorization (plain code.AuthUnavailable))
   compared ← refused_if (not (is_password_of (granted_value r grant) e.hmac))
-      (failure (check_of grant) n (option_map_or protection_of used protection.None))
+      (failure (check_of grant) n (option_map_or (protection_of r) used protection.None))
   Ok grant
 
 abbrev pub session_grant_if : Record → Whole

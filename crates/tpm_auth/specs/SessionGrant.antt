@@ -146,7 +146,7 @@ unfoldable pub touched : Record → Session → Option Grant → Protection
 touched r s None = binding_protection s
 touched r s (Some grant) =
     if takes_value r s grant || is_password_demand grant.demand
-    then or_protection (protection_of grant.handle) (binding_protection s)
+    then or_protection (protection_of r grant.handle) (binding_protection s)
     else binding_protection s
 
 -- what is to be authorized by entry n of a policy session
@@ -155,7 +155,7 @@ use_of r c locality n handle s = record {
   entry = n;
   kind = s.kind;
   hash = s.hash;
-  available = is_available means.Policy;
+  available = is_available r handle means.Policy;
   update_count = r.fixed.banks.update_count;
   command = code_number c.code;
   role = role_at c.code (n - 1);
@@ -166,9 +166,9 @@ use_of r c locality n handle s = record {
 
 -- what stands before the comparison of an entry that authorizes a handle, and what its policy
 -- demands of that: an HMAC session authorizes what is available by its authorization value
-abbrev by_value : Result Demand Refused
-by_value = do
-  available ← refused_if (not (is_available means.AuthValue))
+abbrev by_value : Record → Handle → Result Demand Refused
+by_value r handle = do
+  available ← refused_if (not (is_available r handle means.AuthValue))
       (refusal check.Authorization (plain code.AuthUnavailable))
   Ok demand.None
 
@@ -179,7 +179,7 @@ by_policy r c locality n handle s =
 
 abbrev pub demand_by : SessionType
     → Record → Whole → (locality n : ℕ) → Handle → Session → Result Demand Refused
-demand_by type.Hmac r c locality n handle s = by_value
+demand_by type.Hmac r c locality n handle s = by_value r handle
 demand_by type.Policy r c locality n handle s = by_policy r c locality n handle s
 demand_by type.Trial r c locality n handle s = by_policy r c locality n handle s
 

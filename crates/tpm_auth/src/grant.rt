@@ -4,7 +4,7 @@ ghost use Rattle.tpm_types.specs.AuthEntry.{entry_of};
 ghost use Rattle.tpm_types.specs.Command.{whole_of};
 ghost use Rattle.tpm_types.specs.Locality.{locality_number};
 ghost use Rattle.tpm_record.specs.Entity.{name_of};
-ghost use Rattle.tpm_auth.specs.Grant.{AreGranted, IsGranted, authorize, authorized, grant, grants_pass, is_cut, password_grant};
+ghost use Rattle.tpm_auth.specs.Grant.{AreGranted, IsGranted, authorize, authorized, grant, grants_pass, is_cut, is_unavailable, password_grant};
 ghost use Rattle.tpm_auth.specs.SessionGrant.{hashed_command};
 
 use crate::check::Check;
@@ -32,6 +32,16 @@ pub struct Grants {
     pub entries: ArrayVec<Option<Grant>, 3>,
 }
 
+/// Whether what an entry is to authorize cannot be authorized by its authorization value.
+fn is_unavailable<K: Keep>(keep: &K, used: Option<Handle>) -> bool
+    ensures { result ≡ is_unavailable (K.record_of keep.now) used }
+{
+    match used {
+        Some(handle) => !is_available(keep, handle, Means::AuthValue),
+        None => false,
+    }
+}
+
 /// Checks that the entry of this number is a password for the handle that it is to authorize.
 #[tactic(auto, unfolding(crate::specs::Grant::password_grant))]
 fn check_password<K: Keep>(
@@ -42,7 +52,7 @@ fn check_password<K: Keep>(
 ) -> Result<Option<Grant>, Refused>
     ensures { result ≡ password_grant (K.record_of keep.now) number used (entry_of entry.now) }
 {
-    if used.is_some() && !is_available(Means::AuthValue) {
+    if is_unavailable(keep, used) {
         let rc = ResponseCode::AuthUnavailable.anywhere();
         return Err(Refused::by(Check::Authorization, rc));
     }
@@ -50,7 +60,11 @@ fn check_password<K: Keep>(
         Some(handle) => {
             let demand = Demand::None;
             let value = auth_value_of(keep, handle);
-            (Some(Grant { handle, demand }), value, protection_of(handle))
+            (
+                Some(Grant { handle, demand }),
+                value,
+                protection_of(keep, handle),
+            )
         }
         None => (None, &[][..], Protection::None),
     };

@@ -195,7 +195,7 @@ fn touched<K: Keep>(keep: &K, session: &Session, grant: Option<Grant>) -> Protec
     let bound = binding_protection(session);
     match grant {
         Some(grant) if takes_value(keep, session, grant) || grant.demand == Demand::Password => {
-            or_protection(protection_of(grant.handle), bound)
+            or_protection(protection_of(keep, grant.handle), bound)
         }
         _ => bound,
     }
@@ -224,7 +224,7 @@ fn use_of<'a, K: Keep>(
         number,
         kind: session.kind,
         hash: session.hash,
-        available: is_available(Means::Policy),
+        available: is_available(keep, handle, Means::Policy),
         update_count: keep.fixed().banks.update_count(),
         code,
         role: code.role_at(usize::from(number) - 1),
@@ -276,7 +276,7 @@ fn demand_of<K: Keep>(
     ensures same { hashes.new ≡ hashes.old }
 {
     match session.kind {
-        SessionType::Hmac if is_available(Means::AuthValue) => Ok(Demand::None),
+        SessionType::Hmac if is_available(keep, handle, Means::AuthValue) => Ok(Demand::None),
         SessionType::Hmac => {
             let rc = ResponseCode::AuthUnavailable.anywhere();
             Err(Refused::by(Check::Authorization, rc))

@@ -23,6 +23,12 @@ use tpm_actions::pcr_read::pcr_read;
 use tpm_actions::pcr_reset::pcr_reset;
 use tpm_actions::start_auth_session::start_auth_session;
 use tpm_actions::startup::startup;
+use tpm_actions_object::create::create;
+use tpm_actions_object::create_primary::create_primary;
+use tpm_actions_object::hmac::hmac;
+use tpm_actions_object::load::load;
+use tpm_actions_object::read_public::read_public;
+use tpm_actions_object::unseal::unseal;
 use tpm_actions_policy::policy_auth_value::policy_auth_value;
 use tpm_actions_policy::policy_command_code::policy_command_code;
 use tpm_actions_policy::policy_get_digest::policy_get_digest;
@@ -55,15 +61,21 @@ fn act<K: Keep>(keep: &mut K, code: CommandCode, call: &Call) -> Result<Answer, 
 {
     match code {
         CommandCode::HierarchyChangeAuth => hierarchy_change_auth(keep, call),
+        CommandCode::CreatePrimary => create_primary(keep, call),
         CommandCode::PcrEvent => pcr_event(keep, call),
         CommandCode::PcrReset => pcr_reset(keep, call),
         CommandCode::Startup => startup(keep, call),
         CommandCode::PolicySecret => policy_secret(keep, call),
+        CommandCode::Create => create(keep, call),
+        CommandCode::Hmac => hmac(keep, call),
+        CommandCode::Load => load(keep, call),
+        CommandCode::Unseal => unseal(keep, call),
         CommandCode::FlushContext => flush_context(keep, call),
         CommandCode::PolicyAuthValue => policy_auth_value(keep, call),
         CommandCode::PolicyCommandCode => policy_command_code(keep, call),
         CommandCode::PolicyLocality => policy_locality(keep, call),
         CommandCode::PolicyOr => policy_or(keep, call),
+        CommandCode::ReadPublic => read_public(keep, call),
         CommandCode::StartAuthSession => start_auth_session(keep, call),
         CommandCode::GetRandom => get_random(keep, call),
         CommandCode::PcrRead => pcr_read(keep, call),

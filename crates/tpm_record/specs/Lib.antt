@@ -1,5 +1,6 @@
 pub mod Hierarchy
 pub mod Record
+pub mod Objects
 pub mod IsRecord
 pub mod Tick
 pub mod Cycle
@@ -9,3 +10,4 @@ pub use Rattle.tpm_pcr.specs.Values
 pub use Rattle.tpm_pcr.specs.Banks
 pub use Rattle.tpm_session.specs.Sessions
 pub use Rattle.tpm_name.specs.Name
+pub use Rattle.tpm_object.specs.Object

@@ -13,4 +13,5 @@ pub fn power_cycle<K: Keep>(keep: &mut K)
     fixed.banks = Banks::new();
     fixed.time = 0;
     keep.sessions_mut().clear();
+    keep.clear_objects();
 }

@@ -1,6 +1,7 @@
-ghost use Rattle.std.specs.Prelude.{◌≡◌, Bool, IfOk, replicate};
+ghost use Rattle.std.specs.Prelude.{◌≡◌, Bool, IfOk, is_some, length, option_copied, replicate};
 ghost use Rattle.std.specs.Borrow.{Lends, sem};
-ghost use Rattle.tpm_record.specs.Record.{Record, manufactured};
+ghost use Rattle.tpm_record.specs.Objects.{Adds, next_handle, object_at, without_object};
+ghost use Rattle.tpm_record.specs.Record.{Record, manufactured, no_objects};
 ghost use Rattle.tpm_record.specs.contracts.fixed.Fixed.{the_row as fixed_row};
 ghost use Rattle.tpm_record.specs.declared.fixed.Fixed.{Fixed as FixedParts};
 ghost use Rattle.tpm_session.specs.Sessions.{places_of};
@@ -9,12 +10,23 @@ ghost use Rattle.tpm_session.specs.declared.sessions.Sessions.{Sessions as Sessi
 
 use crate::fixed::Fixed;
 use std::alloc::Global;
+use tpm_object::object::Object;
 use tpm_session::sessions::Sessions;
 use tpm_session::slots::Slots;
+use tpm_types::handle::Handle;
 
 /// Memory was refused.
 #[derive(Clone, Copy, Debug, PartialEq, Eq)]
 pub struct NoMemory;
+
+/// Why no object was added.
+#[derive(Clone, Copy, Debug, PartialEq, Eq)]
+pub enum AddFault {
+    /// All places are taken.
+    Full,
+    /// Memory was refused.
+    NoMemory,
+}
 
 /// A way of keeping the device's state, which is seen as the record that it stands for.
 pub trait Keep: Drop + Sized {
@@ -33,8 +45,8 @@ pub trait Keep: Drop + Sized {
     /// Whether memory can be refused where the record grows.
     ghost can_refuse: { Bool };
 
-    /// The state of a device as it is manufactured with random bytes that are zeros; its memory comes from
-    /// `alloc`.
+    /// The state of a device as it is manufactured with random bytes that are zeros; its memory
+    /// comes from `alloc`.
     fn empty(alloc: Global) -> Result<Self, NoMemory>
         ensures { IfOk result (λ keep. record_of keep ≡ manufactured (replicate 256 0)) };
 
@@ -57,6 +69,35 @@ pub trait Keep: Drop + Sized {
         ensures* writes_back { sem 𝓛 (Lends Self.row (sessions_row Self.Se.row) self.entry result
             (with_sessions self.entry.now)) }
         ensures value { places_of Self.Se.places result.now ≡ (record_of self.old).sessions };
+
+    /// The transient object of a handle.
+    fn object(&self, handle: Handle) -> Option<&Object>
+        ensures { option_copied result ≡ object_at (record_of self.now).objects handle };
+
+    /// The handle that the next object takes, if there is a place for one.
+    fn free_object(&self) -> Option<Handle>
+        ensures { result ≡ next_handle (record_of self.now).objects };
+
+    /// Puts an object into the lowest free place, and gives its handle.
+    fn add_object(&mut self, object: Object) -> Result<Handle, AddFault>
+        ensures added { Adds can_refuse (record_of self.old).objects object result
+            (record_of self.new).objects }
+        ensures others { record_of self.new
+            ≡ record (record_of self.old) { objects = (record_of self.new).objects } };
+
+    /// Removes the object of a handle, and tells whether there was one.
+    fn remove_object(&mut self, handle: Handle) -> bool
+        ensures there { result ≡ is_some (object_at (record_of self.old).objects handle) }
+        ensures after { record_of self.new ≡ record (record_of self.old) {
+          objects = without_object (record_of self.old).objects handle;
+        } };
+
+    /// Removes all objects.
+    fn clear_objects(&mut self)
+        ensures { record_of self.new ≡ record (record_of self.old) { objects = no_objects } };
+
+    /// There are always eight places for objects.
+    ghost eight: { (keep : Self) → length (record_of keep).objects ≡ 8 };
 
     /// What is written to the fixed part is its place in the record.
     ghost fixed_written: { (keep : Self) (fixed : FixedParts)

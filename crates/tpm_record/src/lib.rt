@@ -13,5 +13,6 @@ pub mod fixed;
 pub mod hierarchy;
 pub mod keep;
 pub mod list_keep;
+pub mod list_objects;
 pub mod record;
 pub mod tick;

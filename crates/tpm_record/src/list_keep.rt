@@ -1,22 +1,27 @@
 ghost use Rattle.std.specs.Prelude.{◌≡◌};
 
 use crate::fixed::Fixed;
-use crate::keep::{Keep, NoMemory};
+use crate::keep::{AddFault, Keep, NoMemory};
+use crate::list_objects::ListObjects;
 use std::alloc::Global;
+use tpm_object::object::Object;
 use tpm_session::list_slots::ListSlots;
 use tpm_session::sessions::Sessions;
 use tpm_session::slots::Slots;
+use tpm_types::handle::Handle;
 
 /// The record in growing lists.
 #[derive(Drop)]
 pub struct ListKeep {
     fixed: Fixed,
     sessions: Sessions<ListSlots>,
+    objects: ListObjects,
 }
 
 impl Keep for ListKeep {
     ghost use Rattle.std.specs.Prelude.{true, refl};
     ghost use Rattle.tpm_record.specs.ListKeep.{list_record};
+    ghost use Rattle.tpm_session.specs.ListPlaces.{length-padded};
 
     type Se = ListSlots;
 
@@ -32,6 +37,7 @@ impl Keep for ListKeep {
         Ok(ListKeep {
             fixed: Fixed::manufactured(&[0; 256]),
             sessions: Sessions::new(alloc),
+            objects: ListObjects::new(alloc),
         })
     }
 
@@ -50,6 +56,28 @@ impl Keep for ListKeep {
     fn sessions_mut(&mut self) -> &mut Sessions<ListSlots> {
         &mut self.sessions
     }
+
+    fn object(&self, handle: Handle) -> Option<&Object> {
+        self.objects.get(handle)
+    }
+
+    fn free_object(&self) -> Option<Handle> {
+        self.objects.free()
+    }
+
+    fn add_object(&mut self, object: Object) -> Result<Handle, AddFault> {
+        self.objects.add(object)
+    }
+
+    fn remove_object(&mut self, handle: Handle) -> bool {
+        self.objects.remove(handle)
+    }
+
+    fn clear_objects(&mut self) {
+        self.objects.clear();
+    }
+
+    ghost eight = { λ keep. length-padded 8 keep.objects.cells.items keep.objects.few };
 
     ghost fixed_written = { λ keep fixed. refl };
 

@@ -9,53 +9,10 @@ use Rattle.tpm_session.specs.declared.session.Session.{Session}
 use Rattle.tpm_session.specs.Places.{at_place, lowest_free}
 use Rattle.tpm_types.specs.SessionType.{type_byte}
 use Rattle.tpm_session.specs.Sessions.{changed, flushed, handle_of, if_of_type, place_of, session_at}
-use Rattle.tpm_session.proofs.Padding.{at_place-read}
+use Rattle.tpm_session.proofs.PlaceLaws.{at_inside, at_set-here, at_set-other, lowest_free-free}
 
 abbrev Places : Type 0
 Places = List (Option Session)
-
--- ---- places
-
-pub at_set-here : (places : Places) (place : ℕ) (cell : Option Session) → place < length places → at_place (slice_set places place cell) place ≡ cell
-at_set-here [] place cell below = absurd (omega arith)
-at_set-here (first ∷ places) zero cell below = refl
-at_set-here (first ∷ places) (suc place) cell below = at_set-here places place cell (omega arith)
-
-pub at_set-other : (places : Places) (place other : ℕ) (cell : Option Session) → other ≢ place → at_place (slice_set places place cell) other ≡ at_place places other
-at_set-other [] place other cell apart = refl
-at_set-other (first ∷ places) zero zero cell apart = absurd (apart refl)
-at_set-other (first ∷ places) zero (suc other) cell apart = refl
-at_set-other (first ∷ places) (suc place) zero cell apart = refl
-at_set-other (first ∷ places) (suc place) (suc other) cell apart = at_set-other places place other cell (λ e. apart (ap (λ (n : ℕ). suc n) e))
-
-at_inside : (places : Places) (place : ℕ) (s : Session) → at_place places place ≡ Some s → place < length places
-at_inside [] place s is = absurd cc
-at_inside (first ∷ places) zero s is = omega arith
-at_inside (first ∷ places) (suc place) s is = let more = at_inside places place s is in omega (arith, more)
-
--- ---- the lowest free place
-
-is_none_true : (cell : Option Session) → is_none cell ≡ true → cell ≡ None
-is_none_true None e = refl
-is_none_true (Some s) e = absurd cc
-
--- it is free, and there
-pub lowest_free-free : (places : Places) (place : ℕ) → lowest_free places ≡ Some place → (place < length places) × (at_place places place ≡ None)
-lowest_free-free places place is =
-    let p = position-Some is_none places place None is in
-    (p.0, at_place-read places place None None p.0 (is_none_true _ p.1))
-
-is_none_false : (cell : Option Session) → is_none cell ≡ false → cell ≢ None
-is_none_false None e same = absurd cc
-is_none_false (Some s) e same = absurd cc
-
--- and each place below it is taken
-pub lowest_free-lowest : (places : Places) (place below : ℕ) → lowest_free places ≡ Some place → below < place → at_place places below ≢ None
-lowest_free-lowest places place below is lower =
-    let p = position-Some is_none places place None is in
-    let taken = is_none_false _ (p.2 below lower) in
-    let inside : below < length places = omega (arith, p.0, lower) in
-    λ free. taken (sym (at_place-read places below _ None inside refl) ∙ free)
 
 -- ---- handles
 

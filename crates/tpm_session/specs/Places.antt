@@ -1,4 +1,4 @@
--- Sixteen places for sessions.
+-- Places, and sixteen of them for sessions.
 use Rattle.std.specs.Prelude.{◌≡◌, ℕ, ◌<◌, Bool, true, is_none, List, Option, Some, None, option_and_then, Result, Ok, Err, slice_get, slice_set, position}
 use Rattle.std.specs.Option.{option_map_or}
 use Rattle.tpm_policy.specs.State.{Policy}
@@ -7,11 +7,11 @@ use Rattle.tpm_session.specs.declared.slots.SlotFault.{SlotFault}
 use Rattle.tpm_session.specs.declared.slots.SlotFault.TheVariants.{Full, NoMemory}
 use Rattle.tpm_session.specs.Session.{with_nonce, with_policy}
 
--- the session in a place
-abbrev pub at_place : List (Option Session) → ℕ → Option Session
-at_place places place = option_and_then (λ s. s) (slice_get places place)
+-- what is in a place
+abbrev pub at_place : {X : Type 0} → List (Option X) → ℕ → Option X
+at_place places place = option_and_then (λ x. x) (slice_get places place)
 
-abbrev pub lowest_free : List (Option Session) → Option ℕ
+abbrev pub lowest_free : {X : Type 0} → List (Option X) → Option ℕ
 lowest_free places = position is_none places
 
 -- with something changed in the session of a place, if one is there

@@ -86,5 +86,5 @@ impl Slots for ListSlots {
         self.cells.clear();
     }
 
-    ghost sixteen = { λ s. length-padded s.cells.items s.few };
+    ghost sixteen = { λ s. length-padded 16 s.cells.items s.few };
 }

@@ -1,31 +1,20 @@
 -- Lists of digests: what is read was spelled so, and what is spelled so is read.
-use Rattle.std.proofs.Common.{◌≡◌, ℕ, ltb, ◌||◌, List, ◌++◌, Ok, ap, arith}
+use Rattle.std.proofs.Common.{◌≡◌, ℕ, ltb, ◌||◌, List, ◌++◌, Ok, arith}
 use Rattle.std.proofs.lemmas.Bool.{ltb-false, le-ltb, or_parts, or_from}
-use Rattle.tpm_bytes.specs.Reading.{or_fault, sized_at}
 use Rattle.tpm_bytes.specs.Writing.{sized_text}
-use Rattle.tpm_bytes.specs.declared.cursor.SizedFault.TheVariants as fault
-use Rattle.tpm_bytes.proofs.Fields.{AreBytes, or_fault_ok, sized_again, sized_takes}
-use Rattle.tpm_bytes.proofs.Spelling.{IsAgain, IsTaken}
-use Rattle.tpm_types.specs.Buffer.{buffer_at, or_sized_rc}
+use Rattle.tpm_bytes.proofs.Fields.{AreBytes}
 use Rattle.tpm_types.specs.DigestList.{IsDigest, IsDigestList, digest_at, digest_list_at, digest_list_text, digests_text}
-use Rattle.tpm_types.proofs.Buffers.{or_sized_ok}
 use Rattle.tpm_types.proofs.CountedLaws.{counted_again, counted_takes}
+use Rattle.tpm_types.proofs.FieldLaws.{buffer_spelled}
+use Rattle.tpm_types.proofs.Spelled.{Spelled}
 
-digest_takes : IsTaken sized_text IsDigest digest_at
-unfolding buffer_at
-digest_takes bytes x fits e =
-    let t = sized_takes 32 fault.Short bytes x fits (ap (λ r. or_fault r fault.Short) (or_sized_ok (sized_at 32 bytes) x e)) in
-    (t.0, t.2)
-
-digest_again : IsAgain sized_text IsDigest digest_at
-unfolding buffer_at
-digest_again digest rest is =
-    ap or_sized_rc (or_fault_ok (sized_at 32 (sized_text digest ++ rest)) fault.Short (digest, rest) (sized_again 32 fault.Short digest rest (omega (arith, is)) is))
+digest_spelled : Spelled sized_text IsDigest digest_at
+digest_spelled = buffer_spelled 32 (omega arith)
 
 pub digest_list_takes : (bytes : List ℕ) (x : List (List ℕ) × List ℕ) → AreBytes bytes → digest_list_at bytes ≡ Ok x → (bytes ≡ digest_list_text x.0 ++ x.1) × IsDigestList x.0
 unfolding digest_list_at digest_list_text digests_text
 digest_list_takes bytes x fits e =
-    let t = counted_takes (λ count. ltb count 2 || ltb 8 count) sized_text IsDigest digest_at digest_takes bytes x fits e in
+    let t = counted_takes (λ count. ltb count 2 || ltb 8 count) sized_text IsDigest digest_at digest_spelled.taken bytes x fits e in
     let sized = or_parts _ _ t.1 in
     (t.0, record { several = ltb-false _ _ sized.0; few = ltb-false _ _ sized.1; each = t.2 })
 
@@ -33,4 +22,4 @@ pub digest_list_again : (digests : List (List ℕ)) (rest : List ℕ) → IsDige
 unfolding digest_list_at digest_list_text digests_text
 digest_list_again digests rest is =
     let passes = or_from _ _ (le-ltb _ _ is.several) (le-ltb _ _ is.few) in
-    counted_again (λ count. ltb count 2 || ltb 8 count) sized_text IsDigest digest_at digest_again digests rest (omega (arith, is.few)) passes is.each
+    counted_again (λ count. ltb count 2 || ltb 8 count) sized_text IsDigest digest_at digest_spelled.again digests rest (omega (arith, is.few)) passes is.each

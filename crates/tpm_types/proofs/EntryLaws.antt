@@ -7,51 +7,49 @@ use Rattle.std.proofs.lemmas.List.{length-append}
 use Rattle.tpm_bytes.specs.Reading.{◌>>=◌, bytes_at, number_at, or_fault, refused_if, sized_at}
 use Rattle.tpm_bytes.specs.Writing.{sized_text}
 use Rattle.tpm_bytes.proofs.Fields.{AreBytes, Takes, Takes-then, bind_ok, or_fault_ok, passed, bytes_take, bytes_again, number_or_takes, number_or_again, sized_takes, sized_again, wide8, wide32, ok_is}
+use Rattle.tpm_bytes.proofs.Spelling.{IsAgain, IsTaken}
 use Rattle.tpm_types.specs.declared.rc.ResponseCode.TheVariants as code
 use Rattle.tpm_types.specs.Rc.{plain}
 use Rattle.tpm_types.specs.AuthEntry.{Entry, IsEntry, entry_at, auth_entry_text}
+use Rattle.tpm_types.proofs.FieldLaws.{number_spelled}
+use Rattle.tpm_types.proofs.Spelled.{Spelled, all_read, first, four_texts, respelled, then}
 use Rattle.tpm_types.specs.AuthArea.{area_at, area_text, entries_in, entries_text}
 
 -- ---- an entry
 
-abbrev entry_with : ℕ → List ℕ → ℕ → List ℕ × List ℕ → Entry × List ℕ
-entry_with session nonce octet hmac = (record { session = record { number = session }; nonce = nonce; attributes = record { octet = octet }; hmac = hmac.0 }, hmac.1)
+-- a sized buffer of any length
+sized_spelled : Spelled sized_text (λ bytes. length bytes < 2 ^ 16) (λ text. or_fault (sized_at 0xffff text) (plain code.Authsize))
+sized_spelled = record {
+  taken = λ bytes x fits e. let t = sized_takes 0xffff (plain code.Authsize) bytes x fits e in (t.0, t.1);
+  again = λ buffer rest small. sized_again 0xffff (plain code.Authsize) buffer rest small (omega (arith, small));
+}
 
-pub entry_takes : (bytes : List ℕ) (x : Entry × List ℕ) → AreBytes bytes → entry_at bytes ≡ Ok x → Takes bytes (auth_entry_text x.0) x.1 × IsEntry x.0
-unfolding entry_at
-entry_takes bytes x fits e =
-    let f = plain code.Authsize in
-    let a = bind_ok (or_fault (number_at w32 bytes) f) (λ session. or_fault (sized_at 0xffff session.1) f >>= λ nonce. or_fault (number_at w8 nonce.1) f >>= λ attributes. or_fault (sized_at 0xffff attributes.1) f >>= λ hmac. Ok (entry_with session.0 nonce.0 attributes.0 hmac)) x e in
-    let b = bind_ok (or_fault (sized_at 0xffff a.0.1) f) (λ nonce. or_fault (number_at w8 nonce.1) f >>= λ attributes. or_fault (sized_at 0xffff attributes.1) f >>= λ hmac. Ok (entry_with a.0.0 nonce.0 attributes.0 hmac)) x a.2 in
-    let c = bind_ok (or_fault (number_at w8 b.0.1) f) (λ attributes. or_fault (sized_at 0xffff attributes.1) f >>= λ hmac. Ok (entry_with a.0.0 b.0.0 attributes.0 hmac)) x b.2 in
-    let d = bind_ok (or_fault (sized_at 0xffff c.0.1) f) (λ hmac. Ok (entry_with a.0.0 b.0.0 c.0.0 hmac)) x c.2 in
-    let t0 = number_or_takes w32 (2 ^ 32) wide32 f bytes a.0 fits a.1 in
-    let t1 = sized_takes 0xffff f a.0.1 b.0 t0.0.rest_fits b.1 in
-    let t2 = number_or_takes w8 (2 ^ 8) wide8 f b.0.1 c.0 t1.0.rest_fits c.1 in
-    let t3 = sized_takes 0xffff f c.0.1 d.0 t2.0.rest_fits d.1 in
-    let t01 = Takes-then bytes (to_be_bytes w32 a.0.0) a.0.1 (sized_text b.0.0) b.0.1 t0.0 t1.0 in
-    let t02 = Takes-then bytes (to_be_bytes w32 a.0.0 ++ sized_text b.0.0) b.0.1 (to_be_bytes w8 c.0.0) c.0.1 t01 t2.0 in
-    let t03 = Takes-then bytes (to_be_bytes w32 a.0.0 ++ sized_text b.0.0 ++ to_be_bytes w8 c.0.0) c.0.1 (sized_text d.0.0) d.0.1 t02 t3.0 in
-    subst (λ (y : Entry × List ℕ). Takes bytes (auth_entry_text y.0) y.1 × IsEntry y.0) (ok_is (entry_with a.0.0 b.0.0 c.0.0 d.0) x d.2) (t03, record { session = t0.1; nonce = t1.1; attributes = t2.1; hmac = t3.1 })
+-- the fields in their order
+abbrev Fields : Type 0
+Fields = ((ℕ × List ℕ) × ℕ) × List ℕ
 
-pub entry_again : (entry : Entry) (rest : List ℕ) → IsEntry entry → entry_at (auth_entry_text entry ++ rest) ≡ Ok (entry, rest)
+abbrev fields_of : Entry → Fields
+fields_of e = (((e.session.number, e.nonce), e.attributes.octet), e.hmac)
+
+abbrev entry_of_fields : Fields → Entry
+entry_of_fields f = record { session = record { number = f.0.0.0 }; nonce = f.0.0.1; attributes = record { octet = f.0.1 }; hmac = f.1 }
+
+entry_spelled : Spelled auth_entry_text IsEntry entry_at
 unfolding entry_at
-entry_again entry rest is =
-    let f = plain code.Authsize in
-    let number = to_be_bytes w32 entry.session.number in
-    let nonce = sized_text entry.nonce in
-    let octet = to_be_bytes w8 entry.attributes.octet in
-    let hmac = sized_text entry.hmac in
-    let regrouped : auth_entry_text entry ++ rest ≡ number ++ (nonce ++ (octet ++ (hmac ++ rest))) = append_assoc (number ++ nonce ++ octet) hmac rest ∙ append_assoc (number ++ nonce) octet (hmac ++ rest) ∙ append_assoc number nonce (octet ++ (hmac ++ rest)) in
-    let nonce_fits = is.nonce in
-    let hmac_fits = is.hmac in
-    ap entry_at regrouped
-    ∙ rw (
-      number_or_again w32 (2 ^ 32) wide32 f entry.session.number (nonce ++ (octet ++ (hmac ++ rest))) is.session,
-      sized_again 0xffff f entry.nonce (octet ++ (hmac ++ rest)) nonce_fits (omega arith),
-      number_or_again w8 (2 ^ 8) wide8 f entry.attributes.octet (hmac ++ rest) is.attributes,
-      sized_again 0xffff f entry.hmac rest hmac_fits (omega arith),
-    ) refl
+entry_spelled =
+    let session = number_spelled w32 (2 ^ 32) wide32 (plain code.Authsize) in
+    let attributes = number_spelled w8 (2 ^ 8) wide8 (plain code.Authsize) in
+    let fields = first session (then sized_spelled (then attributes (then sized_spelled (all_read fields_of entry_of_fields (λ _. refl) (λ _. refl))))) in
+    respelled fields
+    (λ e. four_texts (to_be_bytes w32 e.session.number) (sized_text e.nonce) (to_be_bytes w8 e.attributes.octet) (sized_text e.hmac))
+    (λ e is. record { session = is.0; nonce = is.1.0; attributes = is.1.1.0; hmac = is.1.1.1.0 })
+    (λ e is. (is.session, (is.nonce, (is.attributes, (is.hmac, tt)))))
+
+pub entry_takes : IsTaken auth_entry_text IsEntry entry_at
+entry_takes = entry_spelled.taken
+
+pub entry_again : IsAgain auth_entry_text IsEntry entry_at
+entry_again = entry_spelled.again
 
 pub length-auth_entry_text : (entry : Entry) → length (auth_entry_text entry) ≡ 9 + length entry.nonce + length entry.hmac
 length-auth_entry_text entry = omega (arith, length-append (to_be_bytes w32 entry.session.number ++ sized_text entry.nonce ++ to_be_bytes w8 entry.attributes.octet) (sized_text entry.hmac), length-append (to_be_bytes w32 entry.session.number ++ sized_text entry.nonce) (to_be_bytes w8 entry.attributes.octet), length-append (to_be_bytes w32 entry.session.number) (sized_text entry.nonce))

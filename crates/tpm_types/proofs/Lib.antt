@@ -17,3 +17,9 @@ pub mod Trimming
 pub mod SymmetricLaws
 pub mod Buffers
 pub mod DigestListLaws
+pub mod Spelled
+pub mod FieldLaws
+pub mod FilledLaws
+pub mod PublicLaws
+pub mod SensitiveLaws
+pub mod CreationLaws

@@ -1,13 +1,23 @@
 -- A number on the wire and what it names: the one that is found has that number, and is found by it.
-use Rattle.std.proofs.Common.{◌≡◌, ℕ, ◌<◌, ◌^◌, Bool, true, false, cond, Option, Some, None, refl, ap, ◌∙◌, arith}
-use Rattle.std.specs.Prelude.{◌==◌}
+use Rattle.std.proofs.Common.{◌≡◌, ℕ, ◌<◌, ◌^◌, Bool, true, false, cond, List, Option, Some, None, Ok, refl, ap, subst, ◌∙◌, arith}
+use Rattle.std.specs.Prelude.{◌==◌, ok_or}
+use Rattle.std.specs.Int.{w16, to_be_bytes}
 use Rattle.std.proofs.lemmas.Bool.{eqb-true}
+use Rattle.tpm_bytes.specs.Reading.{◌>>=◌, number_at, or_fault}
+use Rattle.tpm_bytes.proofs.Fields.{Takes, bind_ok, ok_is, ok_or_ok, number_or_again, number_or_takes, wide16}
 use Rattle.tpm_mac.specs.declared.algorithm.HashAlg.{HashAlg}
 use Rattle.tpm_mac.specs.declared.algorithm.HashAlg.TheVariants.{Sha1, Sha256}
+use Rattle.tpm_types.specs.declared.public.ObjectType.{ObjectType}
+use Rattle.tpm_types.specs.declared.public.ObjectType.TheVariants as object
+use Rattle.tpm_types.specs.declared.rc.ResponseCode.{ResponseCode}
+use Rattle.tpm_types.specs.declared.rc.ResponseCode.TheVariants as code
 use Rattle.tpm_types.specs.declared.tag.Tag.{Tag}
 use Rattle.tpm_types.specs.declared.tag.Tag.TheVariants.{NoSessions, Sessions}
-use Rattle.tpm_types.specs.Algorithm.{hash_named, hash_number}
+use Rattle.tpm_types.specs.Algorithm.{hash_named, hash_number, hash_or_null_named, hash_or_null_number}
+use Rattle.tpm_types.specs.Public.{object_type_named, object_type_number}
+use Rattle.tpm_types.specs.Rc.{plain}
 use Rattle.tpm_types.specs.Tag.{tag_named, tag_number}
+use Rattle.tpm_types.proofs.Spelled.{Spelled}
 
 -- one link of a chain of tests: it names the first, whose number it is, or the links after it name one
 link : {A : Type 0} (number_of : A → ℕ) (number : ℕ) (first : A) (others : Option A) (x : A) → ((o : A) → others ≡ Some o → number ≡ number_of o) → cond (number == number_of first) (Some first) others ≡ Some x → number ≡ number_of x
@@ -41,3 +51,41 @@ tag_named-again Sessions = refl
 pub tag_number-small : (tag : Tag) → tag_number tag < 2 ^ 16
 tag_number-small NoSessions = omega arith
 tag_number-small Sessions = omega arith
+
+pub hash_or_null_named-is : (number : ℕ) (hash : Option HashAlg) → hash_or_null_named number ≡ Some hash → number ≡ hash_or_null_number hash
+hash_or_null_named-is number hash = link hash_or_null_number number (Some Sha1) _ hash λ o. link hash_or_null_number number (Some Sha256) _ o λ p. link hash_or_null_number number None None p (none hash_or_null_number number)
+
+pub hash_or_null_named-again : (hash : Option HashAlg) → hash_or_null_named (hash_or_null_number hash) ≡ Some hash
+hash_or_null_named-again (Some Sha1) = refl
+hash_or_null_named-again (Some Sha256) = refl
+hash_or_null_named-again None = refl
+
+pub hash_or_null_number-small : (hash : Option HashAlg) → hash_or_null_number hash < 2 ^ 16
+hash_or_null_number-small (Some hash) = hash_number-small hash
+hash_or_null_number-small None = omega arith
+
+pub object_type_named-is : (number : ℕ) (type : ObjectType) → object_type_named number ≡ Some type → number ≡ object_type_number type
+object_type_named-is number type = link object_type_number number object.KeyedHash _ type λ o. link object_type_number number object.SymCipher None o (none object_type_number number)
+
+pub object_type_named-again : (type : ObjectType) → object_type_named (object_type_number type) ≡ Some type
+object_type_named-again object.KeyedHash = refl
+object_type_named-again object.SymCipher = refl
+
+pub object_type_number-small : (type : ObjectType) → object_type_number type < 2 ^ 16
+object_type_number-small object.KeyedHash = omega arith
+object_type_number-small object.SymCipher = omega arith
+
+-- ---- a number of two bytes that names something
+
+pub named_spelled : {A : Type 0} (number_of : A → ℕ) (named : ℕ → Option A) (unknown : ResponseCode) → ((n : ℕ) (x : A) → named n ≡ Some x → n ≡ number_of x) → ((x : A) → named (number_of x) ≡ Some x) → ((x : A) → number_of x < 2 ^ 16) → Spelled (λ x. to_be_bytes w16 (number_of x)) (λ x. Unit {0}) (λ text. or_fault (number_at w16 text) (plain code.Insufficient) >>= λ number. ok_or (named number.0) (plain unknown) >>= λ one. Ok (one, number.1))
+named_spelled {A} number_of named unknown is found small = record {
+  taken = λ bytes x fits e.
+      let a = bind_ok (or_fault (number_at w16 bytes) (plain code.Insufficient)) (λ number. ok_or (named number.0) (plain unknown) >>= λ one. Ok (one, number.1)) x e in
+      let b = bind_ok (ok_or (named a.0.0) (plain unknown)) (λ one. Ok (one, a.0.1)) x a.2 in
+      let t = number_or_takes w16 (2 ^ 16) wide16 (plain code.Insufficient) bytes a.0 fits a.1 in
+      let same : a.0.0 ≡ number_of b.0 = is a.0.0 b.0 (ok_or_ok (named a.0.0) (plain unknown) b.0 b.1) in
+      let spelled : Takes bytes (to_be_bytes w16 (number_of b.0)) a.0.1 = subst (λ (n : ℕ). Takes bytes (to_be_bytes w16 n) a.0.1) same t.0 in
+      let made : A × List ℕ = (b.0, a.0.1) in
+      subst (λ (y : A × List ℕ). Takes bytes (to_be_bytes w16 (number_of y.0)) y.1 × Unit {0}) (ok_is made x b.2) (spelled, tt);
+  again = λ x rest _. rw (number_or_again w16 (2 ^ 16) wide16 (plain code.Insufficient) (number_of x) rest (small x), found x) refl;
+}

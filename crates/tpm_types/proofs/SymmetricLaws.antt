@@ -14,7 +14,7 @@ use Rattle.tpm_types.specs.Rc.{plain}
 use Rattle.tpm_types.proofs.SelectionLaws.{is_equal}
 
 -- which way a choice went
-chosen : {A E : Type 0} (b : Bool) (x y : Result A E) (z : A) → cond b x y ≡ Ok z → ((b ≡ true) × (x ≡ Ok z)) ⊎ ((b ≡ false) × (y ≡ Ok z))
+pub chosen : {A E : Type 0} (b : Bool) (x y : Result A E) (z : A) → cond b x y ≡ Ok z → ((b ≡ true) × (x ≡ Ok z)) ⊎ ((b ≡ false) × (y ≡ Ok z))
 chosen true x y z e = inl (refl, e)
 chosen false x y z e = inr (refl, e)
 

@@ -1,5 +1,5 @@
 -- The places of a command's own checks, which TPM 2.0 Library, Part 3, gives in its section.
-use Rattle.std.specs.Prelude.{ℕ}
+use Rattle.std.specs.Prelude.{ℕ, ◌==◌, if◌then◌else◌}
 use Rattle.tpm_types.specs.declared.action_check.ActionCheck.{ActionCheck}
 use Rattle.tpm_types.specs.declared.action_check.ActionCheck.TheVariants as action
 
@@ -12,3 +12,14 @@ action_number action.Fourth = 4
 action_number action.Fifth = 5
 action_number action.Sixth = 6
 action_number action.Seventh = 7
+
+-- the check of a place; the seventh for any other number
+abbrev pub action_named : ℕ → ActionCheck
+action_named number =
+    if number == 1 then action.First
+    else (if number == 2 then action.Second
+    else (if number == 3 then action.Third
+    else (if number == 4 then action.Fourth
+    else (if number == 5 then action.Fifth
+    else (if number == 6 then action.Sixth
+    else action.Seventh)))))

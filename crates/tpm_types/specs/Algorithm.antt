@@ -23,3 +23,23 @@ hash_at text = do
   number ← or_fault (number_at w16 text) (plain code.Insufficient)
   algorithm ← ok_or (hash_named number.0) (plain code.Hash)
   Ok (algorithm, number.1)
+
+-- the same with NULL, which is none
+
+abbrev pub hash_or_null_number : Option HashAlg → ℕ
+hash_or_null_number (Some algorithm) = hash_number algorithm
+hash_or_null_number None = 0x0010
+
+-- none, or the hash algorithm of a number, if it is served
+abbrev pub hash_or_null_named : ℕ → Option (Option HashAlg)
+hash_or_null_named number =
+    if number == 0x0004 then Some (Some Sha1)
+    else (if number == 0x000b then Some (Some Sha256)
+    else (if number == 0x0010 then Some None else None))
+
+-- none or a hash algorithm, and what is after it
+unfoldable pub hash_or_null_at : List ℕ → Result (Option HashAlg × List ℕ) Rc
+hash_or_null_at text = do
+  number ← or_fault (number_at w16 text) (plain code.Insufficient)
+  algorithm ← ok_or (hash_or_null_named number.0) (plain code.Hash)
+  Ok (algorithm, number.1)

@@ -14,15 +14,21 @@ use Rattle.tpm_types.specs.Shape.{Facts, is_sized, shape_with, unauthorized, use
 
 abbrev pub code_number : CommandCode → ℕ
 code_number code.HierarchyChangeAuth = 0x129
+code_number code.CreatePrimary = 0x131
 code_number code.PcrEvent = 0x13c
 code_number code.PcrReset = 0x13d
 code_number code.Startup = 0x144
 code_number code.PolicySecret = 0x151
+code_number code.Create = 0x153
+code_number code.Hmac = 0x155
+code_number code.Load = 0x157
+code_number code.Unseal = 0x15e
 code_number code.FlushContext = 0x165
 code_number code.PolicyAuthValue = 0x16b
 code_number code.PolicyCommandCode = 0x16c
 code_number code.PolicyLocality = 0x16f
 code_number code.PolicyOr = 0x171
+code_number code.ReadPublic = 0x173
 code_number code.StartAuthSession = 0x176
 code_number code.GetRandom = 0x17b
 code_number code.PcrRead = 0x17e
@@ -36,15 +42,21 @@ code_number code.PolicyPassword = 0x18c
 abbrev pub all_codes : List CommandCode
 all_codes =
     code.HierarchyChangeAuth
+    ∷ code.CreatePrimary
     ∷ code.PcrEvent
     ∷ code.PcrReset
     ∷ code.Startup
     ∷ code.PolicySecret
+    ∷ code.Create
+    ∷ code.Hmac
+    ∷ code.Load
+    ∷ code.Unseal
     ∷ code.FlushContext
     ∷ code.PolicyAuthValue
     ∷ code.PolicyCommandCode
     ∷ code.PolicyLocality
     ∷ code.PolicyOr
+    ∷ code.ReadPublic
     ∷ code.StartAuthSession
     ∷ code.GetRandom
     ∷ code.PcrRead
@@ -66,6 +78,16 @@ start_parameters =
     parameter.Buffer 32 ∷ parameter.Buffer 32 ∷ parameter.U8
     ∷ parameter.Symmetric ∷ parameter.Hash ∷ []
 
+-- inSensitive, inPublic, outsideInfo, creationPCR
+abbrev pub create_parameters : List ParameterKind
+create_parameters =
+    parameter.SensitiveCreate ∷ parameter.Public ∷ parameter.Buffer 34 ∷ parameter.Selection ∷ []
+
+-- the shape of a command whose only handle is an object, authorized in the role of the user
+abbrev pub on_object : List ParameterKind → Facts
+on_object parameters =
+    record (shape_with (user kind.Object ∷ []) parameters) { sized_answer = true }
+
 -- authHandle, policySession; nonceTPM, cpHashA, policyRef, expiration
 abbrev pub secret_handles : List HandleRule
 secret_handles = user kind.EntityNotNull ∷ unauthorized kind.PolicySession ∷ []
@@ -81,16 +103,32 @@ on_policy parameters = shape_with (unauthorized kind.PolicySession ∷ []) param
 -- every other fact of a command
 unfoldable pub shape_of : CommandCode → Facts
 shape_of code.HierarchyChangeAuth = shape_with (user kind.HierarchyAuth ∷ []) (parameter.Buffer 32 ∷ [])
+shape_of code.CreatePrimary =
+    record (shape_with (user kind.Hierarchy ∷ []) create_parameters) {
+      sized_answer = true;
+      answers_handle = true;
+      grows = true;
+    }
 shape_of code.PcrEvent = shape_with (user kind.PcrOrNull ∷ []) (parameter.Buffer 1024 ∷ [])
 shape_of code.PcrReset = shape_with (user kind.Pcr ∷ []) []
 shape_of code.Startup = record (shape_with [] (parameter.StartupType ∷ [])) { forbids_sessions = true }
 shape_of code.PolicySecret =
     record (shape_with secret_handles secret_parameters) { sized_answer = true }
+shape_of code.Create = on_object create_parameters
+shape_of code.Hmac = on_object (parameter.Buffer 1024 ∷ parameter.HashOrNull ∷ [])
+shape_of code.Load =
+    record (on_object (parameter.Buffer 256 ∷ parameter.Public ∷ [])) {
+      answers_handle = true;
+      grows = true;
+    }
+shape_of code.Unseal = on_object []
 shape_of code.FlushContext = record (shape_with [] (parameter.U32 ∷ [])) { forbids_sessions = true }
 shape_of code.PolicyAuthValue = on_policy []
 shape_of code.PolicyCommandCode = on_policy (parameter.U32 ∷ [])
 shape_of code.PolicyLocality = on_policy (parameter.U8 ∷ [])
 shape_of code.PolicyOr = on_policy (parameter.DigestList ∷ [])
+shape_of code.ReadPublic =
+    record (shape_with (unauthorized kind.Object ∷ []) []) { sized_answer = true }
 shape_of code.StartAuthSession =
     record (shape_with (unauthorized kind.Null ∷ unauthorized kind.Entity ∷ []) start_parameters) {
       sized_answer = true;

@@ -4,6 +4,8 @@ use Rattle.std.specs.Prelude.{Option, Some, None}
 use Rattle.tpm_types.specs.declared.handle.Handle.{Handle}
 use Rattle.tpm_types.specs.declared.handle.HierarchyAuth.{HierarchyAuth}
 use Rattle.tpm_types.specs.declared.handle.HierarchyAuth.TheVariants as auth
+use Rattle.tpm_types.specs.declared.handle.HierarchyHandle.{HierarchyHandle}
+use Rattle.tpm_types.specs.declared.handle.HierarchyHandle.TheVariants as hierarchy
 use Rattle.tpm_types.specs.declared.pcr.PcrIndex.{PcrIndex}
 use Rattle.tpm_types.specs.declared.handle.SessionKind.{SessionKind}
 use Rattle.tpm_types.specs.declared.handle.SessionKind.TheVariants.{Password, Session, Other}
@@ -32,6 +34,23 @@ hierarchy_auth_of handle =
     else (if handle.number == 0x4000_000a then Some auth.Lockout
     else (if handle.number == 0x4000_000b then Some auth.Endorsement
     else (if handle.number == 0x4000_000c then Some auth.Platform
+    else None)))
+
+-- the handle of a hierarchy: TPM_RH_OWNER, TPM_RH_ENDORSEMENT, TPM_RH_PLATFORM or TPM_RH_NULL
+-- (Part 2, section 9.13: TPMI_RH_HIERARCHY+)
+abbrev pub hierarchy_handle : HierarchyHandle → Handle
+hierarchy_handle hierarchy.Owner = record { number = 0x4000_0001 }
+hierarchy_handle hierarchy.Endorsement = record { number = 0x4000_000b }
+hierarchy_handle hierarchy.Platform = record { number = 0x4000_000c }
+hierarchy_handle hierarchy.Null = null_handle
+
+-- the hierarchy that a handle names
+abbrev pub hierarchy_of : Handle → Option HierarchyHandle
+hierarchy_of handle =
+    if handle.number == 0x4000_0001 then Some hierarchy.Owner
+    else (if handle.number == 0x4000_000b then Some hierarchy.Endorsement
+    else (if handle.number == 0x4000_000c then Some hierarchy.Platform
+    else (if handle.number == null_handle.number then Some hierarchy.Null
     else None)))
 
 -- the PCR that a handle names: handles 0 to 23 (TPM_HT_PCR)

@@ -21,6 +21,12 @@ pub mod ActionCheck
 pub mod Buffer
 pub mod Symmetric
 pub mod AuthValue
+pub mod Filled
+pub mod ObjectAttributes
+pub mod Public
+pub mod Sensitive
+pub mod SensitiveCreate
+pub mod CreationData
 pub use Rattle.tpm_bytes.specs.Reading
 pub use Rattle.tpm_bytes.specs.Writing
 pub use Rattle.tpm_mac.specs.Digest

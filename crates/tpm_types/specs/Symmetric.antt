@@ -1,6 +1,6 @@
 -- Symmetric definitions. TPM 2.0 Library, Part 2, section 11.1.6 (TPMT_SYM_DEF) and section 6.3
 -- (TPM_ALG_ID: NULL 0010, AES 0006, CFB 0043).
-use Rattle.std.specs.Prelude.{ℕ, ◌==◌, not, List, ◌++◌, if◌then◌else◌, Result, Ok, Err}
+use Rattle.std.specs.Prelude.{ℕ, ◌==◌, not, Bool, true, false, List, ◌++◌, if◌then◌else◌, Result, Ok, Err}
 use Rattle.std.specs.Int.{w16, to_be_bytes}
 use Rattle.tpm_bytes.specs.Reading.{◌>>=◌, number_at, or_fault, refused_if}
 use Rattle.tpm_types.specs.declared.rc.Rc.{Rc}
@@ -8,6 +8,10 @@ use Rattle.tpm_types.specs.declared.rc.ResponseCode.TheVariants as code
 use Rattle.tpm_types.specs.declared.symmetric.SymmetricDefinition.{SymmetricDefinition}
 use Rattle.tpm_types.specs.declared.symmetric.SymmetricDefinition.TheVariants.{Null, Aes128Cfb}
 use Rattle.tpm_types.specs.Rc.{plain}
+
+abbrev pub is_null : SymmetricDefinition → Bool
+is_null Null = true
+is_null Aes128Cfb = false
 
 -- NULL alone; or AES, the bits of its key, and its mode
 unfoldable pub symmetric_text : SymmetricDefinition → List ℕ

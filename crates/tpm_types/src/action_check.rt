@@ -13,12 +13,27 @@ pub enum ActionCheck {
 }
 
 impl ActionCheck {
-    ghost use Rattle.tpm_types.specs.ActionCheck.{action_number};
+    ghost use Rattle.tpm_types.specs.ActionCheck.{action_named, action_number};
 
     /// Its place, from 1.
     pub fn number(self) -> u8
         ensures { result ≡ action_number self }
     {
         self as u8
+    }
+
+    /// The check of this place; the seventh where there is none.
+    pub fn named(number: u8) -> ActionCheck
+        ensures { result ≡ action_named number }
+    {
+        match number {
+            1 => ActionCheck::First,
+            2 => ActionCheck::Second,
+            3 => ActionCheck::Third,
+            4 => ActionCheck::Fourth,
+            5 => ActionCheck::Fifth,
+            6 => ActionCheck::Sixth,
+            _ => ActionCheck::Seventh,
+        }
     }
 }

@@ -1,6 +1,7 @@
 ghost use Rattle.std.specs.Prelude.{◌≡◌};
 ghost use Rattle.tpm_bytes.specs.Reading.{Reads};
 ghost use Rattle.tpm_types.specs.Algorithm.{hash_at, hash_named, hash_number};
+ghost use Rattle.tpm_types.specs.Algorithm.{hash_or_null_at, hash_or_null_named, hash_or_null_number};
 
 use crate::rc::{Rc, ResponseCode};
 use tpm_bytes::cursor::Cursor;
@@ -38,6 +39,43 @@ pub fn read_hash(text: &mut Cursor) -> Result<HashAlg, Rc>
         .u16()
         .map_err(|_| ResponseCode::Insufficient.anywhere())?;
     let algorithm = hash_named(number).ok_or(ResponseCode::Hash.anywhere())?;
+    *text = ahead;
+    Ok(algorithm)
+}
+
+/// The number of a hash algorithm, or of NULL where there is none.
+pub fn hash_or_null_number(algorithm: Option<HashAlg>) -> u16
+    ensures { result ≡ hash_or_null_number algorithm }
+{
+    match algorithm {
+        Some(algorithm) => hash_number(algorithm),
+        None => 0x0010,
+    }
+}
+
+/// None for the number of NULL, or the hash algorithm of this number, if it is served.
+pub fn hash_or_null_named(number: u16) -> Option<Option<HashAlg>>
+    ensures { result ≡ hash_or_null_named number }
+{
+    match number {
+        0x0004 => Some(Some(HashAlg::Sha1)),
+        0x000b => Some(Some(HashAlg::Sha256)),
+        0x0010 => Some(None),
+        _ => None,
+    }
+}
+
+/// Reads a hash algorithm or NULL (TPMI_ALG_HASH+, Part 2, section 9): INSUFFICIENT where it is
+/// cut, HASH where it is neither NULL nor a served algorithm.
+#[tactic(auto, unfolding(crate::specs::Algorithm::hash_or_null_at))]
+pub fn read_hash_or_null(text: &mut Cursor) -> Result<Option<HashAlg>, Rc>
+    ensures { Reads (λ algorithm. algorithm) (hash_or_null_at text.old) text.old result text.new }
+{
+    let mut ahead = Cursor::new(text.rest());
+    let number = ahead
+        .u16()
+        .map_err(|_| ResponseCode::Insufficient.anywhere())?;
+    let algorithm = hash_or_null_named(number).ok_or(ResponseCode::Hash.anywhere())?;
     *text = ahead;
     Ok(algorithm)
 }

@@ -1,7 +1,8 @@
 ghost use Rattle.std.specs.Prelude.{◌≡◌, ◌≤◌, ◌==◌, IfSome, length};
 
 use crate::shape::ParameterKind::{
-    Buffer, DigestList, Digests, Hash, Selection, StartupType, Symmetric, U8, U16, U32,
+    Buffer, DigestList, Digests, Hash, HashOrNull, Public, Selection, SensitiveCreate, StartupType,
+    Symmetric, U8, U16, U32,
 };
 use crate::shape::{HandleKind, HandleRule, Role, Shape};
 
@@ -10,15 +11,21 @@ use crate::shape::{HandleKind, HandleRule, Role, Shape};
 #[derive(Clone, Copy, Debug, PartialEq, Eq)]
 pub enum CommandCode {
     HierarchyChangeAuth = 0x129,
+    CreatePrimary = 0x131,
     PcrEvent = 0x13c,
     PcrReset = 0x13d,
     Startup = 0x144,
     PolicySecret = 0x151,
+    Create = 0x153,
+    Hmac = 0x155,
+    Load = 0x157,
+    Unseal = 0x15e,
     FlushContext = 0x165,
     PolicyAuthValue = 0x16b,
     PolicyCommandCode = 0x16c,
     PolicyLocality = 0x16f,
     PolicyOr = 0x171,
+    ReadPublic = 0x173,
     StartAuthSession = 0x176,
     GetRandom = 0x17b,
     PcrRead = 0x17e,
@@ -59,6 +66,21 @@ const USER_ENTITY: HandleRule = HandleRule {
     role: Some(Role::User),
 };
 
+const USER_HIERARCHY: HandleRule = HandleRule {
+    kind: HandleKind::Hierarchy,
+    role: Some(Role::User),
+};
+
+const USER_OBJECT: HandleRule = HandleRule {
+    kind: HandleKind::Object,
+    role: Some(Role::User),
+};
+
+const OBJECT: HandleRule = HandleRule {
+    kind: HandleKind::Object,
+    role: None,
+};
+
 const POLICY_SESSION: HandleRule = HandleRule {
     kind: HandleKind::PolicySession,
     role: None,
@@ -85,17 +107,23 @@ impl CommandCode {
     ghost use Rattle.tpm_types.specs.Shape.{facts_of};
 
     /// All of them, ascending by number.
-    pub const ALL: [CommandCode; 18] = [
+    pub const ALL: [CommandCode; 24] = [
         CommandCode::HierarchyChangeAuth,
+        CommandCode::CreatePrimary,
         CommandCode::PcrEvent,
         CommandCode::PcrReset,
         CommandCode::Startup,
         CommandCode::PolicySecret,
+        CommandCode::Create,
+        CommandCode::Hmac,
+        CommandCode::Load,
+        CommandCode::Unseal,
         CommandCode::FlushContext,
         CommandCode::PolicyAuthValue,
         CommandCode::PolicyCommandCode,
         CommandCode::PolicyLocality,
         CommandCode::PolicyOr,
+        CommandCode::ReadPublic,
         CommandCode::StartAuthSession,
         CommandCode::GetRandom,
         CommandCode::PcrRead,
@@ -137,6 +165,13 @@ impl CommandCode {
     {
         match self {
             CommandCode::HierarchyChangeAuth => shape!([USER_HIERARCHY_AUTH], [Buffer(32)]),
+            CommandCode::CreatePrimary => shape!(
+                [USER_HIERARCHY],
+                [SensitiveCreate, Public, Buffer(34), Selection],
+                sized_answer,
+                answers_handle,
+                grows
+            ),
             CommandCode::PcrEvent => shape!([USER_PCR_OR_NULL], [Buffer(1024)]),
             CommandCode::PcrReset => shape!([USER_PCR], []),
             CommandCode::Startup => shape!([], [StartupType], forbids_sessions),
@@ -145,11 +180,26 @@ impl CommandCode {
                 [Buffer(32), Buffer(32), Buffer(32), U32],
                 sized_answer
             ),
+            CommandCode::Create => shape!(
+                [USER_OBJECT],
+                [SensitiveCreate, Public, Buffer(34), Selection],
+                sized_answer
+            ),
+            CommandCode::Hmac => shape!([USER_OBJECT], [Buffer(1024), HashOrNull], sized_answer),
+            CommandCode::Load => shape!(
+                [USER_OBJECT],
+                [Buffer(256), Public],
+                sized_answer,
+                answers_handle,
+                grows
+            ),
+            CommandCode::Unseal => shape!([USER_OBJECT], [], sized_answer),
             CommandCode::FlushContext => shape!([], [U32], forbids_sessions),
             CommandCode::PolicyAuthValue => shape!([POLICY_SESSION], []),
             CommandCode::PolicyCommandCode => shape!([POLICY_SESSION], [U32]),
             CommandCode::PolicyLocality => shape!([POLICY_SESSION], [U8]),
             CommandCode::PolicyOr => shape!([POLICY_SESSION], [DigestList]),
+            CommandCode::ReadPublic => shape!([OBJECT], [], sized_answer),
             CommandCode::StartAuthSession => shape!(
                 [NULL, ENTITY],
                 [Buffer(32), Buffer(32), U8, Symmetric, Hash],

@@ -33,8 +33,37 @@ pub enum HierarchyAuth {
     Platform,
 }
 
+/// A hierarchy, to which objects belong: TPMI_RH_HIERARCHY+ of Part 2, section 9.13.
+#[derive(Clone, Copy, Debug, PartialEq, Eq)]
+pub enum HierarchyHandle {
+    /// TPM_RH_OWNER: the storage hierarchy.
+    Owner,
+    /// TPM_RH_ENDORSEMENT.
+    Endorsement,
+    /// TPM_RH_PLATFORM.
+    Platform,
+    /// TPM_RH_NULL.
+    Null,
+}
+
+impl HierarchyHandle {
+    ghost use Rattle.tpm_types.specs.Handle.{hierarchy_handle};
+
+    /// The handle that names it.
+    pub fn handle(self) -> Handle
+        ensures { result ≡ hierarchy_handle self }
+    {
+        match self {
+            HierarchyHandle::Owner => Handle::OWNER,
+            HierarchyHandle::Endorsement => Handle::ENDORSEMENT,
+            HierarchyHandle::Platform => Handle::PLATFORM,
+            HierarchyHandle::Null => Handle::NULL,
+        }
+    }
+}
+
 impl Handle {
-    ghost use Rattle.tpm_types.specs.Handle.{SomePcrOf, handle_type, hierarchy_auth_of, pcr_of, session_kind};
+    ghost use Rattle.tpm_types.specs.Handle.{SomePcrOf, handle_type, hierarchy_auth_of, hierarchy_of, pcr_of, session_kind};
 
     /// TPM_RS_PW, section 7.4.
     pub const PASSWORD: Handle = Handle {
@@ -97,6 +126,19 @@ impl Handle {
             Handle::LOCKOUT => Some(HierarchyAuth::Lockout),
             Handle::ENDORSEMENT => Some(HierarchyAuth::Endorsement),
             Handle::PLATFORM => Some(HierarchyAuth::Platform),
+            _ => None,
+        }
+    }
+
+    /// The hierarchy that the handle names, if it names one.
+    pub fn hierarchy(self) -> Option<HierarchyHandle>
+        ensures { result ≡ hierarchy_of self }
+    {
+        match self {
+            Handle::OWNER => Some(HierarchyHandle::Owner),
+            Handle::ENDORSEMENT => Some(HierarchyHandle::Endorsement),
+            Handle::PLATFORM => Some(HierarchyHandle::Platform),
+            Handle::NULL => Some(HierarchyHandle::Null),
             _ => None,
         }
     }

@@ -14,10 +14,14 @@ pub enum HandleKind {
     Null,
     /// TPMI_RH_HIERARCHY_AUTH: a hierarchy, or TPM_RH_LOCKOUT.
     HierarchyAuth,
+    /// TPMI_RH_HIERARCHY+: a hierarchy, or TPM_RH_NULL.
+    Hierarchy,
     /// TPMI_DH_ENTITY+: whatever has an authorization value, or TPM_RH_NULL.
     Entity,
     /// TPMI_DH_ENTITY: the same without TPM_RH_NULL.
     EntityNotNull,
+    /// TPMI_DH_OBJECT: a transient or a persistent object.
+    Object,
     /// TPMI_SH_POLICY: a policy session, a trial one too.
     PolicySession,
 }
@@ -43,8 +47,10 @@ impl HandleKind {
             HandleKind::PcrOrNull => handle.pcr().is_some() || handle == Handle::NULL,
             HandleKind::Null => handle == Handle::NULL,
             HandleKind::HierarchyAuth => handle.hierarchy_auth().is_some(),
+            HandleKind::Hierarchy => handle.hierarchy().is_some(),
             HandleKind::Entity => is_entity(handle),
             HandleKind::EntityNotNull => is_entity(handle) && handle != Handle::NULL,
+            HandleKind::Object => handle.type_byte() == 0x80 || handle.type_byte() == 0x81,
             HandleKind::PolicySession => handle.type_byte() == 0x03,
         }
     }
@@ -78,6 +84,8 @@ pub enum ParameterKind {
     U32,
     /// TPMI_ALG_HASH.
     Hash,
+    /// TPMI_ALG_HASH+: that, or NULL.
+    HashOrNull,
     /// TPMT_SYM_DEF.
     Symmetric,
     /// TPML_PCR_SELECTION.
@@ -88,6 +96,10 @@ pub enum ParameterKind {
     DigestList,
     /// A TPM2B of at most so many bytes.
     Buffer(u16),
+    /// TPM2B_SENSITIVE_CREATE.
+    SensitiveCreate,
+    /// TPM2B_PUBLIC.
+    Public,
 }
 
 impl ParameterKind {
@@ -98,12 +110,14 @@ impl ParameterKind {
         ensures { result ≡ is_sized self }
     {
         match self {
-            ParameterKind::Buffer(_) => true,
+            ParameterKind::Buffer(_) | ParameterKind::SensitiveCreate | ParameterKind::Public =>
+                true,
             ParameterKind::StartupType
             | ParameterKind::U8
             | ParameterKind::U16
             | ParameterKind::U32
             | ParameterKind::Hash
+            | ParameterKind::HashOrNull
             | ParameterKind::Symmetric
             | ParameterKind::Selection
             | ParameterKind::Digests

@@ -11,6 +11,8 @@ mod bytes;
 mod ciphers;
 mod counters;
 mod digests;
+mod object_rows;
+mod objects;
 mod policies;
 mod rows;
 mod session_parts;

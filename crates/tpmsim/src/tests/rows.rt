@@ -8,11 +8,11 @@ use tpm_machine::machine::Machine;
 use tpm_record::list_keep::ListKeep;
 use tpm_types::locality::Locality;
 
-const NO_SESSIONS: u16 = 0x8001;
+pub const NO_SESSIONS: u16 = 0x8001;
 
-const SESSIONS: u16 = 0x8002;
+pub const SESSIONS: u16 = 0x8002;
 
-const STARTUP: u32 = 0x144;
+pub const STARTUP: u32 = 0x144;
 
 const GET_RANDOM: u32 = 0x17b;
 
@@ -26,7 +26,7 @@ const PCR_RESET: u32 = 0x13d;
 
 const START_AUTH_SESSION: u32 = 0x176;
 
-const FLUSH_CONTEXT: u32 = 0x165;
+pub const FLUSH_CONTEXT: u32 = 0x165;
 
 const HIERARCHY_CHANGE_AUTH: u32 = 0x129;
 
@@ -48,13 +48,13 @@ const POLICY_GET_DIGEST: u32 = 0x189;
 
 const POLICY_PASSWORD: u32 = 0x18c;
 
-const CLEAR: &[u8] = &[0, 0];
+pub const CLEAR: &[u8] = &[0, 0];
 
 const STATE: &[u8] = &[0, 1];
 
 const HANDLE_NULL: &[u8] = &[0x40, 0, 0, 7];
 
-const OWNER: &[u8] = &[0x40, 0, 0, 1];
+pub const OWNER: &[u8] = &[0x40, 0, 0, 1];
 
 /// A caller's nonce of sixteen zeros.
 const NONCE: &[u8] = &[0, 16, 0, 0, 0, 0, 0, 0, 0, 0, 0, 0, 0, 0, 0, 0, 0, 0];
@@ -116,7 +116,7 @@ const PCR_16: &[u8] = &[0, 0, 0, 16];
 const PCR_17: &[u8] = &[0, 0, 0, 17];
 
 /// An area of one entry, the empty password.
-const PASSWORD: &[u8] = &[0, 0, 0, 9, 0x40, 0, 0, 9, 0, 0, 1, 0, 0];
+pub const PASSWORD: &[u8] = &[0, 0, 0, 9, 0x40, 0, 0, 9, 0, 0, 1, 0, 0];
 
 /// The same with the password 01.
 const PASSWORD_01: &[u8] = &[0, 0, 0, 10, 0x40, 0, 0, 9, 0, 0, 1, 0, 1, 1];
@@ -125,20 +125,20 @@ const PASSWORD_01: &[u8] = &[0, 0, 0, 10, 0x40, 0, 0, 9, 0, 0, 1, 0, 1, 1];
 const RESERVED: &[u8] = &[0, 0, 0, 9, 0x40, 0, 0, 9, 0, 0, 8, 0, 0];
 
 /// A list with no digests or banks.
-const NONE: &[u8] = &[0, 0, 0, 0];
+pub const NONE: &[u8] = &[0, 0, 0, 0];
 
-const NO_DATA: &[u8] = &[0, 0];
+pub const NO_DATA: &[u8] = &[0, 0];
 
 /// A command, built of its tag, its code and its other fields, and the check that must be reported.
 #[derive(Clone, Copy)]
-struct Wanted<'a> {
+pub struct Wanted<'a> {
     tag: u16,
     code: u32,
     fields: &'a [&'a [u8]],
     check: &'a str,
 }
 
-fn case<'a>(tag: u16, code: u32, fields: &'a [&'a [u8]], check: &'a str) -> Wanted<'a> {
+pub fn case<'a>(tag: u16, code: u32, fields: &'a [&'a [u8]], check: &'a str) -> Wanted<'a> {
     Wanted {
         tag,
         code,
@@ -326,7 +326,7 @@ fn each_check_of_policies_is_reported(rt: HostRuntime) -> Result<(), Fail> {
 }
 
 /// Executes the commands on a new device, and compares each row that is reported.
-fn check_rows(rt: &impl Abort, alloc: Global, cases: &[Wanted]) -> Result<(), Fail> {
+pub fn check_rows(rt: &impl Abort, alloc: Global, cases: &[Wanted]) -> Result<(), Fail> {
     let mut machine: Machine<ListKeep> = Machine::manufacture(alloc, &[0; 256])?;
     for case in cases {
         let buffer = case.buffer(alloc)?;

@@ -1,7 +1,8 @@
 use Rattle.std.proofs.Common.{◌≡◌, ℕ, ◌+◌, ◌-◌, ◌*◌, ◌<◌, ◌∙◌, List, add-one, ap, arith, drop, length, min, refl, sym, take}
 use Rattle.tpm_aes.proofs.TextBlocks.{block_left, done_to_all, done_to_more, done_to_none, length-block_at, pieces_to}
+use Rattle.tpm_aes.proofs.Undone.{cfb_redone}
 use Rattle.tpm_aes.proofs.cipher.Aes128.cfb_decrypt.Goals as goal
-use Rattle.tpm_aes.specs.Cfb.{block_at, block_before, plain_block}
+use Rattle.tpm_aes.specs.Cfb.{block_at, block_before, cfb_decrypt_of, cfb_encrypt_of, plain_block}
 use Rattle.tpm_aes.specs.Cipher.{aes_of, xor_of}
 
 pub loop-index-init : goal.loop-index-init
@@ -32,8 +33,18 @@ loop-index-preserved c =
           ∙ left ∙ ap (block_before iv text) (sym (add-one i)),
     )
 
-pub returns : goal.returns
+pub returns-clause-undone : goal.returns-clause-undone
 unfolding pieces_to
-returns c =
+returns-clause-undone c =
+    let key = c.args.self.now in
+    let iv = c.args.iv.now in
+    let text = c.args.text.now in
+    let value : c.loop-index.text ≡ cfb_decrypt_of key iv text =
+    done_to_all (plain_block key iv text) text c.loop-index.text c.loop-index.index c.loop-index.invariant.0 (omega arith) in
+    ap (cfb_encrypt_of key iv) value ∙ cfb_redone key iv text (ap length (sym value) ∙ c.loop-index.invariant.0.size)
+
+pub returns-clause-value : goal.returns-clause-value
+unfolding pieces_to
+returns-clause-value c =
     done_to_all (plain_block c.args.self.now c.args.iv.now c.args.text.now) c.args.text.now
     c.loop-index.text c.loop-index.index c.loop-index.invariant.0 (omega arith)

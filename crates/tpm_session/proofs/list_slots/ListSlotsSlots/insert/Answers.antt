@@ -11,7 +11,7 @@ returns-in-Some c =
     let is : position is_none cells ≡ Some c.in-Some.place = ap (position is_none) (sym same) ∙ sym c.in-Some.ensures.value in
     let below : c.in-Some.place < length cells = rw (← same) c.in-Some.ensures.within in
     let few = c.args.self.now.few in
-    (free_among cells c.in-Some.place is, omega arith, padded-set cells c.in-Some.place (Some c.args.session) below)
+    (free_among 16 cells c.in-Some.place is, omega arith, padded-set 16 cells c.in-Some.place (Some c.args.session) below)
 
 pub returns-in-Ok : goal.returns-in-Ok
 returns-in-Ok c =
@@ -21,7 +21,7 @@ returns-in-Ok c =
     let size : c.len-place.result ≡ length cells = search rules in
     let most = c.args.self.now.few in
     let few : length cells < 16 = omega arith in
-    rw size (free_behind cells few is, few, ap padded c.in-Ok.ensures.items ∙ padded-push cells (Some c.args.session) few)
+    rw size (free_behind 16 cells few is, few, ap padded c.in-Ok.ensures.items ∙ padded-push 16 cells (Some c.args.session) few)
 
 pub returns-in-Err : goal.returns-in-Err
 returns-in-Err c =
@@ -31,4 +31,4 @@ returns-in-Err c =
     let size : c.len-place.result ≡ length cells = search rules in
     let most = c.args.self.now.few in
     let few : length cells < 16 = omega arith in
-    (length cells, free_behind cells few is, refl, ap padded c.in-Err.ensures.items)
+    (length cells, free_behind 16 cells few is, refl, ap padded c.in-Err.ensures.items)

@@ -1,0 +1,33 @@
+#!/bin/sh
+# Measures the commands of objects with prepared buffers: commands per second. Needs python3, GNU
+# time, and rt where the program is not built yet. Not part of the gate.
+set -eu
+
+top=$(CDPATH='' cd "$(dirname "$0")/.." && pwd -P)
+program=$top/crates/tpmsim/out/tpmsim
+folder=$(mktemp -d)
+trap 'rm -rf "$folder"' EXIT
+
+# The least time of five runs of a script, in seconds.
+least() {
+    for _ in 1 2 3 4 5; do
+        /usr/bin/time -f '%e' -o "$folder/time" "$program" run "$1" >"$folder/answers"
+        cat "$folder/time"
+    done | sort -n | head -n 1
+}
+
+"$top/tpmsim" run /dev/null # builds the program where it is not built
+for measured in CreatePrimary:20000 Create:2000 Load:2000 Unseal:100000 HMAC:10000; do
+    command=${measured%:*}
+    count=${measured#*:}
+    python3 "$top/bench/object_script.py" "$command" 0 >"$folder/before"
+    python3 "$top/bench/object_script.py" "$command" "$count" >"$folder/script"
+    before=$(least "$folder/before")
+    time=$(least "$folder/script")
+    if grep '^80010000000a' "$folder/answers" | grep -qv '^80010000000a00000000$'; then
+        echo "$0: the program refused a command" >&2
+        exit 1
+    fi
+    echo "$command $count $before $time" | awk '{ s = $4 - $3; printf \
+        "%d %s: %.2f s, %d commands per second\n", $2, $1, s, $2 / s }'
+done

@@ -1,0 +1,57 @@
+-- The checks of a template and of a creation among a command's own. TPM 2.0 Library, Part 3,
+-- section 12 (object commands); which code refuses what, and in which order, is this device's own.
+use Rattle.std.specs.Prelude.{ℕ, ◌+◌, Bool, Result, Ok, Err}
+use Rattle.tpm_object.specs.declared.creation.CreationFault.{CreationFault}
+use Rattle.tpm_object.specs.declared.creation.CreationFault.TheVariants as creation
+use Rattle.tpm_object.specs.declared.template.TemplateFault.{TemplateFault}
+use Rattle.tpm_object.specs.declared.template.TemplateFault.TheVariants as template
+use Rattle.tpm_object.specs.Creation.{creation_passes}
+use Rattle.tpm_object.specs.Template.{template_passes}
+use Rattle.tpm_types.specs.declared.public.Public.{Public}
+use Rattle.tpm_types.specs.SensitiveCreate.{SensitiveValues}
+use Rattle.tpm_types.specs.ActionCheck.{action_named}
+use Rattle.tpm_types.specs.declared.rc.Place.TheVariants as place
+use Rattle.tpm_types.specs.declared.rc.Rc.{Rc}
+use Rattle.tpm_types.specs.declared.rc.ResponseCode.{ResponseCode}
+use Rattle.tpm_types.specs.declared.rc.ResponseCode.TheVariants as code
+use Rattle.tpm_types.specs.Rc.{at, plain}
+use Rattle.tpm_auth.specs.declared.check.Check.TheVariants as check
+use Rattle.tpm_auth.specs.declared.refused.Refused.{Refused}
+use Rattle.tpm_auth.specs.Refused.{refusal}
+
+-- the refusal by a command's check of this number
+abbrev pub action_refusal : ℕ → Rc → Refused
+action_refusal n rc = refusal (check.Action (action_named n)) rc
+
+-- and by this code of a parameter
+abbrev pub parameter_fault : (n parameter : ℕ) → ResponseCode → Refused
+parameter_fault n parameter fault = action_refusal n (at (place.Parameter parameter) (plain fault))
+
+-- the refusal of a template, or of a public area to be loaded, by its checks; so many of the
+-- command's checks come before them. It is the second parameter
+abbrev pub template_refusal : (before : ℕ) → TemplateFault → Refused
+template_refusal before template.AuthPolicySize = parameter_fault (before + 1) 2 code.Size
+template_refusal before template.Attributes = parameter_fault (before + 2) 2 code.Attributes
+template_refusal before template.Scheme = parameter_fault (before + 3) 2 code.Scheme
+
+-- and of what is given beside a template, the first parameter; what conflicts with the template's
+-- attributes is a fault of these
+abbrev pub creation_refusal : (before : ℕ) → CreationFault → Refused
+creation_refusal before creation.AuthValueSize = parameter_fault (before + 1) 1 code.Size
+creation_refusal before creation.Attributes = parameter_fault (before + 2) 2 code.Attributes
+creation_refusal before creation.DataSize = parameter_fault (before + 3) 1 code.Size
+
+-- a check that refuses by its own fault
+abbrev or_refusal : {X F : Type 0} → (F → Refused) → Result X F → Result X Refused
+or_refusal refusal (Ok x) = Ok x
+or_refusal refusal (Err fault) = Err (refusal fault)
+
+-- the checks of a public area, and of what is given beside a template
+abbrev pub public_passes : (before : ℕ)
+    → (parent_is_fixed : Bool) → Public → Result (Unit {0}) Refused
+public_passes before parent_is_fixed p =
+    or_refusal (template_refusal before) (template_passes parent_is_fixed p)
+
+abbrev pub given_passes : (before : ℕ) → SensitiveValues → Public → Result (Unit {0}) Refused
+given_passes before given template =
+    or_refusal (creation_refusal before) (creation_passes given template)

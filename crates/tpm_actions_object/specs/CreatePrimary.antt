@@ -1,0 +1,55 @@
+-- TPM2_CreatePrimary. TPM 2.0 Library, Part 3, section 24.1.
+use Rattle.std.specs.Prelude.{ℕ, ◌++◌, true, Some, Result, Ok, ok_or}
+use Rattle.tpm_bytes.specs.Reading.{◌>>=◌}
+use Rattle.tpm_bytes.specs.Writing.{sized_text}
+use Rattle.tpm_name.specs.Name.{object_name}
+use Rattle.tpm_object.specs.declared.object.Object.{Object}
+use Rattle.tpm_object.specs.Primary.{primary_object}
+use Rattle.tpm_types.specs.declared.handle.Handle.{Handle}
+use Rattle.tpm_types.specs.declared.handle.HierarchyHandle.{HierarchyHandle}
+use Rattle.tpm_types.specs.declared.rc.ResponseCode.TheVariants as code
+use Rattle.tpm_types.specs.Handle.{hierarchy_of}
+use Rattle.tpm_types.specs.Rc.{plain}
+use Rattle.tpm_record.specs.Hierarchy.{secrets_of}
+use Rattle.tpm_record.specs.Objects.{object_handle, with_object}
+use Rattle.tpm_record.specs.Record.{Record}
+use Rattle.tpm_auth.specs.declared.check.Check.TheVariants as check
+use Rattle.tpm_auth.specs.declared.refused.Refused.{Refused}
+use Rattle.tpm_auth.specs.Refused.{refusal}
+use Rattle.tpm_actions.specs.Request.{Request, first_handle}
+use Rattle.tpm_actions.specs.Rows.{Success}
+use Rattle.tpm_actions_object.specs.Checks.{given_passes, public_passes}
+use Rattle.tpm_actions_object.specs.Creation.{Parameters, creation_text, hierarchy_parent, parameters_in}
+use Rattle.tpm_actions_object.specs.Loaded.{place_for}
+
+-- the hierarchy of a handle; for another handle no row acts. That does not occur: the general
+-- checks have seen that it names one
+abbrev pub named_hierarchy : Handle → Result HierarchyHandle Refused
+named_hierarchy handle = ok_or (hierarchy_of handle) (refusal check.Handles (plain code.Failure))
+
+-- the object that is derived from the hierarchy's seed
+abbrev pub derived : Record → HierarchyHandle → Parameters → Object
+derived r hierarchy p =
+    primary_object hierarchy (secrets_of r.fixed.hierarchies hierarchy).seed p.template p.given
+
+-- the object in its place; answered: its handle, what there is to say of its creation, and its Name
+abbrev pub primary_success : Record → Request → HierarchyHandle → Parameters → ℕ → Object → Success
+primary_success r q hierarchy p place object = record {
+  handle = Some (object_handle place);
+  answer =
+      creation_text r q.locality (hierarchy_parent hierarchy) p object.public
+      ++ sized_text (object_name object.public);
+  drawn = 0;
+  after = record r { objects = with_object r.objects place object };
+}
+
+-- primaryHandle. A1 to A3: the template; A4 to A6: what is given; A7: there is no place
+unfoldable pub create_primary_row : Record → Request → Result Success Refused
+create_primary_row r q = do
+  handle ← first_handle q.handles
+  hierarchy ← named_hierarchy handle
+  p ← parameters_in q.parameters
+  t ← public_passes 0 true p.template
+  c ← given_passes 3 p.given p.template
+  place ← place_for 7 r
+  Ok (primary_success r q hierarchy p place (derived r hierarchy p))

@@ -1,0 +1,63 @@
+-- TPM2_HMAC. TPM 2.0 Library, Part 3, section 15.5.
+use Rattle.std.specs.Prelude.{◌==◌, Bool, Option, Some, None, if◌then◌else◌, not, Result, Ok, Err, ok_or}
+use Rattle.tpm_bytes.specs.Reading.{◌>>=◌, refused_if}
+use Rattle.tpm_bytes.specs.Writing.{sized_text}
+use Rattle.tpm_mac.specs.declared.algorithm.HashAlg.{HashAlg}
+use Rattle.tpm_mac.specs.Hmac.{hmac_of}
+use Rattle.tpm_types.specs.declared.object_attributes.ObjectAttribute.TheVariants as attribute
+use Rattle.tpm_types.specs.declared.public.KeyedHashScheme.{KeyedHashScheme}
+use Rattle.tpm_types.specs.declared.public.KeyedHashScheme.TheVariants as scheme
+use Rattle.tpm_types.specs.declared.public.PublicParameters.{PublicParameters}
+use Rattle.tpm_types.specs.declared.public.PublicParameters.TheVariants.{KeyedHash, SymCipher}
+use Rattle.tpm_types.specs.declared.rc.Place.TheVariants as place
+use Rattle.tpm_types.specs.declared.rc.ResponseCode.TheVariants as code
+use Rattle.tpm_types.specs.Algorithm.{hash_number, hash_or_null_at}
+use Rattle.tpm_types.specs.Buffer.{buffer_at}
+use Rattle.tpm_types.specs.ObjectAttributes.{has}
+use Rattle.tpm_types.specs.Rc.{at, plain}
+use Rattle.tpm_record.specs.Record.{Record}
+use Rattle.tpm_auth.specs.declared.refused.Refused.{Refused}
+use Rattle.tpm_actions.specs.Request.{Request, first_handle}
+use Rattle.tpm_actions.specs.Rows.{Success, all_read, parameter}
+use Rattle.tpm_actions_object.specs.Checks.{action_refusal}
+use Rattle.tpm_actions_object.specs.Loaded.{loaded_at}
+
+-- the scheme of a KEYEDHASH, or A1: the object is none
+abbrev pub scheme_of : PublicParameters → Result KeyedHashScheme Refused
+scheme_of (KeyedHash scheme) = Ok scheme
+scheme_of SymCipher = Err (action_refusal 1 (at (place.Handle 1) (plain code.Type)))
+
+-- the hash of a key that has one in its scheme: that, which may be asked for by name or by NULL;
+-- there is none where another is asked for
+abbrev pub own_hash : HashAlg → Option HashAlg → Option HashAlg
+own_hash own None = Some own
+own_hash own (Some asked) = if hash_number own == hash_number asked then Some own else None
+
+-- the hash by which an HMAC is computed, if there is one: a key whose scheme is NULL takes the one
+-- that is asked for
+abbrev pub chosen_hash : KeyedHashScheme → Option HashAlg → Option HashAlg
+chosen_hash scheme.Null asked = asked
+chosen_hash (scheme.Hmac own) asked = own_hash own asked
+
+-- buffer, hashAlg; answered: the HMAC. A1: no KEYEDHASH; A2: restricted; A3: no key that signs; A4:
+-- another hash than the scheme's, or none at all
+unfoldable pub hmac_row : Record → Request → Result Success Refused
+hmac_row r q = do
+  handle ← first_handle q.handles
+  object ← loaded_at r handle
+  buffer ← parameter 1 (buffer_at 1024 q.parameters)
+  asked ← parameter 2 (hash_or_null_at buffer.1)
+  ended ← all_read asked.1
+  scheme ← scheme_of object.public.parameters
+  a2 ← refused_if (has object.public.attributes attribute.Restricted)
+      (action_refusal 2 (at (place.Handle 1) (plain code.Attributes)))
+  a3 ← refused_if (not (has object.public.attributes attribute.Sign))
+      (action_refusal 3 (at (place.Handle 1) (plain code.Key)))
+  hash ← ok_or (chosen_hash scheme asked.0)
+      (action_refusal 4 (at (place.Parameter 2) (plain code.Value)))
+  Ok (record {
+    handle = None;
+    answer = sized_text (hmac_of hash object.sensitive buffer.0);
+    drawn = 0;
+    after = r;
+  })

@@ -1,0 +1,9 @@
+pub mod Checks
+pub mod Loaded
+pub mod Creation
+pub mod CreatePrimary
+pub mod Create
+pub mod Load
+pub mod ReadPublic
+pub mod Unseal
+pub mod Hmac

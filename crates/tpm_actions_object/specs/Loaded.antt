@@ -1,0 +1,43 @@
+-- The object that a command's handle names, and what is asked of a parent.
+use Rattle.std.specs.Prelude.{◌≡◌, ℕ, not, Bool, true, List, Option, Some, None, Result, Ok, Err, ok_or}
+use Rattle.std.specs.Borrow.{Bor}
+use Rattle.tpm_bytes.specs.Reading.{refused_if}
+use Rattle.tpm_object.specs.declared.object.Object.{Object}
+use Rattle.tpm_object.specs.Object.{is_storage_parent}
+use Rattle.tpm_types.specs.declared.handle.Handle.{Handle}
+use Rattle.tpm_types.specs.declared.object_attributes.ObjectAttribute.TheVariants as attribute
+use Rattle.tpm_types.specs.declared.rc.Place.TheVariants as place
+use Rattle.tpm_types.specs.declared.rc.ResponseCode.TheVariants as code
+use Rattle.tpm_types.specs.ObjectAttributes.{has}
+use Rattle.tpm_types.specs.Rc.{at, plain}
+use Rattle.tpm_record.specs.Entity.{object_of}
+use Rattle.tpm_session.specs.Places.{lowest_free}
+use Rattle.tpm_record.specs.Record.{Record}
+use Rattle.tpm_auth.specs.declared.check.Check.TheVariants as check
+use Rattle.tpm_auth.specs.declared.refused.Refused.{Refused}
+use Rattle.tpm_auth.specs.Refused.{refusal}
+use Rattle.tpm_actions_object.specs.Checks.{action_refusal}
+
+-- the object of a handle; without one no row acts. That does not occur: the general checks have
+-- found it
+abbrev pub loaded_at : Record → Handle → Result Object Refused
+loaded_at r handle = ok_or (object_of r handle) (refusal check.Handles (plain code.Failure))
+
+-- The code's search for an object stands for the definition's.
+abbrev pub IsLoaded : Result Object Refused → Result (Bor Object) Refused → Type 0
+IsLoaded wanted (Ok object) = wanted ≡ Ok object.now
+IsLoaded wanted (Err e) = wanted ≡ Err e
+
+-- A1: the first handle names no storage parent
+abbrev pub parent_passes : Object → Result (Unit {0}) Refused
+parent_passes parent =
+    refused_if (not (is_storage_parent parent.public))
+    (action_refusal 1 (at (place.Handle 1) (plain code.Type)))
+
+-- whether an object has fixedTPM: what is below it then has it as it has fixedParent
+abbrev pub is_fixed : Object → Bool
+is_fixed parent = has parent.public.attributes attribute.FixedTpm
+
+-- the place that a new object takes, or check n: there is none
+abbrev pub place_for : ℕ → Record → Result ℕ Refused
+place_for n r = ok_or (lowest_free r.objects) (action_refusal n (plain code.ObjectMemory))

@@ -1,0 +1,72 @@
+ghost use Rattle.std.specs.Prelude.{◌≡◌, ◌≤◌};
+ghost use Rattle.tpm_types.specs.SensitiveCreate.{sensitive_values_of};
+ghost use Rattle.tpm_actions_object.specs.Checks.{action_refusal, creation_refusal, given_passes, parameter_fault, public_passes, template_refusal};
+
+use tpm_auth::check::Check;
+use tpm_auth::refused::Refused;
+use tpm_object::creation::{CreationFault, check_creation};
+use tpm_object::template::{TemplateFault, check_template};
+use tpm_types::action_check::ActionCheck;
+use tpm_types::public::Public;
+use tpm_types::rc::{Rc, ResponseCode};
+use tpm_types::sensitive_create::SensitiveCreate;
+
+/// The refusal by a command's check of this number.
+pub fn action_refusal(number: u8, rc: Rc) -> Refused
+    ensures { result ≡ action_refusal number rc }
+{
+    Refused::by(Check::Action(ActionCheck::named(number)), rc)
+}
+
+/// And by this code of a parameter.
+pub fn parameter_fault(number: u8, parameter: u8, code: ResponseCode) -> Refused
+    ensures { result ≡ parameter_fault number parameter code }
+{
+    action_refusal(number, code.anywhere().at_parameter(parameter))
+}
+
+/// The refusal of a template by its checks; so many of the command's checks come before them.
+fn template_refusal(before: u8, fault: TemplateFault) -> Refused
+    requires { before ≤ 4 }
+    ensures { result ≡ template_refusal before fault }
+{
+    match fault {
+        TemplateFault::AuthPolicySize => parameter_fault(before + 1, 2, ResponseCode::Size),
+        TemplateFault::Attributes => parameter_fault(before + 2, 2, ResponseCode::Attributes),
+        TemplateFault::Scheme => parameter_fault(before + 3, 2, ResponseCode::Scheme),
+    }
+}
+
+/// And of what is given beside a template.
+fn creation_refusal(before: u8, fault: CreationFault) -> Refused
+    requires { before ≤ 4 }
+    ensures { result ≡ creation_refusal before fault }
+{
+    match fault {
+        CreationFault::AuthValueSize => parameter_fault(before + 1, 1, ResponseCode::Size),
+        CreationFault::Attributes => parameter_fault(before + 2, 2, ResponseCode::Attributes),
+        CreationFault::DataSize => parameter_fault(before + 3, 1, ResponseCode::Size),
+    }
+}
+
+/// Checks a template, or a public area to be loaded, behind so many of the command's checks.
+pub fn public_passes(before: u8, public: &Public, parent_is_fixed: bool) -> Result<(), Refused>
+    requires { before ≤ 4 }
+    ensures { result ≡ public_passes before parent_is_fixed public.now }
+{
+    match check_template(public, parent_is_fixed) {
+        Ok(()) => Ok(()),
+        Err(fault) => Err(template_refusal(before, fault)),
+    }
+}
+
+/// Checks what is given beside a template.
+pub fn given_passes(before: u8, given: &SensitiveCreate, template: &Public) -> Result<(), Refused>
+    requires { before ≤ 4 }
+    ensures { result ≡ given_passes before (sensitive_values_of given.now) template.now }
+{
+    match check_creation(given, template) {
+        Ok(()) => Ok(()),
+        Err(fault) => Err(creation_refusal(before, fault)),
+    }
+}

@@ -1,0 +1,62 @@
+ghost use Rattle.std.specs.Prelude.{◌≡◌, ◌≤◌, drop, take};
+ghost use Rattle.tpm_actions.specs.Request.{request_of};
+ghost use Rattle.tpm_actions.specs.Rows.{Acts};
+ghost use Rattle.tpm_actions_object.specs.Create.{create_row};
+
+use crate::checks::{given_passes, public_passes};
+use crate::creation::{Parent, put_creation, read_asked};
+use crate::loaded::{check_parent, is_fixed, loaded};
+use tpm_actions::answer::Answer;
+use tpm_actions::call::Call;
+use tpm_auth::refused::Refused;
+use tpm_name::Name;
+use tpm_object::areas::create as create_areas;
+use tpm_object::creation::drawn_by;
+use tpm_object::private_area::wrap;
+use tpm_record::keep::Keep;
+
+/// How many random bytes the IV of a private area takes.
+const VECTOR_SIZE: usize = 16;
+
+/// The random bytes of a private area's IV, which stand behind those of the object.
+fn initial_vector(random: &[u8; 256], drawn: usize) -> [u8; 16]
+    requires { drawn ≤ 64 }
+    ensures { result ≡ take 16 (drop drawn random.now) }
+{
+    let mut iv = [0; VECTOR_SIZE];
+    iv.copy_from_slice(&random[drawn..drawn + VECTOR_SIZE]);
+    iv
+}
+
+/// TPM2_Create: makes an object below a storage parent, and answers it wrapped.
+#[tactic(auto, unfolding(crate::specs::Create::create_row))]
+pub fn create<K: Keep>(keep: &mut K, call: &Call) -> Result<Answer, Refused>
+    ensures { Acts (create_row (K.record_of keep.old) (request_of call.now))
+        (K.record_of keep.old) result (K.record_of keep.new) }
+{
+    let parent = loaded(keep, call.first_handle()?)?;
+    let asked = read_asked(call.parameters)?;
+    check_parent(parent)?;
+    public_passes(1, &asked.template, is_fixed(parent))?;
+    given_passes(4, &asked.given, &asked.template)?;
+    let drawn = drawn_by(&asked.template, &asked.given);
+    let created = create_areas(&asked.template, &asked.given, call.random);
+    let name = Name::of_object(&created.public);
+    let iv = initial_vector(call.random, drawn);
+    let private = wrap(parent, &name, &created.sensitive, &iv);
+    let mut answer = Answer::empty();
+    let text = &mut answer.parameters;
+    let _ = text.put_sized(private.as_slice());
+    let above = Parent::of_object(parent);
+    put_creation(
+        keep,
+        call.locality,
+        &above,
+        asked,
+        &created.public,
+        &name,
+        text,
+    );
+    answer.drawn = drawn + VECTOR_SIZE;
+    Ok(answer)
+}

@@ -1,0 +1,75 @@
+ghost use Rattle.std.specs.Prelude.{◌≡◌};
+ghost use Rattle.tpm_types.specs.declared.rc.ResponseCode.TheVariants as code;
+ghost use Rattle.tpm_types.specs.Rc.{plain};
+ghost use Rattle.tpm_actions.specs.Request.{request_of};
+ghost use Rattle.tpm_actions.specs.Rows.{ActsIfRoom};
+ghost use Rattle.tpm_actions_object.specs.Checks.{action_refusal};
+ghost use Rattle.tpm_actions_object.specs.CreatePrimary.{create_primary_row, named_hierarchy};
+
+use crate::checks::{action_refusal, given_passes, public_passes};
+use crate::creation::{Parent, put_creation, read_asked};
+use tpm_actions::answer::Answer;
+use tpm_actions::call::Call;
+use tpm_actions::reading::memory_refused;
+use tpm_auth::check::Check;
+use tpm_auth::refused::Refused;
+use tpm_object::primary::derive_primary;
+use tpm_record::keep::{AddFault, Keep};
+use tpm_types::handle::{Handle, HierarchyHandle};
+use tpm_types::rc::ResponseCode;
+
+fn named_hierarchy(handle: Handle) -> Result<HierarchyHandle, Refused>
+    ensures { result ≡ named_hierarchy handle }
+{
+    match handle.hierarchy() {
+        Some(hierarchy) => Ok(hierarchy),
+        None => Err(Refused::by(Check::Handles, ResponseCode::Failure.anywhere())),
+    }
+}
+
+/// The refusal where eight objects are loaded.
+fn no_place() -> Refused
+    ensures { result ≡ action_refusal 7 (plain code.ObjectMemory) }
+{
+    action_refusal(7, ResponseCode::ObjectMemory.anywhere())
+}
+
+/// TPM2_CreatePrimary: derives an object from the seed of a hierarchy, and loads it.
+#[tactic(auto, unfolding(crate::specs::CreatePrimary::create_primary_row))]
+pub fn create_primary<K: Keep>(keep: &mut K, call: &Call) -> Result<Answer, Refused>
+    ensures { ActsIfRoom K.can_refuse
+        (create_primary_row (K.record_of keep.old) (request_of call.now))
+        (K.record_of keep.old) result (K.record_of keep.new) }
+{
+    let hierarchy = named_hierarchy(call.first_handle()?)?;
+    let asked = read_asked(call.parameters)?;
+    public_passes(0, &asked.template, true)?;
+    given_passes(3, &asked.given, &asked.template)?;
+    if keep.free_object().is_none() {
+        return Err(no_place());
+    }
+    let seed = keep.fixed().hierarchies.secrets(hierarchy).seed;
+    let object = derive_primary(hierarchy, &seed, &asked.template, &asked.given);
+    let name = object.name();
+    let parent = Parent::of_hierarchy(hierarchy);
+    let mut answer = Answer::empty();
+    let text = &mut answer.parameters;
+    put_creation(
+        keep,
+        call.locality,
+        &parent,
+        asked,
+        &object.public,
+        &name,
+        text,
+    );
+    let _ = answer.parameters.put_sized(name.as_slice());
+    match keep.add_object(object) {
+        Ok(handle) => {
+            answer.handle = Some(handle);
+            Ok(answer)
+        }
+        Err(AddFault::Full) => Err(no_place()),
+        Err(AddFault::NoMemory) => Err(memory_refused()),
+    }
+}

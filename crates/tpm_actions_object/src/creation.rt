@@ -1,0 +1,177 @@
+ghost use Rattle.std.specs.Prelude.{◌≡◌, ◌+◌, ◌≤◌, ◌++◌, length};
+ghost use Rattle.tpm_bytes.specs.Writing.{sized_text};
+ghost use Rattle.tpm_name.specs.Name.{object_name};
+ghost use Rattle.tpm_types.specs.Locality.{locality_number};
+ghost use Rattle.tpm_actions_object.specs.Creation.{Asks, creation_data, creation_text, hierarchy_parent, object_parent, parameters_in, parameters_of, ticket_text};
+
+use tpm_actions::answer::Parameters;
+use tpm_actions::reading::{at_parameter, end};
+use tpm_auth::refused::Refused;
+use tpm_bytes::cursor::Cursor;
+use tpm_bytes::sink::Sink;
+use tpm_mac::{HashAlg, digest_parts, hmac_parts};
+use tpm_name::Name;
+use tpm_object::object::Object;
+use tpm_record::keep::Keep;
+use tpm_types::creation_data::CreationData;
+use tpm_types::filled::read_filled;
+use tpm_types::handle::HierarchyHandle;
+use tpm_types::locality::Locality;
+use tpm_types::octets::Octets;
+use tpm_types::pcr_selection::PcrSelection;
+use tpm_types::public::Public;
+use tpm_types::sensitive_create::SensitiveCreate;
+
+/// TPM_ST_CREATION.
+const CREATION_TAG: u16 = 0x8021;
+
+/// What TPM2_CreatePrimary and TPM2_Create ask for.
+#[derive(Drop)]
+pub struct Asked<'a> {
+    pub given: SensitiveCreate<'a>,
+    pub template: Public,
+    pub outside_info: Octets<34>,
+    pub selection: PcrSelection,
+}
+
+/// Below what an object is created.
+#[derive(Drop)]
+pub struct Parent {
+    /// None for a hierarchy.
+    pub name_alg: Option<HashAlg>,
+    pub name: Name,
+    pub qualified_name: Name,
+    pub hierarchy: HierarchyHandle,
+}
+
+impl Parent {
+    /// A hierarchy, whose Names are its handle.
+    pub fn of_hierarchy(hierarchy: HierarchyHandle) -> Parent
+        ensures { result ≡ hierarchy_parent hierarchy }
+    {
+        Parent {
+            name_alg: None,
+            name: Name::of_handle(hierarchy.handle()),
+            qualified_name: Name::of_handle(hierarchy.handle()),
+            hierarchy,
+        }
+    }
+
+    /// A loaded object.
+    pub fn of_object(object: &Object) -> Parent
+        ensures { result ≡ object_parent object.now }
+    {
+        Parent {
+            name_alg: Some(object.public.name_alg),
+            name: object.name(),
+            qualified_name: object.qualified_name.copy(),
+            hierarchy: object.hierarchy,
+        }
+    }
+}
+
+/// Reads what is asked for.
+#[tactic(auto, unfolding(crate::specs::Creation::parameters_in))]
+pub fn read_asked(parameters: &[u8]) -> Result<Asked, Refused>
+    ensures read { Asks (parameters_in parameters.now) result }
+{
+    let mut text = Cursor::new(parameters);
+    let given = read_filled(&mut text).map_err(|rc| at_parameter(1, rc))?;
+    let template = read_filled(&mut text).map_err(|rc| at_parameter(2, rc))?;
+    let outside_info = Octets::read(&mut text).map_err(|rc| at_parameter(3, rc))?;
+    let selection = PcrSelection::read(&mut text).map_err(|rc| at_parameter(4, rc))?;
+    end(&text)?;
+    Ok(Asked {
+        given,
+        template,
+        outside_info,
+        selection,
+    })
+}
+
+/// Under which circumstances an object with this nameAlg is created.
+fn creation_data<K: Keep>(
+    keep: &K,
+    locality: Locality,
+    parent: &Parent,
+    asked: Asked,
+    public: &Public,
+) -> CreationData
+    ensures { result ≡ creation_data (K.record_of keep.now) (locality_number locality) parent.now
+        (parameters_of asked.entry) public.now }
+{
+    let banks = &keep.fixed().banks;
+    let pcr_digest = banks.select_digest(public.name_alg, &asked.selection);
+    CreationData {
+        pcr_digest: Octets::of(pcr_digest.as_slice()),
+        locality: 1 << locality.number(),
+        parent_name_alg: parent.name_alg,
+        parent_name: Octets::of(parent.name.as_slice()),
+        parent_qualified_name: Octets::of(parent.qualified_name.as_slice()),
+        outside_info: asked.outside_info,
+        pcr_select: asked.selection,
+    }
+}
+
+/// The ticket by which the TPM recognizes that it created an object of this Name, with creation
+/// data of this hash.
+#[tactic(auto, unfolding(crate::specs::Creation::ticket_text))]
+fn ticket(hierarchy: HierarchyHandle, proof: &[u8; 32], name: &Name, hash: &[u8]) -> Sink<40>
+    ensures { result ≡ ticket_text hierarchy proof.now name.now hash.now }
+{
+    let tag = CREATION_TAG.to_be_bytes();
+    let hmac = hmac_parts(HashAlg::Sha256, proof, &[&tag, name.as_slice(), hash]);
+    let mut text = Sink::new();
+    let _ = text.put(&tag);
+    let _ = text.put_u32(hierarchy.handle().number);
+    let _ = text.put_sized(hmac.as_slice());
+    text
+}
+
+/// Writes a public area, creation data, their hash and a ticket behind what was written before.
+fn write_creation(area: &[u8], creation: &[u8], hash: &[u8], ticket: &[u8], text: &mut Parameters)
+    requires room { length text.old ≤ 256 }
+    requires area { length area.now ≤ 82 }
+    requires creation { length creation.now ≤ 245 }
+    requires hash { length hash.now ≤ 32 }
+    requires ticket { length ticket.now ≤ 40 }
+    ensures value { text.new ≡ text.old
+        ++ (sized_text area.now ++ sized_text creation.now ++ sized_text hash.now ++ ticket.now) }
+    ensures small { length text.new ≤ length text.old + 405 }
+{
+    let _ = text.put_sized(area);
+    let _ = text.put_sized(creation);
+    let _ = text.put_sized(hash);
+    let _ = text.put(ticket);
+}
+
+/// Writes what is answered about the creation of an object of this Name.
+#[tactic(auto, unfolding(crate::specs::Creation::creation_text))]
+pub fn put_creation<K: Keep>(
+    keep: &K,
+    locality: Locality,
+    parent: &Parent,
+    asked: Asked,
+    public: &Public,
+    name: &Name,
+    text: &mut Parameters,
+)
+    requires room { length text.old ≤ 256 }
+    requires named { name.now ≡ object_name public.now }
+    ensures value { text.new ≡ text.old ++ creation_text (K.record_of keep.now)
+        (locality_number locality) parent.now (parameters_of asked.entry) public.now }
+    ensures small { length text.new ≤ length text.old + 405 }
+{
+    let area = public.text();
+    let data = creation_data(keep, locality, parent, asked, public).text();
+    let hash = digest_parts(public.name_alg, &[data.as_slice()]);
+    let proof = &keep.fixed().hierarchies.secrets(parent.hierarchy).proof;
+    let ticket = ticket(parent.hierarchy, proof, name, hash.as_slice());
+    write_creation(
+        area.as_slice(),
+        data.as_slice(),
+        hash.as_slice(),
+        ticket.as_slice(),
+        text,
+    );
+}

@@ -1,0 +1,81 @@
+ghost use Rattle.std.specs.Prelude.{◌≡◌};
+ghost use Rattle.tpm_actions.specs.Request.{request_of};
+ghost use Rattle.tpm_actions.specs.Rows.{Acts};
+ghost use Rattle.tpm_actions_object.specs.Hmac.{chosen_hash, hmac_row, own_hash, scheme_of};
+
+use crate::checks::action_refusal;
+use crate::loaded::loaded;
+use tpm_actions::answer::Answer;
+use tpm_actions::call::Call;
+use tpm_actions::reading::{at_parameter, end};
+use tpm_auth::refused::Refused;
+use tpm_bytes::cursor::Cursor;
+use tpm_mac::{HashAlg, hmac_parts};
+use tpm_record::keep::Keep;
+use tpm_types::algorithm::{hash_number, read_hash_or_null};
+use tpm_types::buffer::read_buffer;
+use tpm_types::object_attributes::ObjectAttribute;
+use tpm_types::public::{KeyedHashScheme, PublicParameters};
+use tpm_types::rc::ResponseCode;
+
+/// The most bytes of the buffer.
+const MOST_BYTES: usize = 1024;
+
+/// The scheme of a KEYEDHASH.
+fn scheme_of(parameters: PublicParameters) -> Result<KeyedHashScheme, Refused>
+    ensures { result ≡ scheme_of parameters }
+{
+    match parameters {
+        PublicParameters::KeyedHash(scheme) => Ok(scheme),
+        PublicParameters::SymCipher => {
+            Err(action_refusal(1, ResponseCode::Type.anywhere().at_handle(1)))
+        }
+    }
+}
+
+/// The hash of a key that has one in its scheme, which may be asked for by name or by none.
+fn own_hash(own: HashAlg, asked: Option<HashAlg>) -> Option<HashAlg>
+    ensures { result ≡ own_hash own asked }
+{
+    match asked {
+        Some(asked) if hash_number(own) != hash_number(asked) => None,
+        _ => Some(own),
+    }
+}
+
+/// The hash by which an HMAC is computed.
+fn chosen_hash(scheme: KeyedHashScheme, asked: Option<HashAlg>) -> Option<HashAlg>
+    ensures { result ≡ chosen_hash scheme asked }
+{
+    match scheme {
+        KeyedHashScheme::Null => asked,
+        KeyedHashScheme::Hmac(own) => own_hash(own, asked),
+    }
+}
+
+/// TPM2_HMAC: the HMAC of a buffer by a key.
+#[tactic(auto, unfolding(crate::specs::Hmac::hmac_row))]
+pub fn hmac<K: Keep>(keep: &mut K, call: &Call) -> Result<Answer, Refused>
+    ensures { Acts (hmac_row (K.record_of keep.old) (request_of call.now))
+        (K.record_of keep.old) result (K.record_of keep.new) }
+{
+    let object = loaded(keep, call.first_handle()?)?;
+    let mut text = Cursor::new(call.parameters);
+    let buffer = read_buffer(&mut text, MOST_BYTES).map_err(|rc| at_parameter(1, rc))?;
+    let asked = read_hash_or_null(&mut text).map_err(|rc| at_parameter(2, rc))?;
+    end(&text)?;
+    let scheme = scheme_of(object.public.parameters)?;
+    if object.public.attributes.has(ObjectAttribute::Restricted) {
+        return Err(action_refusal(2, ResponseCode::Attributes.anywhere().at_handle(1)));
+    }
+    if !object.public.attributes.has(ObjectAttribute::Sign) {
+        return Err(action_refusal(3, ResponseCode::Key.anywhere().at_handle(1)));
+    }
+    let Some(hash) = chosen_hash(scheme, asked) else {
+        return Err(action_refusal(4, ResponseCode::Value.anywhere().at_parameter(2)));
+    };
+    let mac = hmac_parts(hash, object.sensitive.as_slice(), &[buffer]);
+    let mut answer = Answer::empty();
+    let _ = answer.parameters.put_sized(mac.as_slice());
+    Ok(answer)
+}

@@ -1,0 +1,71 @@
+ghost use Rattle.std.specs.Prelude.{◌≡◌};
+ghost use Rattle.tpm_types.specs.declared.rc.ResponseCode.TheVariants as code;
+ghost use Rattle.tpm_types.specs.Rc.{plain};
+ghost use Rattle.tpm_actions.specs.Request.{request_of};
+ghost use Rattle.tpm_actions.specs.Rows.{ActsIfRoom};
+ghost use Rattle.tpm_actions_object.specs.Checks.{action_refusal};
+ghost use Rattle.tpm_actions_object.specs.Load.{load_row, sensitive_of};
+
+use crate::checks::{action_refusal, parameter_fault, public_passes};
+use crate::loaded::{check_parent, is_fixed, loaded};
+use tpm_actions::answer::Answer;
+use tpm_actions::call::Call;
+use tpm_actions::reading::{at_parameter, end, memory_refused};
+use tpm_auth::refused::Refused;
+use tpm_bytes::cursor::Cursor;
+use tpm_object::object::Object;
+use tpm_object::private_area::unwrap;
+use tpm_record::keep::{AddFault, Keep};
+use tpm_types::buffer::read_buffer;
+use tpm_types::filled::read_filled;
+use tpm_types::public::Public;
+use tpm_types::rc::ResponseCode;
+use tpm_types::sensitive::Sensitive;
+
+/// The most bytes of inPrivate.
+const MOST_BYTES: usize = 256;
+
+/// The sensitive area that a private area wraps.
+fn sensitive_of(parent: &Object, public: &Public, private: &[u8]) -> Result<Sensitive, Refused>
+    ensures { result ≡ sensitive_of parent.now public.now private.now }
+{
+    match unwrap(parent, public, private) {
+        Ok(sensitive) => Ok(sensitive),
+        Err(_) => Err(parameter_fault(5, 1, ResponseCode::Integrity)),
+    }
+}
+
+/// The refusal where eight objects are loaded.
+fn no_place() -> Refused
+    ensures { result ≡ action_refusal 6 (plain code.ObjectMemory) }
+{
+    action_refusal(6, ResponseCode::ObjectMemory.anywhere())
+}
+
+/// TPM2_Load: opens the private area of an object below its parent, and loads it.
+#[tactic(auto, unfolding(crate::specs::Load::load_row))]
+pub fn load<K: Keep>(keep: &mut K, call: &Call) -> Result<Answer, Refused>
+    ensures { ActsIfRoom K.can_refuse (load_row (K.record_of keep.old) (request_of call.now))
+        (K.record_of keep.old) result (K.record_of keep.new) }
+{
+    let parent = loaded(keep, call.first_handle()?)?;
+    let mut text = Cursor::new(call.parameters);
+    let private = read_buffer(&mut text, MOST_BYTES).map_err(|rc| at_parameter(1, rc))?;
+    let public: Public = read_filled(&mut text).map_err(|rc| at_parameter(2, rc))?;
+    end(&text)?;
+    check_parent(parent)?;
+    public_passes(1, &public, is_fixed(parent))?;
+    let sensitive = sensitive_of(parent, &public, private)?;
+    let above = parent.qualified_name.as_slice();
+    let object = Object::loaded(parent.hierarchy, public, &sensitive, above);
+    let mut answer = Answer::empty();
+    let _ = answer.parameters.put_sized(object.name().as_slice());
+    match keep.add_object(object) {
+        Ok(handle) => {
+            answer.handle = Some(handle);
+            Ok(answer)
+        }
+        Err(AddFault::Full) => Err(no_place()),
+        Err(AddFault::NoMemory) => Err(memory_refused()),
+    }
+}

@@ -1,0 +1,39 @@
+ghost use Rattle.std.specs.Prelude.{◌≡◌};
+ghost use Rattle.tpm_actions_object.specs.Loaded.{IsLoaded, is_fixed, parent_passes, loaded_at};
+
+use crate::checks::action_refusal;
+use tpm_auth::check::Check;
+use tpm_auth::refused::Refused;
+use tpm_object::object::{Object, is_storage_parent};
+use tpm_record::keep::Keep;
+use tpm_types::handle::Handle;
+use tpm_types::object_attributes::ObjectAttribute;
+use tpm_types::rc::ResponseCode;
+
+/// The object of a handle.
+pub fn loaded<K: Keep>(keep: &K, handle: Handle) -> Result<&Object, Refused>
+    ensures { IsLoaded (loaded_at (K.record_of keep.now) handle) result }
+{
+    match keep.object(handle) {
+        Some(object) => Ok(object),
+        None => Err(Refused::by(Check::Handles, ResponseCode::Failure.anywhere())),
+    }
+}
+
+/// Refuses an object, which the first handle names, that is no storage parent.
+pub fn check_parent(parent: &Object) -> Result<(), Refused>
+    ensures { result ≡ parent_passes parent.now }
+{
+    if is_storage_parent(&parent.public) {
+        Ok(())
+    } else {
+        Err(action_refusal(1, ResponseCode::Type.anywhere().at_handle(1)))
+    }
+}
+
+/// Whether an object has fixedTPM.
+pub fn is_fixed(parent: &Object) -> bool
+    ensures { result ≡ is_fixed parent.now }
+{
+    parent.public.attributes.has(ObjectAttribute::FixedTpm)
+}

@@ -1,0 +1,30 @@
+ghost use Rattle.std.specs.Prelude.{◌≡◌};
+ghost use Rattle.tpm_actions.specs.Request.{request_of};
+ghost use Rattle.tpm_actions.specs.Rows.{Acts};
+ghost use Rattle.tpm_actions_object.specs.ReadPublic.{read_public_row};
+
+use crate::loaded::loaded;
+use tpm_actions::answer::Answer;
+use tpm_actions::call::Call;
+use tpm_actions::reading::end;
+use tpm_auth::refused::Refused;
+use tpm_bytes::cursor::Cursor;
+use tpm_record::keep::Keep;
+
+/// TPM2_ReadPublic: the public area of an object, its Name and its qualified Name.
+#[tactic(auto, unfolding(crate::specs::ReadPublic::read_public_row))]
+pub fn read_public<K: Keep>(keep: &mut K, call: &Call) -> Result<Answer, Refused>
+    ensures { Acts (read_public_row (K.record_of keep.old) (request_of call.now))
+        (K.record_of keep.old) result (K.record_of keep.new) }
+{
+    let handle = call.first_handle()?;
+    end(&Cursor::new(call.parameters))?;
+    let object = loaded(keep, handle)?;
+    let mut answer = Answer::empty();
+    let _ = answer.parameters.put_sized(object.public.text().as_slice());
+    let _ = answer.parameters.put_sized(object.name().as_slice());
+    let _ = answer
+        .parameters
+        .put_sized(object.qualified_name.as_slice());
+    Ok(answer)
+}

@@ -1,0 +1,36 @@
+ghost use Rattle.std.specs.Prelude.{◌≡◌};
+ghost use Rattle.tpm_actions.specs.Request.{request_of};
+ghost use Rattle.tpm_actions.specs.Rows.{Acts};
+ghost use Rattle.tpm_actions_object.specs.Unseal.{unseal_row};
+
+use crate::checks::action_refusal;
+use crate::loaded::loaded;
+use tpm_actions::answer::Answer;
+use tpm_actions::call::Call;
+use tpm_actions::reading::end;
+use tpm_auth::refused::Refused;
+use tpm_bytes::cursor::Cursor;
+use tpm_object::object::is_keyed_hash;
+use tpm_record::keep::Keep;
+use tpm_types::object_attributes::ObjectAttribute;
+use tpm_types::rc::ResponseCode;
+
+/// TPM2_Unseal: the data that an object seals.
+#[tactic(auto, unfolding(crate::specs::Unseal::unseal_row))]
+pub fn unseal<K: Keep>(keep: &mut K, call: &Call) -> Result<Answer, Refused>
+    ensures { Acts (unseal_row (K.record_of keep.old) (request_of call.now))
+        (K.record_of keep.old) result (K.record_of keep.new) }
+{
+    let handle = call.first_handle()?;
+    end(&Cursor::new(call.parameters))?;
+    let object = loaded(keep, handle)?;
+    if !is_keyed_hash(&object.public) {
+        return Err(action_refusal(1, ResponseCode::Type.anywhere().at_handle(1)));
+    }
+    if object.public.attributes.has(ObjectAttribute::Sign) {
+        return Err(action_refusal(2, ResponseCode::Attributes.anywhere().at_handle(1)));
+    }
+    let mut answer = Answer::empty();
+    let _ = answer.parameters.put_sized(object.sensitive.as_slice());
+    Ok(answer)
+}

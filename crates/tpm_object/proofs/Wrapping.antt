@@ -1,0 +1,200 @@
+-- What is wrapped is unwrapped, and what is unwrapped was wrapped so.
+use Rattle.std.proofs.Common.{◌≡◌, ℕ, ◌≤◌, Bool, true, false, List, [], ◌++◌, length, length-append, Result, Ok, Err, refl, sym, ap, subst, ◌∙◌, append-nil, arith}
+use Rattle.std.specs.Prelude.{◌==◌, not, nat_lt, IfOk}
+use Rattle.std.specs.Str.{bytes_eq}
+use Rattle.std.proofs.lemmas.Bool.{le-ltb}
+use Rattle.std.proofs.lemmas.Bool.Decides.{Decides-eqb}
+use Rattle.std.proofs.lemmas.Slice.Eq.{bytes_eq-Decides}
+use Rattle.tpm_aes.proofs.Undone.{cfb_undone-each, length-cfb_encrypt_of}
+use Rattle.tpm_aes.specs.Cfb.{cfb_decrypt_of, cfb_encrypt_of}
+use Rattle.tpm_bytes.specs.Reading.{◌>>=◌, or_fault, refused_if, sized_at}
+use Rattle.tpm_bytes.specs.Writing.{sized_text}
+use Rattle.tpm_bytes.proofs.Fields.{AreBytes, bind_ok, ok_is, passed, sized_again, sized_takes}
+use Rattle.tpm_mac.proofs.DigestSize.{length-hmac_of}
+use Rattle.tpm_mac.specs.Digest.{digest_size}
+use Rattle.tpm_mac.specs.declared.algorithm.HashAlg.{HashAlg}
+use Rattle.tpm_mac.specs.declared.algorithm.HashAlg.TheVariants.{Sha1, Sha256}
+use Rattle.tpm_name.specs.Name.{object_name}
+use Rattle.tpm_types.specs.Filled.{filled_by}
+use Rattle.tpm_types.specs.Public.{object_type, object_type_text, object_type_number}
+use Rattle.tpm_types.specs.Sensitive.{IsSensitive, sensitive_at, sensitive_text}
+use Rattle.tpm_types.specs.declared.public.ObjectType.{ObjectType}
+use Rattle.tpm_types.specs.declared.public.ObjectType.TheVariants as object
+use Rattle.tpm_types.specs.declared.public.Public.{Public}
+use Rattle.tpm_types.specs.declared.sensitive.Sensitive.{Sensitive}
+use Rattle.tpm_types.proofs.SensitiveLaws.{sized_sensitive_spelled}
+use Rattle.tpm_object.specs.PrivateArea.{IsProtected, IsWrapped, area_in, decrypted_area, encrypted_area, integrity_fault, integrity_key, integrity_of, private_text, protected_in, protected_text, authenticated_text, storage_key, unwrapped}
+use Rattle.tpm_object.specs.declared.object.Object.{Object}
+use Rattle.tpm_object.specs.declared.private_area.IntegrityFault.{IntegrityFault}
+
+not_false : (b : Bool) → not b ≡ false → b ≡ true
+not_false true e = refl
+not_false false e = absurd cc
+
+-- ---- the integrity value
+
+digest_small : (alg : HashAlg) → digest_size alg ≤ 32
+digest_small Sha1 = omega arith
+digest_small Sha256 = omega arith
+
+integrity_small : (parent : Object) (name protected : List ℕ) → length (integrity_of parent name protected) ≤ 32
+unfolding integrity_of
+integrity_small parent name protected =
+    omega (
+      arith,
+      digest_small parent.public.name_alg,
+      length-hmac_of parent.public.name_alg (integrity_key parent) (protected ++ name),
+    )
+
+-- what is sealed is protected
+protected_again : (parent : Object) (name protected : List ℕ)
+    → protected_in parent name (authenticated_text parent name protected) ≡ Ok protected
+unfolding protected_in
+protected_again parent name protected =
+    let value : List ℕ = integrity_of parent name protected in
+    let small : length value ≤ 32 = integrity_small parent name protected in
+    rw (
+      sized_again 0xffff integrity_fault value protected (omega arith) (omega arith),
+      (bytes_eq-Decides value value).1 refl,
+    ) refl
+
+-- what is protected was sealed
+protected_found : (parent : Object) (name text protected : List ℕ)
+    → AreBytes text → protected_in parent name text ≡ Ok protected
+    → text ≡ authenticated_text parent name protected
+unfolding protected_in
+protected_found parent name text protected fits e =
+    let f = integrity_fault in
+    let a = bind_ok (or_fault (sized_at 0xffff text) f)
+    (λ integrity. refused_if (not (bytes_eq integrity.0 (integrity_of parent name integrity.1))) f >>= λ right. Ok integrity.1) protected e in
+    let value : List ℕ = integrity_of parent name a.0.1 in
+    let b = bind_ok (refused_if (not (bytes_eq a.0.0 value)) f) (λ right. Ok a.0.1) protected a.2 in
+    let t = sized_takes 0xffff f text a.0 fits a.1 in
+    let same : bytes_eq a.0.0 value ≡ true = not_false _ (passed (not (bytes_eq a.0.0 value)) f b.0 b.1) in
+    let right : a.0.0 ≡ value = (bytes_eq-Decides a.0.0 value).0 same in
+    subst (λ (p : List ℕ). text ≡ authenticated_text parent name p) (ok_is a.0.1 protected b.2)
+    (t.0.parts ∙ ap (λ (v : List ℕ). sized_text v ++ a.0.1) right)
+
+-- ---- the encrypted area
+
+-- an area is read back from its text in a sized buffer
+area_again : (area : Sensitive) → IsSensitive area → area_in (sized_text (sensitive_text area)) ≡ Ok area
+unfolding area_in
+area_again area is =
+    let text : List ℕ = sized_text (sensitive_text area) in
+    let read : filled_by sensitive_at text ≡ Ok (area, []) =
+    ap (filled_by sensitive_at) (sym (append-nil text)) ∙ sized_sensitive_spelled.again area [] is in
+    rw read refl
+
+-- an area has at most 202 bytes in a sized buffer
+area_small : (area : Sensitive) → IsSensitive area → length (sized_text (sensitive_text area)) ≤ 202
+unfolding sensitive_text
+area_small area is =
+    let auth = object_type_text area.object_type ++ sized_text area.auth_value in
+    let seed = auth ++ sized_text area.seed_value in
+    omega (
+      arith,
+      is.auth_value,
+      is.seed_value,
+      is.sensitive,
+      length-append (object_type_text area.object_type) (sized_text area.auth_value),
+      length-append auth (sized_text area.seed_value),
+      length-append seed (sized_text area.sensitive),
+    )
+
+-- and as many when it is encrypted
+encrypted_small : (parent : Object) (name iv : List ℕ) (area : Sensitive) → IsSensitive area
+    → length (encrypted_area parent name iv area) ≤ 202
+unfolding encrypted_area
+encrypted_small parent name iv area is =
+    omega (arith, area_small area is, length-cfb_encrypt_of (storage_key parent name) iv (sized_text (sensitive_text area)))
+
+encrypted_undone : (parent : Object) (name iv : List ℕ) (area : Sensitive)
+    → cfb_decrypt_of (storage_key parent name) iv (encrypted_area parent name iv area) ≡ sized_text (sensitive_text area)
+unfolding encrypted_area
+encrypted_undone parent name iv area =
+    cfb_undone-each (storage_key parent name) iv (sized_text (sensitive_text area))
+
+-- an encrypted area is decrypted to what it was
+decrypted_again : (parent : Object) (name iv : List ℕ) (area : Sensitive) → length iv ≡ 16 → IsSensitive area
+    → decrypted_area parent name (protected_text parent name iv area) ≡ Ok area
+unfolding decrypted_area
+decrypted_again parent name iv area whole is =
+    let encrypted : List ℕ = encrypted_area parent name iv area in
+    let fits : nat_lt 202 (length encrypted) ≡ false = le-ltb _ _ (encrypted_small parent name iv area is) in
+    rw (
+      sized_again 16 integrity_fault iv encrypted (omega arith) (omega arith),
+      whole,
+      fits,
+      encrypted_undone parent name iv area,
+      area_again area is,
+    ) refl
+
+-- what is decrypted was encrypted so
+decrypted_found : (parent : Object) (name protected iv encrypted plain : List ℕ) (area : Sensitive)
+    → AreBytes protected → sized_at 16 protected ≡ Ok (iv, encrypted) → length iv ≡ 16
+    → cfb_encrypt_of (storage_key parent name) iv plain ≡ encrypted
+    → plain ≡ sized_text (sensitive_text area)
+    → IsProtected parent name protected area
+unfolding encrypted_area
+decrypted_found parent name protected iv encrypted plain area fits read whole undone spelled =
+    let f = integrity_fault in
+    let t = sized_takes 16 f protected (iv, encrypted) fits (ap (λ (r : Result (List ℕ × List ℕ) _). or_fault r f) read) in
+    let again : encrypted ≡ encrypted_area parent name iv area =
+    sym undone ∙ ap (cfb_encrypt_of (storage_key parent name) iv) spelled in
+    (iv, whole, t.0.parts ∙ ap (λ (l : List ℕ). sized_text iv ++ l) again)
+
+-- the same of what a reading gives
+pub decrypted_law : (parent : Object) (name protected iv encrypted plain : List ℕ)
+    (result : Result Sensitive IntegrityFault)
+    → AreBytes protected → sized_at 16 protected ≡ Ok (iv, encrypted) → length iv ≡ 16
+    → cfb_encrypt_of (storage_key parent name) iv plain ≡ encrypted
+    → IfOk result (λ area. IsSensitive area × (plain ≡ sized_text (sensitive_text area)))
+    → IfOk result (λ area. IsSensitive area × IsProtected parent name protected area)
+decrypted_law parent name protected iv encrypted plain (Ok area) fits read whole undone is =
+    (is.0, decrypted_found parent name protected iv encrypted plain area fits read whole undone is.1)
+decrypted_law parent name protected iv encrypted plain (Err fault) fits read whole undone is = tt
+
+-- ---- the private area
+
+passes : (a b : ObjectType) (area : Sensitive) → a ≡ b
+    → (refused_if (not (object_type_number a == object_type_number b)) integrity_fault >>= λ typed. Ok area) ≡ Ok area
+passes a b area same = rw ((Decides-eqb (object_type_number a) (object_type_number b)).1 (ap object_type_number same)) refl
+
+-- what was wrapped is unwrapped
+pub unwrapped_only : (parent : Object) (public : Public) (text : List ℕ) (area : Sensitive)
+    → IsWrapped parent public text area → unwrapped parent public text ≡ Ok area
+unfolding unwrapped private_text
+unwrapped_only parent public text area is =
+    let name : List ℕ = object_name public in
+    let protected : List ℕ = protected_text parent name is.iv area in
+    ap (unwrapped parent public) is.spelled
+    ∙ rw (
+      protected_again parent name protected,
+      decrypted_again parent name is.iv area is.whole is.sized,
+    ) (passes area.object_type (object_type public) area is.typed)
+
+-- types of one number are one
+same_type : (a b : ObjectType) → object_type_number a ≡ object_type_number b → a ≡ b
+same_type object.KeyedHash object.KeyedHash e = refl
+same_type object.KeyedHash object.SymCipher e = absurd (omega arith)
+same_type object.SymCipher object.KeyedHash e = absurd (omega arith)
+same_type object.SymCipher object.SymCipher e = refl
+
+-- what is unwrapped was wrapped
+pub unwrapped_found : (parent : Object) (public : Public) (name text protected : List ℕ) (area : Sensitive)
+    → name ≡ object_name public → AreBytes text → protected_in parent name text ≡ Ok protected
+    → IsSensitive area × IsProtected parent name protected area
+    → object_type_number area.object_type ≡ object_type_number (object_type public)
+    → IsWrapped parent public text area
+unfolding private_text
+unwrapped_found parent public name text protected area named fits read is number =
+    record {
+      typed = same_type area.object_type (object_type public) number;
+      sized = is.0;
+      iv = is.1.0;
+      whole = is.1.1;
+      spelled = protected_found parent name text protected fits read
+          ∙ ap (authenticated_text parent name) is.1.2
+          ∙ ap (λ (n : List ℕ). private_text parent n is.1.0 area) named;
+    }

@@ -1,0 +1,39 @@
+-- The areas of a new object. TPM 2.0 Library, Part 1, section 27 (object creation), and Part 2,
+-- section 12.2.3.2 (TPMU_PUBLIC_ID: unique of a KEYEDHASH and of a SYMCIPHER).
+use Rattle.std.specs.Prelude.{ℕ, if◌then◌else◌, List, ◌++◌, take, drop}
+use Rattle.tpm_mac.specs.Digest.{digest_size, hash_of}
+use Rattle.tpm_types.specs.AuthValue.{trimmed}
+use Rattle.tpm_types.specs.Public.{object_type}
+use Rattle.tpm_types.specs.SensitiveCreate.{SensitiveValues}
+use Rattle.tpm_types.specs.declared.public.Public.{Public}
+use Rattle.tpm_types.specs.declared.sensitive.Sensitive.{Sensitive}
+use Rattle.tpm_object.specs.Creation.{generated_size, is_given}
+use Rattle.tpm_object.specs.declared.areas.Created.{Created}
+
+-- the type of the template, the authorization value without the zeros at its end, the seed, and the
+-- data that the caller gives, else the key
+abbrev pub new_sensitive : Public → SensitiveValues → (seed key : List ℕ) → Sensitive
+new_sensitive template given seed key = record {
+  object_type = object_type template;
+  auth_value = trimmed given.user_auth;
+  seed_value = seed;
+  sensitive = if is_given given then given.data else key;
+}
+
+-- the template, whose unique becomes H(seedValue || sensitive)
+abbrev pub new_public : Public → Sensitive → Public
+new_public template area =
+    record template { unique = hash_of template.name_alg (area.seed_value ++ area.sensitive) }
+
+-- both areas of an object with this seed, and this key where the caller gives no data
+unfoldable pub new_object_areas : Public → SensitiveValues → (seed key : List ℕ) → Created
+new_object_areas template given seed key =
+    let area : Sensitive = new_sensitive template given seed key in
+    record { public = new_public template area; sensitive = area }
+
+-- those of an object that is made from random bytes: first the key, and then the seed
+unfoldable pub created : Public → SensitiveValues → (random : List ℕ) → Created
+created template given random =
+    new_object_areas template given
+    (take (digest_size template.name_alg) (drop (generated_size template given) random))
+    (take (generated_size template given) random)

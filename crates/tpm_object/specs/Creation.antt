@@ -1,0 +1,68 @@
+-- The checks of what a caller gives to a new object, and the sizes of what the TPM adds. TPM 2.0
+-- Library, Part 1, section 27 (object creation), and Part 3, section 12.1 (TPM2_Create). The order
+-- of the checks is this device's own.
+use Rattle.std.specs.Prelude.{ℕ, ◌+◌, ◌==◌, ◌&&◌, not, nat_lt, Bool, if◌then◌else◌}
+use Rattle.std.specs.Prelude.{List, [], ◌∷◌, length, Result}
+use Rattle.tpm_mac.specs.Digest.{digest_size}
+use Rattle.tpm_mac.specs.declared.algorithm.HashAlg.{HashAlg}
+use Rattle.tpm_types.specs.AuthValue.{trimmed}
+use Rattle.tpm_types.specs.ObjectAttributes.{has}
+use Rattle.tpm_types.specs.SensitiveCreate.{SensitiveValues}
+use Rattle.tpm_types.specs.declared.object_attributes.ObjectAttribute.TheVariants as attribute
+use Rattle.tpm_types.specs.declared.public.KeyedHashScheme.TheVariants.{Null, Hmac}
+use Rattle.tpm_types.specs.declared.public.Public.{Public}
+use Rattle.tpm_types.specs.declared.public.PublicParameters.{PublicParameters}
+use Rattle.tpm_types.specs.declared.public.PublicParameters.TheVariants as parameters_of
+use Rattle.tpm_object.specs.Checks.{first_fault, one_of}
+use Rattle.tpm_object.specs.Object.{is_cipher, is_keyed_hash}
+use Rattle.tpm_object.specs.declared.creation.CreationFault.{CreationFault}
+use Rattle.tpm_object.specs.declared.creation.CreationFault.TheVariants as fault
+
+-- the caller gives the key or the data to seal
+abbrev pub is_given : SensitiveValues → Bool
+is_given given = not (length given.data == 0)
+
+-- an authorization value has no more bytes than a digest of nameAlg; zeros at its end do not count
+abbrev pub is_long_auth : SensitiveValues → Public → Bool
+is_long_auth given t = nat_lt (digest_size t.name_alg) (length (trimmed given.user_auth))
+
+-- each of these is wrong: sensitiveDataOrigin says that the TPM makes the key, and what is sealed
+-- is not made
+abbrev pub origin_conflicts : SensitiveValues → Public → List Bool
+origin_conflicts given t =
+    let made : Bool = has t.attributes attribute.SensitiveDataOrigin in
+    (made && is_given given)
+    ∷ (not made && not (is_given given))
+    ∷ (made && is_keyed_hash t && not (has t.attributes attribute.Sign)) ∷ []
+
+-- a cipher's key has 16 bytes; with no data it is made
+abbrev pub has_wrong_key_size : SensitiveValues → Public → Bool
+has_wrong_key_size given t = is_cipher t && is_given given && not (length given.data == 16)
+
+abbrev pub creation_checks : SensitiveValues → Public → List (Bool × CreationFault)
+creation_checks given t =
+    (is_long_auth given t, fault.AuthValueSize)
+    ∷ (one_of (origin_conflicts given t), fault.Attributes)
+    ∷ (has_wrong_key_size given t, fault.DataSize) ∷ []
+
+-- whether the values pass, or the fault of the first check that holds
+unfoldable pub creation_passes : SensitiveValues → Public → Result (Unit {0}) CreationFault
+creation_passes given t = first_fault (creation_checks given t)
+
+-- the bytes of a key: 128 bits of AES, or as many as a digest of the scheme's hash algorithm has,
+-- with no scheme of nameAlg
+abbrev pub parameters_key_size : HashAlg → PublicParameters → ℕ
+parameters_key_size name_alg parameters_of.SymCipher = 16
+parameters_key_size name_alg (parameters_of.KeyedHash (Hmac hash)) = digest_size hash
+parameters_key_size name_alg (parameters_of.KeyedHash Null) = digest_size name_alg
+
+abbrev pub key_size : Public → ℕ
+key_size t = parameters_key_size t.name_alg t.parameters
+
+-- how many bytes of a key the TPM makes
+abbrev pub generated_size : Public → SensitiveValues → ℕ
+generated_size t given = if is_given given then 0 else key_size t
+
+-- how many random bytes a new object takes: those of its key, and of its seedValue
+abbrev pub drawn_by : Public → SensitiveValues → ℕ
+drawn_by t given = generated_size t given + digest_size t.name_alg

@@ -1,0 +1,45 @@
+-- Objects. TPM 2.0 Library, Part 1, section 23 (the protected storage hierarchy).
+use Rattle.std.specs.Prelude.{ℕ, ◌&&◌, not, Bool, true, false, List}
+use Rattle.tpm_name.specs.Name.{object_name, qualified_name}
+use Rattle.tpm_types.specs.AuthValue.{trimmed}
+use Rattle.tpm_types.specs.ObjectAttributes.{has}
+use Rattle.tpm_types.specs.declared.object_attributes.ObjectAttribute.TheVariants as attribute
+use Rattle.tpm_types.specs.declared.public.Public.{Public}
+use Rattle.tpm_types.specs.declared.public.PublicParameters.{PublicParameters}
+use Rattle.tpm_types.specs.declared.public.PublicParameters.TheVariants as parameters_of
+use Rattle.tpm_types.specs.declared.handle.HierarchyHandle.{HierarchyHandle}
+use Rattle.tpm_types.specs.declared.sensitive.Sensitive.{Sensitive}
+use Rattle.tpm_object.specs.declared.object.Object.{Object}
+
+abbrev pub are_of_cipher : PublicParameters → Bool
+are_of_cipher (parameters_of.KeyedHash scheme) = false
+are_of_cipher parameters_of.SymCipher = true
+
+-- whether an object is a SYMCIPHER
+abbrev pub is_cipher : Public → Bool
+is_cipher p = are_of_cipher p.parameters
+
+-- or a KEYEDHASH
+abbrev pub is_keyed_hash : Public → Bool
+is_keyed_hash p = not (are_of_cipher p.parameters)
+
+-- a storage key, under which other objects can be: a SYMCIPHER that decrypts and does not sign, and
+-- is restricted to that
+abbrev pub is_storage_parent : Public → Bool
+is_storage_parent p =
+    is_cipher p && has p.attributes attribute.Restricted && has p.attributes attribute.Decrypt
+    && not (has p.attributes attribute.Sign)
+
+-- an object with these areas, under a parent with this qualified Name: its authorization value is
+-- without the zeros at its end, and its type is that of its public area
+abbrev pub loaded_object : HierarchyHandle
+    → Public → Sensitive → (parent_qualified_name : List ℕ) → Object
+loaded_object hierarchy public area parent_qualified_name = record {
+  hierarchy = hierarchy;
+  public = public;
+  auth_value = trimmed area.auth_value;
+  seed_value = area.seed_value;
+  sensitive = area.sensitive;
+  qualified_name =
+      qualified_name public.name_alg parent_qualified_name (object_name public);
+}

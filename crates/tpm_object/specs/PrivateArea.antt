@@ -1,0 +1,132 @@
+-- Private areas: the sensitive area of an object, encrypted and authenticated by its parent. TPM
+-- 2.0 Library, Part 1, section 22 (protected storage: symmetric encryption, and integrity), and
+-- Part 2, sections 12.3.6 (_PRIVATE) and 12.3.7 (TPM2B_PRIVATE).
+use Rattle.std.specs.Prelude.{◌≡◌, ℕ, ◌==◌, not, nat_lt, List, [], ◌∷◌, ◌++◌, length, Result, Ok, Err}
+use Rattle.std.specs.Borrow.{Bor}
+use Rattle.std.specs.Str.{bytes_eq}
+use Rattle.tpm_aes.specs.Cfb.{cfb_decrypt_of, cfb_encrypt_of}
+use Rattle.tpm_bytes.specs.Reading.{◌>>=◌, or_fault, refused_if, sized_at}
+use Rattle.tpm_bytes.specs.Writing.{sized_text}
+use Rattle.tpm_mac.specs.Digest.{digest_size}
+use Rattle.tpm_mac.specs.Hmac.{hmac_of}
+use Rattle.tpm_mac.specs.Kdf.{kdfa_of}
+use Rattle.tpm_name.specs.Name.{object_name}
+use Rattle.tpm_types.specs.Filled.{filled_by}
+use Rattle.tpm_types.specs.Public.{object_type, object_type_number}
+use Rattle.tpm_types.specs.Sensitive.{IsSensitive, sensitive_at, sensitive_text}
+use Rattle.tpm_types.specs.declared.public.Public.{Public}
+use Rattle.tpm_types.specs.declared.sensitive.Sensitive.{Sensitive}
+use Rattle.tpm_object.specs.declared.object.Object.{Object}
+use Rattle.tpm_object.specs.declared.private_area.IntegrityFault.{IntegrityFault}
+
+-- "STORAGE" and "INTEGRITY"
+abbrev pub storage_label : List ℕ
+storage_label = 0x53 ∷ 0x54 ∷ 0x4f ∷ 0x52 ∷ 0x41 ∷ 0x47 ∷ 0x45 ∷ []
+
+abbrev pub integrity_label : List ℕ
+integrity_label =
+    0x49 ∷ 0x4e ∷ 0x54 ∷ 0x45 ∷ 0x47 ∷ 0x52 ∷ 0x49 ∷ 0x54 ∷ 0x59 ∷ []
+
+-- KDFa(pNameAlg, seedValue, "STORAGE", name, NULL, 128 bits), by the parent's nameAlg and seedValue
+unfoldable pub storage_key : (parent : Object) → (name : List ℕ) → List ℕ
+storage_key parent name =
+    kdfa_of parent.public.name_alg parent.seed_value storage_label name [] 16
+
+-- KDFa(pNameAlg, seedValue, "INTEGRITY", NULL, NULL, bits of a digest)
+unfoldable pub integrity_key : (parent : Object) → List ℕ
+integrity_key parent =
+    kdfa_of parent.public.name_alg parent.seed_value integrity_label [] []
+    (digest_size parent.public.name_alg)
+
+-- HMAC(pNameAlg, HMACkey, what is protected || name)
+unfoldable pub integrity_of : (parent : Object) → (name protected : List ℕ) → List ℕ
+integrity_of parent name protected =
+    hmac_of parent.public.name_alg (integrity_key parent) (protected ++ name)
+
+-- ---- writing
+
+-- the sensitive area in a sized buffer, encrypted
+unfoldable pub encrypted_area : (parent : Object) → (name iv : List ℕ) → Sensitive → List ℕ
+encrypted_area parent name iv area =
+    cfb_encrypt_of (storage_key parent name) iv (sized_text (sensitive_text area))
+
+-- the IV in a sized buffer, and the encrypted area
+abbrev pub protected_text : (parent : Object) → (name iv : List ℕ) → Sensitive → List ℕ
+protected_text parent name iv area = sized_text iv ++ encrypted_area parent name iv area
+
+-- the integrity value in a sized buffer, and what it protects
+abbrev pub authenticated_text : (parent : Object) → (name protected : List ℕ) → List ℕ
+authenticated_text parent name protected =
+    sized_text (integrity_of parent name protected) ++ protected
+
+unfoldable pub private_text : (parent : Object) → (name iv : List ℕ) → Sensitive → List ℕ
+private_text parent name iv area =
+    authenticated_text parent name (protected_text parent name iv area)
+
+-- this is what a parent protects of an area, by some IV
+abbrev pub IsProtected : (parent : Object) → (name protected : List ℕ) → Sensitive → Type 0
+IsProtected parent name protected area =
+    (iv : List ℕ) × (length iv ≡ 16) × (protected ≡ protected_text parent name iv area)
+
+-- a text is the private area that the parent makes of this sensitive area, by some IV, for a public
+-- area of its type
+pub record IsWrapped (parent : Object) (public : Public) (text : List ℕ) (area : Sensitive)
+    : Type 0 where
+  pub typed : area.object_type ≡ object_type public
+  pub sized : IsSensitive area
+  pub iv : List ℕ
+  pub whole : length iv ≡ 16
+  pub spelled : text ≡ private_text parent (object_name public) iv area
+
+-- ---- reading
+
+abbrev pub integrity_fault : IntegrityFault
+integrity_fault = record {}
+
+-- the bytes that a definition gives, wherever they lie in memory
+abbrev pub Gives : Result (List ℕ) IntegrityFault
+    → Result (Bor (List ℕ)) IntegrityFault
+    → Type 0
+Gives defined (Ok bytes) = defined ≡ Ok bytes.now
+Gives defined (Err fault) = defined ≡ Err fault
+
+-- what an integrity value protects, where the value is right
+unfoldable pub protected_in : (parent : Object)
+    → (name text : List ℕ)
+    → Result (List ℕ) IntegrityFault
+protected_in parent name text = do
+  integrity ← or_fault (sized_at 0xffff text) integrity_fault
+  right ← refused_if (not (bytes_eq integrity.0 (integrity_of parent name integrity.1)))
+      integrity_fault
+  Ok integrity.1
+
+-- the sensitive area that a plain text is: one sized buffer, and nothing behind it
+unfoldable pub area_in : (plain : List ℕ) → Result Sensitive IntegrityFault
+area_in plain = do
+  area ← or_fault (filled_by sensitive_at plain) integrity_fault
+  whole ← refused_if (not (length area.1 == 0)) integrity_fault
+  Ok area.0
+
+-- the area behind an IV of 16 bytes, encrypted in no more bytes than the longest area has in its
+-- sized buffer
+unfoldable pub decrypted_area : (parent : Object)
+    → (name protected : List ℕ)
+    → Result Sensitive IntegrityFault
+decrypted_area parent name protected = do
+  iv ← or_fault (sized_at 16 protected) integrity_fault
+  whole ← refused_if (not (length iv.0 == 16)) integrity_fault
+  fits ← refused_if (nat_lt 202 (length iv.1)) integrity_fault
+  area_in (cfb_decrypt_of (storage_key parent name) iv.0 iv.1)
+
+-- the sensitive area in a private area, for this public area and of its type
+unfoldable pub unwrapped : (parent : Object)
+    → Public
+    → (text : List ℕ)
+    → Result Sensitive IntegrityFault
+unwrapped parent public text = do
+  protected ← protected_in parent (object_name public) text
+  area ← decrypted_area parent (object_name public) protected
+  typed ← refused_if
+      (not (object_type_number area.object_type == object_type_number (object_type public)))
+      integrity_fault
+  Ok area

@@ -1,0 +1,61 @@
+-- The checks of a template, or of a public area to be loaded. TPM 2.0 Library, Part 1, section 25
+-- (object attributes), and Part 3, section 12.1 (TPM2_Create). The order of the checks is this
+-- device's own, and so is that no KEYEDHASH decrypts: no XOR scheme and no derivation parents are
+-- served.
+use Rattle.std.specs.Prelude.{◌==◌, ◌&&◌, ◌||◌, not, Bool, false, if◌then◌else◌}
+use Rattle.std.specs.Prelude.{List, [], ◌∷◌, length, Result}
+use Rattle.std.specs.Bool.{beq}
+use Rattle.tpm_mac.specs.Digest.{digest_size}
+use Rattle.tpm_types.specs.ObjectAttributes.{has}
+use Rattle.tpm_types.specs.declared.object_attributes.ObjectAttribute.TheVariants as attribute
+use Rattle.tpm_types.specs.declared.object_attributes.ObjectAttributes.{ObjectAttributes}
+use Rattle.tpm_types.specs.declared.public.KeyedHashScheme.TheVariants.{Null, Hmac}
+use Rattle.tpm_types.specs.declared.public.Public.{Public}
+use Rattle.tpm_types.specs.declared.public.PublicParameters.{PublicParameters}
+use Rattle.tpm_types.specs.declared.public.PublicParameters.TheVariants as parameters_of
+use Rattle.tpm_object.specs.Checks.{first_fault, one_of}
+use Rattle.tpm_object.specs.Object.{is_cipher, is_keyed_hash}
+use Rattle.tpm_object.specs.declared.template.TemplateFault.{TemplateFault}
+use Rattle.tpm_object.specs.declared.template.TemplateFault.TheVariants as fault
+
+-- no policy, or a digest of nameAlg
+abbrev pub is_policy_size : Public → Bool
+is_policy_size t = length t.auth_policy == 0 || length t.auth_policy == digest_size t.name_alg
+
+-- under a hierarchy or a parent with fixedTPM, an object is right to have fixedTPM exactly if it
+-- has fixedParent; under another parent it is wrong to have it
+abbrev pub has_wrong_fixing : (parent_is_fixed : Bool) → ObjectAttributes → Bool
+has_wrong_fixing parent_is_fixed a =
+    if parent_is_fixed then not (beq (has a attribute.FixedTpm) (has a attribute.FixedParent))
+    else has a attribute.FixedTpm
+
+-- each of these is wrong
+abbrev pub attribute_conflicts : (parent_is_fixed : Bool) → Public → List Bool
+attribute_conflicts parent_is_fixed t =
+    let restricted : Bool = has t.attributes attribute.Restricted in
+    let decrypt : Bool = has t.attributes attribute.Decrypt in
+    let sign : Bool = has t.attributes attribute.Sign in
+    (has t.attributes attribute.FixedTpm && has t.attributes attribute.EncryptedDuplication)
+    ∷ has_wrong_fixing parent_is_fixed t.attributes
+    ∷ (restricted && beq sign decrypt)
+    ∷ (is_keyed_hash t && decrypt)
+    ∷ (is_cipher t && not sign && not decrypt)
+    ∷ (is_cipher t && restricted && sign) ∷ []
+
+-- a scheme HMAC without sign, or a restricted KEYEDHASH without a scheme
+abbrev pub has_wrong_scheme : PublicParameters → ObjectAttributes → Bool
+has_wrong_scheme (parameters_of.KeyedHash (Hmac hash)) a = not (has a attribute.Sign)
+has_wrong_scheme (parameters_of.KeyedHash Null) a = has a attribute.Restricted
+has_wrong_scheme parameters_of.SymCipher a = false
+
+abbrev pub template_checks : (parent_is_fixed : Bool) → Public → List (Bool × TemplateFault)
+template_checks parent_is_fixed t =
+    (not (is_policy_size t), fault.AuthPolicySize)
+    ∷ (one_of (attribute_conflicts parent_is_fixed t), fault.Attributes)
+    ∷ (has_wrong_scheme t.parameters t.attributes, fault.Scheme) ∷ []
+
+-- whether a template passes, or the fault of the first check that holds
+unfoldable pub template_passes : (parent_is_fixed : Bool)
+    → Public
+    → Result (Unit {0}) TemplateFault
+template_passes parent_is_fixed t = first_fault (template_checks parent_is_fixed t)

@@ -1,0 +1,79 @@
+ghost use Rattle.std.specs.Prelude.{◌≡◌, ◌≤◌, length};
+ghost use Rattle.tpm_types.specs.SensitiveCreate.{sensitive_values_of};
+
+use crate::creation::{drawn_by, generated_size, is_given};
+use tpm_mac::digest_parts;
+use tpm_types::auth_value::AuthValue;
+use tpm_types::octets::Octets;
+use tpm_types::public::Public;
+use tpm_types::sensitive::Sensitive;
+use tpm_types::sensitive_create::SensitiveCreate;
+
+/// The areas of a new object.
+#[derive(Drop)]
+pub struct Created {
+    pub public: Public,
+    pub sensitive: Sensitive,
+}
+
+ghost use Rattle.tpm_object.specs.Areas.{created, new_object_areas, new_public, new_sensitive};
+
+/// The sensitive area of an object with this seed, and this key where the caller gives no data.
+fn new_sensitive(template: &Public, given: &SensitiveCreate, seed: &[u8], key: &[u8]) -> Sensitive
+    requires seed { length seed.now ≤ 32 }
+    requires key { length key.now ≤ 32 }
+    ensures { result
+        ≡ new_sensitive template.now (sensitive_values_of given.now) seed.now key.now }
+{
+    let sensitive = if is_given(given) { given.data } else { key };
+    Sensitive {
+        object_type: template.object_type(),
+        auth_value: Octets::of(AuthValue::of(given.user_auth).as_slice()),
+        seed_value: Octets::of(seed),
+        sensitive: Octets::of(sensitive),
+    }
+}
+
+/// The public area that goes with a sensitive area: the template with the `unique` of that.
+fn new_public(template: &Public, area: &Sensitive) -> Public
+    ensures { result ≡ new_public template.now area.now }
+{
+    let parts = [area.seed_value.as_slice(), area.sensitive.as_slice()];
+    let unique = digest_parts(template.name_alg, &parts);
+    Public {
+        name_alg: template.name_alg,
+        attributes: template.attributes,
+        auth_policy: template.auth_policy.copy(),
+        parameters: template.parameters,
+        unique: Octets::of(unique.as_slice()),
+    }
+}
+
+/// Both areas of an object with this seed, and this key where the caller gives no data.
+#[tactic(auto, unfolding(crate::specs::Areas::new_object_areas))]
+pub(crate) fn new_object_areas(
+    template: &Public,
+    given: &SensitiveCreate,
+    seed: &[u8],
+    key: &[u8],
+) -> Created
+    requires seed { length seed.now ≤ 32 }
+    requires key { length key.now ≤ 32 }
+    ensures { result
+        ≡ new_object_areas template.now (sensitive_values_of given.now) seed.now key.now }
+{
+    let sensitive = new_sensitive(template, given, seed, key);
+    let public = new_public(template, &sensitive);
+    Created { public, sensitive }
+}
+
+/// The areas of a new object (TPM 2.0 Library, Part 1, section 27), whose key, and then its seed,
+/// are drawn from the front of `random`: `drawn_by` bytes of it.
+#[tactic(auto, unfolding(crate::specs::Areas::created))]
+pub fn create(template: &Public, given: &SensitiveCreate, random: &[u8; 256]) -> Created
+    ensures { result ≡ created template.now (sensitive_values_of given.now) random.now }
+{
+    let (key, others) = random.split_at(generated_size(template, given));
+    let (seed, _) = others.split_at(template.name_alg.size());
+    new_object_areas(template, given, seed, key)
+}

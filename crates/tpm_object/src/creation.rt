@@ -1,0 +1,108 @@
+ghost use Rattle.std.specs.Prelude.{◌≡◌, ◌≤◌};
+ghost use Rattle.tpm_types.specs.SensitiveCreate.{sensitive_values_of};
+ghost use Rattle.tpm_object.specs.Checks.{one_of};
+ghost use Rattle.tpm_object.specs.Creation.{creation_passes, drawn_by, generated_size, is_given, is_long_auth, has_wrong_key_size, key_size, origin_conflicts, parameters_key_size};
+
+use crate::object::{is_cipher, is_keyed_hash};
+use tpm_mac::HashAlg;
+use tpm_types::auth_value::AuthValue;
+use tpm_types::object_attributes::ObjectAttribute;
+use tpm_types::public::{KeyedHashScheme, Public, PublicParameters};
+use tpm_types::sensitive_create::SensitiveCreate;
+
+/// Why what the caller gives to a new object is refused.
+#[derive(Clone, Copy, Debug, PartialEq, Eq)]
+pub enum CreationFault {
+    /// An authorization value that is longer than a digest of nameAlg.
+    AuthValueSize,
+    /// sensitiveDataOrigin does not go with the data, or with the use of the object.
+    Attributes,
+    /// A key of another size than the cipher's.
+    DataSize,
+}
+
+/// Whether the caller gives the key or the data to seal.
+pub(crate) fn is_given(given: &SensitiveCreate) -> bool
+    ensures { result ≡ is_given (sensitive_values_of given.now) }
+{
+    !given.data.is_empty()
+}
+
+fn is_long_auth(given: &SensitiveCreate, template: &Public) -> bool
+    ensures { result ≡ is_long_auth (sensitive_values_of given.now) template.now }
+{
+    template.name_alg.size() < AuthValue::of(given.user_auth).as_slice().len()
+}
+
+fn has_origin_conflict(given: &SensitiveCreate, template: &Public) -> bool
+    ensures { result ≡ one_of (origin_conflicts (sensitive_values_of given.now) template.now) }
+{
+    let made = template
+        .attributes
+        .has(ObjectAttribute::SensitiveDataOrigin);
+    made == is_given(given)
+        || made && is_keyed_hash(template) && !template.attributes.has(ObjectAttribute::Sign)
+}
+
+fn has_wrong_key_size(given: &SensitiveCreate, template: &Public) -> bool
+    ensures { result ≡ has_wrong_key_size (sensitive_values_of given.now) template.now }
+{
+    is_cipher(template) && is_given(given) && given.data.len() != 16
+}
+
+/// Whether what the caller gives goes with the template (TPM 2.0 Library, Part 1, section 27). The
+/// first check that it fails refuses it.
+#[tactic(auto, unfolding(crate::specs::Creation::creation_passes))]
+pub fn check_creation(given: &SensitiveCreate, template: &Public) -> Result<(), CreationFault>
+    ensures { result ≡ creation_passes (sensitive_values_of given.now) template.now }
+{
+    if is_long_auth(given, template) {
+        return Err(CreationFault::AuthValueSize);
+    }
+    if has_origin_conflict(given, template) {
+        return Err(CreationFault::Attributes);
+    }
+    if has_wrong_key_size(given, template) {
+        return Err(CreationFault::DataSize);
+    }
+    Ok(())
+}
+
+fn parameters_key_size(name_alg: HashAlg, parameters: PublicParameters) -> usize
+    ensures value { result ≡ parameters_key_size name_alg parameters }
+    ensures small { result ≤ 32 }
+{
+    match parameters {
+        PublicParameters::SymCipher => 16,
+        PublicParameters::KeyedHash(KeyedHashScheme::Hmac(hash)) => hash.size(),
+        PublicParameters::KeyedHash(KeyedHashScheme::Null) => name_alg.size(),
+    }
+}
+
+/// How many bytes a key of such an object has that the TPM makes.
+pub fn key_size(template: &Public) -> usize
+    ensures value { result ≡ key_size template.now }
+    ensures small { result ≤ 32 }
+{
+    parameters_key_size(template.name_alg, template.parameters)
+}
+
+/// How many bytes of a key the TPM makes: none where the caller gives the key or data.
+pub fn generated_size(template: &Public, given: &SensitiveCreate) -> usize
+    ensures value { result ≡ generated_size template.now (sensitive_values_of given.now) }
+    ensures small { result ≤ 32 }
+{
+    if is_given(given) {
+        0
+    } else {
+        key_size(template)
+    }
+}
+
+/// How many random bytes `create` takes.
+pub fn drawn_by(template: &Public, given: &SensitiveCreate) -> usize
+    ensures value { result ≡ drawn_by template.now (sensitive_values_of given.now) }
+    ensures small { result ≤ 64 }
+{
+    generated_size(template, given) + template.name_alg.size()
+}

@@ -1,0 +1,109 @@
+ghost use Rattle.std.specs.Prelude.{◌≡◌};
+ghost use Rattle.tpm_name.specs.Name.{object_name};
+ghost use Rattle.tpm_object.specs.Object.{are_of_cipher, is_cipher, is_keyed_hash, is_storage_parent, loaded_object};
+
+use tpm_name::Name;
+use tpm_types::auth_value::AuthValue;
+use tpm_types::handle::HierarchyHandle;
+use tpm_types::object_attributes::ObjectAttribute;
+use tpm_types::octets::Octets;
+use tpm_types::public::{Public, PublicParameters};
+use tpm_types::sensitive::Sensitive;
+
+/// A loaded object.
+#[derive(Drop)]
+pub struct Object {
+    /// To which it belongs.
+    pub hierarchy: HierarchyHandle,
+    pub public: Public,
+    pub auth_value: AuthValue,
+    /// With which it encrypts, or which makes it unique.
+    pub seed_value: Octets<32>,
+    /// Its key, or the data that it seals.
+    pub sensitive: Octets<128>,
+    /// Its Name under the Names of all its ancestors.
+    pub qualified_name: Name,
+}
+
+fn are_of_cipher(parameters: PublicParameters) -> bool
+    ensures { result ≡ are_of_cipher parameters }
+{
+    match parameters {
+        PublicParameters::KeyedHash(_) => false,
+        PublicParameters::SymCipher => true,
+    }
+}
+
+/// Whether the object is a SYMCIPHER.
+pub(crate) fn is_cipher(public: &Public) -> bool
+    ensures { result ≡ is_cipher public.now }
+{
+    are_of_cipher(public.parameters)
+}
+
+/// Whether the object is a KEYEDHASH.
+pub fn is_keyed_hash(public: &Public) -> bool
+    ensures { result ≡ is_keyed_hash public.now }
+{
+    !are_of_cipher(public.parameters)
+}
+
+/// Whether other objects can be under this one: a SYMCIPHER that decrypts and does not sign, and is
+/// restricted to that (TPM 2.0 Library, Part 1, section 23).
+pub fn is_storage_parent(public: &Public) -> bool
+    ensures { result ≡ is_storage_parent public.now }
+{
+    is_cipher(public)
+        && public.attributes.has(ObjectAttribute::Restricted)
+        && public.attributes.has(ObjectAttribute::Decrypt)
+        && !public.attributes.has(ObjectAttribute::Sign)
+}
+
+impl Object {
+    /// The object with these areas, under a parent with this qualified Name.
+    pub fn loaded(
+        hierarchy: HierarchyHandle,
+        public: Public,
+        sensitive: &Sensitive,
+        parent_qualified_name: &[u8],
+    ) -> Object
+        ensures { result ≡ loaded_object hierarchy public sensitive.now
+            parent_qualified_name.now }
+    {
+        let name = Name::of_object(&public);
+        let qualified_name = Name::qualified(
+            public.name_alg,
+            parent_qualified_name,
+            name.as_slice(),
+        );
+        Object {
+            hierarchy,
+            public,
+            auth_value: AuthValue::of(sensitive.auth_value.as_slice()),
+            seed_value: sensitive.seed_value.copy(),
+            sensitive: sensitive.sensitive.copy(),
+            qualified_name,
+        }
+    }
+
+    /// The same object.
+    pub fn copy(&self) -> Object
+        ensures { result ≡ self.now }
+    {
+        Object {
+            hierarchy: self.hierarchy,
+            public: self.public.copy(),
+            auth_value: self.auth_value.copy(),
+            seed_value: self.seed_value.copy(),
+            sensitive: self.sensitive.copy(),
+            qualified_name: self.qualified_name.copy(),
+        }
+    }
+
+    /// Its Name, that of its public area.
+    pub fn name(&self) -> Name
+        ensures { result ≡ object_name self.now.public }
+    {
+        Name::of_object(&self.public)
+    }
+}

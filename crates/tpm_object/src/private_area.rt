@@ -1,0 +1,243 @@
+ghost use Rattle.std.specs.Prelude.{◌≡◌, ◌≤◌, length, Ok, IfOk};
+ghost use Rattle.tpm_aes.specs.Cfb.{cfb_decrypt_of, cfb_encrypt_of};
+ghost use Rattle.tpm_bytes.specs.Writing.{sized_text};
+ghost use Rattle.tpm_name.specs.Name.{object_name};
+ghost use Rattle.tpm_types.specs.Public.{object_type};
+ghost use Rattle.tpm_types.specs.Sensitive.{IsSensitive, sensitive_text};
+ghost use Rattle.tpm_types.specs.declared.public.Public.{Public};
+ghost use Rattle.tpm_types.specs.declared.sensitive.Sensitive.{Sensitive};
+
+use crate::object::Object;
+use arrayvec::ArrayVec;
+use tpm_aes::Aes128;
+use tpm_bytes::cursor::Cursor;
+use tpm_bytes::sink::Sink;
+use tpm_mac::{Digest, hmac_parts, kdfa};
+use tpm_name::Name;
+use tpm_types::grammar::bytes_fit;
+use tpm_types::public::Public;
+use tpm_types::sensitive::Sensitive;
+
+/// The private area is not one that the parent wrapped for this public area.
+#[derive(Clone, Copy, Debug, PartialEq, Eq)]
+pub struct IntegrityFault;
+
+/// The most bytes of a sensitive area in a sized buffer.
+const MOST_AREA_BYTES: usize = 202;
+
+/// The label of the keys by which a parent encrypts.
+const STORAGE_LABEL: &[u8] = b"STORAGE";
+
+/// The label of the keys by which a parent authenticates.
+const INTEGRITY_LABEL: &[u8] = b"INTEGRITY";
+
+ghost use Rattle.tpm_object.specs.PrivateArea.{Gives, IsProtected, IsWrapped, area_in, decrypted_area, encrypted_area, integrity_key, integrity_of, private_text, protected_in, protected_text, authenticated_text, storage_key, unwrapped};
+
+/// The key by which a parent encrypts the sensitive area of the object of this Name.
+#[tactic(auto, unfolding(crate::specs::PrivateArea::storage_key))]
+fn storage_key(parent: &Object, name: &Name) -> [u8; 16]
+    ensures { result ≡ storage_key parent.now name.now }
+{
+    let seed = parent.seed_value.as_slice();
+    let mut key = [0; 16];
+    kdfa(
+        parent.public.name_alg,
+        seed,
+        STORAGE_LABEL,
+        name.as_slice(),
+        &[],
+        &mut key,
+    );
+    key
+}
+
+/// The key by which a parent authenticates private areas.
+#[tactic(auto, unfolding(crate::specs::PrivateArea::integrity_key))]
+fn integrity_key(parent: &Object) -> ArrayVec<u8, 32>
+    ensures { result.items ≡ integrity_key parent.now }
+{
+    let alg = parent.public.name_alg;
+    let seed = parent.seed_value.as_slice();
+    let mut key = [0; 32];
+    let out = &mut key[..alg.size()];
+    kdfa(alg, seed, INTEGRITY_LABEL, &[], &[], out);
+    let mut bytes = ArrayVec::new();
+    let _ = bytes.try_extend_from_slice(&key[..alg.size()]);
+    bytes
+}
+
+/// The integrity value of what a parent protects for the object of this Name.
+#[tactic(auto, unfolding(crate::specs::PrivateArea::integrity_of))]
+fn integrity(parent: &Object, name: &Name, protected: &[u8]) -> Digest
+    ensures value { result.items ≡ integrity_of parent.now name.now protected.now }
+    ensures size { length result.items ≤ 32 }
+{
+    let key = integrity_key(parent);
+    hmac_parts(
+        parent.public.name_alg,
+        key.as_slice(),
+        &[protected, name.as_slice()],
+    )
+}
+
+/// The sensitive area in a sized buffer, encrypted.
+#[tactic(auto, unfolding(crate::specs::PrivateArea::encrypted_area))]
+fn encrypted_area(
+    parent: &Object,
+    name: &Name,
+    sensitive: &Sensitive,
+    iv: &[u8; 16],
+) -> ArrayVec<u8, MOST_AREA_BYTES>
+    ensures { result.items ≡ encrypted_area parent.now name.now iv.now sensitive.now }
+{
+    let mut text: Sink<MOST_AREA_BYTES> = Sink::new();
+    let _ = text.put_sized(sensitive.text().as_slice());
+    let mut bytes = text.into_bytes();
+    Aes128::new(&storage_key(parent, name)).cfb_encrypt(iv, bytes.as_mut_slice());
+    bytes
+}
+
+/// The IV in a sized buffer, and the encrypted area.
+fn protected_text(parent: &Object, name: &Name, sensitive: &Sensitive, iv: &[u8; 16]) -> Sink<220>
+    ensures { result ≡ protected_text parent.now name.now iv.now sensitive.now }
+{
+    let encrypted = encrypted_area(parent, name, sensitive, iv);
+    let mut text = Sink::new();
+    let _ = text.put_sized(iv);
+    let _ = text.put(encrypted.as_slice());
+    text
+}
+
+/// Says of a sensitive area what the types of its buffers say: none is longer than it may be.
+fn buffers_fit(sensitive: &Sensitive)
+    ensures { IsSensitive sensitive.now }
+{
+    let _ = sensitive.auth_value.len() + sensitive.seed_value.len() + sensitive.sensitive.len();
+}
+
+/// The private area of the object of this Name: its sensitive area, encrypted and authenticated by
+/// its parent (TPM 2.0 Library, Part 1, section 22).
+#[tactic(auto, unfolding(crate::specs::PrivateArea::private_text))]
+pub fn wrap(parent: &Object, name: &Name, sensitive: &Sensitive, iv: &[u8; 16]) -> Sink<256>
+    ensures value { result ≡ private_text parent.now name.now iv.now sensitive.now }
+    ensures small { length result ≤ 254 }
+    // Unwrapping undoes it, for the public area of that Name and type.
+    ensures undone { (public : Public) → object_name public ≡ name.now
+        → object_type public ≡ sensitive.now.object_type
+        → unwrapped parent.now public result ≡ Ok sensitive.now }
+{
+    buffers_fit(sensitive);
+    let protected = protected_text(parent, name, sensitive, iv);
+    let integrity = integrity(parent, name, protected.as_slice());
+    let mut text = Sink::new();
+    let _ = text.put_sized(integrity.as_slice());
+    let _ = text.put(protected.as_slice());
+    text
+}
+
+/// What the integrity value in front protects, where the value is right.
+#[tactic(auto, unfolding(crate::specs::PrivateArea::protected_in))]
+fn protected_in<'a>(
+    parent: &Object,
+    name: &Name,
+    private: &'a [u8],
+) -> Result<&'a [u8], IntegrityFault>
+    ensures { Gives (protected_in parent.now name.now private.now) result }
+{
+    let mut text = Cursor::new(private);
+    let found = text.sized(0xffff).map_err(|_| IntegrityFault)?;
+    let protected = text.rest();
+    if found != integrity(parent, name, protected).as_slice() {
+        return Err(IntegrityFault);
+    }
+    Ok(protected)
+}
+
+/// The sensitive area that a plain text is: one sized buffer, and nothing behind it.
+#[tactic(auto, unfolding(crate::specs::PrivateArea::area_in))]
+fn area_in(plain: &[u8]) -> Result<Sensitive, IntegrityFault>
+    ensures value { result ≡ area_in plain.now }
+    ensures found { IfOk result (λ area. IsSensitive area
+        × (plain.now ≡ sized_text (sensitive_text area))) }
+{
+    let mut text = Cursor::new(plain);
+    let area = Sensitive::read_sized(&mut text).map_err(|_| IntegrityFault)?;
+    if !text.is_empty() {
+        return Err(IntegrityFault);
+    }
+    Ok(area)
+}
+
+/// The bytes, decrypted.
+fn decrypted(
+    parent: &Object,
+    name: &Name,
+    iv: &[u8; 16],
+    cipher: &[u8],
+) -> ArrayVec<u8, MOST_AREA_BYTES>
+    requires { length cipher.now ≤ MOST_AREA_BYTES }
+    ensures value { result.items
+        ≡ cfb_decrypt_of (storage_key parent.now name.now) iv.now cipher.now }
+    ensures undone { cfb_encrypt_of (storage_key parent.now name.now) iv.now result.items
+        ≡ cipher.now }
+{
+    let mut bytes = ArrayVec::new();
+    let _ = bytes.try_extend_from_slice(cipher);
+    Aes128::new(&storage_key(parent, name)).cfb_decrypt(iv, bytes.as_mut_slice());
+    bytes
+}
+
+/// The sensitive area behind an IV of 16 bytes.
+#[tactic(auto, unfolding(crate::specs::PrivateArea::decrypted_area))]
+fn decrypted_area(
+    parent: &Object,
+    name: &Name,
+    protected: &[u8],
+) -> Result<Sensitive, IntegrityFault>
+    ensures value { result ≡ decrypted_area parent.now name.now protected.now }
+    ensures found { IfOk result (λ area. IsSensitive area
+        × IsProtected parent.now name.now protected.now area) }
+{
+    bytes_fit(protected);
+    let mut text = Cursor::new(protected);
+    let found = text.sized(16).map_err(|_| IntegrityFault)?;
+    if found.len() != 16 {
+        return Err(IntegrityFault);
+    }
+    let encrypted = text.rest();
+    if encrypted.len() > MOST_AREA_BYTES {
+        return Err(IntegrityFault);
+    }
+    let mut iv = [0; 16];
+    iv.copy_from_slice(found);
+    let plain = decrypted(parent, name, &iv, encrypted);
+    area_in(plain.as_slice())
+}
+
+/// The sensitive area in a private area for this public area (TPM 2.0 Library, Part 1, section 22).
+/// The integrity value is compared before anything is decrypted.
+pub fn unwrap(parent: &Object, public: &Public, private: &[u8]) -> Result<Sensitive, IntegrityFault>
+    ensures value { result ≡ unwrapped parent.now public.now private.now }
+    // Nothing is accepted but what the parent wraps for a public area of that Name and type.
+    ensures found { IfOk result (λ area. IsWrapped parent.now public.now private.now area) }
+    // And all of that is.
+    ensures only { (area : Sensitive) → IsWrapped parent.now public.now private.now area
+        → result ≡ Ok area }
+{
+    unwrapped(parent, public, private)
+}
+
+#[tactic(auto, unfolding(crate::specs::PrivateArea::unwrapped))]
+fn unwrapped(parent: &Object, public: &Public, private: &[u8]) -> Result<Sensitive, IntegrityFault>
+    ensures value { result ≡ unwrapped parent.now public.now private.now }
+    ensures found { IfOk result (λ area. IsWrapped parent.now public.now private.now area) }
+{
+    bytes_fit(private);
+    let name = Name::of_object(public);
+    let protected = protected_in(parent, &name, private)?;
+    let area = decrypted_area(parent, &name, protected)?;
+    if area.object_type.number() != public.object_type().number() {
+        return Err(IntegrityFault);
+    }
+    Ok(area)
+}

@@ -1,0 +1,89 @@
+ghost use Rattle.std.specs.Prelude.{◌≡◌};
+ghost use Rattle.tpm_object.specs.Checks.{one_of};
+ghost use Rattle.tpm_object.specs.Template.{attribute_conflicts, has_wrong_fixing, has_wrong_scheme, is_policy_size, template_passes};
+
+use crate::object::{is_cipher, is_keyed_hash};
+use tpm_types::object_attributes::{ObjectAttribute, ObjectAttributes};
+use tpm_types::public::{KeyedHashScheme, Public, PublicParameters};
+
+/// Why a template is refused.
+#[derive(Clone, Copy, Debug, PartialEq, Eq)]
+pub enum TemplateFault {
+    /// authPolicy is neither empty nor a digest of nameAlg.
+    AuthPolicySize,
+    /// Attributes that do not go together, or not with the type or the parent.
+    Attributes,
+    /// A scheme that does not go with the attributes.
+    Scheme,
+}
+
+fn is_policy_size(template: &Public) -> bool
+    ensures { result ≡ is_policy_size template.now }
+{
+    let size = template.auth_policy.len();
+    size == 0 || size == template.name_alg.size()
+}
+
+/// Whether fixedTPM does not go with the parent and with fixedParent.
+fn has_wrong_fixing(parent_is_fixed: bool, attributes: ObjectAttributes) -> bool
+    ensures { result ≡ has_wrong_fixing parent_is_fixed attributes }
+{
+    let fixed_tpm = attributes.has(ObjectAttribute::FixedTpm);
+    let fixed_parent = attributes.has(ObjectAttribute::FixedParent);
+    if parent_is_fixed {
+        fixed_tpm != fixed_parent
+    } else {
+        fixed_tpm
+    }
+}
+
+fn has_attribute_conflict(parent_is_fixed: bool, template: &Public) -> bool
+    ensures { result ≡ one_of (attribute_conflicts parent_is_fixed template.now) }
+{
+    let attributes = template.attributes;
+    let fixed_tpm = attributes.has(ObjectAttribute::FixedTpm);
+    let encrypted_duplication = attributes.has(ObjectAttribute::EncryptedDuplication);
+    let restricted = attributes.has(ObjectAttribute::Restricted);
+    let decrypt = attributes.has(ObjectAttribute::Decrypt);
+    let sign = attributes.has(ObjectAttribute::Sign);
+    fixed_tpm && encrypted_duplication
+        || has_wrong_fixing(parent_is_fixed, attributes)
+        || restricted && sign == decrypt
+        || is_keyed_hash(template) && decrypt
+        || is_cipher(template) && !sign && !decrypt
+        || is_cipher(template) && restricted && sign
+}
+
+/// Whether the scheme does not go with the attributes.
+fn has_wrong_scheme(parameters: PublicParameters, attributes: ObjectAttributes) -> bool
+    ensures { result ≡ has_wrong_scheme parameters attributes }
+{
+    match parameters {
+        PublicParameters::KeyedHash(KeyedHashScheme::Hmac(_)) => {
+            !attributes.has(ObjectAttribute::Sign)
+        }
+        PublicParameters::KeyedHash(KeyedHashScheme::Null) => {
+            attributes.has(ObjectAttribute::Restricted)
+        }
+        PublicParameters::SymCipher => false,
+    }
+}
+
+/// Whether a template can be one of a new object under a hierarchy or a parent with fixedTPM, or
+/// else under another parent (TPM 2.0 Library, Part 1, section 25). The first check that it fails
+/// refuses it.
+#[tactic(auto, unfolding(crate::specs::Template::template_passes))]
+pub fn check_template(template: &Public, parent_is_fixed: bool) -> Result<(), TemplateFault>
+    ensures { result ≡ template_passes parent_is_fixed template.now }
+{
+    if !is_policy_size(template) {
+        return Err(TemplateFault::AuthPolicySize);
+    }
+    if has_attribute_conflict(parent_is_fixed, template) {
+        return Err(TemplateFault::Attributes);
+    }
+    if has_wrong_scheme(template.parameters, template.attributes) {
+        return Err(TemplateFault::Scheme);
+    }
+    Ok(())
+}

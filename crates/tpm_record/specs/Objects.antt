@@ -1,0 +1,42 @@
+-- The transient objects of a device by their handles. TPM 2.0 Library, Part 1, section 15.6
+-- (transient objects), and Part 2, section 7.2 (TPM_HT_TRANSIENT: a handle whose highest byte is
+-- 80).
+use Rattle.std.specs.Prelude.{◌≡◌, ℕ, ◌+◌, ◌==◌, Bool, true, is_some, List, Option, Some, None, option_map, Result, Ok, Err, if◌then◌else◌, slice_set}
+use Rattle.tpm_object.specs.declared.object.Object.{Object}
+use Rattle.tpm_session.specs.Places.{at_place, lowest_free}
+use Rattle.tpm_session.specs.Sessions.{place_of}
+use Rattle.tpm_types.specs.declared.handle.Handle.{Handle}
+use Rattle.tpm_types.specs.Handle.{handle_type}
+use Rattle.tpm_record.specs.declared.keep.AddFault.{AddFault}
+use Rattle.tpm_record.specs.declared.keep.AddFault.TheVariants.{Full, NoMemory}
+
+-- the object of a handle, whose three lower bytes are its place
+unfoldable pub object_at : List (Option Object) → Handle → Option Object
+object_at places handle =
+    if handle_type handle == 0x80 then at_place places (place_of handle) else None
+
+-- the handle of an object in a place, and that which the next object takes
+abbrev pub object_handle : ℕ → Handle
+object_handle place = record { number = 0x8000_0000 + place }
+
+abbrev pub next_handle : List (Option Object) → Option Handle
+next_handle places = option_map object_handle (lowest_free places)
+
+-- with an object in a place
+abbrev pub with_object : List (Option Object) → ℕ → Object → List (Option Object)
+with_object places place object = slice_set places place (Some object)
+
+-- without the object of a handle
+unfoldable pub without_object : List (Option Object) → Handle → List (Option Object)
+without_object places handle =
+    if is_some (object_at places handle) then slice_set places (place_of handle) None else places
+
+-- An object took the lowest free place, unless all are taken or memory was refused.
+abbrev pub Adds : Bool → List (Option Object) → Object
+    → Result Handle AddFault → List (Option Object) → Type 0
+Adds can old object (Ok handle) new =
+    (place : ℕ) × (lowest_free old ≡ Some place) × (handle ≡ object_handle place)
+    × (new ≡ with_object old place object)
+Adds can old object (Err Full) new = (lowest_free old ≡ None) × (new ≡ old)
+Adds can old object (Err NoMemory) new =
+    (place : ℕ) × (lowest_free old ≡ Some place) × (can ≡ true) × (new ≡ old)

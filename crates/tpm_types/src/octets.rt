@@ -1,0 +1,83 @@
+ghost use Rattle.std.specs.Prelude.{◌≡◌, ◌≤◌, [], length};
+ghost use Rattle.std.specs.Str.{bytes_eq};
+ghost use Rattle.tpm_bytes.specs.Reading.{Reads};
+ghost use Rattle.tpm_types.specs.Buffer.{buffer_at};
+
+use crate::buffer::read_buffer;
+use crate::rc::Rc;
+use arrayvec::ArrayVec;
+use std::marker::Model;
+use tpm_bytes::cursor::Cursor;
+
+/// The bytes of a sized buffer, at most `N` of them (TPM2B of TPM 2.0 Library, Part 2, section
+/// 10.4). Contracts see them as a list.
+#[derive(Drop)]
+pub struct Octets<const N: usize> {
+    bytes: ArrayVec<u8, N>,
+}
+
+impl<const N: usize> Model for Octets<N> {
+    ghost use Rattle.std.specs.Prelude.{ℕ, List};
+
+    ghost Value = { List ℕ };
+
+    ghost view = { λ o. o.bytes.items };
+}
+
+impl<const N: usize> Octets<N> {
+    /// No byte.
+    pub fn empty() -> Octets<N>
+        ensures { result ≡ [] }
+    {
+        Octets {
+            bytes: ArrayVec::new(),
+        }
+    }
+
+    /// These bytes.
+    pub fn of(bytes: &[u8]) -> Octets<N>
+        requires { length bytes.now ≤ N }
+        ensures { result ≡ bytes.now }
+    {
+        let mut copy = ArrayVec::new();
+        let _ = copy.try_extend_from_slice(bytes);
+        Octets { bytes: copy }
+    }
+
+    /// Reads a sized buffer: SIZE where it says that it has more than `N` bytes, else INSUFFICIENT
+    /// where it is cut.
+    pub fn read(text: &mut Cursor) -> Result<Octets<N>, Rc>
+        ensures { Reads (λ octets. octets) (buffer_at N text.old) text.old result text.new }
+    {
+        Ok(Octets::of(read_buffer(text, N)?))
+    }
+
+    /// The bytes.
+    pub fn as_slice(&self) -> &[u8]
+        ensures value { result.now ≡ self.now }
+        ensures fits { length result.now ≤ N }
+    {
+        self.bytes.as_slice()
+    }
+
+    pub fn len(&self) -> usize
+        ensures value { result ≡ length self.now }
+        ensures fits { result ≤ N }
+    {
+        self.bytes.len()
+    }
+
+    /// The same bytes.
+    pub fn copy(&self) -> Octets<N>
+        ensures { result ≡ self.now }
+    {
+        Octets::of(self.bytes.as_slice())
+    }
+
+    /// Whether these are the bytes.
+    pub fn is_same(&self, bytes: &[u8]) -> bool
+        ensures { result ≡ bytes_eq self.now bytes.now }
+    {
+        self.bytes.as_slice() == bytes
+    }
+}
