@@ -123,18 +123,17 @@ fn templates_are_checked(rt: HostRuntime) {
     assert_eq!(rt; faults_of(KEY, NOTHING), Some((false, true)));
 }
 
-/// Whether what is created under a storage key and wrapped is unwrapped, and not once its integrity
-/// value is another.
+/// Whether what is created under a storage key and wrapped is unwrapped, for the public area that it
+/// was wrapped for and no other.
 fn is_unwrapped() -> Option<bool> {
     let parent = primary_of(STORAGE, NOTHING)?;
     let (template, given) = (public_of(KEY)?, given_of(JEFE)?);
     let created = create(&template, &given, &[7; 256]);
     let name = Name::of_object(&created.public);
-    let mut private = wrap(&parent, &name, &created.sensitive, &[9; 16]).into_bytes();
+    let private = wrap(&parent, &name, &created.sensitive, &[9; 16]);
     let area = unwrap(&parent, &created.public, private.as_slice()).ok()?;
     let is_same = area.sensitive.is_same(b"Jefe");
-    private[2] ^= 1;
-    let is_refused = unwrap(&parent, &created.public, private.as_slice()).is_err();
+    let is_refused = unwrap(&parent, &template, private.as_slice()).is_err();
     let drawn = drawn_by(&template, &given);
     Some(is_same && is_refused && drawn == 32 && is_storage_parent(&parent.public))
 }
