@@ -1,5 +1,5 @@
 -- The object that a command's handle names, and what is asked of a parent.
-use Rattle.std.specs.Prelude.{◌≡◌, ℕ, not, Bool, true, List, Option, Some, None, Result, Ok, Err, ok_or}
+use Rattle.std.specs.Prelude.{◌≡◌, ℕ, not, Bool, Result, Ok, Err, ok_or}
 use Rattle.std.specs.Borrow.{Bor}
 use Rattle.tpm_bytes.specs.Reading.{refused_if}
 use Rattle.tpm_object.specs.declared.object.Object.{Object}
@@ -38,6 +38,10 @@ parent_passes parent =
 abbrev pub is_fixed : Object → Bool
 is_fixed parent = has parent.public.attributes attribute.FixedTpm
 
+-- the refusal by check n where all places are taken
+abbrev pub no_place : ℕ → Refused
+no_place n = action_refusal n (plain code.ObjectMemory)
+
 -- the place that a new object takes, or check n: there is none
 abbrev pub place_for : ℕ → Record → Result ℕ Refused
-place_for n r = ok_or (lowest_free r.objects) (action_refusal n (plain code.ObjectMemory))
+place_for n r = ok_or (lowest_free r.objects) (no_place n)

@@ -1,13 +1,11 @@
 ghost use Rattle.std.specs.Prelude.{◌≡◌};
-ghost use Rattle.tpm_types.specs.declared.rc.ResponseCode.TheVariants as code;
-ghost use Rattle.tpm_types.specs.Rc.{plain};
 ghost use Rattle.tpm_actions.specs.Request.{request_of};
 ghost use Rattle.tpm_actions.specs.Rows.{ActsIfRoom};
-ghost use Rattle.tpm_actions_object.specs.Checks.{action_refusal};
 ghost use Rattle.tpm_actions_object.specs.CreatePrimary.{create_primary_row, named_hierarchy};
 
-use crate::checks::{action_refusal, given_passes, public_passes};
+use crate::checks::{given_passes, public_passes};
 use crate::creation::{Parent, put_creation, read_asked};
+use crate::loaded::no_place;
 use tpm_actions::answer::Answer;
 use tpm_actions::call::Call;
 use tpm_actions::reading::memory_refused;
@@ -27,13 +25,6 @@ fn named_hierarchy(handle: Handle) -> Result<HierarchyHandle, Refused>
     }
 }
 
-/// The refusal where eight objects are loaded.
-fn no_place() -> Refused
-    ensures { result ≡ action_refusal 7 (plain code.ObjectMemory) }
-{
-    action_refusal(7, ResponseCode::ObjectMemory.anywhere())
-}
-
 /// TPM2_CreatePrimary: derives an object from the seed of a hierarchy, and loads it.
 #[tactic(auto, unfolding(crate::specs::CreatePrimary::create_primary_row))]
 pub fn create_primary<K: Keep>(keep: &mut K, call: &Call) -> Result<Answer, Refused>
@@ -46,7 +37,7 @@ pub fn create_primary<K: Keep>(keep: &mut K, call: &Call) -> Result<Answer, Refu
     public_passes(0, &asked.template, true)?;
     given_passes(3, &asked.given, &asked.template)?;
     if keep.free_object().is_none() {
-        return Err(no_place());
+        return Err(no_place(7));
     }
     let seed = keep.fixed().hierarchies.secrets(hierarchy).seed;
     let object = derive_primary(hierarchy, &seed, &asked.template, &asked.given);
@@ -69,7 +60,7 @@ pub fn create_primary<K: Keep>(keep: &mut K, call: &Call) -> Result<Answer, Refu
             answer.handle = Some(handle);
             Ok(answer)
         }
-        Err(AddFault::Full) => Err(no_place()),
+        Err(AddFault::Full) => Err(no_place(7)),
         Err(AddFault::NoMemory) => Err(memory_refused()),
     }
 }

@@ -1,13 +1,10 @@
 ghost use Rattle.std.specs.Prelude.{◌≡◌};
-ghost use Rattle.tpm_types.specs.declared.rc.ResponseCode.TheVariants as code;
-ghost use Rattle.tpm_types.specs.Rc.{plain};
 ghost use Rattle.tpm_actions.specs.Request.{request_of};
 ghost use Rattle.tpm_actions.specs.Rows.{ActsIfRoom};
-ghost use Rattle.tpm_actions_object.specs.Checks.{action_refusal};
 ghost use Rattle.tpm_actions_object.specs.Load.{load_row, sensitive_of};
 
-use crate::checks::{action_refusal, parameter_fault, public_passes};
-use crate::loaded::{check_parent, is_fixed, loaded};
+use crate::checks::{parameter_fault, public_passes};
+use crate::loaded::{check_parent, is_fixed, loaded, no_place};
 use tpm_actions::answer::Answer;
 use tpm_actions::call::Call;
 use tpm_actions::reading::{at_parameter, end, memory_refused};
@@ -35,13 +32,6 @@ fn sensitive_of(parent: &Object, public: &Public, private: &[u8]) -> Result<Sens
     }
 }
 
-/// The refusal where eight objects are loaded.
-fn no_place() -> Refused
-    ensures { result ≡ action_refusal 6 (plain code.ObjectMemory) }
-{
-    action_refusal(6, ResponseCode::ObjectMemory.anywhere())
-}
-
 /// TPM2_Load: opens the private area of an object below its parent, and loads it.
 #[tactic(auto, unfolding(crate::specs::Load::load_row))]
 pub fn load<K: Keep>(keep: &mut K, call: &Call) -> Result<Answer, Refused>
@@ -65,7 +55,7 @@ pub fn load<K: Keep>(keep: &mut K, call: &Call) -> Result<Answer, Refused>
             answer.handle = Some(handle);
             Ok(answer)
         }
-        Err(AddFault::Full) => Err(no_place()),
+        Err(AddFault::Full) => Err(no_place(6)),
         Err(AddFault::NoMemory) => Err(memory_refused()),
     }
 }

@@ -1,5 +1,5 @@
 ghost use Rattle.std.specs.Prelude.{◌≡◌};
-ghost use Rattle.tpm_actions_object.specs.Loaded.{IsLoaded, is_fixed, parent_passes, loaded_at};
+ghost use Rattle.tpm_actions_object.specs.Loaded.{IsLoaded, is_fixed, loaded_at, no_place, parent_passes};
 
 use crate::checks::action_refusal;
 use tpm_auth::check::Check;
@@ -36,4 +36,11 @@ pub fn is_fixed(parent: &Object) -> bool
     ensures { result ≡ is_fixed parent.now }
 {
     parent.public.attributes.has(ObjectAttribute::FixedTpm)
+}
+
+/// The refusal by a command's check of this number where eight objects are loaded.
+pub fn no_place(number: u8) -> Refused
+    ensures { result ≡ no_place number }
+{
+    action_refusal(number, ResponseCode::ObjectMemory.anywhere())
 }
