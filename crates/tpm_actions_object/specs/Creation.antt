@@ -1,11 +1,10 @@
 -- What TPM2_CreatePrimary and TPM2_Create share: their parameters, and what they answer about the
 -- creation. TPM 2.0 Library, Part 3, sections 12.1 and 24.1, and Part 2, sections 15.1
 -- (TPMS_CREATION_DATA) and 10.7.3 (TPMT_TK_CREATION).
-use Rattle.std.specs.Prelude.{◌≡◌, ℕ, ◌^◌, List, ◌++◌, Option, Some, None, Result, Ok, Err}
+use Rattle.std.specs.Prelude.{◌≡◌, ℕ, ◌^◌, List, ◌++◌, Some, None, Result, Ok, Err}
 use Rattle.std.specs.Int.{w16, w32, to_be_bytes}
 use Rattle.tpm_bytes.specs.Reading.{◌>>=◌}
 use Rattle.tpm_bytes.specs.Writing.{sized_text}
-use Rattle.tpm_mac.specs.declared.algorithm.HashAlg.{HashAlg}
 use Rattle.tpm_mac.specs.declared.algorithm.HashAlg.TheVariants.{Sha256}
 use Rattle.tpm_mac.specs.Digest.{hash_of}
 use Rattle.tpm_mac.specs.Hmac.{hmac_of}

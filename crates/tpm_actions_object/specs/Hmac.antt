@@ -1,5 +1,5 @@
 -- TPM2_HMAC. TPM 2.0 Library, Part 3, section 15.5.
-use Rattle.std.specs.Prelude.{◌==◌, Bool, Option, Some, None, if◌then◌else◌, not, Result, Ok, Err, ok_or}
+use Rattle.std.specs.Prelude.{◌==◌, Option, Some, None, if◌then◌else◌, not, Result, Ok, Err, ok_or}
 use Rattle.tpm_bytes.specs.Reading.{◌>>=◌, refused_if}
 use Rattle.tpm_bytes.specs.Writing.{sized_text}
 use Rattle.tpm_mac.specs.declared.algorithm.HashAlg.{HashAlg}

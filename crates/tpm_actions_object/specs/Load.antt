@@ -1,5 +1,5 @@
 -- TPM2_Load. TPM 2.0 Library, Part 3, section 12.2.
-use Rattle.std.specs.Prelude.{ℕ, List, Some, Result, Ok, Err}
+use Rattle.std.specs.Prelude.{ℕ, List, Some, Result, Ok}
 use Rattle.tpm_bytes.specs.Reading.{◌>>=◌, or_fault}
 use Rattle.tpm_bytes.specs.Writing.{sized_text}
 use Rattle.tpm_name.specs.Name.{object_name}

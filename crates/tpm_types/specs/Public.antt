@@ -2,7 +2,7 @@
 -- parameters section 12.2.3.7 (TPMU_PUBLIC_PARMS), with sections 11.1.9 (TPMS_SYMCIPHER_PARMS) and
 -- 11.1.23 (TPMT_KEYEDHASH_SCHEME); section 6.3 (TPM_ALG_ID: KEYEDHASH 0008, SYMCIPHER 0025, NULL
 -- 0010, HMAC 0005). That another scheme is SCHEME is this device's own.
-use Rattle.std.specs.Prelude.{ℕ, ◌==◌, ◌≤◌, Bool, true, false, List, ◌++◌, length, if◌then◌else◌}
+use Rattle.std.specs.Prelude.{ℕ, ◌==◌, ◌≤◌, List, ◌++◌, length, if◌then◌else◌}
 use Rattle.std.specs.Prelude.{Option, Some, None, Result, Ok, Err, ok_or}
 use Rattle.std.specs.Int.{w16, to_be_bytes}
 use Rattle.tpm_bytes.specs.Reading.{◌>>=◌, number_at, or_fault, refused_if}
@@ -16,7 +16,6 @@ use Rattle.tpm_types.specs.declared.public.PublicParameters.{PublicParameters}
 use Rattle.tpm_types.specs.declared.public.PublicParameters.TheVariants as parameters_of
 use Rattle.tpm_types.specs.declared.rc.Rc.{Rc}
 use Rattle.tpm_types.specs.declared.rc.ResponseCode.TheVariants as code
-use Rattle.tpm_types.specs.declared.symmetric.SymmetricDefinition.{SymmetricDefinition}
 use Rattle.tpm_types.specs.declared.symmetric.SymmetricDefinition.TheVariants as symmetric
 use Rattle.tpm_types.specs.Algorithm.{hash_at, hash_number}
 use Rattle.tpm_types.specs.Buffer.{buffer_at}
