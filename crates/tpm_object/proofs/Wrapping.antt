@@ -5,7 +5,7 @@ use Rattle.std.specs.Str.{bytes_eq}
 use Rattle.std.proofs.lemmas.Bool.{le-ltb}
 use Rattle.std.proofs.lemmas.Bool.Decides.{Decides-eqb}
 use Rattle.std.proofs.lemmas.Slice.Eq.{bytes_eq-Decides}
-use Rattle.tpm_aes.proofs.Undone.{cfb_undone-each, length-cfb_encrypt_of}
+use Rattle.tpm_aes.proofs.Undone.{cfb_undone, length-cfb_encrypt_of}
 use Rattle.tpm_aes.specs.Cfb.{cfb_decrypt_of, cfb_encrypt_of}
 use Rattle.tpm_bytes.specs.Reading.{◌>>=◌, or_fault, refused_if, sized_at}
 use Rattle.tpm_bytes.specs.Writing.{sized_text}
@@ -113,7 +113,7 @@ encrypted_undone : (parent : Object) (name iv : List ℕ) (area : Sensitive)
     → cfb_decrypt_of (storage_key parent name) iv (encrypted_area parent name iv area) ≡ sized_text (sensitive_text area)
 unfolding encrypted_area
 encrypted_undone parent name iv area =
-    cfb_undone-each (storage_key parent name) iv (sized_text (sensitive_text area))
+    cfb_undone (storage_key parent name) iv (sized_text (sensitive_text area))
 
 -- an encrypted area is decrypted to what it was
 decrypted_again : (parent : Object) (name iv : List ℕ) (area : Sensitive) → length iv ≡ 16 → IsSensitive area

@@ -42,7 +42,7 @@ returns-clause-undone c =
     let text = c.args.text.now in
     let value : c.loop-index.text ≡ cfb_encrypt_of key iv text =
     done_to_all (cipher_piece key iv text) text c.loop-index.text c.loop-index.index c.loop-index.invariant.0 (omega arith) in
-    ap (cfb_decrypt_of key iv) value ∙ cfb_undone key iv text (ap length (sym value) ∙ c.loop-index.invariant.0.size)
+    ap (cfb_decrypt_of key iv) value ∙ cfb_undone key iv text
 
 pub returns-clause-value : goal.returns-clause-value
 unfolding pieces_to
