@@ -1,28 +1,29 @@
 -- What is wrapped is unwrapped, and what is unwrapped was wrapped so.
-use Rattle.std.proofs.Common.{◌≡◌, ℕ, ◌≤◌, Bool, true, false, List, [], ◌++◌, length, length-append, Result, Ok, Err, refl, sym, ap, subst, ◌∙◌, append-nil, arith}
-use Rattle.std.specs.Prelude.{◌==◌, not, nat_lt, IfOk}
+use Rattle.std.proofs.Common.{◌≡◌, ℕ, ◌<◌, ◌≤◌, Bool, true, false, List, [], ◌++◌, length, Result, Ok, Err, refl, sym, ap, subst, ◌∙◌, append-nil, arith}
+use Rattle.std.specs.Prelude.{◌==◌, not, IfOk}
 use Rattle.std.specs.Str.{bytes_eq}
-use Rattle.std.proofs.lemmas.Bool.{le-ltb}
 use Rattle.std.proofs.lemmas.Bool.Decides.{Decides-eqb}
 use Rattle.std.proofs.lemmas.Slice.Eq.{bytes_eq-Decides}
-use Rattle.tpm_aes.proofs.Undone.{cfb_undone, length-cfb_encrypt_of}
+use Rattle.tpm_aes.proofs.Undone.{cfb_undone, length-cfb_decrypt_of}
 use Rattle.tpm_aes.specs.Cfb.{cfb_decrypt_of, cfb_encrypt_of}
 use Rattle.tpm_bytes.specs.Reading.{◌>>=◌, or_fault, refused_if, sized_at}
 use Rattle.tpm_bytes.specs.Writing.{sized_text}
-use Rattle.tpm_bytes.proofs.Fields.{AreBytes, bind_ok, ok_is, passed, sized_again, sized_takes}
+use Rattle.tpm_bytes.proofs.Fields.{AreBytes, bind_ok, ok_is, or_fault_ok, passed, sized_again, sized_takes}
 use Rattle.tpm_mac.proofs.DigestSize.{length-hmac_of}
 use Rattle.tpm_mac.specs.Digest.{digest_size}
 use Rattle.tpm_mac.specs.declared.algorithm.HashAlg.{HashAlg}
 use Rattle.tpm_mac.specs.declared.algorithm.HashAlg.TheVariants.{Sha1, Sha256}
 use Rattle.tpm_name.specs.Name.{object_name}
 use Rattle.tpm_types.specs.Filled.{filled_by}
-use Rattle.tpm_types.specs.Public.{object_type, object_type_text, object_type_number}
+use Rattle.tpm_types.specs.Public.{object_type, object_type_number}
 use Rattle.tpm_types.specs.Sensitive.{IsSensitive, sensitive_at, sensitive_text}
 use Rattle.tpm_types.specs.declared.public.ObjectType.{ObjectType}
 use Rattle.tpm_types.specs.declared.public.ObjectType.TheVariants as object
 use Rattle.tpm_types.specs.declared.public.Public.{Public}
 use Rattle.tpm_types.specs.declared.sensitive.Sensitive.{Sensitive}
+use Rattle.tpm_types.proofs.SelectionLaws.{is_equal}
 use Rattle.tpm_types.proofs.SensitiveLaws.{sized_sensitive_spelled}
+use Rattle.tpm_object.proofs.Longest.{sized_sensitive_most}
 use Rattle.tpm_object.specs.PrivateArea.{IsProtected, IsWrapped, area_in, decrypted_area, encrypted_area, integrity_fault, integrity_key, integrity_of, private_text, protected_in, protected_text, authenticated_text, storage_key, unwrapped}
 use Rattle.tpm_object.specs.declared.object.Object.{Object}
 use Rattle.tpm_object.specs.declared.private_area.IntegrityFault.{IntegrityFault}
@@ -86,28 +87,15 @@ area_again area is =
     ap (filled_by sensitive_at) (sym (append-nil text)) ∙ sized_sensitive_spelled.again area [] is in
     rw read refl
 
--- an area has at most 202 bytes in a sized buffer
-area_small : (area : Sensitive) → IsSensitive area → length (sized_text (sensitive_text area)) ≤ 202
-unfolding sensitive_text
-area_small area is =
-    let auth = object_type_text area.object_type ++ sized_text area.auth_value in
-    let seed = auth ++ sized_text area.seed_value in
-    omega (
-      arith,
-      is.auth_value,
-      is.seed_value,
-      is.sensitive,
-      length-append (object_type_text area.object_type) (sized_text area.auth_value),
-      length-append auth (sized_text area.seed_value),
-      length-append seed (sized_text area.sensitive),
-    )
-
--- and as many when it is encrypted
-encrypted_small : (parent : Object) (name iv : List ℕ) (area : Sensitive) → IsSensitive area
-    → length (encrypted_area parent name iv area) ≤ 202
-unfolding encrypted_area
-encrypted_small parent name iv area is =
-    omega (arith, area_small area is, length-cfb_encrypt_of (storage_key parent name) iv (sized_text (sensitive_text area)))
+-- and has at most 202 bytes there
+area_most : (plain : List ℕ) (area : Sensitive) → area_in plain ≡ Ok area → length plain ≤ 202
+unfolding area_in
+area_most plain area e =
+    let f = integrity_fault in
+    let a = bind_ok (or_fault (filled_by sensitive_at plain) f) (λ area. refused_if (not (length area.1 == 0)) f >>= λ whole. Ok area.0) area e in
+    let b = bind_ok (refused_if (not (length a.0.1 == 0)) f) (λ whole. Ok a.0.0) area a.2 in
+    let none = is_equal (length a.0.1) 0 (passed (not (length a.0.1 == 0)) f b.0 b.1) in
+    omega (arith, none, sized_sensitive_most plain a.0 (or_fault_ok (filled_by sensitive_at plain) f a.0 a.1))
 
 encrypted_undone : (parent : Object) (name iv : List ℕ) (area : Sensitive)
     → cfb_decrypt_of (storage_key parent name) iv (encrypted_area parent name iv area) ≡ sized_text (sensitive_text area)
@@ -121,11 +109,9 @@ decrypted_again : (parent : Object) (name iv : List ℕ) (area : Sensitive) → 
 unfolding decrypted_area
 decrypted_again parent name iv area whole is =
     let encrypted : List ℕ = encrypted_area parent name iv area in
-    let fits : nat_lt 202 (length encrypted) ≡ false = le-ltb _ _ (encrypted_small parent name iv area is) in
     rw (
       sized_again 16 integrity_fault iv encrypted (omega arith) (omega arith),
       whole,
-      fits,
       encrypted_undone parent name iv area,
       area_again area is,
     ) refl
@@ -143,6 +129,27 @@ decrypted_found parent name protected iv encrypted plain area fits read whole un
     let again : encrypted ≡ encrypted_area parent name iv area =
     sym undone ∙ ap (cfb_encrypt_of (storage_key parent name) iv) spelled in
     (iv, whole, t.0.parts ∙ ap (λ (l : List ℕ). sized_text iv ++ l) again)
+
+-- a text that is longer than an area in its sized buffer is none, encrypted or not
+long_refused : (plain : List ℕ) → 202 < length plain → area_in plain ≡ Err integrity_fault
+long_refused plain long = by (area_in plain) refl
+  where
+    by : (r : Result Sensitive IntegrityFault) → area_in plain ≡ r → r ≡ Err integrity_fault
+    by (Ok area) is = absurd (omega (arith, area_most plain area is, long))
+    by (Err fault) is = refl
+
+long_cipher_refused : (parent : Object) (name iv encrypted : List ℕ) → 202 < length encrypted
+    → area_in (cfb_decrypt_of (storage_key parent name) iv encrypted) ≡ Err integrity_fault
+long_cipher_refused parent name iv encrypted long =
+    long_refused (cfb_decrypt_of (storage_key parent name) iv encrypted)
+    (omega (arith, long, length-cfb_decrypt_of (storage_key parent name) iv encrypted))
+
+pub long_area_refused : (parent : Object) (name protected iv encrypted : List ℕ)
+    → sized_at 16 protected ≡ Ok (iv, encrypted) → length iv ≡ 16 → 202 < length encrypted
+    → decrypted_area parent name protected ≡ Err integrity_fault
+unfolding decrypted_area
+long_area_refused parent name protected iv encrypted read whole long =
+    rw (read, whole, long_cipher_refused parent name iv encrypted long) refl
 
 -- the same of what a reading gives
 pub decrypted_law : (parent : Object) (name protected iv encrypted plain : List ℕ)

@@ -1,7 +1,7 @@
 -- Private areas: the sensitive area of an object, encrypted and authenticated by its parent. TPM
 -- 2.0 Library, Part 1, section 22 (protected storage: symmetric encryption, and integrity), and
 -- Part 2, sections 12.3.6 (_PRIVATE) and 12.3.7 (TPM2B_PRIVATE).
-use Rattle.std.specs.Prelude.{◌≡◌, ℕ, ◌==◌, not, nat_lt, List, [], ◌∷◌, ◌++◌, length, Result, Ok, Err}
+use Rattle.std.specs.Prelude.{◌≡◌, ℕ, ◌==◌, not, List, [], ◌∷◌, ◌++◌, length, Result, Ok, Err}
 use Rattle.std.specs.Borrow.{Bor}
 use Rattle.std.specs.Str.{bytes_eq}
 use Rattle.tpm_aes.specs.Cfb.{cfb_decrypt_of, cfb_encrypt_of}
@@ -107,15 +107,13 @@ area_in plain = do
   whole ← refused_if (not (length area.1 == 0)) integrity_fault
   Ok area.0
 
--- the area behind an IV of 16 bytes, encrypted in no more bytes than the longest area has in its
--- sized buffer
+-- the area behind an IV of 16 bytes
 unfoldable pub decrypted_area : (parent : Object)
     → (name protected : List ℕ)
     → Result Sensitive IntegrityFault
 decrypted_area parent name protected = do
   iv ← or_fault (sized_at 16 protected) integrity_fault
   whole ← refused_if (not (length iv.0 == 16)) integrity_fault
-  fits ← refused_if (nat_lt 202 (length iv.1)) integrity_fault
   area_in (cfb_decrypt_of (storage_key parent name) iv.0 iv.1)
 
 -- the sensitive area in a private area, for this public area and of its type

@@ -22,7 +22,7 @@ use tpm_types::sensitive::Sensitive;
 #[derive(Clone, Copy, Debug, PartialEq, Eq)]
 pub struct IntegrityFault;
 
-/// The most bytes of a sensitive area in a sized buffer.
+/// The most bytes of a sensitive area in a sized buffer: more are none, encrypted or not.
 const MOST_AREA_BYTES: usize = 202;
 
 /// The label of the keys by which a parent encrypts.

@@ -15,7 +15,7 @@ use Rattle.tpm_types.proofs.FieldLaws.{buffer_spelled}
 use Rattle.tpm_types.proofs.SelectionLaws.{is_equal}
 use Rattle.tpm_types.proofs.Spelled.{Spelled, front_fits, rest_fits}
 
-or_size_ok : {X : Type 0} (r : Result X Rc) (x : X) → or_size r ≡ Ok x → r ≡ Ok x
+pub or_size_ok : {X : Type 0} (r : Result X Rc) (x : X) → or_size r ≡ Ok x → r ≡ Ok x
 or_size_ok (Ok y) x e = cc
 or_size_ok (Err fault) x e = absurd cc
 

@@ -1,7 +1,7 @@
-use Rattle.std.proofs.Common.{◌≡◌, rules, List, ℕ, Ok, sym, subst}
+use Rattle.std.proofs.Common.{◌≡◌, ℕ, List, Ok, arith, rules, subst, sym}
 use Rattle.tpm_bytes.proofs.Fields.{AreBytes}
 use Rattle.tpm_bytes.specs.Reading.{sized_at}
-use Rattle.tpm_object.proofs.Wrapping.{decrypted_law}
+use Rattle.tpm_object.proofs.Wrapping.{decrypted_law, long_area_refused}
 use Rattle.tpm_object.proofs.private_area.decrypted_area.Goals as goal
 
 pub returns-clause-found : goal.returns-clause-found
@@ -15,3 +15,10 @@ returns-clause-found c =
     decrypted_law c.args.parent.now c.args.name.now c.args.protected.now iv rest c.decrypted-plain.result.items
     c.area_in.result fits (subst (λ (l : List ℕ). sized_at 16 c.args.protected.now ≡ Ok (l, rest)) (sym same) read)
     (search rules) c.decrypted-plain.ensures.undone (search rules)
+
+pub returns-then-encrypted-gt-MOST_AREA_BYTES-clause-value : goal.returns-then-encrypted-gt-MOST_AREA_BYTES-clause-value
+returns-then-encrypted-gt-MOST_AREA_BYTES-clause-value c =
+    let found = c.in_ok-found.found.now in
+    let rest = c.rest-encrypted.result.now in
+    let read : sized_at 16 c.args.protected.now ≡ Ok (found, rest) = search rules in
+    sym (long_area_refused c.args.parent.now c.args.name.now c.args.protected.now found rest read (omega arith) (omega arith))
