@@ -3,11 +3,11 @@ use Rattle.std.specs.Prelude.{◌≡◌, ℕ, ◌==◌, not, List, length, take,
 use Rattle.tpm_bytes.specs.Reading.{◌>>=◌, refused_if}
 use Rattle.tpm_bytes.specs.Writing.{sized_text}
 use Rattle.tpm_mac.specs.declared.algorithm.HashAlg.{HashAlg}
+use Rattle.tpm_places.specs.Places.{lowest_free}
 use Rattle.tpm_session.specs.declared.session.Binding.{Binding}
 use Rattle.tpm_session.specs.declared.session.Session.{Session}
 use Rattle.tpm_types.specs.declared.session_type.SessionType.{SessionType}
 use Rattle.tpm_session.specs.Key.{is_nonce_size}
-use Rattle.tpm_session.specs.Places.{lowest_free}
 use Rattle.tpm_session.specs.Sessions.{handle_of, new_session}
 use Rattle.tpm_types.specs.declared.handle.Handle.{Handle}
 use Rattle.tpm_types.specs.declared.rc.ResponseCode.TheVariants as code

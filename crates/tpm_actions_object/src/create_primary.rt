@@ -12,7 +12,8 @@ use tpm_actions::reading::memory_refused;
 use tpm_auth::check::Check;
 use tpm_auth::refused::Refused;
 use tpm_object::primary::derive_primary;
-use tpm_record::keep::{AddFault, Keep};
+use tpm_places::list_places::PlaceFault;
+use tpm_record::keep::Keep;
 use tpm_types::handle::{Handle, HierarchyHandle};
 use tpm_types::rc::ResponseCode;
 
@@ -60,7 +61,7 @@ pub fn create_primary<K: Keep>(keep: &mut K, call: &Call) -> Result<Answer, Refu
             answer.handle = Some(handle);
             Ok(answer)
         }
-        Err(AddFault::Full) => Err(no_place(7)),
-        Err(AddFault::NoMemory) => Err(memory_refused()),
+        Err(PlaceFault::Full) => Err(no_place(7)),
+        Err(PlaceFault::NoMemory) => Err(memory_refused()),
     }
 }

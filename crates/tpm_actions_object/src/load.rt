@@ -12,7 +12,8 @@ use tpm_auth::refused::Refused;
 use tpm_bytes::cursor::Cursor;
 use tpm_object::object::Object;
 use tpm_object::private_area::unwrap;
-use tpm_record::keep::{AddFault, Keep};
+use tpm_places::list_places::PlaceFault;
+use tpm_record::keep::Keep;
 use tpm_types::buffer::read_buffer;
 use tpm_types::filled::read_filled;
 use tpm_types::public::Public;
@@ -55,7 +56,7 @@ pub fn load<K: Keep>(keep: &mut K, call: &Call) -> Result<Answer, Refused>
             answer.handle = Some(handle);
             Ok(answer)
         }
-        Err(AddFault::Full) => Err(no_place(6)),
-        Err(AddFault::NoMemory) => Err(memory_refused()),
+        Err(PlaceFault::Full) => Err(no_place(6)),
+        Err(PlaceFault::NoMemory) => Err(memory_refused()),
     }
 }

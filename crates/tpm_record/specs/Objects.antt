@@ -3,12 +3,12 @@
 -- 80).
 use Rattle.std.specs.Prelude.{◌≡◌, ℕ, ◌+◌, ◌==◌, Bool, true, is_some, List, Option, Some, None, option_map, Result, Ok, Err, if◌then◌else◌, slice_set}
 use Rattle.tpm_object.specs.declared.object.Object.{Object}
-use Rattle.tpm_session.specs.Places.{at_place, lowest_free}
+use Rattle.tpm_places.specs.Places.{at_place, lowest_free}
 use Rattle.tpm_session.specs.Sessions.{place_of}
 use Rattle.tpm_types.specs.declared.handle.Handle.{Handle}
 use Rattle.tpm_types.specs.Handle.{handle_type}
-use Rattle.tpm_record.specs.declared.keep.AddFault.{AddFault}
-use Rattle.tpm_record.specs.declared.keep.AddFault.TheVariants.{Full, NoMemory}
+use Rattle.tpm_places.specs.declared.list_places.PlaceFault.{PlaceFault}
+use Rattle.tpm_places.specs.declared.list_places.PlaceFault.TheVariants.{Full, NoMemory}
 
 -- the object of a handle, whose three lower bytes are its place
 unfoldable pub object_at : List (Option Object) → Handle → Option Object
@@ -33,7 +33,7 @@ without_object places handle =
 
 -- An object took the lowest free place, unless all are taken or memory was refused.
 abbrev pub Adds : Bool → List (Option Object) → Object
-    → Result Handle AddFault → List (Option Object) → Type 0
+    → Result Handle PlaceFault → List (Option Object) → Type 0
 Adds can old object (Ok handle) new =
     (place : ℕ) × (lowest_free old ≡ Some place) × (handle ≡ object_handle place)
     × (new ≡ with_object old place object)

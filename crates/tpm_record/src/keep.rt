@@ -11,6 +11,7 @@ ghost use Rattle.tpm_session.specs.declared.sessions.Sessions.{Sessions as Sessi
 use crate::fixed::Fixed;
 use std::alloc::Global;
 use tpm_object::object::Object;
+use tpm_places::list_places::PlaceFault;
 use tpm_session::sessions::Sessions;
 use tpm_session::slots::Slots;
 use tpm_types::handle::Handle;
@@ -18,15 +19,6 @@ use tpm_types::handle::Handle;
 /// Memory was refused.
 #[derive(Clone, Copy, Debug, PartialEq, Eq)]
 pub struct NoMemory;
-
-/// Why no object was added.
-#[derive(Clone, Copy, Debug, PartialEq, Eq)]
-pub enum AddFault {
-    /// All places are taken.
-    Full,
-    /// Memory was refused.
-    NoMemory,
-}
 
 /// A way of keeping the device's state, which is seen as the record that it stands for.
 pub trait Keep: Drop + Sized {
@@ -79,7 +71,7 @@ pub trait Keep: Drop + Sized {
         ensures { result ≡ next_handle (record_of self.now).objects };
 
     /// Puts an object into the lowest free place, and gives its handle.
-    fn add_object(&mut self, object: Object) -> Result<Handle, AddFault>
+    fn add_object(&mut self, object: Object) -> Result<Handle, PlaceFault>
         ensures added { Adds can_refuse (record_of self.old).objects object result
             (record_of self.new).objects }
         ensures others { record_of self.new

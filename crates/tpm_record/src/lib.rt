@@ -5,7 +5,8 @@
 //! [`keep::Keep`] is the trait, [`list_keep::ListKeep`] keeps the record in growing lists,
 //! [`fixed::Fixed`] is the part that does not grow. [`tick::tick`] and [`cycle::power_cycle`] are
 //! what happens to a record whatever the command, [`entity`] what a handle's entity is. It stands
-//! on tpm_pcr, and promises for each keep the equations of `specs/` on its record.
+//! on `tpm_pcr`, on `tpm_session` and `tpm_object`, and on `tpm_places` for the places of objects. It
+//! promises for each keep the equations of `specs/` on its record.
 
 pub mod cycle;
 pub mod entity;

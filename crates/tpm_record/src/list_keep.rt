@@ -1,10 +1,11 @@
 ghost use Rattle.std.specs.Prelude.{◌≡◌};
 
 use crate::fixed::Fixed;
-use crate::keep::{AddFault, Keep, NoMemory};
+use crate::keep::{Keep, NoMemory};
 use crate::list_objects::ListObjects;
 use std::alloc::Global;
 use tpm_object::object::Object;
+use tpm_places::list_places::PlaceFault;
 use tpm_session::list_slots::ListSlots;
 use tpm_session::sessions::Sessions;
 use tpm_session::slots::Slots;
@@ -21,7 +22,6 @@ pub struct ListKeep {
 impl Keep for ListKeep {
     ghost use Rattle.std.specs.Prelude.{true, refl};
     ghost use Rattle.tpm_record.specs.ListKeep.{list_record};
-    ghost use Rattle.tpm_session.specs.ListPlaces.{length-padded};
 
     type Se = ListSlots;
 
@@ -65,7 +65,7 @@ impl Keep for ListKeep {
         self.objects.free()
     }
 
-    fn add_object(&mut self, object: Object) -> Result<Handle, AddFault> {
+    fn add_object(&mut self, object: Object) -> Result<Handle, PlaceFault> {
         self.objects.add(object)
     }
 
@@ -77,7 +77,7 @@ impl Keep for ListKeep {
         self.objects.clear();
     }
 
-    ghost eight = { λ keep. length-padded 8 keep.objects.cells.items keep.objects.few };
+    ghost eight = { λ keep. keep.objects.all };
 
     ghost fixed_written = { λ keep fixed. refl };
 

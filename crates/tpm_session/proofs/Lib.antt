@@ -1,3 +1,1 @@
-pub mod Padding
-pub mod PlaceLaws
 pub mod SessionLaws

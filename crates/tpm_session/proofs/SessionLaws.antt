@@ -5,10 +5,10 @@ use Rattle.std.proofs.lemmas.Bool.{cases_eq, eqb-true, eq-eqb, ne_eqb}
 use Rattle.tpm_types.specs.declared.handle.Handle.{Handle}
 use Rattle.tpm_types.specs.Handle.{handle_type}
 use Rattle.tpm_session.specs.declared.session.Session.{Session}
-use Rattle.tpm_session.specs.Places.{at_place, lowest_free}
+use Rattle.tpm_places.specs.Places.{at_place, lowest_free}
 use Rattle.tpm_types.specs.SessionType.{type_byte}
 use Rattle.tpm_session.specs.Sessions.{changed, flushed, handle_of, if_of_type, place_of, session_at}
-use Rattle.tpm_session.proofs.PlaceLaws.{at_inside, at_set-here, at_set-other, lowest_free-free}
+use Rattle.tpm_places.proofs.PlaceLaws.{at_inside, at_set-here, at_set-other, lowest_free-free}
 
 abbrev Places : Type 0
 Places = List (Option Session)

@@ -1,7 +1,6 @@
 pub mod Session
 pub mod Key
 pub mod Places
-pub mod ListPlaces
 pub mod Sessions
 pub mod ParameterHash
 pub mod EntryText

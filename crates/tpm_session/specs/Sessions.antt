@@ -17,7 +17,7 @@ use Rattle.tpm_session.specs.declared.sessions.Start.{Start}
 use Rattle.tpm_session.specs.declared.sessions.StartFault.{StartFault}
 use Rattle.tpm_session.specs.declared.sessions.StartFault.TheVariants as fault
 use Rattle.tpm_session.specs.Key.{is_nonce_size, session_key}
-use Rattle.tpm_session.specs.Places.{at_place, lowest_free}
+use Rattle.tpm_places.specs.Places.{at_place, lowest_free}
 use Rattle.tpm_session.specs.Session.{with_nonce, with_policy}
 
 -- the places of the sessions, by what shows those of their slots

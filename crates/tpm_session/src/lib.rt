@@ -4,9 +4,10 @@
 //! by their handles, the HMAC of an entry by a session, and parameters that a session encrypts.
 //!
 //! It stands on `tpm_mac` and `tpm_aes` for HMACs, keys and encryption, on `tpm_name` for the Names
-//! in a command's hash, and on `tpm_types`. Contracts see the sessions of [`sessions::Sessions`] as
-//! sixteen places, each free or with a session, whatever keeps them ([`slots::Slots`]). A refused
-//! start changes nothing. Only the start of a session may take memory.
+//! in a command's hash, on `tpm_places` for the places of sessions, and on `tpm_types`. Contracts
+//! see the sessions of [`sessions::Sessions`] as sixteen places, each free or with a session,
+//! whatever keeps them ([`slots::Slots`]). A refused start changes nothing. Only the start of a
+//! session may take memory.
 
 pub mod encryption;
 pub mod entry;

@@ -1,12 +1,14 @@
-ghost use Rattle.std.specs.Prelude.{◌≡◌, ◌<◌, None, is_some, length, option_copied, replicate};
+ghost use Rattle.std.specs.Prelude.{◌≡◌, ◌<◌, is_some, length, option_copied};
+ghost use Rattle.tpm_places.specs.Places.{free};
 ghost use Rattle.tpm_session.specs.Sessions.{Starts, flushed, handle_of, place_of, places_of, rolled, session_at, started_session, with_session_policy};
 
 use crate::key::{SessionKey, is_nonce_size};
 use crate::nonce::Nonce;
 use crate::session::{Binding, Session};
-use crate::slots::{SlotFault, Slots};
+use crate::slots::Slots;
 use std::alloc::Global;
 use tpm_mac::HashAlg;
+use tpm_places::list_places::PlaceFault;
 use tpm_policy::state::PolicyState;
 use tpm_types::handle::Handle;
 use tpm_types::session_type::SessionType;
@@ -84,7 +86,7 @@ fn started_session(start: Start) -> Session
 impl<S: Slots> Sessions<S> {
     /// No session; no memory is taken.
     pub fn new(alloc: Global) -> Sessions<S>
-        ensures { places_of S.places result ≡ replicate 16 None }
+        ensures { places_of S.places result ≡ free 16 }
     {
         Sessions {
             slots: S::new(alloc),
@@ -102,8 +104,8 @@ impl<S: Slots> Sessions<S> {
         let kind = start.kind;
         match self.slots.insert(started_session(start)) {
             Ok(place) => Ok(handle_of(kind, place)),
-            Err(SlotFault::Full) => Err(StartFault::SessionMemory),
-            Err(SlotFault::NoMemory) => Err(StartFault::Memory),
+            Err(PlaceFault::Full) => Err(StartFault::SessionMemory),
+            Err(PlaceFault::NoMemory) => Err(StartFault::Memory),
         }
     }
 
@@ -137,7 +139,7 @@ impl<S: Slots> Sessions<S> {
 
     /// Ends all sessions.
     pub fn clear(&mut self)
-        ensures { places_of S.places self.new ≡ replicate 16 None }
+        ensures { places_of S.places self.new ≡ free 16 }
     {
         self.slots.clear();
     }

@@ -1,20 +1,13 @@
-ghost use Rattle.std.specs.Prelude.{◌≡◌, Bool, List, Option, None, length, option_copied, replicate, slice_set};
-ghost use Rattle.tpm_session.specs.Places.{Inserts, at_place, nonce_set, policy_set};
+ghost use Rattle.std.specs.Prelude.{◌≡◌, Bool, List, Option, None, length, option_copied, slice_set};
+ghost use Rattle.tpm_places.specs.Places.{Inserts, at_place, free};
+ghost use Rattle.tpm_session.specs.Places.{nonce_set, policy_set};
 ghost use Rattle.tpm_session.specs.declared.session.Session.{Session as SessionParts};
 
 use crate::nonce::Nonce;
 use crate::session::Session;
 use std::alloc::Global;
+use tpm_places::list_places::PlaceFault;
 use tpm_policy::state::PolicyState;
-
-/// Why no place was taken.
-#[derive(Clone, Copy, Debug, PartialEq, Eq)]
-pub enum SlotFault {
-    /// All places are taken.
-    Full,
-    /// Memory was refused.
-    NoMemory,
-}
 
 /// Sixteen places for sessions, which are numbered from 0.
 pub trait Slots: Drop + Sized {
@@ -26,15 +19,15 @@ pub trait Slots: Drop + Sized {
 
     /// Free places; no memory is taken.
     fn new(alloc: Global) -> Self
-        ensures { places result ≡ replicate 16 None };
+        ensures { places result ≡ free 16 };
 
     /// The session in a place, if one is there.
     fn get(&self, place: usize) -> Option<&Session>
         ensures { option_copied result ≡ at_place (places self.now) place };
 
     /// Puts a session into the lowest free place.
-    fn insert(&mut self, session: Session) -> Result<usize, SlotFault>
-        ensures { Inserts can_refuse (places self.old) session result (places self.new) };
+    fn insert(&mut self, session: Session) -> Result<usize, PlaceFault>
+        ensures { Inserts 16 can_refuse (places self.old) session result (places self.new) };
 
     /// Gives the session in a place another nonce of the TPM's, if one is there.
     fn set_nonce(&mut self, place: usize, nonce: Nonce)
@@ -50,7 +43,7 @@ pub trait Slots: Drop + Sized {
 
     /// Frees all places.
     fn clear(&mut self)
-        ensures { places self.new ≡ replicate 16 None };
+        ensures { places self.new ≡ free 16 };
 
     /// There are always sixteen.
     ghost sixteen: { (slots : Self) → length (places slots) ≡ 16 };
