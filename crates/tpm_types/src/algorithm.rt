@@ -35,10 +35,12 @@ pub fn read_hash(text: &mut Cursor) -> Result<HashAlg, Rc>
     ensures { Reads (λ algorithm. algorithm) (hash_at text.old) text.old result text.new }
 {
     let mut ahead = Cursor::new(text.rest());
-    let number = ahead
-        .u16()
-        .map_err(|_| ResponseCode::Insufficient.anywhere())?;
-    let algorithm = hash_named(number).ok_or(ResponseCode::Hash.anywhere())?;
+    let Ok(number) = ahead.u16() else {
+        return Err(ResponseCode::Insufficient.anywhere());
+    };
+    let Some(algorithm) = hash_named(number) else {
+        return Err(ResponseCode::Hash.anywhere());
+    };
     *text = ahead;
     Ok(algorithm)
 }
@@ -72,10 +74,12 @@ pub fn read_hash_or_null(text: &mut Cursor) -> Result<Option<HashAlg>, Rc>
     ensures { Reads (λ algorithm. algorithm) (hash_or_null_at text.old) text.old result text.new }
 {
     let mut ahead = Cursor::new(text.rest());
-    let number = ahead
-        .u16()
-        .map_err(|_| ResponseCode::Insufficient.anywhere())?;
-    let algorithm = hash_or_null_named(number).ok_or(ResponseCode::Hash.anywhere())?;
+    let Ok(number) = ahead.u16() else {
+        return Err(ResponseCode::Insufficient.anywhere());
+    };
+    let Some(algorithm) = hash_or_null_named(number) else {
+        return Err(ResponseCode::Hash.anywhere());
+    };
     *text = ahead;
     Ok(algorithm)
 }

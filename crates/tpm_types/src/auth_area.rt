@@ -29,13 +29,17 @@ impl<'a> AuthArea<'a> {
         ensures { Reads (λ area. map entry_of area.entries.items) (area_at text.old)
             text.old result text.new }
     {
-        let cut = ResponseCode::Authsize.anywhere();
         let mut ahead = Cursor::new(text.rest());
-        let size = ahead.u32().map_err(|_| cut)? as usize;
+        let Ok(size) = ahead.u32() else {
+            return Err(ResponseCode::Authsize.anywhere());
+        };
+        let size = size as usize;
         if size < LEAST_AREA {
-            return Err(cut);
+            return Err(ResponseCode::Authsize.anywhere());
         }
-        let bytes = ahead.take(size).map_err(|_| cut)?;
+        let Ok(bytes) = ahead.take(size) else {
+            return Err(ResponseCode::Authsize.anywhere());
+        };
         let entries = read_entries(bytes)?;
         *text = ahead;
         Ok(AuthArea { entries })

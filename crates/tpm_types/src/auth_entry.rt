@@ -60,12 +60,19 @@ impl<'a> AuthEntry<'a> {
     fn read_fields(text: &mut Cursor<'a>) -> Result<AuthEntry<'a>, Rc>
         ensures { Reads entry_of (entry_at text.old) text.old result text.new }
     {
-        let cut = ResponseCode::Authsize.anywhere();
         let mut ahead = Cursor::new(text.rest());
-        let number = ahead.u32().map_err(|_| cut)?;
-        let nonce = ahead.sized(0xffff).map_err(|_| cut)?;
-        let octet = ahead.u8().map_err(|_| cut)?;
-        let hmac = ahead.sized(0xffff).map_err(|_| cut)?;
+        let Ok(number) = ahead.u32() else {
+            return Err(ResponseCode::Authsize.anywhere());
+        };
+        let Ok(nonce) = ahead.sized(0xffff) else {
+            return Err(ResponseCode::Authsize.anywhere());
+        };
+        let Ok(octet) = ahead.u8() else {
+            return Err(ResponseCode::Authsize.anywhere());
+        };
+        let Ok(hmac) = ahead.sized(0xffff) else {
+            return Err(ResponseCode::Authsize.anywhere());
+        };
         *text = ahead;
         Ok(AuthEntry {
             session: Handle { number },
@@ -100,9 +107,10 @@ impl<'a> AuthEntry<'a> {
         if N - sink.len() < 9 + nonce.len() + hmac.len() {
             return Err(Full);
         }
-        sink.put_u32(self.session.number)?;
-        sink.put_sized(nonce)?;
-        sink.put_u8(self.attributes.octet)?;
-        sink.put_sized(hmac)
+        let _ = sink.put_u32(self.session.number);
+        let _ = sink.put_sized(nonce);
+        let _ = sink.put_u8(self.attributes.octet);
+        let _ = sink.put_sized(hmac);
+        Ok(())
     }
 }

@@ -19,8 +19,9 @@ pub fn read_buffer<'a>(text: &mut Cursor<'a>, limit: usize) -> Result<&'a [u8], 
 fn read_sized<'a>(text: &mut Cursor<'a>, limit: usize) -> Result<&'a [u8], Rc>
     ensures { Reads (λ buffer. buffer.now) (buffer_at limit text.old) text.old result text.new }
 {
-    text.sized(limit).map_err(|fault| match fault {
-        SizedFault::TooLong => ResponseCode::Size.anywhere(),
-        SizedFault::Short => ResponseCode::Insufficient.anywhere(),
-    })
+    match text.sized(limit) {
+        Ok(bytes) => Ok(bytes),
+        Err(SizedFault::TooLong) => Err(ResponseCode::Size.anywhere()),
+        Err(SizedFault::Short) => Err(ResponseCode::Insufficient.anywhere()),
+    }
 }

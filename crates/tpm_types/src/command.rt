@@ -62,14 +62,18 @@ impl Header {
             return Err(HeaderFault::Length);
         }
         let mut ahead = Cursor::new(text.rest());
-        let tag = ahead.u16().map_err(|_| HeaderFault::Length)?;
-        let size = ahead.u32().map_err(|_| HeaderFault::Length)?;
-        let code = ahead.u32().map_err(|_| HeaderFault::Length)?;
-        let tag = Tag::named(tag).ok_or(HeaderFault::Tag)?;
+        let (Ok(tag), Ok(size), Ok(code)) = (ahead.u16(), ahead.u32(), ahead.u32()) else {
+            return Err(HeaderFault::Length);
+        };
+        let Some(tag) = Tag::named(tag) else {
+            return Err(HeaderFault::Tag);
+        };
         if size as usize != length {
             return Err(HeaderFault::Size);
         }
-        let code = CommandCode::named(code).ok_or(HeaderFault::Code)?;
+        let Some(code) = CommandCode::named(code) else {
+            return Err(HeaderFault::Code);
+        };
         *text = ahead;
         Ok(Header { tag, code })
     }

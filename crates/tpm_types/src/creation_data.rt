@@ -72,9 +72,9 @@ impl CreationData {
         let mut ahead = Cursor::new(text.rest());
         let pcr_select = PcrSelection::read(&mut ahead)?;
         let pcr_digest = Octets::read(&mut ahead)?;
-        let locality = ahead
-            .u8()
-            .map_err(|_| ResponseCode::Insufficient.anywhere())?;
+        let Ok(locality) = ahead.u8() else {
+            return Err(ResponseCode::Insufficient.anywhere());
+        };
         let parent_name_alg = read_hash_or_null(&mut ahead)?;
         let parent_name = Octets::read(&mut ahead)?;
         let parent_qualified_name = Octets::read(&mut ahead)?;

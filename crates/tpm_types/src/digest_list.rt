@@ -80,9 +80,9 @@ impl DigestList {
             text.old result text.new }
     {
         let mut ahead = Cursor::new(text.rest());
-        let count = ahead
-            .u32()
-            .map_err(|_| ResponseCode::Insufficient.anywhere())?;
+        let Ok(count) = ahead.u32() else {
+            return Err(ResponseCode::Insufficient.anywhere());
+        };
         if count < FEWEST_DIGESTS || count > MOST_DIGESTS {
             return Err(ResponseCode::Size.anywhere());
         }

@@ -84,8 +84,9 @@ impl DigestValue {
         if N - sink.len() < 2 + digest.len() {
             return Err(Full);
         }
-        sink.put_u16(hash_number(self.hash()))?;
-        sink.put(digest)
+        let _ = sink.put_u16(hash_number(self.hash()));
+        let _ = sink.put(digest);
+        Ok(())
     }
 }
 
@@ -109,9 +110,8 @@ ghost use Rattle.tpm_types.specs.DigestValues.{octets_at};
 fn read_octets<const N: usize>(text: &mut Cursor) -> Result<[u8; N], Rc>
     ensures { Reads (λ octets. octets) (octets_at N text.old) text.old result text.new }
 {
-    let bytes = match text.take(N) {
-        Ok(bytes) => bytes,
-        Err(_) => return Err(ResponseCode::Insufficient.anywhere()),
+    let Ok(bytes) = text.take(N) else {
+        return Err(ResponseCode::Insufficient.anywhere());
     };
     let mut octets = [0; N];
     octets.copy_from_slice(bytes);
@@ -143,9 +143,9 @@ impl DigestValues {
             text.old result text.new }
     {
         let mut ahead = Cursor::new(text.rest());
-        let count = ahead
-            .u32()
-            .map_err(|_| ResponseCode::Insufficient.anywhere())?;
+        let Ok(count) = ahead.u32() else {
+            return Err(ResponseCode::Insufficient.anywhere());
+        };
         if count > MOST_DIGEST_VALUES {
             return Err(ResponseCode::Size.anywhere());
         }

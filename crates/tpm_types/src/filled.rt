@@ -29,7 +29,10 @@ pub fn read_filled<'a, T: Readable<'a, Fault = Rc> + Drop>(text: &mut Cursor<'a>
 {
     let mut ahead = Cursor::new(text.rest());
     let mut buffer = Cursor::new(read_buffer(&mut ahead, 0xffff)?);
-    let content = T::read(&mut buffer).map_err(|fault| within_buffer(fault))?;
+    let content = match T::read(&mut buffer) {
+        Ok(content) => content,
+        Err(fault) => return Err(within_buffer(fault)),
+    };
     if !buffer.is_empty() {
         return Err(ResponseCode::Size.anywhere());
     }

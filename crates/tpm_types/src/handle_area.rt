@@ -25,11 +25,10 @@ impl<'a> ReadableBy<'a, HandleRule> for Handle {
     #[tactic(auto, unfolding(crate::specs::HandleArea::allowed_handle_at))]
     fn read(number: u8, key: &HandleRule, text: &mut Cursor<'a>) -> Result<Handle, Rc> {
         let mut ahead = Cursor::new(text.rest());
-        let handle = Handle {
-            number: ahead.u32().map_err(|_| ResponseCode::Insufficient
-                .anywhere()
-                .at_handle(number))?,
+        let Ok(field) = ahead.u32() else {
+            return Err(ResponseCode::Insufficient.anywhere().at_handle(number));
         };
+        let handle = Handle { number: field };
         if !key.kind.allows(handle) {
             return Err(ResponseCode::Value.anywhere().at_handle(number));
         }

@@ -60,9 +60,9 @@ impl ObjectAttributes {
             result text.new }
     {
         let mut ahead = Cursor::new(text.rest());
-        let bits = ahead
-            .u32()
-            .map_err(|_| ResponseCode::Insufficient.anywhere())?;
+        let Ok(bits) = ahead.u32() else {
+            return Err(ResponseCode::Insufficient.anywhere());
+        };
         if bits & RESERVED_BITS != 0 {
             return Err(ResponseCode::ReservedBits.anywhere());
         }

@@ -45,15 +45,15 @@ impl BankSelection {
     {
         let mut ahead = Cursor::new(text.rest());
         let hash = read_hash(&mut ahead)?;
-        let size = ahead
-            .u8()
-            .map_err(|_| ResponseCode::Insufficient.anywhere())?;
+        let Ok(size) = ahead.u8() else {
+            return Err(ResponseCode::Insufficient.anywhere());
+        };
         if size != SELECT_SIZE {
             return Err(ResponseCode::Value.anywhere());
         }
-        let octets = ahead
-            .take(3)
-            .map_err(|_| ResponseCode::Insufficient.anywhere())?;
+        let Ok(octets) = ahead.take(3) else {
+            return Err(ResponseCode::Insufficient.anywhere());
+        };
         let select = PcrSelect::from_octets([octets[0], octets[1], octets[2]]);
         *text = ahead;
         Ok(BankSelection { hash, select })
@@ -67,9 +67,10 @@ impl BankSelection {
         if N - sink.len() < 6 {
             return Err(Full);
         }
-        sink.put_u16(hash_number(self.hash))?;
-        sink.put_u8(SELECT_SIZE)?;
-        sink.put(&self.select.octets())
+        let _ = sink.put_u16(hash_number(self.hash));
+        let _ = sink.put_u8(SELECT_SIZE);
+        let _ = sink.put(&self.select.octets());
+        Ok(())
     }
 }
 
@@ -125,9 +126,9 @@ impl PcrSelection {
             text.old result text.new }
     {
         let mut ahead = Cursor::new(text.rest());
-        let count = ahead
-            .u32()
-            .map_err(|_| ResponseCode::Insufficient.anywhere())?;
+        let Ok(count) = ahead.u32() else {
+            return Err(ResponseCode::Insufficient.anywhere());
+        };
         if count > MOST_BANKS {
             return Err(ResponseCode::Size.anywhere());
         }
@@ -137,7 +138,6 @@ impl PcrSelection {
     }
 
     /// Writes the selection at the end, at most 100 bytes, or nothing where it does not fit.
-    #[tactic(auto, using(crate::proofs::BanksLemmas::writing_banks))]
     pub fn write<const N: usize>(&self, sink: &mut Sink<N>) -> Result<(), Full>
         ensures written { Puts N (selection_text self.now.banks.items) sink.old result sink.new }
         ensures small { length (selection_text self.now.banks.items) ≤ 100 }

@@ -53,10 +53,12 @@ impl ObjectType {
         ensures { Reads (λ kind. kind) (object_type_at text.old) text.old result text.new }
     {
         let mut ahead = Cursor::new(text.rest());
-        let number = ahead
-            .u16()
-            .map_err(|_| ResponseCode::Insufficient.anywhere())?;
-        let kind = ObjectType::named(number).ok_or(ResponseCode::Type.anywhere())?;
+        let Ok(number) = ahead.u16() else {
+            return Err(ResponseCode::Insufficient.anywhere());
+        };
+        let Some(kind) = ObjectType::named(number) else {
+            return Err(ResponseCode::Type.anywhere());
+        };
         *text = ahead;
         Ok(kind)
     }
@@ -81,9 +83,9 @@ impl KeyedHashScheme {
         ensures { Reads (λ scheme. scheme) (scheme_at text.old) text.old result text.new }
     {
         let mut ahead = Cursor::new(text.rest());
-        let number = ahead
-            .u16()
-            .map_err(|_| ResponseCode::Insufficient.anywhere())?;
+        let Ok(number) = ahead.u16() else {
+            return Err(ResponseCode::Insufficient.anywhere());
+        };
         let scheme = match number {
             0x0010 => KeyedHashScheme::Null,
             0x0005 => KeyedHashScheme::Hmac(read_hash(&mut ahead)?),
@@ -105,8 +107,9 @@ impl KeyedHashScheme {
                 if N - sink.len() < 4 {
                     return Err(Full);
                 }
-                sink.put_u16(0x0005)?;
-                sink.put_u16(hash_number(hash))
+                let _ = sink.put_u16(0x0005);
+                let _ = sink.put_u16(hash_number(hash));
+                Ok(())
             }
         }
     }

@@ -57,12 +57,11 @@ impl SessionType {
         ensures { Reads (λ kind. kind) (session_type_at text.old) text.old result text.new }
     {
         let mut ahead = Cursor::new(text.rest());
-        let number = ahead
-            .u8()
-            .map_err(|_| ResponseCode::Insufficient.anywhere())?;
-        let kind = match SessionType::named(number) {
-            Some(kind) => kind,
-            None => return Err(ResponseCode::Value.anywhere()),
+        let Ok(number) = ahead.u8() else {
+            return Err(ResponseCode::Insufficient.anywhere());
+        };
+        let Some(kind) = SessionType::named(number) else {
+            return Err(ResponseCode::Value.anywhere());
         };
         *text = ahead;
         Ok(kind)

@@ -19,9 +19,9 @@ impl StartupType {
         ensures { Reads (λ kind. kind) (startup_type_at text.old) text.old result text.new }
     {
         let mut ahead = Cursor::new(text.rest());
-        let number = ahead
-            .u16()
-            .map_err(|_| ResponseCode::Insufficient.anywhere())?;
+        let Ok(number) = ahead.u16() else {
+            return Err(ResponseCode::Insufficient.anywhere());
+        };
         let kind = match number {
             0 => StartupType::Clear,
             1 => StartupType::State,

@@ -1,9 +1,6 @@
 ghost use Rattle.std.specs.Prelude.{◌≡◌, ℕ, List, ◌++◌, Ok, IfOk};
-ghost use Rattle.std.specs.Int.{w16};
-ghost use Rattle.tpm_bytes.specs.Reading.{Reads, number_at, or_fault};
+ghost use Rattle.tpm_bytes.specs.Reading.{Reads};
 ghost use Rattle.tpm_bytes.specs.Writing.{Puts};
-ghost use Rattle.tpm_types.specs.Rc.{plain};
-ghost use Rattle.tpm_types.specs.declared.rc.ResponseCode.TheVariants as code;
 
 use crate::grammar::bytes_fit;
 use crate::rc::{Rc, ResponseCode};
@@ -17,15 +14,6 @@ pub enum SymmetricDefinition {
     Null,
     /// By AES with a key of 128 bits, in cipher feedback mode.
     Aes128Cfb,
-}
-
-/// Reads a number of two bytes: INSUFFICIENT where it is cut.
-fn read_number(text: &mut Cursor) -> Result<u16, Rc>
-    ensures { Reads (λ number. number) (or_fault (number_at w16 text.old) (plain code.Insufficient))
-        text.old result text.new }
-{
-    text.u16()
-        .map_err(|_| ResponseCode::Insufficient.anywhere())
 }
 
 impl SymmetricDefinition {
@@ -56,7 +44,10 @@ impl SymmetricDefinition {
             result text.new }
     {
         let mut ahead = Cursor::new(text.rest());
-        let definition = match read_number(&mut ahead)? {
+        let Ok(number) = ahead.u16() else {
+            return Err(ResponseCode::Insufficient.anywhere());
+        };
+        let definition = match number {
             0x0010 => SymmetricDefinition::Null,
             0x0006 => SymmetricDefinition::read_aes(&mut ahead)?,
             _ => return Err(ResponseCode::Symmetric.anywhere()),
@@ -71,10 +62,16 @@ impl SymmetricDefinition {
         ensures { Reads (λ definition. definition) (aes_at text.old) text.old result text.new }
     {
         let mut ahead = Cursor::new(text.rest());
-        if read_number(&mut ahead)? != 0x0080 {
+        let Ok(key_bits) = ahead.u16() else {
+            return Err(ResponseCode::Insufficient.anywhere());
+        };
+        if key_bits != 0x0080 {
             return Err(ResponseCode::Value.anywhere());
         }
-        if read_number(&mut ahead)? != 0x0043 {
+        let Ok(mode) = ahead.u16() else {
+            return Err(ResponseCode::Insufficient.anywhere());
+        };
+        if mode != 0x0043 {
             return Err(ResponseCode::Mode.anywhere());
         }
         *text = ahead;

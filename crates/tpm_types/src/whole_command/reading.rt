@@ -6,7 +6,7 @@ ghost use Rattle.tpm_types.specs.Command.{handles_at, sessions_at, whole_of};
 
 use crate::auth_area::AuthArea;
 use crate::auth_entry::AuthEntry;
-use crate::command::{Header, HeaderFault};
+use crate::command::Header;
 use crate::grammar::bytes_fit;
 use crate::handle::Handle;
 use crate::rc::{Rc, ResponseCode};
@@ -37,7 +37,10 @@ impl<'a> Command<'a> {
         ensures { Reads whole_of (command_at text.old) text.old result text.new }
     {
         let mut ahead = Cursor::new(text.rest());
-        let header = Header::read(&mut ahead).map_err(HeaderFault::rc)?;
+        let header = match Header::read(&mut ahead) {
+            Ok(header) => header,
+            Err(fault) => return Err(fault.rc()),
+        };
         let handles = read_handles(&mut ahead, header.code.handle_count())?;
         let entries = read_sessions(&mut ahead, header.tag)?;
         *text = Cursor::new(&[]);
@@ -60,9 +63,9 @@ fn read_handles(text: &mut Cursor, count: usize) -> Result<ArrayVec<Handle, 3>, 
     let mut handles = ArrayVec::new();
     for before in 0..count {
         let place = before as u8 + 1;
-        let number = ahead
-            .u32()
-            .map_err(|_| ResponseCode::Insufficient.anywhere().at_handle(place))?;
+        let Ok(number) = ahead.u32() else {
+            return Err(ResponseCode::Insufficient.anywhere().at_handle(place));
+        };
         handles.push(Handle { number });
     }
     *text = ahead;
