@@ -1,5 +1,5 @@
 -- TPM2_FlushContext. TPM 2.0 Library, Part 3, section 28.4.
-use Rattle.std.specs.Prelude.{◌==◌, ◌||◌, not, Bool, [], is_some, None, Result, Ok}
+use Rattle.std.specs.Prelude.{◌==◌, ◌||◌, not, Bool, ℕ, List, is_some, Result, Ok}
 use Rattle.std.specs.Int.{w32}
 use Rattle.tpm_bytes.specs.Reading.{◌>>=◌, number_at, or_fault, refused_if}
 use Rattle.tpm_session.specs.Sessions.{flushed, session_at}
@@ -17,7 +17,8 @@ use Rattle.tpm_types.specs.declared.action_check.ActionCheck.TheVariants as acti
 use Rattle.tpm_auth.specs.declared.check.Check.TheVariants as check
 use Rattle.tpm_auth.specs.declared.refused.Refused.{Refused}
 use Rattle.tpm_actions.specs.Request.{Request}
-use Rattle.tpm_actions.specs.Rows.{Success, all_read, parameter}
+use Rattle.tpm_actions.specs.Answer.{nothing}
+use Rattle.tpm_actions.specs.Rows.{Success, only}
 
 -- whether a handle is of what can be flushed: a session (02, 03) or a transient object (80)
 abbrev pub can_be_flushed : Handle → Bool
@@ -27,21 +28,25 @@ can_be_flushed handle = names_session handle || handle_type handle == 0x80
 abbrev pub is_loaded : Record → Handle → Bool
 is_loaded r handle = is_some (session_at r.sessions handle) || is_some (object_at r.objects handle)
 
--- the record without the session or the object of a handle
-abbrev pub without : Record → Handle → Record
-without r handle = record r {
-  sessions = flushed r.sessions handle;
-  objects = without_object r.objects handle;
-}
+-- flushHandle
+abbrev pub flushed_handle : List ℕ → Result Handle Refused
+flushed_handle text = do
+  number ← only (or_fault (number_at w32 text) (plain code.Insufficient))
+  Ok (numbered number)
 
 -- flushHandle. A1: it is neither a session's nor a transient object's; A2: there is none of that
 -- handle
 unfoldable pub flush_context_row : Record → Request → Result Success Refused
 flush_context_row r q = do
-  number ← parameter 1 (or_fault (number_at w32 q.parameters) (plain code.Insufficient))
-  ended ← all_read number.1
-  a1 ← refused_if (not (can_be_flushed (numbered number.0)))
+  handle ← flushed_handle q.parameters
+  a1 ← refused_if (not (can_be_flushed handle))
       (refusal (check.Action action.First) (at (place.Parameter 1) (plain code.Value)))
-  a2 ← refused_if (not (is_loaded r (numbered number.0)))
+  a2 ← refused_if (not (is_loaded r handle))
       (refusal (check.Action action.Second) (at (place.Parameter 1) (plain code.Handle)))
-  Ok (record { handle = None; answer = []; drawn = 0; after = without r (numbered number.0) })
+  Ok (record {
+    answer = nothing;
+    after = record r {
+      sessions = flushed r.sessions handle;
+      objects = without_object r.objects handle;
+    };
+  })

@@ -1,5 +1,5 @@
 -- TPM2_HierarchyChangeAuth. TPM 2.0 Library, Part 3, section 24.8.
-use Rattle.std.specs.Prelude.{List, ℕ, [], None, Result, Ok}
+use Rattle.std.specs.Prelude.{List, ℕ, Result, Ok}
 use Rattle.std.specs.Option.{option_map_or}
 use Rattle.tpm_bytes.specs.Reading.{◌>>=◌}
 use Rattle.tpm_types.specs.declared.handle.Handle.{Handle}
@@ -10,7 +10,8 @@ use Rattle.tpm_record.specs.Entity.{with_hierarchy_auth}
 use Rattle.tpm_record.specs.Record.{Record}
 use Rattle.tpm_auth.specs.declared.refused.Refused.{Refused}
 use Rattle.tpm_actions.specs.Request.{Request, first_handle}
-use Rattle.tpm_actions.specs.Rows.{Success, all_read, parameter}
+use Rattle.tpm_actions.specs.Answer.{nothing}
+use Rattle.tpm_actions.specs.Rows.{Success, only}
 
 -- the hierarchies with another authorization value for the one that a handle names
 abbrev pub with_auth_of : Hierarchies → Handle → List ℕ → Hierarchies
@@ -21,13 +22,10 @@ with_auth_of h handle value =
 unfoldable pub hierarchy_change_auth_row : Record → Request → Result Success Refused
 hierarchy_change_auth_row r q = do
   handle ← first_handle q.handles
-  value ← parameter 1 (auth_value_at q.parameters)
-  ended ← all_read value.1
+  value ← only (auth_value_at q.parameters)
   Ok (record {
-    handle = None;
-    answer = [];
-    drawn = 0;
+    answer = nothing;
     after = record r {
-      fixed = record r.fixed { hierarchies = with_auth_of r.fixed.hierarchies handle value.0 };
+      fixed = record r.fixed { hierarchies = with_auth_of r.fixed.hierarchies handle value };
     };
   })

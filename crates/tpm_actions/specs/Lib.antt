@@ -1,4 +1,5 @@
 pub mod Request
+pub mod Answer
 pub mod Rows
 pub mod PcrChange
 pub mod Startup

@@ -6,6 +6,7 @@ use Rattle.tpm_pcr.specs.declared.changes.ChangeFault.{ChangeFault}
 use Rattle.tpm_pcr.specs.declared.changes.ChangeFault.TheVariants.{Locality, Failure}
 use Rattle.tpm_types.specs.declared.rc.ResponseCode.TheVariants as code
 use Rattle.tpm_types.specs.Rc.{plain}
+use Rattle.tpm_record.specs.Record.{Record}
 use Rattle.tpm_auth.specs.Refused.{refusal}
 use Rattle.tpm_types.specs.declared.action_check.ActionCheck.TheVariants as action
 use Rattle.tpm_auth.specs.declared.check.Check.TheVariants as check
@@ -20,6 +21,11 @@ abbrev pub change_row : {X : Type 0} → Result X ChangeFault → Result X Refus
 change_row (Ok banks) = Ok banks
 change_row (Err fault) = Err (change_refusal fault)
 
-abbrev pub on_pcr : Option ℕ → BankValues → (ℕ → Result BankValues ChangeFault) → Result BankValues Refused
-on_pcr None banks change = Ok banks
-on_pcr (Some pcr) banks change = change_row (change pcr)
+abbrev pub on_pcr : Option ℕ → (ℕ → BankValues → Result BankValues ChangeFault)
+    → BankValues → Result BankValues Refused
+on_pcr None change banks = Ok banks
+on_pcr (Some pcr) change banks = change_row (change pcr banks)
+
+-- the record with other banks
+abbrev pub with_banks : Record → BankValues → Record
+with_banks r banks = record r { fixed = record r.fixed { banks = banks } }

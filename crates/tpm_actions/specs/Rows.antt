@@ -1,7 +1,6 @@
 -- What rows of the table are made of: a row gives a success or the first refusal.
-use Rattle.std.specs.Prelude.{◌≡◌, ℕ, ◌==◌, not, Bool, true, List, length, Option, Result, Ok, Err}
-use Rattle.tpm_bytes.specs.Reading.{refused_if}
-use Rattle.tpm_types.specs.declared.handle.Handle.{Handle}
+use Rattle.std.specs.Prelude.{◌≡◌, ℕ, ◌==◌, not, Bool, true, false, List, length, Result, Ok, Err}
+use Rattle.tpm_bytes.specs.Reading.{◌>>=◌, refused_if}
 use Rattle.tpm_types.specs.declared.rc.Rc.{Rc}
 use Rattle.tpm_types.specs.declared.rc.ResponseCode.TheVariants as code
 use Rattle.tpm_types.specs.declared.rc.Place.TheVariants as place
@@ -10,6 +9,7 @@ use Rattle.tpm_record.specs.Record.{Record}
 use Rattle.tpm_auth.specs.Refused.{refusal}
 use Rattle.tpm_auth.specs.declared.check.Check.TheVariants as check
 use Rattle.tpm_auth.specs.declared.refused.Refused.{Refused}
+use Rattle.tpm_actions.specs.Answer.{AnswerParts, IsAnswer}
 use Rattle.tpm_actions.specs.declared.answer.Answer.{Answer}
 
 -- the refusal of a parameter, G11: its fault is placed at the parameter of this number
@@ -25,32 +25,38 @@ parameter n (Err rc) = Err (parameter_refusal n rc)
 abbrev pub all_read : List ℕ → Result (Unit {0}) Refused
 all_read rest = refused_if (not (length rest == 0)) (refusal check.Parameters (plain code.Size))
 
--- what a command answers: the handle of what it made, if there is one, and its parameters; how many
--- of the event's random bytes it drew from their front, and the record after it
+-- a command's only parameter
+abbrev pub only : {X : Type 0} → Result (X × List ℕ) Rc → Result X Refused
+only read = do
+  p ← parameter 1 read
+  ended ← all_read p.1
+  Ok p.0
+
+-- a command that succeeds: what it answers, and the record after it
 pub record Success : Type 0 where
-  pub handle : Option Handle
-  pub answer : List ℕ
-  pub drawn : ℕ
+  pub answer : AnswerParts
   pub after : Record
 
--- A command did what its row says; a refusal changes nothing.
-abbrev pub Acts : Result Success Refused → Record → Result Answer Refused → Record → Type 0
-Acts row old (Ok a) new =
-    row ≡ Ok (record { handle = a.handle; answer = a.parameters; drawn = a.drawn; after = new })
-Acts row old (Err e) new = (row ≡ Err e) × (new ≡ old)
+-- an answer, and the record as it was
+abbrev pub unchanged : Record → AnswerParts → Success
+unchanged r answer = record { answer = answer; after = r }
 
 -- want of memory, M
 abbrev pub memory_refused : Refused
 memory_refused = refusal check.Memory (plain code.Memory)
 
--- The refusal is the row's; or memory was refused, where it can be, in place of its success.
-abbrev pub RefusesOrStarves : Bool → Result Success Refused → Refused → Type 0
-RefusesOrStarves can (Err refused) e = e ≡ refused
-RefusesOrStarves can (Ok s) e = (can ≡ true) × (e ≡ memory_refused)
+-- A command that grows something did what its row says, and its answer is the row's; or it was
+-- refused memory, where it can be, in place of a success. A refusal changes nothing, and of the
+-- answer nothing is said then.
+abbrev pub ActsIfRoom : Bool → Result Success Refused
+    → Record → Result (Unit {0}) Refused → Answer → Record → Type 0
+ActsIfRoom can (Ok s) old (Ok done) answer new = IsAnswer s.answer answer × (new ≡ s.after)
+ActsIfRoom can (Ok s) old (Err e) answer new =
+    (can ≡ true) × (e ≡ memory_refused) × (new ≡ old)
+ActsIfRoom can (Err refused) old (Ok done) answer new = ⊥
+ActsIfRoom can (Err refused) old (Err e) answer new = (e ≡ refused) × (new ≡ old)
 
--- A command that grows something did what its row says, or was refused memory; a refusal changes
--- nothing.
-abbrev pub ActsIfRoom : Bool → Result Success Refused → Record → Result Answer Refused → Record → Type 0
-ActsIfRoom can row old (Ok a) new =
-    row ≡ Ok (record { handle = a.handle; answer = a.parameters; drawn = a.drawn; after = new })
-ActsIfRoom can row old (Err e) new = (new ≡ old) × RefusesOrStarves can row e
+-- A command that grows nothing did what its row says.
+abbrev pub Acts : Result Success Refused
+    → Record → Result (Unit {0}) Refused → Answer → Record → Type 0
+Acts row old result answer new = ActsIfRoom false row old result answer new

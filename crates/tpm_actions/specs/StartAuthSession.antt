@@ -1,7 +1,6 @@
 -- TPM2_StartAuthSession. TPM 2.0 Library, Part 3, section 11.1, and Part 1, section 19.6.
-use Rattle.std.specs.Prelude.{◌≡◌, ℕ, ◌==◌, not, List, length, take, Option, Some, None, if◌then◌else◌, Result, Ok, Err, slice_set}
+use Rattle.std.specs.Prelude.{◌≡◌, ℕ, ◌==◌, not, List, length, take, Option, Some, None, if◌then◌else◌, Result, Ok, Err, ok_or, slice_set}
 use Rattle.tpm_bytes.specs.Reading.{◌>>=◌, refused_if}
-use Rattle.tpm_bytes.specs.Writing.{sized_text}
 use Rattle.tpm_mac.specs.declared.algorithm.HashAlg.{HashAlg}
 use Rattle.tpm_places.specs.Places.{lowest_free}
 use Rattle.tpm_session.specs.declared.session.Binding.{Binding}
@@ -27,6 +26,7 @@ use Rattle.tpm_auth.specs.declared.check.Check.TheVariants as check
 use Rattle.tpm_auth.specs.declared.refused.Refused.{Refused}
 use Rattle.tpm_actions.specs.declared.start_auth_session.Asked.{Asked}
 use Rattle.tpm_actions.specs.Request.{Request, second_handle}
+use Rattle.tpm_actions.specs.Answer.{AnswerParts, Sized}
 use Rattle.tpm_actions.specs.Rows.{Success, all_read, parameter}
 
 -- nonceCaller, encryptedSalt, sessionType, symmetric, authHash
@@ -90,15 +90,18 @@ binding_of r bind =
 abbrev pub session_with : Parameters → Option Binding → List ℕ → Session
 session_with p binding nonce = new_session p.kind p.hash p.symmetric binding nonce p.nonce_caller
 
--- A3: there is no place for the session; answered: its handle and its nonce
-abbrev pub started : Record → Parameters → Session → Option ℕ → Result Success Refused
-started r p s None = Err (refusal (check.Action action.Third) (plain code.SessionMemory))
-started r p s (Some place) = Ok (record {
+-- the place that a session takes, or A3: there is none
+abbrev pub session_place : List (Option Session) → Result ℕ Refused
+session_place sessions =
+    ok_or (lowest_free sessions) (refusal (check.Action action.Third) (plain code.SessionMemory))
+
+-- the handle of a session in its place, and its nonce, which was drawn
+abbrev pub start_answer : Parameters → Session → ℕ → AnswerParts
+start_answer p s place = record {
   handle = Some (handle_of s.kind place);
-  answer = sized_text s.nonce_tpm;
+  body = Sized s.nonce_tpm;
   drawn = length p.nonce_caller;
-  after = record r { sessions = slice_set r.sessions place (Some s) };
-})
+}
 
 -- tpmKey, which is TPM_RH_NULL, and bind; the session takes the lowest free place, and a nonce of
 -- the size of the caller's from the front of the random bytes
@@ -108,4 +111,8 @@ start_auth_session_row r q = do
   p ← parameters_in q.parameters
   passed ← parameters_pass p
   let s : Session = session_with p (binding_of r bind) (take (length p.nonce_caller) q.random)
-  started r p s (lowest_free r.sessions)
+  place ← session_place r.sessions
+  Ok (record {
+    answer = start_answer p s place;
+    after = record r { sessions = slice_set r.sessions place (Some s) };
+  })

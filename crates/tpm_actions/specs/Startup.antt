@@ -1,5 +1,5 @@
 -- TPM2_Startup. TPM 2.0 Library, Part 3, section 9.3.
-use Rattle.std.specs.Prelude.{ℕ, ◌+◌, ◌-◌, ◌^◌, min, true, Bool, false, List, [], take, drop, None, Result, Ok}
+use Rattle.std.specs.Prelude.{ℕ, ◌+◌, ◌-◌, ◌^◌, min, true, Bool, false, List, [], take, drop, Result, Ok}
 use Rattle.tpm_bytes.specs.Reading.{◌>>=◌, refused_if}
 use Rattle.tpm_types.specs.declared.rc.ResponseCode.TheVariants as code
 use Rattle.tpm_types.specs.declared.rc.Place.TheVariants as place
@@ -13,12 +13,14 @@ use Rattle.tpm_record.specs.Entity.{with_hierarchy_auth}
 use Rattle.tpm_record.specs.Record.{Record}
 use Rattle.tpm_auth.specs.declared.refused.Refused.{Refused}
 use Rattle.tpm_actions.specs.Request.{Request}
+use Rattle.tpm_record.specs.declared.fixed.Fixed.{Fixed}
 use Rattle.tpm_record.specs.declared.fixed.Saved.{Saved}
 use Rattle.tpm_record.specs.declared.fixed.Saved.TheVariants.{Nothing}
 use Rattle.tpm_auth.specs.Refused.{refusal}
 use Rattle.tpm_types.specs.declared.action_check.ActionCheck.TheVariants as action
 use Rattle.tpm_auth.specs.declared.check.Check.TheVariants as check
-use Rattle.tpm_actions.specs.Rows.{Success, all_read, parameter}
+use Rattle.tpm_actions.specs.Answer.{nothing}
+use Rattle.tpm_actions.specs.Rows.{Success, only}
 
 -- whether a startup asks for a saved state that is not there; nothing is ever saved yet
 abbrev pub lacks_state : StartupType → Saved → Bool
@@ -32,27 +34,26 @@ reset_hierarchies h random = record (with_hierarchy_auth h auth.Platform []) {
   null = record { seed = take 32 random; proof = take 32 (drop 32 random) };
 }
 
--- startupType; TPM2_Startup(CLEAR) where nothing was saved is a TPM Reset: there is one more of
--- these, and none of the other startups since. The update counter begins at 0, and the count of
--- resets stops at 2^32 - 1
+-- after a TPM Reset there is one more of these, and none of the other startups since. The update
+-- counter begins at 0, and the count of resets stops at 2^32 - 1
+abbrev pub reset_fixed : Fixed → List ℕ → Fixed
+reset_fixed f random = record f {
+  started = true;
+  saved = Nothing;
+  hierarchies = reset_hierarchies f.hierarchies random;
+  banks = record f.banks { update_count = 0 };
+  reset_count = min (f.reset_count + 1) (2 ^ 32 - 1);
+  restart_count = 0;
+}
+
+-- startupType; TPM2_Startup(CLEAR) where nothing was saved is a TPM Reset. A1: there is no state to
+-- be restored
 unfoldable pub startup_row : Record → Request → Result Success Refused
 startup_row r q = do
-  type ← parameter 1 (startup_type_at q.parameters)
-  ended ← all_read type.1
-  a1 ← refused_if (lacks_state type.0 r.fixed.saved)
+  type ← only (startup_type_at q.parameters)
+  a1 ← refused_if (lacks_state type r.fixed.saved)
       (refusal (check.Action action.First) (at (place.Parameter 1) (plain code.Value)))
   Ok (record {
-    handle = None;
-    answer = [];
-    drawn = 64;
-    after = record r {
-      fixed = record r.fixed {
-        started = true;
-        saved = Nothing;
-        hierarchies = reset_hierarchies r.fixed.hierarchies q.random;
-        banks = record r.fixed.banks { update_count = 0 };
-        reset_count = min (r.fixed.reset_count + 1) (2 ^ 32 - 1);
-        restart_count = 0;
-      };
-    };
+    answer = record nothing { drawn = 64 };
+    after = record r { fixed = reset_fixed r.fixed q.random };
   })

@@ -1,17 +1,17 @@
-ghost use Rattle.std.specs.Prelude.{◌≡◌, ◌≤◌, [], None};
+ghost use Rattle.std.specs.Prelude.{◌≤◌};
 
 use tpm_bytes::sink::Sink;
 use tpm_types::handle::Handle;
 
-/// The most bytes of a response's parameters: TPM2_Create's are the longest so far, a private area
-/// of 256 bytes with its size, a public area of 84, creation data of 247, their hash of 34 and a
-/// ticket of 40. It is no more than that, since an answer is cleared and moved for each command.
-pub const ANSWER_LIMIT: usize = 661;
+/// The most bytes of a response's parameters that any command answers: TPM2_NV_Read's are the
+/// longest, a sized buffer of 1,024 bytes. An answer is made once and lent to each command, so no
+/// command pays for its room.
+pub const ANSWER_LIMIT: usize = 1_026;
 
 /// A response's parameters.
 pub type Parameters = Sink<ANSWER_LIMIT>;
 
-/// What a command that succeeded answers.
+/// What a command that succeeds answers.
 #[derive(Drop)]
 pub struct Answer {
     /// The handle of what it made, if it answers one.
@@ -23,18 +23,25 @@ pub struct Answer {
 }
 
 impl Answer {
-    /// No handle, no parameters, and no random bytes drawn. A command writes its parameters into
-    /// it, so that none are copied.
-    #[inline(always)]
+    ghost use Rattle.tpm_actions.specs.Answer.{IsEmpty};
+
+    /// No handle, no parameters, and no random bytes drawn.
     pub fn empty() -> Answer
-        ensures handle { result.handle ≡ None }
-        ensures parameters { result.parameters ≡ [] }
-        ensures drawn { result.drawn ≡ 0 }
+        ensures { IsEmpty result }
     {
         Answer {
             handle: None,
             parameters: Sink::new(),
             drawn: 0,
         }
+    }
+
+    /// Drops what the command before answered.
+    pub fn clear(&mut self)
+        ensures { IsEmpty self.new }
+    {
+        self.handle = None;
+        self.parameters.clear();
+        self.drawn = 0;
     }
 }

@@ -1,5 +1,6 @@
 ghost use Rattle.std.specs.Prelude.{◌≡◌};
 ghost use Rattle.tpm_actions.specs.FlushContext.{can_be_flushed, flush_context_row, is_loaded};
+ghost use Rattle.tpm_actions.specs.Answer.{IsEmpty};
 ghost use Rattle.tpm_actions.specs.Request.{request_of};
 ghost use Rattle.tpm_actions.specs.Rows.{Acts};
 
@@ -23,14 +24,19 @@ fn can_be_flushed(handle: Handle) -> bool
 fn is_loaded<K: Keep>(keep: &K, handle: Handle) -> bool
     ensures { result ≡ is_loaded (K.record_of keep.now) handle }
 {
-    keep.sessions().get(handle).is_some() || keep.object(handle).is_some()
+    keep.sessions().get(handle).is_some() || keep.objects().get(handle).is_some()
 }
 
 /// TPM2_FlushContext: ends a session, or removes a transient object.
 #[tactic(auto, unfolding(crate::specs::FlushContext::flush_context_row))]
-pub fn flush_context<K: Keep>(keep: &mut K, call: &Call) -> Result<Answer, Refused>
+pub fn flush_context<K: Keep>(
+    keep: &mut K,
+    call: &Call,
+    _answer: &mut Answer,
+) -> Result<(), Refused>
+    requires { IsEmpty _answer.old }
     ensures { Acts (flush_context_row (K.record_of keep.old) (request_of call.now))
-        (K.record_of keep.old) result (K.record_of keep.new) }
+        (K.record_of keep.old) result _answer.new (K.record_of keep.new) }
 {
     let mut parameters = Cursor::new(call.parameters);
     let number = parameters
@@ -47,6 +53,6 @@ pub fn flush_context<K: Keep>(keep: &mut K, call: &Call) -> Result<Answer, Refus
         return Err(Refused::by(Check::Action(ActionCheck::Second), rc));
     }
     keep.sessions_mut().flush(handle);
-    keep.remove_object(handle);
-    Ok(Answer::empty())
+    keep.objects_mut().remove(handle);
+    Ok(())
 }

@@ -1,3 +1,4 @@
+ghost use Rattle.tpm_actions.specs.Answer.{IsEmpty};
 ghost use Rattle.tpm_actions.specs.GetRandom.{get_random_row};
 ghost use Rattle.tpm_actions.specs.Request.{request_of};
 ghost use Rattle.tpm_actions.specs.Rows.{Acts};
@@ -15,9 +16,10 @@ const MOST_RANDOM: usize = 32;
 
 /// TPM2_GetRandom: as many random bytes as are asked for, at most 32.
 #[tactic(auto, unfolding(crate::specs::GetRandom::get_random_row))]
-pub fn get_random<K: Keep>(_keep: &mut K, call: &Call) -> Result<Answer, Refused>
+pub fn get_random<K: Keep>(_keep: &mut K, call: &Call, answer: &mut Answer) -> Result<(), Refused>
+    requires { IsEmpty answer.old }
     ensures { Acts (get_random_row (K.record_of _keep.old) (request_of call.now))
-        (K.record_of _keep.old) result (K.record_of _keep.new) }
+        (K.record_of _keep.old) result answer.new (K.record_of _keep.new) }
 {
     let mut parameters = Cursor::new(call.parameters);
     let requested = parameters
@@ -25,9 +27,8 @@ pub fn get_random<K: Keep>(_keep: &mut K, call: &Call) -> Result<Answer, Refused
         .map_err(|_| at_parameter(1, ResponseCode::Insufficient.anywhere()))?;
     end(&parameters)?;
     let count = usize::from(requested).min(MOST_RANDOM);
-    let mut answer = Answer::empty();
     let random = call.random;
     let _ = answer.parameters.put_sized(&random[..count]);
     answer.drawn = count;
-    Ok(answer)
+    Ok(())
 }

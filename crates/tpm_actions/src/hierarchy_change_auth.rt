@@ -1,5 +1,6 @@
 ghost use Rattle.std.specs.Prelude.{◌≡◌};
 ghost use Rattle.tpm_actions.specs.HierarchyChangeAuth.{hierarchy_change_auth_row};
+ghost use Rattle.tpm_actions.specs.Answer.{IsEmpty};
 ghost use Rattle.tpm_actions.specs.Request.{request_of};
 ghost use Rattle.tpm_actions.specs.Rows.{Acts};
 
@@ -13,9 +14,14 @@ use tpm_types::auth_value::AuthValue;
 
 /// TPM2_HierarchyChangeAuth: sets the authorization value of a hierarchy, or lockoutAuth.
 #[tactic(auto, unfolding(crate::specs::HierarchyChangeAuth::hierarchy_change_auth_row))]
-pub fn hierarchy_change_auth<K: Keep>(keep: &mut K, call: &Call) -> Result<Answer, Refused>
+pub fn hierarchy_change_auth<K: Keep>(
+    keep: &mut K,
+    call: &Call,
+    _answer: &mut Answer,
+) -> Result<(), Refused>
+    requires { IsEmpty _answer.old }
     ensures { Acts (hierarchy_change_auth_row (K.record_of keep.old) (request_of call.now))
-        (K.record_of keep.old) result (K.record_of keep.new) }
+        (K.record_of keep.old) result _answer.new (K.record_of keep.new) }
 {
     let handle = call.first_handle()?;
     let mut parameters = Cursor::new(call.parameters);
@@ -24,5 +30,5 @@ pub fn hierarchy_change_auth<K: Keep>(keep: &mut K, call: &Call) -> Result<Answe
     if let Some(auth) = handle.hierarchy_auth() {
         keep.fixed_mut().hierarchies.set_auth_value(auth, value);
     }
-    Ok(Answer::empty())
+    Ok(())
 }

@@ -1,4 +1,5 @@
 ghost use Rattle.tpm_actions.specs.PcrEvent.{pcr_event_row};
+ghost use Rattle.tpm_actions.specs.Answer.{IsEmpty};
 ghost use Rattle.tpm_actions.specs.Request.{request_of};
 ghost use Rattle.tpm_actions.specs.Rows.{Acts};
 
@@ -18,9 +19,10 @@ const MOST_EVENT: usize = 1024;
 /// TPM2_PCR_Event: extends a PCR by the digests of the data, and answers them; on TPM_RH_NULL it
 /// answers them and nothing is checked or changed.
 #[tactic(auto, unfolding(crate::specs::PcrEvent::pcr_event_row))]
-pub fn pcr_event<K: Keep>(keep: &mut K, call: &Call) -> Result<Answer, Refused>
+pub fn pcr_event<K: Keep>(keep: &mut K, call: &Call, answer: &mut Answer) -> Result<(), Refused>
+    requires { IsEmpty answer.old }
     ensures { Acts (pcr_event_row (K.record_of keep.old) (request_of call.now))
-        (K.record_of keep.old) result (K.record_of keep.new) }
+        (K.record_of keep.old) result answer.new (K.record_of keep.new) }
 {
     let handle = call.first_handle()?;
     let mut parameters = Cursor::new(call.parameters);
@@ -35,7 +37,6 @@ pub fn pcr_event<K: Keep>(keep: &mut K, call: &Call) -> Result<Answer, Refused>
         }
         None => event_digests(event),
     };
-    let mut answer = Answer::empty();
     let _ = digests.write(&mut answer.parameters);
-    Ok(answer)
+    Ok(())
 }

@@ -1,5 +1,6 @@
 ghost use Rattle.std.specs.Prelude.{◌≡◌};
 ghost use Rattle.tpm_actions.specs.PcrExtend.{pcr_extend_row};
+ghost use Rattle.tpm_actions.specs.Answer.{IsEmpty};
 ghost use Rattle.tpm_actions.specs.Request.{request_of};
 ghost use Rattle.tpm_actions.specs.Rows.{Acts};
 
@@ -15,9 +16,10 @@ use tpm_types::digest_values::DigestValues;
 /// TPM2_PCR_Extend: extends a PCR by each digest in turn; on TPM_RH_NULL nothing is checked or
 /// changed.
 #[tactic(auto, unfolding(crate::specs::PcrExtend::pcr_extend_row))]
-pub fn pcr_extend<K: Keep>(keep: &mut K, call: &Call) -> Result<Answer, Refused>
+pub fn pcr_extend<K: Keep>(keep: &mut K, call: &Call, _answer: &mut Answer) -> Result<(), Refused>
+    requires { IsEmpty _answer.old }
     ensures { Acts (pcr_extend_row (K.record_of keep.old) (request_of call.now))
-        (K.record_of keep.old) result (K.record_of keep.new) }
+        (K.record_of keep.old) result _answer.new (K.record_of keep.new) }
 {
     let handle = call.first_handle()?;
     let mut parameters = Cursor::new(call.parameters);
@@ -29,5 +31,5 @@ pub fn pcr_extend<K: Keep>(keep: &mut K, call: &Call) -> Result<Answer, Refused>
             .extend(pcr, call.locality, &digests)
             .map_err(change_refusal)?;
     }
-    Ok(Answer::empty())
+    Ok(())
 }

@@ -3,6 +3,7 @@ ghost use Rattle.std.specs.Int.{w32, to_be_bytes};
 ghost use Rattle.tpm_types.specs.DigestList.{digest_list_text, digests_of};
 ghost use Rattle.tpm_types.specs.PcrSelection.{selection_text};
 ghost use Rattle.tpm_actions.specs.PcrRead.{pcr_read_row};
+ghost use Rattle.tpm_actions.specs.Answer.{IsEmpty};
 ghost use Rattle.tpm_actions.specs.Request.{request_of};
 ghost use Rattle.tpm_actions.specs.Rows.{Acts};
 
@@ -30,16 +31,16 @@ fn write_reading(update_count: u64, reading: &PcrReading, answer: &mut Parameter
 /// TPM2_PCR_Read: the update counter, and the values of the first eight PCRs of a selection, with
 /// the selection of just these.
 #[tactic(auto, unfolding(crate::specs::PcrRead::pcr_read_row))]
-pub fn pcr_read<K: Keep>(keep: &mut K, call: &Call) -> Result<Answer, Refused>
+pub fn pcr_read<K: Keep>(keep: &mut K, call: &Call, answer: &mut Answer) -> Result<(), Refused>
+    requires { IsEmpty answer.old }
     ensures { Acts (pcr_read_row (K.record_of keep.old) (request_of call.now))
-        (K.record_of keep.old) result (K.record_of keep.new) }
+        (K.record_of keep.old) result answer.new (K.record_of keep.new) }
 {
     let mut parameters = Cursor::new(call.parameters);
     let selection = PcrSelection::read(&mut parameters).map_err(|rc| at_parameter(1, rc))?;
     end(&parameters)?;
     let banks = &keep.fixed().banks;
     let reading = banks.read(&selection);
-    let mut answer = Answer::empty();
     write_reading(banks.update_count(), &reading, &mut answer.parameters);
-    Ok(answer)
+    Ok(())
 }

@@ -1,5 +1,6 @@
 ghost use Rattle.std.specs.Prelude.{◌≡◌};
 ghost use Rattle.tpm_actions.specs.PcrReset.{pcr_reset_row};
+ghost use Rattle.tpm_actions.specs.Answer.{IsEmpty};
 ghost use Rattle.tpm_actions.specs.Request.{request_of};
 ghost use Rattle.tpm_actions.specs.Rows.{Acts};
 
@@ -13,9 +14,10 @@ use tpm_record::keep::Keep;
 
 /// TPM2_PCR_Reset: makes a PCR zeros in both banks.
 #[tactic(auto, unfolding(crate::specs::PcrReset::pcr_reset_row))]
-pub fn pcr_reset<K: Keep>(keep: &mut K, call: &Call) -> Result<Answer, Refused>
+pub fn pcr_reset<K: Keep>(keep: &mut K, call: &Call, _answer: &mut Answer) -> Result<(), Refused>
+    requires { IsEmpty _answer.old }
     ensures { Acts (pcr_reset_row (K.record_of keep.old) (request_of call.now))
-        (K.record_of keep.old) result (K.record_of keep.new) }
+        (K.record_of keep.old) result _answer.new (K.record_of keep.new) }
 {
     let handle = call.first_handle()?;
     end(&Cursor::new(call.parameters))?;
@@ -23,5 +25,5 @@ pub fn pcr_reset<K: Keep>(keep: &mut K, call: &Call) -> Result<Answer, Refused>
         let banks = &mut keep.fixed_mut().banks;
         banks.reset(pcr, call.locality).map_err(change_refusal)?;
     }
-    Ok(Answer::empty())
+    Ok(())
 }

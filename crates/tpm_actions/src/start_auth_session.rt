@@ -1,5 +1,6 @@
 ghost use Rattle.std.specs.Prelude.{◌≡◌, ◌≤◌, true, length, IfOk, OnOk};
 ghost use Rattle.tpm_session.specs.Key.{is_nonce_size};
+ghost use Rattle.tpm_actions.specs.Answer.{IsEmpty};
 ghost use Rattle.tpm_actions.specs.Request.{request_of};
 ghost use Rattle.tpm_actions.specs.Rows.{ActsIfRoom};
 ghost use Rattle.tpm_actions.specs.StartAuthSession.{Asks, binding_of, parameters_in, parameters_of, parameters_pass, start_auth_session_row};
@@ -92,17 +93,21 @@ fn binding_of<K: Keep>(keep: &K, bind: Handle) -> Option<Binding>
 
 /// TPM2_StartAuthSession: starts a session, bound to an entity or to none.
 #[tactic(auto, unfolding(crate::specs::StartAuthSession::start_auth_session_row))]
-pub fn start_auth_session<K: Keep>(keep: &mut K, call: &Call) -> Result<Answer, Refused>
+pub fn start_auth_session<K: Keep>(
+    keep: &mut K,
+    call: &Call,
+    answer: &mut Answer,
+) -> Result<(), Refused>
+    requires { IsEmpty answer.old }
     ensures { ActsIfRoom K.can_refuse
         (start_auth_session_row (K.record_of keep.old) (request_of call.now))
-        (K.record_of keep.old) result (K.record_of keep.new) }
+        (K.record_of keep.old) result answer.new (K.record_of keep.new) }
 {
     let bind = call.second_handle()?;
     let asked = read_parameters(call.parameters)?;
     check_parameters(&asked)?;
     let random = call.random;
     let drawn = asked.nonce_caller.len();
-    let mut answer = Answer::empty();
     let _ = answer.parameters.put_sized(&random[..drawn]);
     answer.drawn = drawn;
     let start = Start {
@@ -116,7 +121,7 @@ pub fn start_auth_session<K: Keep>(keep: &mut K, call: &Call) -> Result<Answer, 
     match keep.sessions_mut().start(start) {
         Ok(handle) => {
             answer.handle = Some(handle);
-            Ok(answer)
+            Ok(())
         }
         Err(StartFault::Memory) => Err(memory_refused()),
         Err(_) => {

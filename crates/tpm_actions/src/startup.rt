@@ -1,4 +1,5 @@
 ghost use Rattle.std.specs.Prelude.{◌≡◌};
+ghost use Rattle.tpm_actions.specs.Answer.{IsEmpty};
 ghost use Rattle.tpm_actions.specs.Request.{request_of};
 ghost use Rattle.tpm_actions.specs.Rows.{Acts};
 ghost use Rattle.tpm_actions.specs.Startup.{lacks_state, reset_hierarchies, startup_row};
@@ -43,9 +44,10 @@ fn lacks_state(kind: StartupType, saved: Saved) -> bool
 
 /// TPM2_Startup: VALUE where it wants a saved state and there is none; else a TPM Reset.
 #[tactic(auto, unfolding(crate::specs::Startup::startup_row))]
-pub fn startup<K: Keep>(keep: &mut K, call: &Call) -> Result<Answer, Refused>
+pub fn startup<K: Keep>(keep: &mut K, call: &Call, answer: &mut Answer) -> Result<(), Refused>
+    requires { IsEmpty answer.old }
     ensures { Acts (startup_row (K.record_of keep.old) (request_of call.now))
-        (K.record_of keep.old) result (K.record_of keep.new) }
+        (K.record_of keep.old) result answer.new (K.record_of keep.new) }
 {
     let mut parameters = Cursor::new(call.parameters);
     let kind = StartupType::read(&mut parameters).map_err(|rc| at_parameter(1, rc))?;
@@ -61,7 +63,6 @@ pub fn startup<K: Keep>(keep: &mut K, call: &Call) -> Result<Answer, Refused>
     fixed.banks.restart_update_count();
     fixed.reset_count = fixed.reset_count.saturating_add(1);
     fixed.restart_count = 0;
-    let mut answer = Answer::empty();
     answer.drawn = RESET_DRAWS;
-    Ok(answer)
+    Ok(())
 }

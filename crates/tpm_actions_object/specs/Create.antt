@@ -1,7 +1,6 @@
 -- TPM2_Create. TPM 2.0 Library, Part 3, section 12.1.
-use Rattle.std.specs.Prelude.{ℕ, ◌+◌, List, ◌++◌, take, drop, None, Result, Ok}
+use Rattle.std.specs.Prelude.{ℕ, ◌+◌, List, take, drop, None, Result, Ok}
 use Rattle.tpm_bytes.specs.Reading.{◌>>=◌}
-use Rattle.tpm_bytes.specs.Writing.{sized_text}
 use Rattle.tpm_name.specs.Name.{object_name}
 use Rattle.tpm_object.specs.declared.areas.Created.{Created}
 use Rattle.tpm_object.specs.declared.object.Object.{Object}
@@ -11,7 +10,8 @@ use Rattle.tpm_object.specs.PrivateArea.{private_text}
 use Rattle.tpm_record.specs.Record.{Record}
 use Rattle.tpm_auth.specs.declared.refused.Refused.{Refused}
 use Rattle.tpm_actions.specs.Request.{Request, first_handle}
-use Rattle.tpm_actions.specs.Rows.{Success}
+use Rattle.tpm_actions.specs.Answer.{AnswerParts, SizedFirst}
+use Rattle.tpm_actions.specs.Rows.{Success, unchanged}
 use Rattle.tpm_actions_object.specs.Checks.{given_passes, public_passes}
 use Rattle.tpm_actions_object.specs.Creation.{Parameters, creation_text, object_parent, parameters_in}
 use Rattle.tpm_actions_object.specs.Loaded.{is_fixed, parent_passes, loaded_at}
@@ -21,15 +21,13 @@ abbrev pub initial_vector : Parameters → List ℕ → List ℕ
 initial_vector p random = take 16 (drop (drawn_by p.template p.given) random)
 
 -- what is created is answered, wrapped by the parent, and not kept
-abbrev pub create_success : Record → Request → Object → Parameters → Created → Success
-create_success r q parent p new = record {
+abbrev pub create_answer : Record → Request → Object → Parameters → Created → AnswerParts
+create_answer r q parent p new = record {
   handle = None;
-  answer =
-      sized_text (private_text parent (object_name new.public) (initial_vector p q.random)
-      new.sensitive)
-      ++ creation_text r q.locality (object_parent parent) p new.public;
+  body = SizedFirst
+      (private_text parent (object_name new.public) (initial_vector p q.random) new.sensitive)
+      (creation_text r q.locality (object_parent parent) p new.public);
   drawn = drawn_by p.template p.given + 16;
-  after = r;
 }
 
 -- parentHandle. A1: no storage parent; A2 to A4: the template; A5 to A7: what is given
@@ -41,4 +39,4 @@ create_row r q = do
   a1 ← parent_passes parent
   t ← public_passes 1 (is_fixed parent) p.template
   c ← given_passes 4 p.given p.template
-  Ok (create_success r q parent p (created p.template p.given q.random))
+  Ok (unchanged r (create_answer r q parent p (created p.template p.given q.random)))

@@ -9,6 +9,7 @@ use Rattle.tpm_types.specs.declared.handle.Handle.{Handle}
 use Rattle.tpm_types.specs.declared.handle.HierarchyHandle.{HierarchyHandle}
 use Rattle.tpm_types.specs.declared.rc.ResponseCode.TheVariants as code
 use Rattle.tpm_types.specs.Handle.{hierarchy_of}
+use Rattle.tpm_types.specs.Public.{public_text}
 use Rattle.tpm_types.specs.Rc.{plain}
 use Rattle.tpm_record.specs.Hierarchy.{secrets_of}
 use Rattle.tpm_record.specs.Objects.{object_handle, with_object}
@@ -17,9 +18,10 @@ use Rattle.tpm_auth.specs.declared.check.Check.TheVariants as check
 use Rattle.tpm_auth.specs.declared.refused.Refused.{Refused}
 use Rattle.tpm_auth.specs.Refused.{refusal}
 use Rattle.tpm_actions.specs.Request.{Request, first_handle}
+use Rattle.tpm_actions.specs.Answer.{AnswerParts, SizedFirst}
 use Rattle.tpm_actions.specs.Rows.{Success}
 use Rattle.tpm_actions_object.specs.Checks.{given_passes, public_passes}
-use Rattle.tpm_actions_object.specs.Creation.{Parameters, creation_text, hierarchy_parent, parameters_in}
+use Rattle.tpm_actions_object.specs.Creation.{Parameters, creation_rest, hierarchy_parent, parameters_in}
 use Rattle.tpm_actions_object.specs.Loaded.{place_for}
 
 -- the hierarchy of a handle; for another handle no row acts. That does not occur: the general
@@ -32,15 +34,14 @@ abbrev pub derived : Record → HierarchyHandle → Parameters → Object
 derived r hierarchy p =
     primary_object hierarchy (secrets_of r.fixed.hierarchies hierarchy).seed p.template p.given
 
--- the object in its place; answered: its handle, what there is to say of its creation, and its Name
-abbrev pub primary_success : Record → Request → HierarchyHandle → Parameters → ℕ → Object → Success
-primary_success r q hierarchy p place object = record {
+-- its handle, what there is to say of its creation, and its Name
+abbrev pub primary_answer : Record → Request → HierarchyHandle → Parameters → ℕ → Object → AnswerParts
+primary_answer r q hierarchy p place object = record {
   handle = Some (object_handle place);
-  answer =
-      creation_text r q.locality (hierarchy_parent hierarchy) p object.public
-      ++ sized_text (object_name object.public);
+  body = SizedFirst (public_text object.public)
+      (creation_rest r q.locality (hierarchy_parent hierarchy) p object.public
+      ++ sized_text (object_name object.public));
   drawn = 0;
-  after = record r { objects = with_object r.objects place object };
 }
 
 -- primaryHandle. A1 to A3: the template; A4 to A6: what is given; A7: there is no place
@@ -52,4 +53,8 @@ create_primary_row r q = do
   t ← public_passes 0 true p.template
   c ← given_passes 3 p.given p.template
   place ← place_for 7 r
-  Ok (primary_success r q hierarchy p place (derived r hierarchy p))
+  let object : Object = derived r hierarchy p
+  Ok (record {
+    answer = primary_answer r q hierarchy p place object;
+    after = record r { objects = with_object r.objects place object };
+  })

@@ -109,11 +109,17 @@ ticket_text hierarchy proof name hash =
     creation_tag ++ to_be_bytes w32 (hierarchy_handle hierarchy).number
     ++ sized_text (hmac_of Sha256 proof (creation_tag ++ name ++ hash))
 
--- what is answered about a creation: the public area, the creation data, their hash, and the ticket
-unfoldable pub creation_text : Record → (locality : ℕ) → Parent → Parameters → Public → List ℕ
-creation_text r locality parent p public =
+-- what is answered about a creation behind the public area: the creation data, their hash, and the
+-- ticket
+unfoldable pub creation_rest : Record → (locality : ℕ) → Parent → Parameters → Public → List ℕ
+creation_rest r locality parent p public =
     let creation : CreationData = creation_data r locality parent p public in
     let hash : List ℕ = creation_hash public creation in
     let proof : List ℕ = (secrets_of r.fixed.hierarchies parent.hierarchy).proof in
-    sized_text (public_text public) ++ sized_text (creation_data_text creation) ++ sized_text hash
+    sized_text (creation_data_text creation) ++ sized_text hash
     ++ ticket_text parent.hierarchy proof (object_name public) hash
+
+-- and with it
+abbrev pub creation_text : Record → (locality : ℕ) → Parent → Parameters → Public → List ℕ
+creation_text r locality parent p public =
+    sized_text (public_text public) ++ creation_rest r locality parent p public

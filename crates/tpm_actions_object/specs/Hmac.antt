@@ -1,7 +1,6 @@
 -- TPM2_HMAC. TPM 2.0 Library, Part 3, section 15.5.
-use Rattle.std.specs.Prelude.{◌==◌, Option, Some, None, if◌then◌else◌, not, Result, Ok, Err, ok_or}
+use Rattle.std.specs.Prelude.{ℕ, ◌==◌, List, Option, Some, None, if◌then◌else◌, not, Result, Ok, Err, ok_or}
 use Rattle.tpm_bytes.specs.Reading.{◌>>=◌, refused_if}
-use Rattle.tpm_bytes.specs.Writing.{sized_text}
 use Rattle.tpm_mac.specs.declared.algorithm.HashAlg.{HashAlg}
 use Rattle.tpm_mac.specs.Hmac.{hmac_of}
 use Rattle.tpm_types.specs.declared.object_attributes.ObjectAttribute.TheVariants as attribute
@@ -18,7 +17,8 @@ use Rattle.tpm_types.specs.Rc.{at, plain}
 use Rattle.tpm_record.specs.Record.{Record}
 use Rattle.tpm_auth.specs.declared.refused.Refused.{Refused}
 use Rattle.tpm_actions.specs.Request.{Request, first_handle}
-use Rattle.tpm_actions.specs.Rows.{Success, all_read, parameter}
+use Rattle.tpm_actions.specs.Answer.{Sized, answer_of}
+use Rattle.tpm_actions.specs.Rows.{Success, all_read, parameter, unchanged}
 use Rattle.tpm_actions_object.specs.Checks.{action_refusal}
 use Rattle.tpm_actions_object.specs.Loaded.{loaded_at}
 
@@ -39,25 +39,30 @@ abbrev pub chosen_hash : KeyedHashScheme → Option HashAlg → Option HashAlg
 chosen_hash scheme.Null asked = asked
 chosen_hash (scheme.Hmac own) asked = own_hash own asked
 
--- buffer, hashAlg; answered: the HMAC. A1: no KEYEDHASH; A2: restricted; A3: no key that signs; A4:
+-- buffer, hashAlg
+pub record Parameters : Type 0 where
+  pub buffer : List ℕ
+  pub hash : Option HashAlg
+
+unfoldable pub parameters_in : List ℕ → Result Parameters Refused
+parameters_in text = do
+  buffer ← parameter 1 (buffer_at 1024 text)
+  hash ← parameter 2 (hash_or_null_at buffer.1)
+  ended ← all_read hash.1
+  Ok (record { buffer = buffer.0; hash = hash.0 })
+
+-- answered: the HMAC. A1: no KEYEDHASH; A2: restricted; A3: no key that signs; A4:
 -- another hash than the scheme's, or none at all
 unfoldable pub hmac_row : Record → Request → Result Success Refused
 hmac_row r q = do
   handle ← first_handle q.handles
   object ← loaded_at r handle
-  buffer ← parameter 1 (buffer_at 1024 q.parameters)
-  asked ← parameter 2 (hash_or_null_at buffer.1)
-  ended ← all_read asked.1
+  p ← parameters_in q.parameters
   scheme ← scheme_of object.public.parameters
   a2 ← refused_if (has object.public.attributes attribute.Restricted)
       (action_refusal 2 (at (place.Handle 1) (plain code.Attributes)))
   a3 ← refused_if (not (has object.public.attributes attribute.Sign))
       (action_refusal 3 (at (place.Handle 1) (plain code.Key)))
-  hash ← ok_or (chosen_hash scheme asked.0)
+  hash ← ok_or (chosen_hash scheme p.hash)
       (action_refusal 4 (at (place.Parameter 2) (plain code.Value)))
-  Ok (record {
-    handle = None;
-    answer = sized_text (hmac_of hash object.sensitive buffer.0);
-    drawn = 0;
-    after = r;
-  })
+  Ok (unchanged r (answer_of (Sized (hmac_of hash object.sensitive p.buffer))))

@@ -1,7 +1,6 @@
 -- TPM2_Load. TPM 2.0 Library, Part 3, section 12.2.
 use Rattle.std.specs.Prelude.{ℕ, List, Some, Result, Ok}
 use Rattle.tpm_bytes.specs.Reading.{◌>>=◌, or_fault}
-use Rattle.tpm_bytes.specs.Writing.{sized_text}
 use Rattle.tpm_name.specs.Name.{object_name}
 use Rattle.tpm_object.specs.declared.object.Object.{Object}
 use Rattle.tpm_object.specs.Object.{loaded_object}
@@ -16,6 +15,7 @@ use Rattle.tpm_record.specs.Objects.{object_handle, with_object}
 use Rattle.tpm_record.specs.Record.{Record}
 use Rattle.tpm_auth.specs.declared.refused.Refused.{Refused}
 use Rattle.tpm_actions.specs.Request.{Request, first_handle}
+use Rattle.tpm_actions.specs.Answer.{AnswerParts, Sized}
 use Rattle.tpm_actions.specs.Rows.{Success, all_read, parameter}
 use Rattle.tpm_actions_object.specs.Checks.{parameter_fault, public_passes}
 use Rattle.tpm_actions_object.specs.Loaded.{is_fixed, parent_passes, loaded_at, place_for}
@@ -31,26 +31,38 @@ abbrev pub loaded_below : Object → Public → Sensitive → Object
 loaded_below parent public sensitive =
     loaded_object parent.hierarchy public sensitive parent.qualified_name
 
--- the object in its place; answered: its handle and its Name
-abbrev pub load_success : Record → ℕ → Object → Success
-load_success r place object = record {
+-- its handle and its Name
+abbrev pub load_answer : ℕ → Object → AnswerParts
+load_answer place object = record {
   handle = Some (object_handle place);
-  answer = sized_text (object_name object.public);
+  body = Sized (object_name object.public);
   drawn = 0;
-  after = record r { objects = with_object r.objects place object };
 }
 
--- parentHandle, inPrivate (of at most 256 bytes, where the longest private area has 254), inPublic.
--- A1: no storage parent; A2 to A4: the public area; A5: the private area; A6: there is no place
+-- inPrivate, of at most 256 bytes, where the longest private area has 254; inPublic
+pub record Parameters : Type 0 where
+  pub private : List ℕ
+  pub public : Public
+
+unfoldable pub parameters_in : List ℕ → Result Parameters Refused
+parameters_in text = do
+  private ← parameter 1 (buffer_at 256 text)
+  public ← parameter 2 (filled_by public_at private.1)
+  ended ← all_read public.1
+  Ok (record { private = private.0; public = public.0 })
+
+-- parentHandle. A1: no storage parent; A2 to A4: the public area; A5: the private area; A6: there is no place
 unfoldable pub load_row : Record → Request → Result Success Refused
 load_row r q = do
   handle ← first_handle q.handles
   parent ← loaded_at r handle
-  private ← parameter 1 (buffer_at 256 q.parameters)
-  public ← parameter 2 (filled_by public_at private.1)
-  ended ← all_read public.1
+  p ← parameters_in q.parameters
   a1 ← parent_passes parent
-  t ← public_passes 1 (is_fixed parent) public.0
-  sensitive ← sensitive_of parent public.0 private.0
+  t ← public_passes 1 (is_fixed parent) p.public
+  sensitive ← sensitive_of parent p.public p.private
   place ← place_for 6 r
-  Ok (load_success r place (loaded_below parent public.0 sensitive))
+  let object : Object = loaded_below parent p.public sensitive
+  Ok (record {
+    answer = load_answer place object;
+    after = record r { objects = with_object r.objects place object };
+  })

@@ -1,26 +1,27 @@
 -- TPM2_ReadPublic. TPM 2.0 Library, Part 3, section 12.4.
-use Rattle.std.specs.Prelude.{◌++◌, None, Result, Ok}
+use Rattle.std.specs.Prelude.{◌++◌, Result, Ok}
 use Rattle.tpm_bytes.specs.Reading.{◌>>=◌}
 use Rattle.tpm_bytes.specs.Writing.{sized_text}
 use Rattle.tpm_name.specs.Name.{object_name}
+use Rattle.tpm_object.specs.declared.object.Object.{Object}
 use Rattle.tpm_types.specs.Public.{public_text}
 use Rattle.tpm_record.specs.Record.{Record}
 use Rattle.tpm_auth.specs.declared.refused.Refused.{Refused}
 use Rattle.tpm_actions.specs.Request.{Request, first_handle}
-use Rattle.tpm_actions.specs.Rows.{Success, all_read}
+use Rattle.tpm_actions.specs.Answer.{Body, SizedFirst, answer_of}
+use Rattle.tpm_actions.specs.Rows.{Success, all_read, unchanged}
 use Rattle.tpm_actions_object.specs.Loaded.{loaded_at}
 
--- answered: the object's public area, its Name and its qualified Name; no parameters
+-- an object's public area, its Name and its qualified Name
+abbrev pub public_body : Object → Body
+public_body object =
+    SizedFirst (public_text object.public)
+    (sized_text (object_name object.public) ++ sized_text object.qualified_name)
+
+-- no parameters; answered: these of the object
 unfoldable pub read_public_row : Record → Request → Result Success Refused
 read_public_row r q = do
   handle ← first_handle q.handles
-  ended ← all_read q.parameters
   object ← loaded_at r handle
-  Ok (record {
-    handle = None;
-    answer =
-        sized_text (public_text object.public) ++ sized_text (object_name object.public)
-        ++ sized_text object.qualified_name;
-    drawn = 0;
-    after = r;
-  })
+  ended ← all_read q.parameters
+  Ok (unchanged r (answer_of (public_body object)))

@@ -1,7 +1,6 @@
 -- TPM2_Unseal. TPM 2.0 Library, Part 3, section 12.7.
-use Rattle.std.specs.Prelude.{None, Result, Ok, not}
+use Rattle.std.specs.Prelude.{Result, Ok, not}
 use Rattle.tpm_bytes.specs.Reading.{◌>>=◌, refused_if}
-use Rattle.tpm_bytes.specs.Writing.{sized_text}
 use Rattle.tpm_object.specs.Object.{is_keyed_hash}
 use Rattle.tpm_types.specs.declared.object_attributes.ObjectAttribute.TheVariants as attribute
 use Rattle.tpm_types.specs.declared.rc.Place.TheVariants as place
@@ -11,7 +10,8 @@ use Rattle.tpm_types.specs.Rc.{at, plain}
 use Rattle.tpm_record.specs.Record.{Record}
 use Rattle.tpm_auth.specs.declared.refused.Refused.{Refused}
 use Rattle.tpm_actions.specs.Request.{Request, first_handle}
-use Rattle.tpm_actions.specs.Rows.{Success, all_read}
+use Rattle.tpm_actions.specs.Answer.{Sized, answer_of}
+use Rattle.tpm_actions.specs.Rows.{Success, all_read, unchanged}
 use Rattle.tpm_actions_object.specs.Checks.{action_refusal}
 use Rattle.tpm_actions_object.specs.Loaded.{loaded_at}
 
@@ -20,10 +20,10 @@ use Rattle.tpm_actions_object.specs.Loaded.{loaded_at}
 unfoldable pub unseal_row : Record → Request → Result Success Refused
 unseal_row r q = do
   handle ← first_handle q.handles
-  ended ← all_read q.parameters
   object ← loaded_at r handle
+  ended ← all_read q.parameters
   a1 ← refused_if (not (is_keyed_hash object.public))
       (action_refusal 1 (at (place.Handle 1) (plain code.Type)))
   a2 ← refused_if (has object.public.attributes attribute.Sign)
       (action_refusal 2 (at (place.Handle 1) (plain code.Attributes)))
-  Ok (record { handle = None; answer = sized_text object.sensitive; drawn = 0; after = r })
+  Ok (unchanged r (answer_of (Sized object.sensitive)))

@@ -1,4 +1,5 @@
 ghost use Rattle.std.specs.Prelude.{◌≡◌, ◌≤◌, drop, take};
+ghost use Rattle.tpm_actions.specs.Answer.{IsEmpty};
 ghost use Rattle.tpm_actions.specs.Request.{request_of};
 ghost use Rattle.tpm_actions.specs.Rows.{Acts};
 ghost use Rattle.tpm_actions_object.specs.Create.{create_row};
@@ -30,9 +31,10 @@ fn initial_vector(random: &[u8; 256], drawn: usize) -> [u8; 16]
 
 /// TPM2_Create: makes an object below a storage parent, and answers it wrapped.
 #[tactic(auto, unfolding(crate::specs::Create::create_row))]
-pub fn create<K: Keep>(keep: &mut K, call: &Call) -> Result<Answer, Refused>
+pub fn create<K: Keep>(keep: &mut K, call: &Call, answer: &mut Answer) -> Result<(), Refused>
+    requires { IsEmpty answer.old }
     ensures { Acts (create_row (K.record_of keep.old) (request_of call.now))
-        (K.record_of keep.old) result (K.record_of keep.new) }
+        (K.record_of keep.old) result answer.new (K.record_of keep.new) }
 {
     let parent = loaded(keep, call.first_handle()?)?;
     let asked = read_asked(call.parameters)?;
@@ -44,7 +46,6 @@ pub fn create<K: Keep>(keep: &mut K, call: &Call) -> Result<Answer, Refused>
     let name = Name::of_object(&created.public);
     let iv = initial_vector(call.random, drawn);
     let private = wrap(parent, &name, &created.sensitive, &iv);
-    let mut answer = Answer::empty();
     let text = &mut answer.parameters;
     let _ = text.put_sized(private.as_slice());
     let above = Parent::of_object(parent);
@@ -58,5 +59,5 @@ pub fn create<K: Keep>(keep: &mut K, call: &Call) -> Result<Answer, Refused>
         text,
     );
     answer.drawn = drawn + VECTOR_SIZE;
-    Ok(answer)
+    Ok(())
 }

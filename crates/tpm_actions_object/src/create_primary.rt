@@ -1,4 +1,5 @@
 ghost use Rattle.std.specs.Prelude.{◌≡◌};
+ghost use Rattle.tpm_actions.specs.Answer.{IsEmpty};
 ghost use Rattle.tpm_actions.specs.Request.{request_of};
 ghost use Rattle.tpm_actions.specs.Rows.{ActsIfRoom};
 ghost use Rattle.tpm_actions_object.specs.CreatePrimary.{create_primary_row, named_hierarchy};
@@ -12,7 +13,7 @@ use tpm_actions::reading::memory_refused;
 use tpm_auth::check::Check;
 use tpm_auth::refused::Refused;
 use tpm_object::primary::derive_primary;
-use tpm_places::list_places::PlaceFault;
+use tpm_places::places::PlaceFault;
 use tpm_record::keep::Keep;
 use tpm_types::handle::{Handle, HierarchyHandle};
 use tpm_types::rc::ResponseCode;
@@ -28,23 +29,27 @@ fn named_hierarchy(handle: Handle) -> Result<HierarchyHandle, Refused>
 
 /// TPM2_CreatePrimary: derives an object from the seed of a hierarchy, and loads it.
 #[tactic(auto, unfolding(crate::specs::CreatePrimary::create_primary_row))]
-pub fn create_primary<K: Keep>(keep: &mut K, call: &Call) -> Result<Answer, Refused>
+pub fn create_primary<K: Keep>(
+    keep: &mut K,
+    call: &Call,
+    answer: &mut Answer,
+) -> Result<(), Refused>
+    requires { IsEmpty answer.old }
     ensures { ActsIfRoom K.can_refuse
         (create_primary_row (K.record_of keep.old) (request_of call.now))
-        (K.record_of keep.old) result (K.record_of keep.new) }
+        (K.record_of keep.old) result answer.new (K.record_of keep.new) }
 {
     let hierarchy = named_hierarchy(call.first_handle()?)?;
     let asked = read_asked(call.parameters)?;
     public_passes(0, &asked.template, true)?;
     given_passes(3, &asked.given, &asked.template)?;
-    if keep.free_object().is_none() {
+    if keep.objects().free().is_none() {
         return Err(no_place(7));
     }
     let seed = keep.fixed().hierarchies.secrets(hierarchy).seed;
     let object = derive_primary(hierarchy, &seed, &asked.template, &asked.given);
     let name = object.name();
     let parent = Parent::of_hierarchy(hierarchy);
-    let mut answer = Answer::empty();
     let text = &mut answer.parameters;
     put_creation(
         keep,
@@ -56,10 +61,10 @@ pub fn create_primary<K: Keep>(keep: &mut K, call: &Call) -> Result<Answer, Refu
         text,
     );
     let _ = answer.parameters.put_sized(name.as_slice());
-    match keep.add_object(object) {
+    match keep.objects_mut().add(object) {
         Ok(handle) => {
             answer.handle = Some(handle);
-            Ok(answer)
+            Ok(())
         }
         Err(PlaceFault::Full) => Err(no_place(7)),
         Err(PlaceFault::NoMemory) => Err(memory_refused()),

@@ -136,7 +136,8 @@ fn write_creation(area: &[u8], creation: &[u8], hash: &[u8], ticket: &[u8], text
     requires hash { length hash.now ≤ 32 }
     requires ticket { length ticket.now ≤ 40 }
     ensures value { text.new ≡ text.old
-        ++ (sized_text area.now ++ sized_text creation.now ++ sized_text hash.now ++ ticket.now) }
+        ++ (sized_text area.now
+        ++ (sized_text creation.now ++ sized_text hash.now ++ ticket.now)) }
     ensures small { length text.new ≤ length text.old + 405 }
 {
     let _ = text.put_sized(area);
@@ -146,7 +147,7 @@ fn write_creation(area: &[u8], creation: &[u8], hash: &[u8], ticket: &[u8], text
 }
 
 /// Writes what is answered about the creation of an object of this Name.
-#[tactic(auto, unfolding(crate::specs::Creation::creation_text))]
+#[tactic(auto, unfolding(crate::specs::Creation::creation_rest))]
 pub fn put_creation<K: Keep>(
     keep: &K,
     locality: Locality,

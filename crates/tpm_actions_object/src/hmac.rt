@@ -1,4 +1,5 @@
 ghost use Rattle.std.specs.Prelude.{◌≡◌};
+ghost use Rattle.tpm_actions.specs.Answer.{IsEmpty};
 ghost use Rattle.tpm_actions.specs.Request.{request_of};
 ghost use Rattle.tpm_actions.specs.Rows.{Acts};
 ghost use Rattle.tpm_actions_object.specs.Hmac.{chosen_hash, hmac_row, own_hash, scheme_of};
@@ -54,10 +55,11 @@ fn chosen_hash(scheme: KeyedHashScheme, asked: Option<HashAlg>) -> Option<HashAl
 }
 
 /// TPM2_HMAC: the HMAC of a buffer by a key.
-#[tactic(auto, unfolding(crate::specs::Hmac::hmac_row))]
-pub fn hmac<K: Keep>(keep: &mut K, call: &Call) -> Result<Answer, Refused>
+#[tactic(auto, unfolding(crate::specs::Hmac::hmac_row, crate::specs::Hmac::parameters_in))]
+pub fn hmac<K: Keep>(keep: &mut K, call: &Call, answer: &mut Answer) -> Result<(), Refused>
+    requires { IsEmpty answer.old }
     ensures { Acts (hmac_row (K.record_of keep.old) (request_of call.now))
-        (K.record_of keep.old) result (K.record_of keep.new) }
+        (K.record_of keep.old) result answer.new (K.record_of keep.new) }
 {
     let object = loaded(keep, call.first_handle()?)?;
     let mut text = Cursor::new(call.parameters);
@@ -75,7 +77,6 @@ pub fn hmac<K: Keep>(keep: &mut K, call: &Call) -> Result<Answer, Refused>
         return Err(action_refusal(4, ResponseCode::Value.anywhere().at_parameter(2)));
     };
     let mac = hmac_parts(hash, object.sensitive.as_slice(), &[buffer]);
-    let mut answer = Answer::empty();
     let _ = answer.parameters.put_sized(mac.as_slice());
-    Ok(answer)
+    Ok(())
 }

@@ -1,4 +1,5 @@
 ghost use Rattle.std.specs.Prelude.{◌≡◌};
+ghost use Rattle.tpm_actions.specs.Answer.{IsEmpty};
 ghost use Rattle.tpm_actions.specs.Request.{request_of};
 ghost use Rattle.tpm_actions.specs.Rows.{ActsIfRoom};
 ghost use Rattle.tpm_actions_object.specs.Load.{load_row, sensitive_of};
@@ -12,7 +13,7 @@ use tpm_auth::refused::Refused;
 use tpm_bytes::cursor::Cursor;
 use tpm_object::object::Object;
 use tpm_object::private_area::unwrap;
-use tpm_places::list_places::PlaceFault;
+use tpm_places::places::PlaceFault;
 use tpm_record::keep::Keep;
 use tpm_types::buffer::read_buffer;
 use tpm_types::filled::read_filled;
@@ -34,10 +35,11 @@ fn sensitive_of(parent: &Object, public: &Public, private: &[u8]) -> Result<Sens
 }
 
 /// TPM2_Load: opens the private area of an object below its parent, and loads it.
-#[tactic(auto, unfolding(crate::specs::Load::load_row))]
-pub fn load<K: Keep>(keep: &mut K, call: &Call) -> Result<Answer, Refused>
+#[tactic(auto, unfolding(crate::specs::Load::load_row, crate::specs::Load::parameters_in))]
+pub fn load<K: Keep>(keep: &mut K, call: &Call, answer: &mut Answer) -> Result<(), Refused>
+    requires { IsEmpty answer.old }
     ensures { ActsIfRoom K.can_refuse (load_row (K.record_of keep.old) (request_of call.now))
-        (K.record_of keep.old) result (K.record_of keep.new) }
+        (K.record_of keep.old) result answer.new (K.record_of keep.new) }
 {
     let parent = loaded(keep, call.first_handle()?)?;
     let mut text = Cursor::new(call.parameters);
@@ -49,12 +51,11 @@ pub fn load<K: Keep>(keep: &mut K, call: &Call) -> Result<Answer, Refused>
     let sensitive = sensitive_of(parent, &public, private)?;
     let above = parent.qualified_name.as_slice();
     let object = Object::loaded(parent.hierarchy, public, &sensitive, above);
-    let mut answer = Answer::empty();
     let _ = answer.parameters.put_sized(object.name().as_slice());
-    match keep.add_object(object) {
+    match keep.objects_mut().add(object) {
         Ok(handle) => {
             answer.handle = Some(handle);
-            Ok(answer)
+            Ok(())
         }
         Err(PlaceFault::Full) => Err(no_place(6)),
         Err(PlaceFault::NoMemory) => Err(memory_refused()),

@@ -14,7 +14,7 @@ use tpm_types::rc::ResponseCode;
 pub fn loaded<K: Keep>(keep: &K, handle: Handle) -> Result<&Object, Refused>
     ensures { IsLoaded (loaded_at (K.record_of keep.now) handle) result }
 {
-    match keep.object(handle) {
+    match keep.objects().get(handle) {
         Some(object) => Ok(object),
         None => Err(Refused::by(Check::Handles, ResponseCode::Failure.anywhere())),
     }

@@ -1,4 +1,5 @@
 ghost use Rattle.std.specs.Prelude.{◌≡◌};
+ghost use Rattle.tpm_actions.specs.Answer.{IsEmpty};
 ghost use Rattle.tpm_actions.specs.Request.{request_of};
 ghost use Rattle.tpm_actions.specs.Rows.{Acts};
 ghost use Rattle.tpm_actions_object.specs.ReadPublic.{read_public_row};
@@ -13,18 +14,17 @@ use tpm_record::keep::Keep;
 
 /// TPM2_ReadPublic: the public area of an object, its Name and its qualified Name.
 #[tactic(auto, unfolding(crate::specs::ReadPublic::read_public_row))]
-pub fn read_public<K: Keep>(keep: &mut K, call: &Call) -> Result<Answer, Refused>
+pub fn read_public<K: Keep>(keep: &mut K, call: &Call, answer: &mut Answer) -> Result<(), Refused>
+    requires { IsEmpty answer.old }
     ensures { Acts (read_public_row (K.record_of keep.old) (request_of call.now))
-        (K.record_of keep.old) result (K.record_of keep.new) }
+        (K.record_of keep.old) result answer.new (K.record_of keep.new) }
 {
-    let handle = call.first_handle()?;
+    let object = loaded(keep, call.first_handle()?)?;
     end(&Cursor::new(call.parameters))?;
-    let object = loaded(keep, handle)?;
-    let mut answer = Answer::empty();
     let _ = answer.parameters.put_sized(object.public.text().as_slice());
     let _ = answer.parameters.put_sized(object.name().as_slice());
     let _ = answer
         .parameters
         .put_sized(object.qualified_name.as_slice());
-    Ok(answer)
+    Ok(())
 }

@@ -1,4 +1,5 @@
 ghost use Rattle.std.specs.Prelude.{◌≡◌};
+ghost use Rattle.tpm_actions.specs.Answer.{IsEmpty};
 ghost use Rattle.tpm_actions.specs.Request.{request_of};
 ghost use Rattle.tpm_actions.specs.Rows.{Acts};
 ghost use Rattle.tpm_actions_object.specs.Unseal.{unseal_row};
@@ -17,20 +18,19 @@ use tpm_types::rc::ResponseCode;
 
 /// TPM2_Unseal: the data that an object seals.
 #[tactic(auto, unfolding(crate::specs::Unseal::unseal_row))]
-pub fn unseal<K: Keep>(keep: &mut K, call: &Call) -> Result<Answer, Refused>
+pub fn unseal<K: Keep>(keep: &mut K, call: &Call, answer: &mut Answer) -> Result<(), Refused>
+    requires { IsEmpty answer.old }
     ensures { Acts (unseal_row (K.record_of keep.old) (request_of call.now))
-        (K.record_of keep.old) result (K.record_of keep.new) }
+        (K.record_of keep.old) result answer.new (K.record_of keep.new) }
 {
-    let handle = call.first_handle()?;
+    let object = loaded(keep, call.first_handle()?)?;
     end(&Cursor::new(call.parameters))?;
-    let object = loaded(keep, handle)?;
     if !is_keyed_hash(&object.public) {
         return Err(action_refusal(1, ResponseCode::Type.anywhere().at_handle(1)));
     }
     if object.public.attributes.has(ObjectAttribute::Sign) {
         return Err(action_refusal(2, ResponseCode::Attributes.anywhere().at_handle(1)));
     }
-    let mut answer = Answer::empty();
     let _ = answer.parameters.put_sized(object.sensitive.as_slice());
-    Ok(answer)
+    Ok(())
 }

@@ -16,6 +16,7 @@ use Rattle.tpm_record.specs.Record.{Record}
 use Rattle.tpm_auth.specs.declared.check.Check.TheVariants as check
 use Rattle.tpm_auth.specs.declared.refused.Refused.{Refused}
 use Rattle.tpm_auth.specs.Refused.{refusal}
+use Rattle.tpm_actions.specs.Answer.{Body, answer_of}
 use Rattle.tpm_actions.specs.Rows.{Success}
 
 -- the policy or trial session of a handle; without one no row acts. That does not occur: the
@@ -30,16 +31,14 @@ by_its_check (Ok policy) = Ok policy
 by_its_check (Err fault) = Err (refusal (check.Action fault.check) fault.rc)
 
 -- the session of a handle with another policy, and this answer
-abbrev pub policy_success : Record → Handle → List ℕ → Policy → Success
-policy_success r handle answer policy = record {
-  handle = None;
-  answer = answer;
-  drawn = 0;
+abbrev pub policy_success : Record → Handle → Body → Policy → Success
+policy_success r handle body policy = record {
+  answer = answer_of body;
   after = record r { sessions = with_session_policy r.sessions handle policy };
 }
 
 -- what an assertion on the session of a handle does: the session's policy is what it makes of it
-abbrev pub assertion_on : Record → Handle → (Session → Assertion) → List ℕ → Result Success Refused
+abbrev pub assertion_on : Record → Handle → (Session → Assertion) → Body → Result Success Refused
 assertion_on r handle assertion answer = do
   s ← policy_session r handle
   policy ← by_its_check (asserted s.hash (is_trial s.kind) (assertion s) s.policy)

@@ -5,6 +5,7 @@ use Rattle.tpm_policy.specs.Assertion.{AuthValue}
 use Rattle.tpm_record.specs.Record.{Record}
 use Rattle.tpm_auth.specs.declared.refused.Refused.{Refused}
 use Rattle.tpm_actions.specs.Request.{Request, first_handle}
+use Rattle.tpm_actions.specs.Answer.{Plain}
 use Rattle.tpm_actions.specs.Rows.{Success, all_read}
 use Rattle.tpm_actions_policy.specs.Assertions.{assertion_on}
 
@@ -13,4 +14,4 @@ unfoldable pub policy_auth_value_row : Record → Request → Result Success Ref
 policy_auth_value_row r q = do
   handle ← first_handle q.handles
   ended ← all_read q.parameters
-  assertion_on r handle (λ s. AuthValue) []
+  assertion_on r handle (λ s. AuthValue) (Plain [])

@@ -8,6 +8,7 @@ use Rattle.tpm_types.specs.Rc.{plain}
 use Rattle.tpm_record.specs.Record.{Record}
 use Rattle.tpm_auth.specs.declared.refused.Refused.{Refused}
 use Rattle.tpm_actions.specs.Request.{Request, first_handle}
+use Rattle.tpm_actions.specs.Answer.{Plain}
 use Rattle.tpm_actions.specs.Rows.{Success, all_read, parameter}
 use Rattle.tpm_actions_policy.specs.Assertions.{assertion_on}
 
@@ -17,4 +18,4 @@ policy_command_code_row r q = do
   handle ← first_handle q.handles
   number ← parameter 1 (or_fault (number_at w32 q.parameters) (plain code.Insufficient))
   ended ← all_read number.1
-  assertion_on r handle (λ s. CommandCode number.0) []
+  assertion_on r handle (λ s. CommandCode number.0) (Plain [])

@@ -5,7 +5,8 @@ use Rattle.tpm_bytes.specs.Writing.{sized_text}
 use Rattle.tpm_record.specs.Record.{Record}
 use Rattle.tpm_auth.specs.declared.refused.Refused.{Refused}
 use Rattle.tpm_actions.specs.Request.{Request, first_handle}
-use Rattle.tpm_actions.specs.Rows.{Success, all_read}
+use Rattle.tpm_actions.specs.Answer.{Sized, answer_of}
+use Rattle.tpm_actions.specs.Rows.{Success, all_read, unchanged}
 use Rattle.tpm_actions_policy.specs.Assertions.{policy_session}
 
 -- answered: the session's policy digest; no parameters
@@ -14,4 +15,4 @@ policy_get_digest_row r q = do
   handle ← first_handle q.handles
   ended ← all_read q.parameters
   s ← policy_session r handle
-  Ok (record { handle = None; answer = sized_text s.policy.digest; drawn = 0; after = r })
+  Ok (unchanged r (answer_of (Sized s.policy.digest)))

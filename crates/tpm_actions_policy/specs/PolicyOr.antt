@@ -6,6 +6,7 @@ use Rattle.tpm_types.specs.DigestList.{digest_list_at}
 use Rattle.tpm_record.specs.Record.{Record}
 use Rattle.tpm_auth.specs.declared.refused.Refused.{Refused}
 use Rattle.tpm_actions.specs.Request.{Request, first_handle}
+use Rattle.tpm_actions.specs.Answer.{Plain}
 use Rattle.tpm_actions.specs.Rows.{Success, all_read, parameter}
 use Rattle.tpm_actions_policy.specs.Assertions.{assertion_on}
 
@@ -15,4 +16,4 @@ policy_or_row r q = do
   handle ← first_handle q.handles
   digests ← parameter 1 (digest_list_at q.parameters)
   ended ← all_read digests.1
-  assertion_on r handle (λ s. Or digests.0) []
+  assertion_on r handle (λ s. Or digests.0) (Plain [])

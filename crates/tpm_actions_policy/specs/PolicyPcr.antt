@@ -10,6 +10,7 @@ use Rattle.tpm_types.specs.PcrSelection.{selection_at, selection_text}
 use Rattle.tpm_record.specs.Record.{Record}
 use Rattle.tpm_auth.specs.declared.refused.Refused.{Refused}
 use Rattle.tpm_actions.specs.Request.{Request, first_handle}
+use Rattle.tpm_actions.specs.Answer.{Plain}
 use Rattle.tpm_actions.specs.Rows.{Success, all_read, parameter}
 use Rattle.tpm_actions_policy.specs.Assertions.{assertion_on}
 
@@ -30,4 +31,4 @@ policy_pcr_row r q = do
   given ← parameter 1 (buffer_at 32 q.parameters)
   selection ← parameter 2 (selection_at given.1)
   ended ← all_read selection.1
-  assertion_on r handle (λ s. Pcr (pcr_parts_of r given.0 selection.0 s)) []
+  assertion_on r handle (λ s. Pcr (pcr_parts_of r given.0 selection.0 s)) (Plain [])

@@ -5,6 +5,7 @@ use Rattle.tpm_policy.specs.State.{starting}
 use Rattle.tpm_record.specs.Record.{Record}
 use Rattle.tpm_auth.specs.declared.refused.Refused.{Refused}
 use Rattle.tpm_actions.specs.Request.{Request, first_handle}
+use Rattle.tpm_actions.specs.Answer.{Plain}
 use Rattle.tpm_actions.specs.Rows.{Success, all_read}
 use Rattle.tpm_actions_policy.specs.Assertions.{policy_session, policy_success}
 
@@ -14,4 +15,4 @@ policy_restart_row r q = do
   handle ← first_handle q.handles
   ended ← all_read q.parameters
   s ← policy_session r handle
-  Ok (policy_success r handle [] (starting s.hash))
+  Ok (policy_success r handle (Plain []) (starting s.hash))

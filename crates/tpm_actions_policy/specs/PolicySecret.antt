@@ -1,6 +1,6 @@
 -- TPM2_PolicySecret. TPM 2.0 Library, Part 3, section 23.4, and Part 2, section 10.7.5
 -- (TPMT_TK_AUTH).
-use Rattle.std.specs.Prelude.{◌≡◌, ℕ, List, ◌++◌, Result, Ok, Err}
+use Rattle.std.specs.Prelude.{◌≡◌, ℕ, List, [], ◌++◌, Result, Ok, Err}
 use Rattle.std.specs.Int.{w16, w32, to_be_bytes}
 use Rattle.tpm_bytes.specs.Reading.{◌>>=◌, number_at, or_fault}
 use Rattle.tpm_policy.specs.Assertion.{Secret, SecretParts}
@@ -12,6 +12,7 @@ use Rattle.tpm_record.specs.Entity.{name_of}
 use Rattle.tpm_record.specs.Record.{Record}
 use Rattle.tpm_auth.specs.declared.refused.Refused.{Refused}
 use Rattle.tpm_actions.specs.Request.{Request, first_handle, second_handle}
+use Rattle.tpm_actions.specs.Answer.{SizedFirst}
 use Rattle.tpm_actions.specs.Rows.{Success, all_read, parameter}
 use Rattle.tpm_actions_policy.specs.Assertions.{assertion_on}
 use Rattle.tpm_actions_policy.specs.declared.policy_secret.Asked.{Asked}
@@ -50,10 +51,9 @@ parameters_in text = do
     expiration = expiration.0;
   })
 
--- an empty timeout, and a ticket that is none: TPM_ST_AUTH_SECRET, TPM_RH_NULL, an empty digest
-unfoldable pub no_ticket : List ℕ
-no_ticket =
-    to_be_bytes w16 0 ++ to_be_bytes w16 0x8023 ++ to_be_bytes w32 0x4000_0007 ++ to_be_bytes w16 0
+-- a ticket that is none: TPM_ST_AUTH_SECRET, TPM_RH_NULL, an empty digest
+unfoldable pub null_ticket : List ℕ
+null_ticket = to_be_bytes w16 0x8023 ++ to_be_bytes w32 0x4000_0007 ++ to_be_bytes w16 0
 
 -- the secret is that of the entity that the command authorizes
 abbrev pub secret_of : Parameters → (name : List ℕ) → Session → SecretParts
@@ -71,4 +71,4 @@ policy_secret_row r q = do
   entity ← first_handle q.handles
   handle ← second_handle q.handles
   p ← parameters_in q.parameters
-  assertion_on r handle (λ s. Secret (secret_of p (name_of r entity) s)) no_ticket
+  assertion_on r handle (λ s. Secret (secret_of p (name_of r entity) s)) (SizedFirst [] null_ticket)

@@ -1,4 +1,5 @@
 ghost use Rattle.std.specs.Prelude.{◌≡◌};
+ghost use Rattle.tpm_actions.specs.Answer.{IsEmpty};
 ghost use Rattle.tpm_actions.specs.Request.{request_of};
 ghost use Rattle.tpm_actions.specs.Rows.{Acts};
 ghost use Rattle.tpm_actions_policy.specs.PolicyCommandCode.{policy_command_code_row};
@@ -14,9 +15,14 @@ use tpm_types::rc::ResponseCode;
 
 /// TPM2_PolicyCommandCode: allows one command alone.
 #[tactic(auto, unfolding(crate::specs::PolicyCommandCode::policy_command_code_row))]
-pub fn policy_command_code<K: Keep>(keep: &mut K, call: &Call) -> Result<Answer, Refused>
+pub fn policy_command_code<K: Keep>(
+    keep: &mut K,
+    call: &Call,
+    _answer: &mut Answer,
+) -> Result<(), Refused>
+    requires { IsEmpty _answer.old }
     ensures { Acts (policy_command_code_row (K.record_of keep.old) (request_of call.now))
-        (K.record_of keep.old) result (K.record_of keep.new) }
+        (K.record_of keep.old) result _answer.new (K.record_of keep.new) }
 {
     let handle = call.first_handle()?;
     let mut parameters = Cursor::new(call.parameters);
@@ -29,5 +35,5 @@ pub fn policy_command_code<K: Keep>(keep: &mut K, call: &Call) -> Result<Answer,
     let asserted = policy.command_code(session.hash, number);
     asserted.map_err(by_its_check)?;
     keep.sessions_mut().set_policy(handle, policy);
-    Ok(Answer::empty())
+    Ok(())
 }

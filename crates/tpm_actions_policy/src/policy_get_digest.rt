@@ -1,4 +1,5 @@
 ghost use Rattle.std.specs.Prelude.{◌≡◌};
+ghost use Rattle.tpm_actions.specs.Answer.{IsEmpty};
 ghost use Rattle.tpm_actions.specs.Request.{request_of};
 ghost use Rattle.tpm_actions.specs.Rows.{Acts};
 ghost use Rattle.tpm_actions_policy.specs.PolicyGetDigest.{policy_get_digest_row};
@@ -13,14 +14,18 @@ use tpm_record::keep::Keep;
 
 /// TPM2_PolicyGetDigest: the policy digest of a session.
 #[tactic(auto, unfolding(crate::specs::PolicyGetDigest::policy_get_digest_row))]
-pub fn policy_get_digest<K: Keep>(keep: &mut K, call: &Call) -> Result<Answer, Refused>
+pub fn policy_get_digest<K: Keep>(
+    keep: &mut K,
+    call: &Call,
+    answer: &mut Answer,
+) -> Result<(), Refused>
+    requires { IsEmpty answer.old }
     ensures { Acts (policy_get_digest_row (K.record_of keep.old) (request_of call.now))
-        (K.record_of keep.old) result (K.record_of keep.new) }
+        (K.record_of keep.old) result answer.new (K.record_of keep.new) }
 {
     let handle = call.first_handle()?;
     end(&Cursor::new(call.parameters))?;
     let session = policy_session(keep, handle)?;
-    let mut answer = Answer::empty();
     let _ = answer.parameters.put_sized(session.policy.digest());
-    Ok(answer)
+    Ok(())
 }

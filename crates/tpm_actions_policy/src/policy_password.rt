@@ -1,4 +1,5 @@
 ghost use Rattle.std.specs.Prelude.{◌≡◌};
+ghost use Rattle.tpm_actions.specs.Answer.{IsEmpty};
 ghost use Rattle.tpm_actions.specs.Request.{request_of};
 ghost use Rattle.tpm_actions.specs.Rows.{Acts};
 ghost use Rattle.tpm_actions_policy.specs.PolicyPassword.{policy_password_row};
@@ -13,9 +14,14 @@ use tpm_record::keep::Keep;
 
 /// TPM2_PolicyPassword: demands the entity's authorization value as a password.
 #[tactic(auto, unfolding(crate::specs::PolicyPassword::policy_password_row))]
-pub fn policy_password<K: Keep>(keep: &mut K, call: &Call) -> Result<Answer, Refused>
+pub fn policy_password<K: Keep>(
+    keep: &mut K,
+    call: &Call,
+    _answer: &mut Answer,
+) -> Result<(), Refused>
+    requires { IsEmpty _answer.old }
     ensures { Acts (policy_password_row (K.record_of keep.old) (request_of call.now))
-        (K.record_of keep.old) result (K.record_of keep.new) }
+        (K.record_of keep.old) result _answer.new (K.record_of keep.new) }
 {
     let handle = call.first_handle()?;
     end(&Cursor::new(call.parameters))?;
@@ -23,5 +29,5 @@ pub fn policy_password<K: Keep>(keep: &mut K, call: &Call) -> Result<Answer, Ref
     let mut policy = session.policy.copy();
     policy.password(session.hash);
     keep.sessions_mut().set_policy(handle, policy);
-    Ok(Answer::empty())
+    Ok(())
 }

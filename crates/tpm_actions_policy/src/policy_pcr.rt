@@ -1,4 +1,5 @@
 ghost use Rattle.std.specs.Prelude.{◌≡◌};
+ghost use Rattle.tpm_actions.specs.Answer.{IsEmpty};
 ghost use Rattle.tpm_actions.specs.Request.{request_of};
 ghost use Rattle.tpm_actions.specs.Rows.{Acts};
 ghost use Rattle.tpm_actions_policy.specs.PolicyPcr.{policy_pcr_row};
@@ -19,9 +20,10 @@ const MOST_BYTES: usize = 32;
 
 /// TPM2_PolicyPCR: compares the values of PCRs, and allows no change of any PCR behind it.
 #[tactic(auto, unfolding(crate::specs::PolicyPcr::policy_pcr_row))]
-pub fn policy_pcr<K: Keep>(keep: &mut K, call: &Call) -> Result<Answer, Refused>
+pub fn policy_pcr<K: Keep>(keep: &mut K, call: &Call, _answer: &mut Answer) -> Result<(), Refused>
+    requires { IsEmpty _answer.old }
     ensures { Acts (policy_pcr_row (K.record_of keep.old) (request_of call.now))
-        (K.record_of keep.old) result (K.record_of keep.new) }
+        (K.record_of keep.old) result _answer.new (K.record_of keep.new) }
 {
     let handle = call.first_handle()?;
     let mut parameters = Cursor::new(call.parameters);
@@ -41,5 +43,5 @@ pub fn policy_pcr<K: Keep>(keep: &mut K, call: &Call) -> Result<Answer, Refused>
     let asserted = policy.pcr(session.hash, is_trial(session), &pcrs);
     asserted.map_err(by_its_check)?;
     keep.sessions_mut().set_policy(handle, policy);
-    Ok(Answer::empty())
+    Ok(())
 }

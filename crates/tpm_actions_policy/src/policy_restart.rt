@@ -1,4 +1,5 @@
 ghost use Rattle.std.specs.Prelude.{◌≡◌};
+ghost use Rattle.tpm_actions.specs.Answer.{IsEmpty};
 ghost use Rattle.tpm_actions.specs.Request.{request_of};
 ghost use Rattle.tpm_actions.specs.Rows.{Acts};
 ghost use Rattle.tpm_actions_policy.specs.PolicyRestart.{policy_restart_row};
@@ -14,13 +15,18 @@ use tpm_record::keep::Keep;
 
 /// TPM2_PolicyRestart: returns the policy of a session to its start.
 #[tactic(auto, unfolding(crate::specs::PolicyRestart::policy_restart_row))]
-pub fn policy_restart<K: Keep>(keep: &mut K, call: &Call) -> Result<Answer, Refused>
+pub fn policy_restart<K: Keep>(
+    keep: &mut K,
+    call: &Call,
+    _answer: &mut Answer,
+) -> Result<(), Refused>
+    requires { IsEmpty _answer.old }
     ensures { Acts (policy_restart_row (K.record_of keep.old) (request_of call.now))
-        (K.record_of keep.old) result (K.record_of keep.new) }
+        (K.record_of keep.old) result _answer.new (K.record_of keep.new) }
 {
     let handle = call.first_handle()?;
     end(&Cursor::new(call.parameters))?;
     let policy = PolicyState::new(policy_session(keep, handle)?.hash);
     keep.sessions_mut().set_policy(handle, policy);
-    Ok(Answer::empty())
+    Ok(())
 }

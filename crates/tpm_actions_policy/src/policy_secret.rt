@@ -1,7 +1,8 @@
 ghost use Rattle.std.specs.Prelude.{◌≡◌, ◌≤◌, IfOk, length};
+ghost use Rattle.tpm_actions.specs.Answer.{IsEmpty};
 ghost use Rattle.tpm_actions.specs.Request.{request_of};
 ghost use Rattle.tpm_actions.specs.Rows.{Acts};
-ghost use Rattle.tpm_actions_policy.specs.PolicySecret.{Asks, no_ticket, parameters_in, policy_secret_row};
+ghost use Rattle.tpm_actions_policy.specs.PolicySecret.{Asks, null_ticket, parameters_in, policy_secret_row};
 
 use crate::assertions::{by_its_check, is_trial, policy_session};
 use tpm_actions::answer::Answer;
@@ -52,10 +53,11 @@ fn read_parameters(parameters: &[u8]) -> Result<Asked, Refused>
 }
 
 /// TPM2_PolicySecret: shows that the entity was authorized.
-#[tactic(auto, unfolding(crate::specs::PolicySecret::policy_secret_row, crate::specs::PolicySecret::no_ticket))]
-pub fn policy_secret<K: Keep>(keep: &mut K, call: &Call) -> Result<Answer, Refused>
+#[tactic(auto, unfolding(crate::specs::PolicySecret::policy_secret_row, crate::specs::PolicySecret::null_ticket))]
+pub fn policy_secret<K: Keep>(keep: &mut K, call: &Call, answer: &mut Answer) -> Result<(), Refused>
+    requires { IsEmpty answer.old }
     ensures { Acts (policy_secret_row (K.record_of keep.old) (request_of call.now))
-        (K.record_of keep.old) result (K.record_of keep.new) }
+        (K.record_of keep.old) result answer.new (K.record_of keep.new) }
 {
     let entity = call.first_handle()?;
     let handle = call.second_handle()?;
@@ -74,7 +76,6 @@ pub fn policy_secret<K: Keep>(keep: &mut K, call: &Call) -> Result<Answer, Refus
     let asserted = policy.secret(session.hash, is_trial(session), &secret);
     asserted.map_err(by_its_check)?;
     keep.sessions_mut().set_policy(handle, policy);
-    let mut answer = Answer::empty();
     let _ = answer.parameters.put(&NO_TICKET);
-    Ok(answer)
+    Ok(())
 }

@@ -1,4 +1,5 @@
 pub mod Reading
 pub mod Many
 pub mod Writing
+pub mod Lends
 pub mod Tap

@@ -1,4 +1,5 @@
 ghost use Rattle.std.specs.Prelude.{◌≡◌, ℕ, ◌≤◌, List, [], length};
+ghost use Rattle.std.specs.Borrow.{sem};
 ghost use Rattle.std.specs.Int.{w8, w16, w32, w64, to_be_bytes};
 ghost use Rattle.tpm_bytes.specs.Writing.{Puts, PutsSized};
 
@@ -19,11 +20,11 @@ impl<const N: usize> Model for Sink<N> {
     ghost Value = { List ℕ };
 
     ghost view = { λ s. s.bytes.items };
-
-    ghost invariant = { λ s. length s.bytes.items ≤ N };
 }
 
 impl<const N: usize> Sink<N> {
+    ghost use Rattle.tpm_bytes.specs.Lends.{lends_bytes};
+
     pub fn new() -> Sink<N>
         ensures { result ≡ [] }
     {
@@ -44,6 +45,21 @@ impl<const N: usize> Sink<N> {
         ensures fits { length result.now ≤ N }
     {
         self.bytes.as_slice()
+    }
+
+    /// The bytes so far, to be changed.
+    pub fn as_mut_slice(&mut self) -> &mut [u8]
+        ensures* writes_back { sem 𝓛 (lends_bytes N.row self.entry result) }
+        ensures value { result.now ≡ self.old }
+    {
+        self.bytes.as_mut_slice()
+    }
+
+    /// Drops the bytes so far.
+    pub fn clear(&mut self)
+        ensures { self.new ≡ [] }
+    {
+        self.bytes.clear();
     }
 
     pub fn into_bytes(self) -> ArrayVec<u8, N>

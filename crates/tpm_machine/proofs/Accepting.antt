@@ -1,5 +1,5 @@
 -- What the row of an authorized command does is the command's acceptance.
-use Rattle.std.proofs.Common.{◌≡◌, ℕ, List, Bool, true, false, Option, Result, Ok, Err, refl, ap}
+use Rattle.std.proofs.Common.{◌≡◌, ◌≤◌, ℕ, List, length, Bool, true, false, Option, Result, Ok, Err, IfOk, refl, ap, sym, subst, ◌∙◌}
 use Rattle.std.specs.Prelude.{◌&&◌}
 use Rattle.std.proofs.lemmas.Bool.{false≢true}
 use Rattle.tpm_bytes.specs.Reading.{◌>>=◌}
@@ -10,14 +10,14 @@ use Rattle.tpm_auth.specs.Grant.{authorize}
 use Rattle.tpm_auth.specs.declared.session_grant.Grant.{Grant}
 use Rattle.tpm_auth.specs.declared.refused.Refused.{Refused}
 use Rattle.tpm_actions.specs.Request.{Request}
-use Rattle.tpm_actions.specs.Rows.{ActsIfRoom, RefusesOrStarves, Success}
+use Rattle.tpm_actions.specs.Rows.{ActsIfRoom, Success}
 use Rattle.tpm_actions.specs.declared.answer.Answer.{Answer}
-use Rattle.tpm_machine.specs.General.{general}
-use Rattle.tpm_machine.specs.Parameters.{plain_parameters}
-use Rattle.tpm_machine.specs.Step.{Accepted, Accepts, Answers, Stepped, acceptance, accepted, refusal_step, request_in}
-use Rattle.tpm_machine.specs.Step.{RefusesOrStarves as AcceptsOrStarves}
+use Rattle.tpm_machine.specs.Answer.{Written, answer_to, text_of, written_of}
+use Rattle.tpm_machine.specs.General.{general, in_command}
+use Rattle.tpm_machine.specs.Safe.{IsModest}
+use Rattle.tpm_machine.specs.Step.{Accepted, Accepts, Answers, RefusesOrStarves, Stepped, Succeeds, acceptance, accepted, refusal_step, request_in}
 use Rattle.tpm_machine.specs.Table.{row_of}
-use Rattle.tpm_machine.proofs.Refusals.{refused_answers}
+use Rattle.tpm_machine.proofs.Refusals.{answers_exactly, refused_answers}
 
 first_of_both : (a b : Bool) → (a && b) ≡ true → a ≡ true
 first_of_both true b e = refl
@@ -27,30 +27,48 @@ second_of_both : (a b : Bool) → (a && b) ≡ true → b ≡ true
 second_of_both true b e = e
 second_of_both false b e = absurd (false≢true e)
 
-abbrev accepted_as : Whole → List (Option Grant) → Success → Result Accepted Refused
-accepted_as c grants success = Ok (record { command = c; grants = grants; success = success })
+abbrev accepted_as : Whole → List (Option Grant) → Request → Success → Result Accepted Refused
+accepted_as c grants q success = Ok (record { command = c; grants = grants; request = q; success = success })
 
-starves : (can : Bool) (c : Whole) (grants : List (Option Grant)) (row : Result Success Refused) (e : Refused) → RefusesOrStarves ((shape_of c.code).grows && can) row e → AcceptsOrStarves can c (row >>= accepted_as c grants) e
-starves can c grants (Err refused) e is = is
-starves can c grants (Ok s) e (may, is) =
-    (second_of_both (shape_of c.code).grows can may, refl, first_of_both (shape_of c.code).grows can may, is)
+row_accepts : (can : Bool) (c : Whole) (grants : List (Option Grant)) (q : Request) (row : Result Success Refused) (old : Record) (result : Result (Unit {0}) Refused) (answer : Answer) (new : Record) → ActsIfRoom ((shape_of c.code).grows && can) row old result answer new → Accepts can (row >>= accepted_as c grants q) c grants old result answer new
+row_accepts can c grants q (Ok s) old (Ok done) answer new (is, after) = (refl, refl, is, after)
+row_accepts can c grants q (Ok s) old (Err e) answer new (may, is, same) =
+    (same, (second_of_both (shape_of c.code).grows can may, refl, first_of_both (shape_of c.code).grows can may, is))
+row_accepts can c grants q (Err refused) old (Ok done) answer new never = never
+row_accepts can c grants q (Err refused) old (Err e) answer new (is, same) = (same, is)
 
-row_accepts : (can : Bool) (c : Whole) (grants : List (Option Grant)) (row : Result Success Refused) (old : Record) (result : Result Answer Refused) (new : Record) → ActsIfRoom ((shape_of c.code).grows && can) row old result new → Accepts can (row >>= accepted_as c grants) c grants old result new
-row_accepts can c grants row old (Ok a) new is = ap (λ (r : Result Success Refused). r >>= accepted_as c grants) is
-row_accepts can c grants row old (Err e) new (same, is) = (same, starves can c grants row e is)
-
-pub accepts : (can : Bool) (r : Record) (c : Whole) (grants : List (Option Grant)) (locality : ℕ) (random : List ℕ) (q : Request) (result : Result Answer Refused) (new : Record) → authorize r c locality ≡ Ok grants → q ≡ request_in c (plain_parameters r c.entries grants c.parameters) locality random → ActsIfRoom ((shape_of c.code).grows && can) (row_of r c.code q) r result new → Accepts can (acceptance r c locality random) c grants r result new
+pub accepts : (can : Bool) (r : Record) (c : Whole) (grants : List (Option Grant)) (locality : ℕ) (random : List ℕ) (q : Request) (result : Result (Unit {0}) Refused) (answer : Answer) (new : Record) → authorize r c locality ≡ Ok grants → q ≡ request_in r c grants locality random → ActsIfRoom ((shape_of c.code).grows && can) (row_of r c.code q) r result answer new → Accepts can (acceptance r c locality random) c grants r result answer new
 unfolding acceptance
-accepts can r c grants locality random q result new granted asked acts =
-    rw (granted, ← asked) (row_accepts can c grants (row_of r c.code q) r result new acts)
+accepts can r c grants locality random q result answer new granted asked acts =
+    rw (granted, ← asked) (row_accepts can c grants q (row_of r c.code q) r result answer new acts)
+
+-- ---- what is answered to a command that succeeded
+
+pub accepted_answers : (can : Bool) (r : Record) (random : List ℕ) (c : Whole) (grants : List (Option Grant)) (a : Result Accepted Refused) (answer : Answer) (effect : Record) (response : List ℕ) (after : Record) → Succeeds a c grants answer effect → record { response = response; after = after } ≡ answer_to c grants (text_of answer) effect random → Answers can r random (in_command c.code a) (record { response = response; row = record { code = code_number c.code; check = 0 }; after = after })
+accepted_answers can r random c grants (Err e) answer effect response after never is = absurd never
+accepted_answers can r random c grants (Ok a) answer effect response after (same, granted, written, left) is =
+    let back = sym same in
+    let text : text_of answer ≡ written_of a.success.answer = λ i. record { handle = written.0 i; parameters = written.1 i; drawn = written.2 i } in
+    let whole : record { response = response; after = after } ≡ answer_to a.command a.grants (written_of a.success.answer) a.success.after random =
+    is ∙ ap (λ (w : Written). answer_to c grants w effect random) text
+    ∙ ap (λ (x : Record). answer_to c grants (written_of a.success.answer) x random) left
+    ∙ ap (λ (x : Whole). answer_to x grants (written_of a.success.answer) a.success.after random) back
+    ∙ ap (λ (x : List (Option Grant)). answer_to a.command x (written_of a.success.answer) a.success.after random) (sym granted) in
+    answers_exactly can r random (Ok a) _ (λ i. record { response = (whole i).response; row = record { code = code_number (back i).code; check = 0 }; after = (whole i).after })
+
+-- and that its row is modest, as the answer has room for so much alone
+pub accepted_modest : (c : Whole) (grants : List (Option Grant)) (a : Result Accepted Refused) (answer : Answer) (effect : Record) → answer.drawn ≤ 96 → length answer.parameters ≤ 2048 → Succeeds a c grants answer effect → IfOk a IsModest
+accepted_modest c grants (Err e) answer effect few short never = tt
+accepted_modest c grants (Ok a) answer effect few short (same, granted, written, left) =
+    (subst (λ (n : ℕ). n ≤ 96) written.2 few, subst (λ (l : List ℕ). length l ≤ 2048) written.1 short)
 
 -- a command that is not authorized is refused
-pub not_authorized : (can : Bool) (r : Record) (c : Whole) (locality : ℕ) (random : List ℕ) (e : Refused) → authorize r c locality ≡ Err e → AcceptsOrStarves can c (acceptance r c locality random) e
+pub not_authorized : (can : Bool) (r : Record) (c : Whole) (locality : ℕ) (random : List ℕ) (e : Refused) → authorize r c locality ≡ Err e → RefusesOrStarves can c (acceptance r c locality random) e
 unfolding acceptance
 not_authorized can r c locality random e refused = rw (refused) refl
 
 -- a command that is decoded, and then refused or refused memory
-pub command_refused : (can : Bool) (r : Record) (buffer : List ℕ) (locality : ℕ) (random : List ℕ) (c : Whole) (e : Refused) (x : Stepped) → general r buffer ≡ Ok c → AcceptsOrStarves can c (acceptance r c locality random) e → x ≡ refusal_step r (record { code = code_number c.code; refused = e }) → Answers can r random (accepted r buffer locality random) x
+pub command_refused : (can : Bool) (r : Record) (buffer : List ℕ) (locality : ℕ) (random : List ℕ) (c : Whole) (e : Refused) (x : Stepped) → general r buffer ≡ Ok c → RefusesOrStarves can c (acceptance r c locality random) e → x ≡ refusal_step r (record { code = code_number c.code; refused = e }) → Answers can r random (accepted r buffer locality random) x
 unfolding accepted
 command_refused can r buffer locality random c e x decoded is seen =
     rw (decoded, seen) (refused_answers can r random c (acceptance r c locality random) e is)

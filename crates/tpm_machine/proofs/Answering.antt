@@ -6,9 +6,9 @@ use Rattle.tpm_types.specs.AuthEntry.{Entry}
 use Rattle.tpm_types.specs.Command.{Whole}
 use Rattle.tpm_record.specs.Record.{Record}
 use Rattle.tpm_auth.specs.declared.session_grant.Grant.{Grant}
-use Rattle.tpm_actions.specs.Rows.{Success}
-use Rattle.tpm_machine.specs.Answer.{answer_to, framed, handle_answer, success_text}
+use Rattle.tpm_machine.specs.Answer.{Written, answer_to, framed, handle_answer, success_text}
 use Rattle.tpm_machine.specs.Entries.{entries_answer, entries_ended, entries_rolled}
+use Rattle.tpm_machine.specs.Granted.{Granted, granted_entries}
 use Rattle.tpm_machine.specs.Parameters.{encrypted_answer}
 
 pub framed_alone : (tag code : ℕ) → framed tag code [] ≡ to_be_bytes w16 tag ++ to_be_bytes w32 10 ++ to_be_bytes w32 code
@@ -21,31 +21,31 @@ success_some [] handle answer area some = absurd (let none : ⊥ = omega arith i
 success_some (entry ∷ entries) handle answer area some = refl
 
 -- its three passes, and then its text
-answered_by : (c : Whole) (grants : List (Option Grant)) (s : Success) (random : List ℕ) (mid after : Record) (left parameters area text : List ℕ) → 1 ≤ length c.entries
-    → entries_rolled s.after c.entries (drop s.drawn random) ≡ record { after = mid; left = left }
-    → parameters ≡ encrypted_answer mid c.entries grants s.answer
-    → area ≡ entries_answer mid c.code parameters c.entries grants
-    → text ≡ framed 0x8002 0 (handle_answer s.handle ++ to_be_bytes w32 (length parameters) ++ parameters ++ area)
-    → after ≡ entries_ended mid c.entries grants
-    → record { response = text; after = after } ≡ answer_to c grants s random
+answered_by : (c : Whole) (grants : List (Option Grant)) (a : Written) (effect : Record) (random : List ℕ) (mid after : Record) (left parameters area text : List ℕ) → 1 ≤ length c.entries
+    → entries_rolled effect c.entries (drop a.drawn random) ≡ record { after = mid; left = left }
+    → parameters ≡ encrypted_answer mid (granted_entries c grants) a.parameters
+    → area ≡ entries_answer mid c.code parameters (granted_entries c grants)
+    → text ≡ framed 0x8002 0 (handle_answer a.handle ++ to_be_bytes w32 (length parameters) ++ parameters ++ area)
+    → after ≡ entries_ended mid (granted_entries c grants)
+    → record { response = text; after = after } ≡ answer_to c grants a effect random
 unfolding answer_to
-answered_by c grants s random mid after left parameters area text some rolled encrypted answered spelled ended =
-    let texts : text ≡ success_text c.entries s.handle parameters area = spelled ∙ sym (success_some c.entries s.handle parameters area some) in
+answered_by c grants a effect random mid after left parameters area text some rolled encrypted answered spelled ended =
+    let texts : text ≡ success_text c.entries a.handle parameters area = spelled ∙ sym (success_some c.entries a.handle parameters area some) in
     rw (rolled, ← encrypted, ← answered) (λ i. record { response = texts i; after = ended i })
 
 -- the same of what stands in its variables
-pub answered_with : (c : Whole) (grants : List (Option Grant)) (s : Success) (random : List ℕ) (mid after : Record) (entries : List Entry) (used : List (Option Grant)) (draws left plain parameters sent area text : List ℕ) → 1 ≤ length c.entries
-    → entries ≡ c.entries → used ≡ grants → draws ≡ drop s.drawn random → plain ≡ s.answer → sent ≡ parameters
-    → entries_rolled s.after entries draws ≡ record { after = mid; left = left }
-    → parameters ≡ encrypted_answer mid entries used plain
-    → area ≡ entries_answer mid c.code sent entries used
-    → text ≡ framed 0x8002 0 (handle_answer s.handle ++ to_be_bytes w32 (length sent) ++ sent ++ area)
-    → after ≡ entries_ended mid entries used
-    → record { response = text; after = after } ≡ answer_to c grants s random
-answered_with c grants s random mid after entries used draws left plain parameters sent area text some entered granted drawn planned whole rolled encrypted answered spelled ended =
-    answered_by c grants s random mid after left sent area text some
+pub answered_with : (c : Whole) (grants : List (Option Grant)) (a : Written) (effect : Record) (random : List ℕ) (mid after : Record) (entries : List Entry) (granted : List Granted) (draws left parameters sent area text : List ℕ) → 1 ≤ length c.entries
+    → entries ≡ c.entries → granted ≡ granted_entries c grants → draws ≡ drop a.drawn random → sent ≡ parameters
+    → entries_rolled effect entries draws ≡ record { after = mid; left = left }
+    → parameters ≡ encrypted_answer mid granted a.parameters
+    → area ≡ entries_answer mid c.code sent granted
+    → text ≡ framed 0x8002 0 (handle_answer a.handle ++ to_be_bytes w32 (length sent) ++ sent ++ area)
+    → after ≡ entries_ended mid granted
+    → record { response = text; after = after } ≡ answer_to c grants a effect random
+answered_with c grants a effect random mid after entries granted draws left parameters sent area text some entered paired drawn whole rolled encrypted answered spelled ended =
+    answered_by c grants a effect random mid after left sent area text some
     (rw (← entered, ← drawn) rolled)
-    (rw (← entered, ← granted, ← planned) (whole ∙ encrypted))
-    (rw (← entered, ← granted) answered)
+    (rw (← paired) (whole ∙ encrypted))
+    (rw (← paired) answered)
     spelled
-    (rw (← entered, ← granted) ended)
+    (rw (← paired) ended)

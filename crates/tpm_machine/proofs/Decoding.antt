@@ -1,13 +1,13 @@
 -- What the general checks decode is what the whole buffer spells.
-use Rattle.std.proofs.Common.{arith, refl, sym, cond, Bool, true, false, ◌≤◌, ◌*◌, ◌≡◌, ℕ, not, List, [], ◌∷◌, ◌+◌, length, Result, Ok, Err, IfOk, ap, ◌∙◌, Option}
+use Rattle.std.proofs.Common.{arith, refl, sym, cond, Bool, true, false, ◌≤◌, ◌*◌, ◌≡◌, ℕ, not, List, [], ◌∷◌, ◌+◌, length, Result, Ok, Err, IfOk, ap, ◌∙◌, Option, None}
 use Rattle.std.proofs.lemmas.Bool.{false≢true}
 use Rattle.std.specs.Prelude.{◌||◌}
-use Rattle.std.specs.List.{list_any}
+use Rattle.std.specs.List.{find, list_any, zip}
 use Rattle.std.specs.Int.{w32}
 use Rattle.tpm_bytes.proofs.Fields.{AreBytes}
 use Rattle.tpm_types.proofs.CommandLaws.{command_size-is, command_takes, length-body}
 use Rattle.tpm_auth.specs.Entries.{decrypts}
-use Rattle.tpm_machine.specs.Parameters.{entry_decryption, plain_parameters}
+use Rattle.tpm_machine.specs.Parameters.{plain_parameters}
 use Rattle.tpm_bytes.specs.Many.{each_at}
 use Rattle.tpm_bytes.specs.Reading.{◌>>=◌, number_at, or_fault, refused_if}
 use Rattle.tpm_bytes.proofs.Fields.{bind_ok, ok_is}
@@ -117,12 +117,16 @@ decodes_short r buffer (Err e) fits decoded = tt
 
 -- where nothing decrypts, the plain parameters are those that were sent
 
-not_decrypted : (first others : Bool) (by_first by_others text : List ℕ) → (first || others) ≡ false → (others ≡ false → by_others ≡ text) → cond first by_first by_others ≡ text
-not_decrypted true others by_first by_others text none rest = absurd (false≢true (sym none))
-not_decrypted false others by_first by_others text none rest = rest none
+neither : (a b : Bool) → (a || b) ≡ false → (a ≡ false) × (b ≡ false)
+neither true b e = absurd (false≢true (sym e))
+neither false b e = (refl, e)
 
-pub plain_as_sent : (r : Record) (entries : List Entry) (grants : List (Option Grant)) (text : List ℕ) → list_any decrypts entries ≡ false → plain_parameters r entries grants text ≡ text
-plain_as_sent r [] grants text none = refl
-plain_as_sent r (e ∷ es) [] text none = refl
-plain_as_sent r (e ∷ es) (grant ∷ grants) text none =
-    not_decrypted (decrypts e) (list_any decrypts es) (entry_decryption r grant e text) (plain_parameters r es grants text) text none (λ others. plain_as_sent r es grants text others)
+none_decrypts : (entries : List Entry) (grants : List (Option Grant)) → list_any decrypts entries ≡ false → find (λ g. decrypts g.0) (zip entries grants) ≡ None
+none_decrypts [] grants none = refl
+none_decrypts (e ∷ es) [] none = refl
+none_decrypts (e ∷ es) (grant ∷ grants) none =
+    let both = neither (decrypts e) (list_any decrypts es) none in
+    rw (both.0) (none_decrypts es grants both.1)
+
+pub plain_as_sent : (r : Record) (entries : List Entry) (grants : List (Option Grant)) (text : List ℕ) → list_any decrypts entries ≡ false → plain_parameters r (zip entries grants) text ≡ text
+plain_as_sent r entries grants text none = rw (none_decrypts entries grants none) refl

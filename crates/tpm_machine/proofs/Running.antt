@@ -16,7 +16,7 @@ pub run_more : {F : Type 0} {g : Mut F (Bor Outcome × Unit {0}) (Unit {0})} (ca
 run_more can old mid new q events i event outcome below is steps kept called rest = rw (drop_more events i event below, ← is) (outcome, _, _, steps, kept, called, rest)
 
 -- where no memory can be refused, an event is its step
-exactly : (can : Bool) (old : Record) (event : Happening) (x : Stepped) → can ≡ false → Steps can old event x → x ≡ step old event
+pub exactly : (can : Bool) (old : Record) (event : Happening) (x : Stepped) → can ≡ false → Steps can old event x → x ≡ step old event
 exactly can old event x cannot (false, only, is) = is
 exactly can old event x cannot (true, only, is) = absurd (false≢true (sym cannot ∙ only refl))
 

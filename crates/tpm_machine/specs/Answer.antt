@@ -6,9 +6,10 @@ use Rattle.tpm_types.specs.AuthEntry.{Entry}
 use Rattle.tpm_types.specs.Command.{Whole, handle_text}
 use Rattle.tpm_types.specs.Rc.{rc_number}
 use Rattle.tpm_record.specs.Record.{Record}
+use Rattle.tpm_actions.specs.Answer.{AnswerParts, body_text}
 use Rattle.tpm_actions.specs.declared.answer.Answer.{Answer}
-use Rattle.tpm_actions.specs.Rows.{Success}
 use Rattle.tpm_machine.specs.Entries.{Drawn, entries_answer, entries_ended, entries_rolled}
+use Rattle.tpm_machine.specs.Granted.{Granted, granted_entries}
 use Rattle.tpm_machine.specs.Parameters.{encrypted_answer}
 use Rattle.tpm_auth.specs.declared.session_grant.Grant.{Grant}
 use Rattle.tpm_auth.specs.declared.check.Check.{Check}
@@ -46,23 +47,30 @@ pub record Answered : Type 0 where
   pub response : List ℕ
   pub after : Record
 
--- what answers a success of a command, each of whose entries authorized this handle or none:
--- behind its effect new nonces are drawn, then its parameters are encrypted where that is asked for,
--- then each entry is answered, and then policies return to their start and sessions end
-unfoldable pub answer_to : Whole → List (Option Grant) → Success → List ℕ → Answered
-answer_to c grants s random =
-    let drawn : Drawn = entries_rolled s.after c.entries (drop s.drawn random) in
-    let answer : List ℕ = encrypted_answer drawn.after c.entries grants s.answer in
-    record {
-      response = success_text c.entries s.handle answer
-          (entries_answer drawn.after c.code answer c.entries grants);
-      after = entries_ended drawn.after c.entries grants;
-    }
+-- an answer as it is written: its parameters are a text
+pub record Written : Type 0 where
+  pub handle : Option Handle
+  pub parameters : List ℕ
+  pub drawn : ℕ
 
-abbrev pub success_of : Answer → Record → Success
-success_of a after = record {
-  handle = a.handle;
-  answer = a.parameters;
-  drawn = a.drawn;
-  after = after;
-}
+abbrev pub written_of : AnswerParts → Written
+written_of a = record { handle = a.handle; parameters = body_text a.body; drawn = a.drawn }
+
+-- the code's answer
+abbrev pub text_of : Answer → Written
+text_of a = record { handle = a.handle; parameters = a.parameters; drawn = a.drawn }
+
+-- what answers a command that had its effect, each of whose entries authorized this handle or none:
+-- new nonces are drawn behind the command's own random bytes, then its parameters are encrypted
+-- where that is asked for, then each entry is answered, and then policies return to their start and
+-- sessions end
+unfoldable pub answer_to : Whole → List (Option Grant) → Written → Record → List ℕ → Answered
+answer_to c grants a effect random =
+    let granted : List Granted = granted_entries c grants in
+    let drawn : Drawn = entries_rolled effect c.entries (drop a.drawn random) in
+    let parameters : List ℕ = encrypted_answer drawn.after granted a.parameters in
+    record {
+      response = success_text c.entries a.handle parameters
+          (entries_answer drawn.after c.code parameters granted);
+      after = entries_ended drawn.after granted;
+    }

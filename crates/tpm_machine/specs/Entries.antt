@@ -2,6 +2,7 @@
 -- Library, Part 1, section 19.6 (session nonces and HMACs), and Part 2, section 10.13.3
 -- (TPMS_AUTH_RESPONSE).
 use Rattle.std.specs.Prelude.{ℕ, ◌==◌, ◌||◌, not, List, [], ◌∷◌, ◌++◌, length, take, drop, if◌then◌else◌, Option, is_some}
+use Rattle.std.specs.List.{flat_map, fold}
 use Rattle.std.specs.Option.{option_map_or}
 use Rattle.tpm_bytes.specs.Writing.{sized_text}
 use Rattle.tpm_mac.specs.declared.algorithm.HashAlg.{HashAlg}
@@ -19,6 +20,7 @@ use Rattle.tpm_record.specs.Record.{Record}
 use Rattle.tpm_auth.specs.Entries.{session_of}
 use Rattle.tpm_auth.specs.declared.session_grant.Grant.{Grant}
 use Rattle.tpm_auth.specs.SessionGrant.{demands_password, used_auth_value}
+use Rattle.tpm_machine.specs.Granted.{Granted}
 
 -- a record, and the random bytes that are left
 pub record Drawn : Type 0 where
@@ -74,12 +76,8 @@ entry_answer r c answer grant e =
     option_map_or (session_answer r c answer grant e) (session_of r e) password_answer
 
 -- the answers to the entries of a command, each of which authorized this handle or none
-abbrev pub entries_answer : Record
-    → CommandCode → List ℕ → List Entry → List (Option Grant) → List ℕ
-entries_answer r c answer [] grants = []
-entries_answer r c answer (e ∷ es) [] = []
-entries_answer r c answer (e ∷ es) (grant ∷ grants) =
-    entry_answer r c answer grant e ++ entries_answer r c answer es grants
+abbrev pub entries_answer : Record → CommandCode → List ℕ → List Granted → List ℕ
+entries_answer r c answer granted = flat_map (λ g. entry_answer r c answer g.1 g.0) granted
 
 -- a policy session that authorized returns to the policy with which it started
 abbrev pub restarted_by : SessionType → Record → Entry → HashAlg → Record
@@ -98,7 +96,6 @@ entry_ended r e grant =
     if not (has_bits 0x01 e.attributes) then record r { sessions = flushed r.sessions e.session }
     else (if is_some grant then entry_restarted r e else r)
 
-abbrev pub entries_ended : Record → List Entry → List (Option Grant) → Record
-entries_ended r [] grants = r
-entries_ended r (e ∷ es) [] = r
-entries_ended r (e ∷ es) (grant ∷ grants) = entries_ended (entry_ended r e grant) es grants
+-- each in order
+abbrev pub entries_ended : Record → List Granted → Record
+entries_ended r granted = fold (λ after g. entry_ended after g.0 g.1) r granted

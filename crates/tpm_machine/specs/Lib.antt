@@ -1,6 +1,7 @@
 pub mod Events
 pub mod General
 pub mod Table
+pub mod Granted
 pub mod Parameters
 pub mod Entries
 pub mod Answer

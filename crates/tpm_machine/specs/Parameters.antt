@@ -2,6 +2,7 @@
 -- parameter, a sized buffer, and not its size.
 use Rattle.std.specs.Prelude.{◌≡◌, ℕ, ◌+◌, ◌≤◌, ◌&&◌, nat_le, Bool, true, false, List, [], ◌∷◌, ◌++◌, length, take, drop, if◌then◌else◌, Option, Some, None}
 use Rattle.std.specs.Int.{w16, from_be_bytes}
+use Rattle.std.specs.List.{find}
 use Rattle.std.specs.Option.{option_map_or}
 use Rattle.tpm_session.specs.declared.session.Session.{Session}
 use Rattle.tpm_session.specs.Encryption.{encrypted_parameter, plain_parameter}
@@ -10,6 +11,7 @@ use Rattle.tpm_record.specs.Entity.{auth_value_of}
 use Rattle.tpm_record.specs.Record.{Record}
 use Rattle.tpm_auth.specs.declared.session_grant.Grant.{Grant}
 use Rattle.tpm_auth.specs.Entries.{decrypts, encrypts, session_of}
+use Rattle.tpm_machine.specs.Granted.{Granted}
 
 -- the size that stands at the front of a text
 abbrev pub first_size : List ℕ → ℕ
@@ -44,12 +46,11 @@ entry_decryption r grant e text =
     with_first_buffer (plain_parameter s (cipher_value r grant) e.nonce s.nonce_tpm) text)
     (session_of r e) text
 
--- the parameters of a command, each of whose entries authorizes this handle or none
-abbrev pub plain_parameters : Record → List Entry → List (Option Grant) → List ℕ → List ℕ
-plain_parameters r [] grants text = text
-plain_parameters r (e ∷ es) [] text = text
-plain_parameters r (e ∷ es) (grant ∷ grants) text =
-    if decrypts e then entry_decryption r grant e text else plain_parameters r es grants text
+-- the parameters of a command in plain, by the first of its entries that decrypts, if there is one
+abbrev pub plain_parameters : Record → List Granted → List ℕ → List ℕ
+plain_parameters r granted text =
+    option_map_or (λ (g : Granted). entry_decryption r g.1 g.0 text)
+    (find (λ g. decrypts g.0) granted) text
 
 -- the answer's parameters as the entry's session encrypts them, between the TPM's new nonce and the
 -- caller's
@@ -59,9 +60,8 @@ entry_encryption r grant e text =
     with_first_buffer (encrypted_parameter s (cipher_value r grant) s.nonce_tpm e.nonce) text)
     (session_of r e) text
 
--- and the parameters of its answer
-abbrev pub encrypted_answer : Record → List Entry → List (Option Grant) → List ℕ → List ℕ
-encrypted_answer r [] grants text = text
-encrypted_answer r (e ∷ es) [] text = text
-encrypted_answer r (e ∷ es) (grant ∷ grants) text =
-    if encrypts e then entry_encryption r grant e text else encrypted_answer r es grants text
+-- and the parameters of its answer, by the first of its entries that encrypts
+abbrev pub encrypted_answer : Record → List Granted → List ℕ → List ℕ
+encrypted_answer r granted text =
+    option_map_or (λ (g : Granted). entry_encryption r g.1 g.0 text)
+    (find (λ g. encrypts g.0) granted) text

@@ -3,6 +3,7 @@ use Rattle.std.specs.Prelude.{◌≡◌, ◌≢◌, ◌≤◌, length, IfOk}
 use Rattle.tpm_record.specs.Record.{Record}
 use Rattle.tpm_record.specs.Tick.{ticked}
 use Rattle.tpm_auth.specs.declared.refused.Counted.{Counted}
+use Rattle.tpm_actions.specs.Answer.{body_text}
 use Rattle.tpm_machine.specs.Events.{Happening, Given, Cycled}
 use Rattle.tpm_machine.specs.Step.{Accepted, Stepped, accepted, counted_in}
 
@@ -20,7 +21,8 @@ IsHarmless r event x = x.row.check ≢ 0
 -- A row draws at most 96 of the event's 256 random bytes, so that three nonces are left, and
 -- answers at most 2,048 bytes of parameters.
 abbrev pub IsModest : Accepted → Type 0
-IsModest a = (a.success.drawn ≤ 96) × (length a.success.answer ≤ 2048)
+IsModest a =
+    (a.success.answer.drawn ≤ 96) × (length (body_text a.success.answer.body) ≤ 2048)
 
 abbrev pub AcceptsModestly : Record → Happening → Type 0
 AcceptsModestly r (Given buffer locality elapsed random) =

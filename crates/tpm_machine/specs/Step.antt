@@ -14,12 +14,14 @@ use Rattle.tpm_auth.specs.Grant.{authorize}
 use Rattle.tpm_auth.specs.declared.session_grant.Grant.{Grant}
 use Rattle.tpm_auth.specs.declared.refused.Counted.{Counted}
 use Rattle.tpm_auth.specs.declared.refused.Refused.{Refused}
+use Rattle.tpm_actions.specs.Answer.{IsAnswer}
 use Rattle.tpm_actions.specs.Request.{Request}
 use Rattle.tpm_actions.specs.declared.answer.Answer.{Answer}
 use Rattle.tpm_actions.specs.Rows.{Success, memory_refused}
-use Rattle.tpm_machine.specs.Answer.{Answered, answer_to, refusal_text, success_of}
+use Rattle.tpm_machine.specs.Answer.{Answered, answer_to, refusal_text, written_of}
 use Rattle.tpm_machine.specs.Events.{Happening, Given, Cycled}
 use Rattle.tpm_machine.specs.General.{general, in_command}
+use Rattle.tpm_machine.specs.Granted.{granted_entries}
 use Rattle.tpm_machine.specs.Parameters.{plain_parameters}
 use Rattle.tpm_machine.specs.Table.{row_of}
 use Rattle.tpm_machine.specs.declared.event.Outcome.{Outcome}
@@ -32,26 +34,30 @@ pub record Stepped : Type 0 where
   pub row : Row
   pub after : Record
 
--- a command that is accepted: as it was sent, what each of its entries authorizes, and the success
--- of its row
+-- a command that is accepted: as it was sent, what each of its entries authorizes, what it asks of
+-- its row, and the success of that
 pub record Accepted : Type 0 where
   pub command : Whole
   pub grants : List (Option Grant)
+  pub request : Request
   pub success : Success
 
--- what a command asks of its row, by its plain parameters
-abbrev pub request_in : Whole → List ℕ → ℕ → List ℕ → Request
-request_in c plain locality random =
-    record { handles = c.handles; locality = locality; parameters = plain; random = random }
+-- what a command asks of its row: its parameters are those that its sessions decrypt
+abbrev pub request_in : Record → Whole → List (Option Grant) → ℕ → List ℕ → Request
+request_in r c grants locality random = record {
+  handles = c.handles;
+  locality = locality;
+  parameters = plain_parameters r (granted_entries c grants) c.parameters;
+  random = random;
+}
 
--- the authorization of a command, then its parameters as its sessions decrypt them, and then its
--- row
+-- the authorization of a command, and then its row
 unfoldable pub acceptance : Record → Whole → ℕ → List ℕ → Result Accepted Refused
 acceptance r c locality random = do
   grants ← authorize r c locality
-  let plain : List ℕ = plain_parameters r c.entries grants c.parameters
-  success ← row_of r c.code (request_in c plain locality random)
-  Ok (record { command = c; grants = grants; success = success })
+  let q : Request = request_in r c grants locality random
+  success ← row_of r c.code q
+  Ok (record { command = c; grants = grants; request = q; success = success })
 
 -- The refusal is that of the acceptance; or memory was refused, where it can be, in place of a
 -- success of a command that grows something.
@@ -60,13 +66,20 @@ RefusesOrStarves can c (Err refused) e = e ≡ refused
 RefusesOrStarves can c (Ok a) e =
     (can ≡ true) × (a.command ≡ c) × ((shape_of c.code).grows ≡ true) × (e ≡ memory_refused)
 
+-- A success of a command with these grants has this answer, and leaves this record.
+abbrev pub Succeeds : Result Accepted Refused → Whole → List (Option Grant)
+    → Answer → Record → Type 0
+Succeeds (Ok a) c grants answer new =
+    (a.command ≡ c) × (a.grants ≡ grants) × IsAnswer a.success.answer answer
+    × (new ≡ a.success.after)
+Succeeds (Err refused) c grants answer new = ⊥
+
 -- The code's acceptance of a command with these grants stands for the definition's; a refusal
 -- leaves the record.
 abbrev pub Accepts : Bool → Result Accepted Refused → Whole → List (Option Grant)
-    → Record → Result Answer Refused → Record → Type 0
-Accepts can a c grants old (Ok answer) new =
-    a ≡ Ok (record { command = c; grants = grants; success = success_of answer new })
-Accepts can a c grants old (Err e) new = (new ≡ old) × RefusesOrStarves can c a e
+    → Record → Result (Unit {0}) Refused → Answer → Record → Type 0
+Accepts can a c grants old (Ok done) answer new = Succeeds a c grants answer new
+Accepts can a c grants old (Err e) answer new = (new ≡ old) × RefusesOrStarves can c a e
 
 -- a command's buffer, accepted by a record whose time has passed, or its first refusal
 unfoldable pub accepted : Record → List ℕ → ℕ → List ℕ → Result Accepted Refusal
@@ -88,7 +101,8 @@ refusal_step r e = record {
 
 abbrev pub success_step : Accepted → List ℕ → Stepped
 success_step a random =
-    let x : Answered = answer_to a.command a.grants a.success random in
+    let x : Answered =
+    answer_to a.command a.grants (written_of a.success.answer) a.success.after random in
     record {
       response = x.response;
       row = record { code = code_number a.command.code; check = 0 };

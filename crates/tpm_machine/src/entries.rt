@@ -1,4 +1,5 @@
 ghost use Rattle.std.specs.Prelude.{◌≡◌, ◌+◌, ◌*◌, ◌≤◌, ◌++◌, length, map};
+ghost use Rattle.std.specs.List.{zip};
 ghost use Rattle.tpm_types.specs.AuthEntry.{entry_of};
 ghost use Rattle.tpm_types.specs.CommandCode.{code_number};
 ghost use Rattle.tpm_auth.specs.SessionGrant.{demands_password};
@@ -152,7 +153,7 @@ pub fn answer_entries<K: Keep>(
     requires code { hashes.old.code ≡ code_number code }
     requires room { length area.old + 69 * length entries.now ≤ AREA_LIMIT }
     ensures { area.new ≡ area.old ++ entries_answer (K.record_of keep.now) code
-        hashes.old.parameters (map entry_of entries.now) grants.now }
+        hashes.old.parameters (zip (map entry_of entries.now) grants.now) }
 {
     let [entry, entries @ ..] = entries else {
         return;
@@ -192,7 +193,7 @@ fn end_entry<K: Keep>(keep: &mut K, entry: &AuthEntry, grant: Option<Grant>)
 /// their start.
 pub fn end_entries<K: Keep>(keep: &mut K, entries: &[AuthEntry], grants: &[Option<Grant>])
     ensures { K.record_of keep.new
-        ≡ entries_ended (K.record_of keep.old) (map entry_of entries.now) grants.now }
+        ≡ entries_ended (K.record_of keep.old) (zip (map entry_of entries.now) grants.now) }
 {
     let [entry, entries @ ..] = entries else {
         return;

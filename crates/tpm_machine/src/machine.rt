@@ -1,17 +1,18 @@
-ghost use Rattle.std.specs.Prelude.{◌≡◌, ◌≤◌, List, [], IfOk, false, length, map};
+ghost use Rattle.std.specs.Prelude.{◌≡◌, ◌≤◌, List, [], IfOk, OnErr, false, length, map, true};
 ghost use Rattle.tpm_record.specs.IsRecord.{IsRecord};
 ghost use Rattle.tpm_record.specs.Record.{manufactured};
 ghost use Rattle.tpm_machine.specs.Events.{happening};
 ghost use Rattle.tpm_machine.specs.Run.{Runs, after_all};
 ghost use Rattle.tpm_machine.specs.Safe.{AcceptsModestly, IsHarmless};
 ghost use Rattle.tpm_machine.specs.State.{state_of};
-ghost use Rattle.tpm_machine.specs.Step.{Steps, seen};
+ghost use Rattle.tpm_machine.specs.Step.{Steps, seen, step};
 
 use crate::event::{Event, Outcome, Response, Row};
 use crate::general::{Refusal, decode};
 use crate::response::{write_refusal, write_success};
 use crate::table::accept;
 use std::alloc::Global;
+use tpm_actions::answer::Answer;
 use tpm_auth::grant::{Grants, authorize};
 use tpm_record::cycle::power_cycle;
 use tpm_record::fixed::Fixed;
@@ -25,12 +26,16 @@ use tpm_types::whole_command::Command;
 #[derive(Drop)]
 pub struct Machine<K: Keep> {
     keep: K,
+    /// What a command answers is written here. It is cleared for each, and no part of the state.
+    answer: Answer,
 }
 
 impl<K: Keep> Machine<K> {
     /// A new device. Its memory comes from `alloc`, and its hierarchies' secrets are the random
     /// bytes.
     pub fn manufacture(alloc: Global, random: &[u8; 256]) -> Result<Machine<K>, NoMemory>
+        // Memory is refused only where it can be.
+        ensures refused { OnErr result (K.empty_can_refuse ≡ true) }
         ensures state { IfOk result (λ machine. state_of K.record_of machine
             ≡ manufactured random.now) }
         ensures is_record { IfOk result (λ machine. IsRecord (state_of K.record_of machine)) }
@@ -45,7 +50,10 @@ impl<K: Keep> Machine<K> {
     pub fn from_keep(keep: K) -> Machine<K>
         ensures { state_of K.record_of result ≡ K.record_of keep }
     {
-        Machine { keep }
+        Machine {
+            keep,
+            answer: Answer::empty(),
+        }
     }
 
     /// What keeps the device's state.
@@ -62,6 +70,10 @@ impl<K: Keep> Machine<K> {
     pub fn execute(&mut self, event: &Event) -> Outcome
         ensures steps { Steps K.can_refuse (state_of K.record_of self.old) (happening event.now)
             (seen (state_of K.record_of self.new) result) }
+
+        // Where no memory can be refused, they are those of the table's step, and no others.
+        ensures exactly { K.can_refuse ≡ false → seen (state_of K.record_of self.new) result
+            ≡ step (state_of K.record_of self.old) (happening event.now) }
 
         // What holds of every record: values of their sizes, numbers of their widths.
         ensures is_record { IsRecord (state_of K.record_of self.new) }
@@ -84,10 +96,12 @@ impl<K: Keep> Machine<K> {
 
     /// Executes one event, and writes its outcome over that of an event before, so that one
     /// response serves for a whole run.
-    #[tactic(auto, using(crate::proofs::Refusals::steps_harmless))]
+    #[tactic(auto, using(crate::proofs::Refusals::steps_harmless, crate::proofs::Running::exactly))]
     pub fn execute_into(&mut self, event: &Event, outcome: &mut Outcome)
         ensures steps { Steps K.can_refuse (state_of K.record_of self.old) (happening event.now)
             (seen (state_of K.record_of self.new) outcome.new) }
+        ensures exactly { K.can_refuse ≡ false → seen (state_of K.record_of self.new) outcome.new
+            ≡ step (state_of K.record_of self.old) (happening event.now) }
         ensures is_record { IsRecord (state_of K.record_of self.new) }
         ensures harmless { IsHarmless (state_of K.record_of self.old) (happening event.now)
             (seen (state_of K.record_of self.new) outcome.new) }
@@ -202,7 +216,7 @@ impl<K: Keep> Machine<K> {
 
     /// Does what a command asks for that its entries authorize so.
     #[inline(always)]
-    #[tactic(auto, using(crate::proofs::Refusals::answers_exactly, crate::proofs::Refusals::refused_answers))]
+    #[tactic(auto, using(crate::proofs::Accepting::accepted_answers, crate::proofs::Accepting::accepted_modest, crate::proofs::Refusals::refused_answers))]
     fn act(
         &mut self,
         command: &Command,
@@ -227,15 +241,17 @@ impl<K: Keep> Machine<K> {
             (whole_of command.now) (locality_number locality) random.now) IsModest }
         ensures fits { length text.new.items ≤ 2273 }
     {
-        match &accept(&mut self.keep, command, grants, locality, random) {
-            Ok(answer) => {
-                write_success(&mut self.keep, command, grants, answer, random, text);
+        self.answer.clear();
+        let (keep, answer) = (&mut self.keep, &mut self.answer);
+        match accept(keep, command, grants, locality, random, answer) {
+            Ok(()) => {
+                write_success(keep, command, grants, answer, random, text);
                 Row {
                     code: command.code.number(),
                     check: 0,
                 }
             }
-            Err(refused) => refuse(Refusal::of(command.code, *refused), text),
+            Err(refused) => refuse(Refusal::of(command.code, refused), text),
         }
     }
 }

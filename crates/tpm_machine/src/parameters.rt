@@ -1,4 +1,5 @@
 ghost use Rattle.std.specs.Prelude.{◌≡◌, ◌≤◌, length, map};
+ghost use Rattle.std.specs.List.{zip};
 ghost use Rattle.tpm_session.specs.Encryption.{encrypted_parameter, plain_parameter};
 ghost use Rattle.tpm_types.specs.AuthEntry.{entry_of};
 ghost use Rattle.tpm_machine.specs.Parameters.{FindsFirst, cipher_value, entry_decryption, encrypted_answer, entry_encryption, plain_parameters, with_first_buffer};
@@ -79,8 +80,8 @@ fn decrypt_by<K: Keep>(keep: &K, grant: Option<Grant>, entry: &AuthEntry, text: 
 
 /// Decrypts the parameters of a command, each of whose entries authorizes this handle or none.
 pub fn decrypt<K: Keep>(keep: &K, entries: &[AuthEntry], grants: &[Option<Grant>], text: &mut [u8])
-    ensures { text.new ≡ plain_parameters (K.record_of keep.now) (map entry_of entries.now)
-        grants.now text.old }
+    ensures { text.new ≡ plain_parameters (K.record_of keep.now)
+        (zip (map entry_of entries.now) grants.now) text.old }
 {
     let [entry, entries @ ..] = entries else {
         return;
@@ -113,8 +114,8 @@ fn encrypt_by<K: Keep>(keep: &K, grant: Option<Grant>, entry: &AuthEntry, text: 
 
 /// Encrypts the parameters of the answer to such a command.
 pub fn encrypt<K: Keep>(keep: &K, entries: &[AuthEntry], grants: &[Option<Grant>], text: &mut [u8])
-    ensures { text.new ≡ encrypted_answer (K.record_of keep.now) (map entry_of entries.now)
-        grants.now text.old }
+    ensures { text.new ≡ encrypted_answer (K.record_of keep.now)
+        (zip (map entry_of entries.now) grants.now) text.old }
 {
     let [entry, entries @ ..] = entries else {
         return;

@@ -1,8 +1,9 @@
 ghost use Rattle.std.specs.Prelude.{◌≡◌, ◌+◌, ◌≤◌, ◌++◌, [], length, map};
 ghost use Rattle.std.specs.Int.{w16, w32, to_be_bytes};
+ghost use Rattle.std.specs.List.{zip};
 ghost use Rattle.tpm_types.specs.AuthEntry.{entry_of};
 ghost use Rattle.tpm_types.specs.Command.{whole_of};
-ghost use Rattle.tpm_machine.specs.Answer.{answer_to, framed, handle_answer, refusal_tag, refusal_text, success_of};
+ghost use Rattle.tpm_machine.specs.Answer.{answer_to, framed, handle_answer, refusal_tag, refusal_text, text_of};
 ghost use Rattle.tpm_machine.specs.Parameters.{encrypted_answer};
 
 use crate::draws::Draws;
@@ -11,7 +12,7 @@ use crate::event::{RESPONSE_LIMIT, Response};
 use crate::parameters::encrypt;
 use crate::response_hashes::ResponseHashes;
 use arrayvec::ArrayVec;
-use tpm_actions::answer::{ANSWER_LIMIT, Answer};
+use tpm_actions::answer::{ANSWER_LIMIT, Answer, Parameters};
 use tpm_auth::check::Check;
 use tpm_auth::grant::Grants;
 use tpm_auth::refused::Refused;
@@ -119,21 +120,17 @@ fn write_with_area(handle: Option<Handle>, parameters: &[u8], area: &[u8], text:
     put(text, area);
 }
 
-/// The parameters of an answer as the sessions of the entries encrypt them.
-fn encrypted<K: Keep>(
+/// Encrypts the parameters of an answer in their place, as the sessions of the entries ask for.
+fn encrypt_answer<K: Keep>(
     keep: &K,
     entries: &[AuthEntry],
     grants: &[Option<Grant>],
-    parameters: &[u8],
-) -> ArrayVec<u8, ANSWER_LIMIT>
-    requires { length parameters.now ≤ ANSWER_LIMIT }
-    ensures { result.items ≡ encrypted_answer (K.record_of keep.now) (map entry_of entries.now)
-        grants.now parameters.now }
+    parameters: &mut Parameters,
+)
+    ensures { parameters.new ≡ encrypted_answer (K.record_of keep.now)
+        (zip (map entry_of entries.now) grants.now) parameters.old }
 {
-    let mut text = ArrayVec::new();
-    let _ = text.try_extend_from_slice(parameters);
-    encrypt(keep, entries, grants, text.as_mut_slice());
-    text
+    encrypt(keep, entries, grants, parameters.as_mut_slice());
 }
 
 /// Writes the response to a command with entries that succeeded, and does what is to be done with
@@ -143,7 +140,7 @@ fn write_with_sessions<K: Keep>(
     keep: &mut K,
     command: &Command,
     grants: &Grants,
-    answer: &Answer,
+    answer: &mut Answer,
     random: &[u8; 256],
     text: &mut Response,
 )
@@ -151,18 +148,19 @@ fn write_with_sessions<K: Keep>(
     requires some { 1 ≤ length (map entry_of command.now.entries.items) }
     ensures answer { record { response = text.new.items; after = K.record_of keep.new }
         ≡ answer_to (whole_of command.now) grants.now.entries.items
-        (success_of answer.now (K.record_of keep.old)) random.now }
+        (text_of answer.old) (K.record_of keep.old) random.now }
     ensures fits { length text.new.items ≤ 2273 }
 {
     let entries = command.entries.as_slice();
     let grants = grants.entries.as_slice();
     let mut draws = Draws::new(&random[answer.drawn..]);
     roll_entries(keep, entries, &mut draws);
-    let parameters = encrypted(keep, entries, grants, answer.parameters.as_slice());
-    let mut hashes = ResponseHashes::new(command.code.number(), parameters.as_slice());
+    encrypt_answer(keep, entries, grants, &mut answer.parameters);
+    let parameters = answer.parameters.as_slice();
+    let mut hashes = ResponseHashes::new(command.code.number(), parameters);
     let mut area = Sink::new();
     answer_entries(keep, command.code, &mut hashes, entries, grants, &mut area);
-    write_with_area(answer.handle, parameters.as_slice(), area.as_slice(), text);
+    write_with_area(answer.handle, parameters, area.as_slice(), text);
     end_entries(keep, entries, grants);
 }
 
@@ -172,16 +170,19 @@ pub fn write_success<K: Keep>(
     keep: &mut K,
     command: &Command,
     grants: &Grants,
-    answer: &Answer,
+    answer: &mut Answer,
     random: &[u8; 256],
     text: &mut Response,
 )
     requires empty { text.old.items ≡ [] }
     ensures answer { record { response = text.new.items; after = K.record_of keep.new }
         ≡ answer_to (whole_of command.now) grants.now.entries.items
-        (success_of answer.now (K.record_of keep.old)) random.now }
+        (text_of answer.old) (K.record_of keep.old) random.now }
+    // An answer has no room for more.
+    ensures room { length answer.old.parameters ≤ ANSWER_LIMIT }
     ensures fits { length text.new.items ≤ 2273 }
 {
+    let _length = answer.parameters.len();
     if command.entries.is_empty() {
         write_plain(answer.handle, answer.parameters.as_slice(), text);
     } else {

@@ -1,9 +1,11 @@
 ghost use Rattle.std.specs.Prelude.{◌≡◌, ◌≤◌, ◌&&◌, Ok, length, map};
+ghost use Rattle.std.specs.List.{zip};
 ghost use Rattle.tpm_types.specs.AuthEntry.{entry_of};
 ghost use Rattle.tpm_types.specs.Command.{whole_of};
 ghost use Rattle.tpm_types.specs.CommandCode.{shape_of};
 ghost use Rattle.tpm_types.specs.Locality.{locality_number};
 ghost use Rattle.tpm_auth.specs.Grant.{authorize};
+ghost use Rattle.tpm_actions.specs.Answer.{IsEmpty};
 ghost use Rattle.tpm_actions.specs.Request.{request_of};
 ghost use Rattle.tpm_actions.specs.Rows.{ActsIfRoom};
 ghost use Rattle.tpm_machine.specs.Step.{Accepts, acceptance};
@@ -54,36 +56,42 @@ const MOST_PARAMETERS: usize = 4096;
 /// Does what the command's row says; only a command that grows something can be refused memory.
 #[inline(always)]
 #[tactic(auto, unfolding(crate::specs::Table::row_of, tpm_types::specs::CommandCode::shape_of))]
-fn act<K: Keep>(keep: &mut K, code: CommandCode, call: &Call) -> Result<Answer, Refused>
+fn act<K: Keep>(
+    keep: &mut K,
+    code: CommandCode,
+    call: &Call,
+    answer: &mut Answer,
+) -> Result<(), Refused>
+    requires { IsEmpty answer.old }
     ensures { ActsIfRoom ((shape_of code).grows && K.can_refuse)
         (row_of (K.record_of keep.old) code (request_of call.now))
-        (K.record_of keep.old) result (K.record_of keep.new) }
+        (K.record_of keep.old) result answer.new (K.record_of keep.new) }
 {
     match code {
-        CommandCode::HierarchyChangeAuth => hierarchy_change_auth(keep, call),
-        CommandCode::CreatePrimary => create_primary(keep, call),
-        CommandCode::PcrEvent => pcr_event(keep, call),
-        CommandCode::PcrReset => pcr_reset(keep, call),
-        CommandCode::Startup => startup(keep, call),
-        CommandCode::PolicySecret => policy_secret(keep, call),
-        CommandCode::Create => create(keep, call),
-        CommandCode::Hmac => hmac(keep, call),
-        CommandCode::Load => load(keep, call),
-        CommandCode::Unseal => unseal(keep, call),
-        CommandCode::FlushContext => flush_context(keep, call),
-        CommandCode::PolicyAuthValue => policy_auth_value(keep, call),
-        CommandCode::PolicyCommandCode => policy_command_code(keep, call),
-        CommandCode::PolicyLocality => policy_locality(keep, call),
-        CommandCode::PolicyOr => policy_or(keep, call),
-        CommandCode::ReadPublic => read_public(keep, call),
-        CommandCode::StartAuthSession => start_auth_session(keep, call),
-        CommandCode::GetRandom => get_random(keep, call),
-        CommandCode::PcrRead => pcr_read(keep, call),
-        CommandCode::PolicyPcr => policy_pcr(keep, call),
-        CommandCode::PolicyRestart => policy_restart(keep, call),
-        CommandCode::PcrExtend => pcr_extend(keep, call),
-        CommandCode::PolicyGetDigest => policy_get_digest(keep, call),
-        CommandCode::PolicyPassword => policy_password(keep, call),
+        CommandCode::HierarchyChangeAuth => hierarchy_change_auth(keep, call, answer),
+        CommandCode::CreatePrimary => create_primary(keep, call, answer),
+        CommandCode::PcrEvent => pcr_event(keep, call, answer),
+        CommandCode::PcrReset => pcr_reset(keep, call, answer),
+        CommandCode::Startup => startup(keep, call, answer),
+        CommandCode::PolicySecret => policy_secret(keep, call, answer),
+        CommandCode::Create => create(keep, call, answer),
+        CommandCode::Hmac => hmac(keep, call, answer),
+        CommandCode::Load => load(keep, call, answer),
+        CommandCode::Unseal => unseal(keep, call, answer),
+        CommandCode::FlushContext => flush_context(keep, call, answer),
+        CommandCode::PolicyAuthValue => policy_auth_value(keep, call, answer),
+        CommandCode::PolicyCommandCode => policy_command_code(keep, call, answer),
+        CommandCode::PolicyLocality => policy_locality(keep, call, answer),
+        CommandCode::PolicyOr => policy_or(keep, call, answer),
+        CommandCode::ReadPublic => read_public(keep, call, answer),
+        CommandCode::StartAuthSession => start_auth_session(keep, call, answer),
+        CommandCode::GetRandom => get_random(keep, call, answer),
+        CommandCode::PcrRead => pcr_read(keep, call, answer),
+        CommandCode::PolicyPcr => policy_pcr(keep, call, answer),
+        CommandCode::PolicyRestart => policy_restart(keep, call, answer),
+        CommandCode::PcrExtend => pcr_extend(keep, call, answer),
+        CommandCode::PolicyGetDigest => policy_get_digest(keep, call, answer),
+        CommandCode::PolicyPassword => policy_password(keep, call, answer),
     }
 }
 
@@ -95,8 +103,8 @@ fn plain_parameters<K: Keep>(
     parameters: &[u8],
 ) -> ArrayVec<u8, MOST_PARAMETERS>
     requires { length parameters.now ≤ 4096 }
-    ensures { result.items ≡ plain_parameters (K.record_of keep.now) (map entry_of entries.now)
-        grants.now parameters.now }
+    ensures { result.items ≡ plain_parameters (K.record_of keep.now)
+        (zip (map entry_of entries.now) grants.now) parameters.now }
 {
     let mut text = ArrayVec::new();
     let _ = text.try_extend_from_slice(parameters);
@@ -112,14 +120,16 @@ fn act_decrypted<K: Keep>(
     call: &Call,
     entries: &[AuthEntry],
     grants: &[Option<Grant>],
-) -> Result<Answer, Refused>
-    requires { length call.now.parameters.now ≤ 4096 }
+    answer: &mut Answer,
+) -> Result<(), Refused>
+    requires size { length call.now.parameters.now ≤ 4096 }
+    requires empty { IsEmpty answer.old }
     ensures { ActsIfRoom ((shape_of code).grows && K.can_refuse)
         (row_of (K.record_of keep.old) code (record (request_of call.now) {
-          parameters = plain_parameters (K.record_of keep.old) (map entry_of entries.now)
-              grants.now call.now.parameters.now;
+          parameters = plain_parameters (K.record_of keep.old)
+              (zip (map entry_of entries.now) grants.now) call.now.parameters.now;
         }))
-        (K.record_of keep.old) result (K.record_of keep.new) }
+        (K.record_of keep.old) result answer.new (K.record_of keep.new) }
 {
     let plain = plain_parameters(keep, entries, grants, call.parameters);
     let call = Call {
@@ -128,7 +138,7 @@ fn act_decrypted<K: Keep>(
         parameters: plain.as_slice(),
         random: call.random,
     };
-    act(keep, code, &call)
+    act(keep, code, &call, answer)
 }
 
 /// Does what the row of a command says that its entries authorize so; a refusal leaves the record.
@@ -139,13 +149,15 @@ pub fn accept<K: Keep>(
     grants: &Grants,
     locality: Locality,
     random: &[u8; 256],
-) -> Result<Answer, Refused>
+    answer: &mut Answer,
+) -> Result<(), Refused>
     requires size { length command.now.parameters.now ≤ 4096 }
+    requires empty { IsEmpty answer.old }
     requires granted { authorize (K.record_of keep.old) (whole_of command.now)
         (locality_number locality) ≡ Ok grants.now.entries.items }
     ensures { Accepts K.can_refuse (acceptance (K.record_of keep.old) (whole_of command.now)
         (locality_number locality) random.now) (whole_of command.now) grants.now.entries.items
-        (K.record_of keep.old) result (K.record_of keep.new) }
+        (K.record_of keep.old) result answer.new (K.record_of keep.new) }
 {
     let entries = command.entries.as_slice();
     let call = Call {
@@ -161,8 +173,9 @@ pub fn accept<K: Keep>(
             &call,
             entries,
             grants.entries.as_slice(),
+            answer,
         )
     } else {
-        act(keep, command.code, &call)
+        act(keep, command.code, &call, answer)
     }
 }

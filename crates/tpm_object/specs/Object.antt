@@ -43,3 +43,8 @@ loaded_object hierarchy public area parent_qualified_name = record {
   qualified_name =
       qualified_name public.name_alg parent_qualified_name (object_name public);
 }
+
+-- the highest byte of a loaded object's handle, 80: it is a transient object (TPM_HT_TRANSIENT of
+-- Part 2, section 7.2)
+abbrev pub transient_byte : Object → ℕ
+transient_byte object = 0x80

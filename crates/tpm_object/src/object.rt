@@ -3,6 +3,7 @@ ghost use Rattle.tpm_name.specs.Name.{object_name};
 ghost use Rattle.tpm_object.specs.Object.{are_of_cipher, is_cipher, is_keyed_hash, is_storage_parent, loaded_object};
 
 use tpm_name::Name;
+use tpm_places::numbered::Kinded;
 use tpm_types::auth_value::AuthValue;
 use tpm_types::handle::HierarchyHandle;
 use tpm_types::object_attributes::ObjectAttribute;
@@ -57,6 +58,20 @@ pub fn is_storage_parent(public: &Public) -> bool
         && public.attributes.has(ObjectAttribute::Restricted)
         && public.attributes.has(ObjectAttribute::Decrypt)
         && !public.attributes.has(ObjectAttribute::Sign)
+}
+
+/// The highest byte of a transient object's handle.
+const TRANSIENT_BYTE: u32 = 0x80;
+
+/// Loaded objects stand under the handles of transient objects.
+impl Kinded for Object {
+    ghost use Rattle.tpm_object.specs.Object.{transient_byte};
+
+    ghost kind = { transient_byte };
+
+    fn kind(&self) -> u32 {
+        TRANSIENT_BYTE
+    }
 }
 
 impl Object {

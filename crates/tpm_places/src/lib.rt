@@ -1,10 +1,17 @@
 #![tactic(auto)]
 
-//! So many places, each free or with a value: what is in a place, and which is the lowest that is
-//! free. [`list_places::ListPlaces`] keeps them in a list that grows as they are taken.
+//! So many places, each free or with a value: what is in a place, which is the lowest that is free,
+//! and values that are found under numbers of their places.
 //!
-//! It stands on std alone, and knows nothing of a TPM. Contracts see all the places, those behind
-//! the end of the list too: a value takes the lowest free one, or nothing changes. Only
-//! [`list_places::ListPlaces::insert`] may take memory.
+//! [`places::Places`] is the trait; [`list_places::ListPlaces`] keeps them in a list that grows as
+//! they are taken, [`fixed_places::FixedPlaces`] in one area that is as large as they are.
+//! [`numbered`] finds values by numbers that name a place and a kind, and says the laws of that map
+//! once. The crate stands on `arrayvec`, and knows nothing of a TPM. Contracts see all the places,
+//! those behind the end of a list too: a value takes the lowest free one, or nothing changes. Only
+//! an insertion into a list may take memory.
 
+mod cells;
+pub mod fixed_places;
 pub mod list_places;
+pub mod numbered;
+pub mod places;

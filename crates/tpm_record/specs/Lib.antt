@@ -5,9 +5,10 @@ pub mod IsRecord
 pub mod Tick
 pub mod Cycle
 pub mod Entity
-pub mod ListKeep
+pub mod Kept
 pub use Rattle.tpm_pcr.specs.Values
 pub use Rattle.tpm_pcr.specs.Banks
 pub use Rattle.tpm_session.specs.Sessions
 pub use Rattle.tpm_name.specs.Name
 pub use Rattle.tpm_object.specs.Object
+pub use Rattle.tpm_places.specs.Numbered

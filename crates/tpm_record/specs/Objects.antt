@@ -1,23 +1,28 @@
 -- The transient objects of a device by their handles. TPM 2.0 Library, Part 1, section 15.6
 -- (transient objects), and Part 2, section 7.2 (TPM_HT_TRANSIENT: a handle whose highest byte is
 -- 80).
-use Rattle.std.specs.Prelude.{◌≡◌, ℕ, ◌+◌, ◌==◌, Bool, true, is_some, List, Option, Some, None, option_map, Result, Ok, Err, if◌then◌else◌, slice_set}
+use Rattle.std.specs.Prelude.{◌≡◌, ℕ, Bool, true, List, Option, Some, option_map, Result, Ok, Err, None, slice_set}
+use Rattle.tpm_object.specs.Object.{transient_byte}
 use Rattle.tpm_object.specs.declared.object.Object.{Object}
-use Rattle.tpm_places.specs.Places.{at_place, lowest_free}
-use Rattle.tpm_session.specs.Sessions.{place_of}
+use Rattle.tpm_places.specs.Numbered.{at_number, number_of, without_number}
+use Rattle.tpm_places.specs.Places.{lowest_free}
+use Rattle.tpm_places.specs.declared.places.PlaceFault.{PlaceFault}
+use Rattle.tpm_places.specs.declared.places.PlaceFault.TheVariants.{Full, NoMemory}
 use Rattle.tpm_types.specs.declared.handle.Handle.{Handle}
-use Rattle.tpm_types.specs.Handle.{handle_type}
-use Rattle.tpm_places.specs.declared.list_places.PlaceFault.{PlaceFault}
-use Rattle.tpm_places.specs.declared.list_places.PlaceFault.TheVariants.{Full, NoMemory}
+use Rattle.tpm_record.specs.declared.objects.Objects.{Objects}
 
--- the object of a handle, whose three lower bytes are its place
+-- the places of the objects, by what shows those of their container
+abbrev pub objects_of : {O : Type 0}
+    → (O → List (Option Object)) → Objects O → List (Option Object)
+objects_of places objects = places objects.places
+
+-- the object of a handle
 unfoldable pub object_at : List (Option Object) → Handle → Option Object
-object_at places handle =
-    if handle_type handle == 0x80 then at_place places (place_of handle) else None
+object_at places handle = at_number transient_byte places handle.number
 
 -- the handle of an object in a place, and that which the next object takes
 abbrev pub object_handle : ℕ → Handle
-object_handle place = record { number = 0x8000_0000 + place }
+object_handle place = record { number = number_of 0x80 place }
 
 abbrev pub next_handle : List (Option Object) → Option Handle
 next_handle places = option_map object_handle (lowest_free places)
@@ -28,8 +33,7 @@ with_object places place object = slice_set places place (Some object)
 
 -- without the object of a handle
 unfoldable pub without_object : List (Option Object) → Handle → List (Option Object)
-without_object places handle =
-    if is_some (object_at places handle) then slice_set places (place_of handle) None else places
+without_object places handle = without_number transient_byte places handle.number
 
 -- An object took the lowest free place, unless all are taken or memory was refused.
 abbrev pub Adds : Bool → List (Option Object) → Object

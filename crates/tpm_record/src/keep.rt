@@ -1,20 +1,22 @@
-ghost use Rattle.std.specs.Prelude.{◌≡◌, Bool, IfOk, is_some, length, option_copied, replicate};
+ghost use Rattle.std.specs.Prelude.{◌≡◌, Bool, IfOk, OnErr, replicate, true};
 ghost use Rattle.std.specs.Borrow.{Lends, sem};
-ghost use Rattle.tpm_record.specs.Objects.{Adds, next_handle, object_at, without_object};
-ghost use Rattle.tpm_record.specs.Record.{Record, manufactured, no_objects};
+ghost use Rattle.tpm_record.specs.Objects.{objects_of};
+ghost use Rattle.tpm_record.specs.Record.{Record, manufactured};
 ghost use Rattle.tpm_record.specs.contracts.fixed.Fixed.{the_row as fixed_row};
+ghost use Rattle.tpm_record.specs.contracts.objects.Objects.{the_row as objects_row};
 ghost use Rattle.tpm_record.specs.declared.fixed.Fixed.{Fixed as FixedParts};
+ghost use Rattle.tpm_record.specs.declared.objects.Objects.{Objects as ObjectsParts};
 ghost use Rattle.tpm_session.specs.Sessions.{places_of};
 ghost use Rattle.tpm_session.specs.contracts.sessions.Sessions.{the_row as sessions_row};
 ghost use Rattle.tpm_session.specs.declared.sessions.Sessions.{Sessions as SessionsParts};
 
 use crate::fixed::Fixed;
+use crate::objects::Objects;
 use std::alloc::Global;
 use tpm_object::object::Object;
-use tpm_places::list_places::PlaceFault;
+use tpm_places::places::Places;
+use tpm_session::session::Session;
 use tpm_session::sessions::Sessions;
-use tpm_session::slots::Slots;
-use tpm_types::handle::Handle;
 
 /// Memory was refused.
 #[derive(Clone, Copy, Debug, PartialEq, Eq)]
@@ -23,7 +25,10 @@ pub struct NoMemory;
 /// A way of keeping the device's state, which is seen as the record that it stands for.
 pub trait Keep: Drop + Sized {
     /// The places of its sessions.
-    type Se: Slots;
+    type Se: Places<Session, 16>;
+
+    /// The places of its objects.
+    type Ob: Places<Object, 8>;
 
     /// The record.
     ghost record_of: { Self → Record };
@@ -34,13 +39,20 @@ pub trait Keep: Drop + Sized {
     /// The keep with other sessions.
     ghost with_sessions: { Self → SessionsParts Self.Se → Self };
 
+    /// The keep with other objects.
+    ghost with_objects: { Self → ObjectsParts Self.Ob → Self };
+
     /// Whether memory can be refused where the record grows.
     ghost can_refuse: { Bool };
+
+    /// Whether it can be refused where a keep is made.
+    ghost empty_can_refuse: { Bool };
 
     /// The state of a device as it is manufactured with random bytes that are zeros; its memory
     /// comes from `alloc`.
     fn empty(alloc: Global) -> Result<Self, NoMemory>
-        ensures { IfOk result (λ keep. record_of keep ≡ manufactured (replicate 256 0)) };
+        ensures state { IfOk result (λ keep. record_of keep ≡ manufactured (replicate 256 0)) }
+        ensures refused { OnErr result (empty_can_refuse ≡ true) };
 
     /// The part that does not grow.
     fn fixed(&self) -> &Fixed
@@ -62,34 +74,15 @@ pub trait Keep: Drop + Sized {
             (with_sessions self.entry.now)) }
         ensures value { places_of Self.Se.places result.now ≡ (record_of self.old).sessions };
 
-    /// The transient object of a handle.
-    fn object(&self, handle: Handle) -> Option<&Object>
-        ensures { option_copied result ≡ object_at (record_of self.now).objects handle };
+    /// The transient objects.
+    fn objects(&self) -> &Objects<Self::Ob>
+        ensures { objects_of Self.Ob.places result.now ≡ (record_of self.now).objects };
 
-    /// The handle that the next object takes, if there is a place for one.
-    fn free_object(&self) -> Option<Handle>
-        ensures { result ≡ next_handle (record_of self.now).objects };
-
-    /// Puts an object into the lowest free place, and gives its handle.
-    fn add_object(&mut self, object: Object) -> Result<Handle, PlaceFault>
-        ensures added { Adds can_refuse (record_of self.old).objects object result
-            (record_of self.new).objects }
-        ensures others { record_of self.new
-            ≡ record (record_of self.old) { objects = (record_of self.new).objects } };
-
-    /// Removes the object of a handle, and tells whether there was one.
-    fn remove_object(&mut self, handle: Handle) -> bool
-        ensures there { result ≡ is_some (object_at (record_of self.old).objects handle) }
-        ensures after { record_of self.new ≡ record (record_of self.old) {
-          objects = without_object (record_of self.old).objects handle;
-        } };
-
-    /// Removes all objects.
-    fn clear_objects(&mut self)
-        ensures { record_of self.new ≡ record (record_of self.old) { objects = no_objects } };
-
-    /// There are always eight places for objects.
-    ghost eight: { (keep : Self) → length (record_of keep).objects ≡ 8 };
+    /// The transient objects, to be changed.
+    fn objects_mut(&mut self) -> &mut Objects<Self::Ob>
+        ensures* writes_back { sem 𝓛 (Lends Self.row (objects_row Self.Ob.row) self.entry result
+            (with_objects self.entry.now)) }
+        ensures value { objects_of Self.Ob.places result.now ≡ (record_of self.old).objects };
 
     /// What is written to the fixed part is its place in the record.
     ghost fixed_written: { (keep : Self) (fixed : FixedParts)
@@ -100,6 +93,13 @@ pub trait Keep: Drop + Sized {
         → record_of (with_sessions keep sessions)
         ≡ record (record_of keep) { sessions = places_of Self.Se.places sessions } };
 
-    /// Memory can be refused where the sessions can be refused it.
-    ghost sessions_can_refuse: { Self.Se.can_refuse ≡ can_refuse };
+    /// And to the objects.
+    ghost objects_written: { (keep : Self) (objects : ObjectsParts Self.Ob)
+        → record_of (with_objects keep objects)
+        ≡ record (record_of keep) { objects = objects_of Self.Ob.places objects } };
+
+    /// Memory can be refused where the sessions can be refused it, or the objects.
+    ghost sessions_can_refuse: { Self.Se.can_refuse ≡ true → can_refuse ≡ true };
+
+    ghost objects_can_refuse: { Self.Ob.can_refuse ≡ true → can_refuse ≡ true };
 }

@@ -2,10 +2,12 @@
 
 //! The device's state: the record that contracts see, behind the trait by which it is kept.
 //!
-//! [`keep::Keep`] is the trait, [`list_keep::ListKeep`] keeps the record in growing lists,
-//! [`fixed::Fixed`] is the part that does not grow. [`tick::tick`] and [`cycle::power_cycle`] are
-//! what happens to a record whatever the command, [`entity`] what a handle's entity is. It stands
-//! on `tpm_pcr`, on `tpm_session` and `tpm_object`, and on `tpm_places` for the places of objects. It
+//! [`keep::Keep`] is the trait, [`kept::Kept`] the way of keeping the record, in containers of any
+//! kind: [`kept::ListKeep`] in lists that grow, [`kept::SlotKeep`] in places that are as many as
+//! there can be, which takes no memory. [`fixed::Fixed`] is the part that does not grow,
+//! [`objects::Objects`] are the loaded objects. [`tick::tick`] and [`cycle::power_cycle`] are what
+//! happens to a record whatever the command, [`entity`] what a handle's entity is. It stands on
+//! `tpm_pcr`, on `tpm_session` and `tpm_object`, and on `tpm_places` for the places of both. It
 //! promises for each keep the equations of `specs/` on its record.
 
 pub mod cycle;
@@ -13,7 +15,7 @@ pub mod entity;
 pub mod fixed;
 pub mod hierarchy;
 pub mod keep;
-pub mod list_keep;
-pub mod list_objects;
+pub mod kept;
+pub mod objects;
 pub mod record;
 pub mod tick;

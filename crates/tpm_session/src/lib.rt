@@ -6,15 +6,13 @@
 //! It stands on `tpm_mac` and `tpm_aes` for HMACs, keys and encryption, on `tpm_name` for the Names
 //! in a command's hash, on `tpm_places` for the places of sessions, and on `tpm_types`. Contracts
 //! see the sessions of [`sessions::Sessions`] as sixteen places, each free or with a session,
-//! whatever keeps them ([`slots::Slots`]). A refused start changes nothing. Only the start of a
-//! session may take memory.
+//! whatever keeps them (`tpm_places::places::Places`). A refused start changes nothing. Only the
+//! start of a session may take memory, and none does where the places are fixed.
 
 pub mod encryption;
 pub mod entry;
 pub mod key;
-pub mod list_slots;
 pub mod nonce;
 pub mod parameter_hash;
 pub mod session;
 pub mod sessions;
-pub mod slots;

@@ -1,14 +1,14 @@
 ghost use Rattle.std.specs.Prelude.{◌≡◌, ◌<◌, is_some, length, option_copied};
 ghost use Rattle.tpm_places.specs.Places.{free};
-ghost use Rattle.tpm_session.specs.Sessions.{Starts, flushed, handle_of, place_of, places_of, rolled, session_at, started_session, with_session_policy};
+ghost use Rattle.tpm_session.specs.Sessions.{Starts, flushed, handle_of, places_of, rolled, session_at, started_session, with_session_policy};
 
 use crate::key::{SessionKey, is_nonce_size};
 use crate::nonce::Nonce;
 use crate::session::{Binding, Session};
-use crate::slots::Slots;
 use std::alloc::Global;
 use tpm_mac::HashAlg;
-use tpm_places::list_places::PlaceFault;
+use tpm_places::numbered;
+use tpm_places::places::{PlaceFault, Places};
 use tpm_policy::state::PolicyState;
 use tpm_types::handle::Handle;
 use tpm_types::session_type::SessionType;
@@ -38,18 +38,8 @@ pub enum StartFault {
 
 /// The sessions of a device, at most sixteen, by their handles. Their places are kept by `S`.
 #[derive(Drop)]
-pub struct Sessions<S: Slots> {
+pub struct Sessions<S: Places<Session, 16>> {
     slots: S,
-}
-
-/// How many numbers a handle has below its highest byte.
-const PLACE_NUMBERS: u32 = 0x0100_0000;
-
-/// The place that a handle names.
-fn place_of(handle: Handle) -> usize
-    ensures { result ≡ place_of handle }
-{
-    (handle.number % PLACE_NUMBERS) as usize
 }
 
 /// The handle of a session of this type in a place.
@@ -58,7 +48,7 @@ fn handle_of(kind: SessionType, place: usize) -> Handle
     ensures { result ≡ handle_of kind place }
 {
     Handle {
-        number: kind.handle_byte() * PLACE_NUMBERS + place as u32,
+        number: numbered::number_of(kind.handle_byte(), place),
     }
 }
 
@@ -83,7 +73,7 @@ fn started_session(start: Start) -> Session
     }
 }
 
-impl<S: Slots> Sessions<S> {
+impl<S: Places<Session, 16>> Sessions<S> {
     /// No session; no memory is taken.
     pub fn new(alloc: Global) -> Sessions<S>
         ensures { places_of S.places result ≡ free 16 }
@@ -116,25 +106,16 @@ impl<S: Slots> Sessions<S> {
         // There are always sixteen places.
         ensures sixteen { length (places_of S.places self.now) ≡ 16 }
     {
-        let session = self.slots.get(place_of(handle))?;
-        if handle.number / PLACE_NUMBERS == session.kind.handle_byte() {
-            Some(session)
-        } else {
-            None
-        }
+        numbered::get(&self.slots, handle.number)
     }
 
     /// Ends the session of a handle, and tells whether there was one.
-    #[tactic(auto, unfolding(crate::specs::Sessions::flushed))]
+    #[tactic(auto, unfolding(crate::specs::Sessions::flushed, crate::specs::Sessions::session_at))]
     pub fn flush(&mut self, handle: Handle) -> bool
         ensures there { result ≡ is_some (session_at (places_of S.places self.old) handle) }
         ensures after { places_of S.places self.new ≡ flushed (places_of S.places self.old) handle }
     {
-        if self.get(handle).is_none() {
-            return false;
-        }
-        self.slots.remove(place_of(handle));
-        true
+        numbered::remove(&mut self.slots, handle.number)
     }
 
     /// Ends all sessions.
@@ -151,11 +132,13 @@ impl<S: Slots> Sessions<S> {
         ensures after { places_of S.places self.new
             ≡ rolled (places_of S.places self.old) handle nonce }
     {
-        if self.get(handle).is_none() {
-            return false;
+        match numbered::get_mut(&mut self.slots, handle.number) {
+            Some(session) => {
+                session.nonce_tpm = nonce;
+                true
+            }
+            None => false,
         }
-        self.slots.set_nonce(place_of(handle), nonce);
-        true
     }
 
     /// Gives the session of a handle another policy, and tells whether there was one.
@@ -165,10 +148,12 @@ impl<S: Slots> Sessions<S> {
         ensures after { places_of S.places self.new
             ≡ with_session_policy (places_of S.places self.old) handle policy }
     {
-        if self.get(handle).is_none() {
-            return false;
+        match numbered::get_mut(&mut self.slots, handle.number) {
+            Some(session) => {
+                session.policy = policy;
+                true
+            }
+            None => false,
         }
-        self.slots.set_policy(place_of(handle), policy);
-        true
     }
 }

@@ -75,7 +75,7 @@ code_named number = find (λ code. code_number code == number) all_codes
 -- symmetric, authHash
 abbrev pub start_parameters : List ParameterKind
 start_parameters =
-    parameter.Buffer 32 ∷ parameter.Buffer 32 ∷ parameter.U8
+    parameter.Buffer 32 ∷ parameter.Buffer 32 ∷ parameter.SessionType
     ∷ parameter.Symmetric ∷ parameter.Hash ∷ []
 
 -- inSensitive, inPublic, outsideInfo, creationPCR

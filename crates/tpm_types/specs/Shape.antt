@@ -43,6 +43,7 @@ is_sized (parameter.Buffer most) = true
 is_sized parameter.SensitiveCreate = true
 is_sized parameter.Public = true
 is_sized parameter.StartupType = false
+is_sized parameter.SessionType = false
 is_sized parameter.U8 = false
 is_sized parameter.U16 = false
 is_sized parameter.U32 = false

@@ -1,8 +1,8 @@
 ghost use Rattle.std.specs.Prelude.{◌≡◌, ◌≤◌, ◌==◌, IfSome, length};
 
 use crate::shape::ParameterKind::{
-    Buffer, DigestList, Digests, Hash, HashOrNull, Public, Selection, SensitiveCreate, StartupType,
-    Symmetric, U8, U16, U32,
+    Buffer, DigestList, Digests, Hash, HashOrNull, Public, Selection, SensitiveCreate, SessionType,
+    StartupType, Symmetric, U8, U16, U32,
 };
 use crate::shape::{HandleKind, HandleRule, Role, Shape};
 
@@ -202,7 +202,7 @@ impl CommandCode {
             CommandCode::ReadPublic => shape!([OBJECT], [], sized_answer),
             CommandCode::StartAuthSession => shape!(
                 [NULL, ENTITY],
-                [Buffer(32), Buffer(32), U8, Symmetric, Hash],
+                [Buffer(32), Buffer(32), SessionType, Symmetric, Hash],
                 sized_answer,
                 answers_handle,
                 grows

@@ -76,6 +76,8 @@ pub struct HandleRule {
 pub enum ParameterKind {
     /// TPM_SU.
     StartupType,
+    /// TPM_SE.
+    SessionType,
     /// UINT8.
     U8,
     /// UINT16.
@@ -113,6 +115,7 @@ impl ParameterKind {
             ParameterKind::Buffer(_) | ParameterKind::SensitiveCreate | ParameterKind::Public =>
                 true,
             ParameterKind::StartupType
+            | ParameterKind::SessionType
             | ParameterKind::U8
             | ParameterKind::U16
             | ParameterKind::U32

@@ -9,10 +9,12 @@ use Rattle.std.specs.List.{range_with_len}
 use Rattle.std.specs.Io.KnownBytes.{Appends}
 use Rattle.hex.specs.Hex.{encode_lower}
 use Rattle.tpm_types.specs.Locality.{locality_number}
-use Rattle.tpm_record.specs.ListKeep.{list_record}
+use Rattle.tpm_record.specs.Kept.{kept_record}
 use Rattle.tpm_record.specs.Record.{Record, manufactured}
-use Rattle.tpm_record.specs.declared.list_keep.ListKeep.{ListKeep}
-use Rattle.tpm_session.specs.declared.list_slots.ListSlots.{ListSlots}
+use Rattle.tpm_record.specs.declared.kept.Kept.{Kept}
+use Rattle.tpm_places.specs.declared.fixed_places.FixedPlaces.{FixedPlaces}
+use Rattle.tpm_object.specs.declared.object.Object.{Object}
+use Rattle.tpm_session.specs.declared.session.Session.{Session}
 use Rattle.tpm_machine.specs.Events.{Given, Cycled}
 use Rattle.tpm_machine.specs.State.{state_of}
 use Rattle.tpm_machine.specs.Step.{Stepped, step, step_where}
@@ -30,12 +32,18 @@ pub record Playing : Type 0 where
   pub device : Record
 
 -- what the code's script and device mean
-abbrev pub playing : Script → Machine ListKeep ListSlots → Playing
+abbrev pub Sessions : Type 0
+Sessions = FixedPlaces Session 16
+
+abbrev pub Objects : Type 0
+Objects = FixedPlaces Object 8
+
+abbrev pub playing : Script → Machine (Kept Sessions Objects) Sessions Objects → Playing
 playing script machine = record {
   locality = locality_number script.locality;
   waited = script.waited;
   random = script.random;
-  device = state_of list_record machine;
+  device = state_of (kept_record (λ places. places) (λ places. places)) machine;
 }
 
 -- the bytes 00 to ff, which the device of a script is manufactured with

@@ -16,13 +16,13 @@ use std::array;
 use std::io::Write;
 use tpm_machine::event::{Event, Outcome};
 use tpm_machine::machine::Machine;
-use tpm_record::list_keep::ListKeep;
+use tpm_record::kept::SlotKeep;
 
 /// A device, and what the lines of a script so far say of its next command.
 #[derive(Drop)]
 pub struct Player {
     script: Script,
-    machine: Machine<ListKeep>,
+    machine: Machine<SlotKeep>,
     /// That of the event before, which the next is written over.
     outcome: Outcome,
     pub answers: Answers,

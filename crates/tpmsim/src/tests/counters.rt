@@ -4,7 +4,7 @@ use std::test::Fail;
 use tpm_machine::event::Event;
 use tpm_machine::machine::Machine;
 use tpm_record::keep::Keep;
-use tpm_record::list_keep::ListKeep;
+use tpm_record::kept::ListKeep;
 use tpm_types::locality::Locality;
 
 /// TPM2_Startup(CLEAR), so many milliseconds after the command before it.

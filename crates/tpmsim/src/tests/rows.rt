@@ -5,7 +5,7 @@ use std::process::Abort;
 use std::test::Fail;
 use tpm_machine::event::{Event, Outcome, Row};
 use tpm_machine::machine::Machine;
-use tpm_record::list_keep::ListKeep;
+use tpm_record::kept::ListKeep;
 use tpm_types::locality::Locality;
 
 pub const NO_SESSIONS: u16 = 0x8001;

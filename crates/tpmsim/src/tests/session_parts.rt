@@ -5,11 +5,11 @@ ghost use Rattle.std.specs.Prelude.{◌≤◌, length};
 
 use tpm_mac::HashAlg;
 use tpm_name::Name;
+use tpm_places::list_places::ListPlaces;
 use tpm_policy::state::PolicyState;
 use tpm_session::encryption::SymmetricFault;
 use tpm_session::entry::CommandText;
 use tpm_session::key::{SessionKey, is_nonce_size};
-use tpm_session::list_slots::ListSlots;
 use tpm_session::nonce::Nonce;
 use tpm_session::parameter_hash::{command_hash, response_hash};
 use tpm_session::session::{Binding, Protection, Session};
@@ -76,21 +76,24 @@ fn start(kind: SessionType, binding: Option<Binding>) -> Start<'static> {
 }
 
 /// The number of the handle of a session that starts.
-fn started(sessions: &mut Sessions<ListSlots>, kind: SessionType) -> Result<u32, StartFault> {
+fn started(
+    sessions: &mut Sessions<ListPlaces<Session, 16>>,
+    kind: SessionType,
+) -> Result<u32, StartFault> {
     sessions
         .start(start(kind, None))
         .map(|handle| handle.number)
 }
 
 /// The TPM's nonce of a session.
-fn nonce_of(sessions: &Sessions<ListSlots>, number: u32) -> Option<&[u8]> {
+fn nonce_of(sessions: &Sessions<ListPlaces<Session, 16>>, number: u32) -> Option<&[u8]> {
     let session = sessions.get(Handle { number })?;
     Some(session.nonce_tpm.as_slice())
 }
 
 #[test]
 fn sessions_are_found_by_their_handles(rt: HostRuntime) {
-    let mut sessions: Sessions<ListSlots> = Sessions::new(rt.alloc());
+    let mut sessions: Sessions<ListPlaces<Session, 16>> = Sessions::new(rt.alloc());
     assert_eq!(rt; started(&mut sessions, SessionType::Hmac), Ok(0x0200_0000));
     assert_eq!(rt;
         started(&mut sessions, SessionType::Policy),
@@ -123,7 +126,7 @@ fn sessions_are_found_by_their_handles(rt: HostRuntime) {
 
 #[test]
 fn sixteen_sessions_start(rt: HostRuntime) {
-    let mut sessions: Sessions<ListSlots> = Sessions::new(rt.alloc());
+    let mut sessions: Sessions<ListPlaces<Session, 16>> = Sessions::new(rt.alloc());
     for number in 0x0300_0000..0x0300_0010u32 {
         assert_eq!(rt; started(&mut sessions, SessionType::Policy), Ok(number));
     }

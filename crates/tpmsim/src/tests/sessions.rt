@@ -9,7 +9,7 @@ use tpm_bytes::cursor::Cursor;
 use tpm_mac::{HashAlg, digest_parts, hmac_parts, kdfa};
 use tpm_machine::event::Event;
 use tpm_machine::machine::Machine;
-use tpm_record::list_keep::ListKeep;
+use tpm_record::kept::ListKeep;
 use tpm_types::locality::Locality;
 use tpm_types::whole_command::Command;
 

@@ -16,6 +16,6 @@ returns-clause-value c =
     let three : c.put_sized-3.new.self ≡ c.put_sized-2.new.self ++ hash = put_sized_fits _ c.args.hash.now c.put_sized-2.new.self c.put_sized-3.result c.put_sized-3.new.self c.put_sized-3.ensures (omega (arith, c.requires.hash)) (omega (arith, two_size, c.requires.hash)) in
     let three_size : length c.put_sized-3.new.self ≤ 621 = rw three (omega (arith, two_size, c.requires.hash, length-append c.put_sized-2.new.self hash)) in
     let four : c.put.new.self ≡ c.put_sized-3.new.self ++ c.args.ticket.now = put_fits _ c.args.ticket.now c.put_sized-3.new.self c.put.result c.put.new.self c.put.ensures (omega (arith, three_size, c.requires.ticket)) in
-    let both : c.put_sized-2.new.self ≡ old ++ (area ++ creation) = two ∙ ap (λ (l : List ℕ). l ++ creation) one ∙ append_assoc old area creation in
-    let all : c.put_sized-3.new.self ≡ old ++ (area ++ creation ++ hash) = three ∙ ap (λ (l : List ℕ). l ++ hash) both ∙ append_assoc old (area ++ creation) hash in
-    four ∙ ap (λ (l : List ℕ). l ++ c.args.ticket.now) all ∙ append_assoc old (area ++ creation ++ hash) c.args.ticket.now
+    let both : c.put_sized-3.new.self ≡ c.put_sized.new.self ++ (creation ++ hash) = three ∙ ap (λ (l : List ℕ). l ++ hash) two ∙ append_assoc c.put_sized.new.self creation hash in
+    let all : c.put.new.self ≡ c.put_sized.new.self ++ (creation ++ hash ++ c.args.ticket.now) = four ∙ ap (λ (l : List ℕ). l ++ c.args.ticket.now) both ∙ append_assoc c.put_sized.new.self (creation ++ hash) c.args.ticket.now in
+    all ∙ ap (λ (l : List ℕ). l ++ (creation ++ hash ++ c.args.ticket.now)) one ∙ append_assoc old area (creation ++ hash ++ c.args.ticket.now)

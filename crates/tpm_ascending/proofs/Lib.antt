@@ -1,0 +1,2 @@
+pub mod AscendingLaws
+pub mod KeyIndex

@@ -1,0 +1,92 @@
+ghost use Rattle.std.specs.Prelude.{◌≡◌, ◌<◌, is_some, length, option_copied};
+ghost use Rattle.tpm_object.specs.Object.{transient_byte};
+ghost use Rattle.tpm_places.specs.Numbered.{IsMap};
+ghost use Rattle.tpm_record.specs.Objects.{Adds, next_handle, object_at, object_handle, objects_of, without_object};
+ghost use Rattle.tpm_record.specs.Record.{no_objects};
+
+use std::alloc::Global;
+use tpm_object::object::Object;
+use tpm_places::numbered;
+use tpm_places::places::{PlaceFault, Places};
+use tpm_types::handle::Handle;
+
+/// The highest byte of a transient object's handle.
+const TRANSIENT_BYTE: u32 = 0x80;
+
+/// The transient objects of a device, at most eight, by their handles. Their places are kept by
+/// `O`.
+#[derive(Drop)]
+pub struct Objects<O: Places<Object, 8>> {
+    places: O,
+}
+
+/// The handle of an object in a place.
+fn handle_of(place: usize) -> Handle
+    requires { place < 8 }
+    ensures { result ≡ object_handle place }
+{
+    Handle {
+        number: numbered::number_of(TRANSIENT_BYTE, place),
+    }
+}
+
+impl<O: Places<Object, 8>> Objects<O> {
+    /// No object; no memory is taken.
+    pub fn new(alloc: Global) -> Objects<O>
+        ensures { objects_of O.places result ≡ no_objects }
+    {
+        Objects {
+            places: O::new(alloc),
+        }
+    }
+
+    /// The object of a handle.
+    #[tactic(auto, unfolding(crate::specs::Objects::object_at))]
+    pub fn get(&self, handle: Handle) -> Option<&Object>
+        ensures object { option_copied result ≡ object_at (objects_of O.places self.now) handle }
+        // There are always eight places.
+        ensures eight { length (objects_of O.places self.now) ≡ 8 }
+    {
+        numbered::get(&self.places, handle.number)
+    }
+
+    /// The handle that the next object takes, if there is a place for one.
+    pub fn free(&self) -> Option<Handle>
+        ensures { result ≡ next_handle (objects_of O.places self.now) }
+    {
+        Some(handle_of(self.places.free()?))
+    }
+
+    /// Puts an object into the lowest free place, and gives its handle.
+    pub fn add(&mut self, object: Object) -> Result<Handle, PlaceFault>
+        ensures { Adds O.can_refuse (objects_of O.places self.old) object result
+            (objects_of O.places self.new) }
+    {
+        Ok(handle_of(self.places.insert(object)?))
+    }
+
+    /// Removes the object of a handle, and tells whether there was one.
+    #[tactic(auto, unfolding(crate::specs::Objects::object_at, crate::specs::Objects::without_object))]
+    pub fn remove(&mut self, handle: Handle) -> bool
+        ensures there { result ≡ is_some (object_at (objects_of O.places self.old) handle) }
+        ensures after { objects_of O.places self.new
+            ≡ without_object (objects_of O.places self.old) handle }
+    {
+        numbered::remove(&mut self.places, handle.number)
+    }
+
+    /// Removes all objects.
+    pub fn clear(&mut self)
+        ensures { objects_of O.places self.new ≡ no_objects }
+    {
+        self.places.clear();
+    }
+}
+
+/// The transient objects of a device are a map from handles: what is found after one was added or
+/// removed. It does nothing.
+pub fn object_laws()
+    ensures { IsMap transient_byte }
+{
+    numbered::numbered_laws::<Object>()
+}
