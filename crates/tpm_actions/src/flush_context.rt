@@ -6,7 +6,7 @@ ghost use Rattle.tpm_actions.specs.Rows.{Acts};
 
 use crate::answer::Answer;
 use crate::call::Call;
-use crate::reading::{at_parameter, end};
+use crate::reading::{end, number};
 use tpm_auth::check::Check;
 use tpm_auth::refused::Refused;
 use tpm_bytes::cursor::Cursor;
@@ -39,9 +39,7 @@ pub fn flush_context<K: Keep>(
         (K.record_of keep.old) result _answer.new (K.record_of keep.new) }
 {
     let mut parameters = Cursor::new(call.parameters);
-    let number = parameters
-        .u32()
-        .map_err(|_| at_parameter(1, ResponseCode::Insufficient.anywhere()))?;
+    let number = number(1, parameters.u32())?;
     end(&parameters)?;
     let handle = Handle { number };
     if !can_be_flushed(handle) {

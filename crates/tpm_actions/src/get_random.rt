@@ -5,11 +5,10 @@ ghost use Rattle.tpm_actions.specs.Rows.{Acts};
 
 use crate::answer::Answer;
 use crate::call::Call;
-use crate::reading::{at_parameter, end};
+use crate::reading::{end, number};
 use tpm_auth::refused::Refused;
 use tpm_bytes::cursor::Cursor;
 use tpm_record::keep::Keep;
-use tpm_types::rc::ResponseCode;
 
 /// The most bytes that one call answers.
 const MOST_RANDOM: usize = 32;
@@ -22,9 +21,7 @@ pub fn get_random<K: Keep>(_keep: &mut K, call: &Call, answer: &mut Answer) -> R
         (K.record_of _keep.old) result answer.new (K.record_of _keep.new) }
 {
     let mut parameters = Cursor::new(call.parameters);
-    let requested = parameters
-        .u16()
-        .map_err(|_| at_parameter(1, ResponseCode::Insufficient.anywhere()))?;
+    let requested = number(1, parameters.u16())?;
     end(&parameters)?;
     let count = usize::from(requested).min(MOST_RANDOM);
     let random = call.random;

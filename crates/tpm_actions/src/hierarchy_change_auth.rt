@@ -6,7 +6,7 @@ ghost use Rattle.tpm_actions.specs.Rows.{Acts};
 
 use crate::answer::Answer;
 use crate::call::Call;
-use crate::reading::{at_parameter, end};
+use crate::reading::{end, parameter};
 use tpm_auth::refused::Refused;
 use tpm_bytes::cursor::Cursor;
 use tpm_record::keep::Keep;
@@ -25,7 +25,7 @@ pub fn hierarchy_change_auth<K: Keep>(
 {
     let handle = call.first_handle()?;
     let mut parameters = Cursor::new(call.parameters);
-    let value = AuthValue::read(&mut parameters).map_err(|rc| at_parameter(1, rc))?;
+    let value = parameter(1, AuthValue::read(&mut parameters))?;
     end(&parameters)?;
     if let Some(auth) = handle.hierarchy_auth() {
         keep.fixed_mut().hierarchies.set_auth_value(auth, value);

@@ -6,7 +6,7 @@ ghost use Rattle.tpm_actions.specs.Rows.{Acts};
 use crate::answer::Answer;
 use crate::call::Call;
 use crate::pcr_change::change_refusal;
-use crate::reading::{at_parameter, end};
+use crate::reading::{end, parameter};
 use tpm_auth::refused::Refused;
 use tpm_bytes::cursor::Cursor;
 use tpm_pcr::changes::event_digests;
@@ -26,7 +26,7 @@ pub fn pcr_event<K: Keep>(keep: &mut K, call: &Call, answer: &mut Answer) -> Res
 {
     let handle = call.first_handle()?;
     let mut parameters = Cursor::new(call.parameters);
-    let event = read_buffer(&mut parameters, MOST_EVENT).map_err(|rc| at_parameter(1, rc))?;
+    let event = parameter(1, read_buffer(&mut parameters, MOST_EVENT))?;
     end(&parameters)?;
     let digests = match handle.pcr() {
         Some(pcr) => {

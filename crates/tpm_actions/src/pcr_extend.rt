@@ -7,7 +7,7 @@ ghost use Rattle.tpm_actions.specs.Rows.{Acts};
 use crate::answer::Answer;
 use crate::call::Call;
 use crate::pcr_change::change_refusal;
-use crate::reading::{at_parameter, end};
+use crate::reading::{end, parameter};
 use tpm_auth::refused::Refused;
 use tpm_bytes::cursor::Cursor;
 use tpm_record::keep::Keep;
@@ -23,7 +23,7 @@ pub fn pcr_extend<K: Keep>(keep: &mut K, call: &Call, _answer: &mut Answer) -> R
 {
     let handle = call.first_handle()?;
     let mut parameters = Cursor::new(call.parameters);
-    let digests = DigestValues::read(&mut parameters).map_err(|rc| at_parameter(1, rc))?;
+    let digests = parameter(1, DigestValues::read(&mut parameters))?;
     end(&parameters)?;
     if let Some(pcr) = handle.pcr() {
         let banks = &mut keep.fixed_mut().banks;

@@ -9,7 +9,7 @@ ghost use Rattle.tpm_actions.specs.Rows.{Acts};
 
 use crate::answer::{Answer, Parameters};
 use crate::call::Call;
-use crate::reading::{at_parameter, end};
+use crate::reading::{end, parameter};
 use tpm_auth::refused::Refused;
 use tpm_bytes::cursor::Cursor;
 use tpm_pcr::banks::PcrReading;
@@ -37,7 +37,7 @@ pub fn pcr_read<K: Keep>(keep: &mut K, call: &Call, answer: &mut Answer) -> Resu
         (K.record_of keep.old) result answer.new (K.record_of keep.new) }
 {
     let mut parameters = Cursor::new(call.parameters);
-    let selection = PcrSelection::read(&mut parameters).map_err(|rc| at_parameter(1, rc))?;
+    let selection = parameter(1, PcrSelection::read(&mut parameters))?;
     end(&parameters)?;
     let banks = &keep.fixed().banks;
     let reading = banks.read(&selection);

@@ -1,16 +1,39 @@
 ghost use Rattle.std.specs.Prelude.{◌≡◌};
-ghost use Rattle.tpm_actions.specs.Rows.{all_read, memory_refused, parameter_refusal};
+ghost use Rattle.tpm_bytes.specs.Reading.{or_fault};
+ghost use Rattle.tpm_types.specs.Rc.{plain};
+ghost use Rattle.tpm_types.specs.declared.rc.ResponseCode.TheVariants as code;
+ghost use Rattle.tpm_actions.specs.Rows.{all_read, memory_refused, parameter, parameter_refusal};
 
 use tpm_auth::check::Check;
 use tpm_auth::refused::Refused;
-use tpm_bytes::cursor::Cursor;
+use tpm_bytes::cursor::{Cursor, Short};
 use tpm_types::rc::{Rc, ResponseCode};
 
 /// A refusal of the parameter of this number.
-pub fn at_parameter(number: u8, rc: Rc) -> Refused
+fn at_parameter(number: u8, rc: Rc) -> Refused
     ensures { result ≡ parameter_refusal number rc }
 {
     Refused::by(Check::Parameters, rc.at_parameter(number))
+}
+
+/// A parameter that is read, by its place.
+pub fn parameter<T>(place: u8, read: Result<T, Rc>) -> Result<T, Refused>
+    ensures { result ≡ parameter place read }
+{
+    match read {
+        Ok(value) => Ok(value),
+        Err(rc) => Err(at_parameter(place, rc)),
+    }
+}
+
+/// The same of a number.
+pub fn number<T>(place: u8, read: Result<T, Short>) -> Result<T, Refused>
+    ensures { result ≡ parameter place (or_fault read (plain code.Insufficient)) }
+{
+    match read {
+        Ok(value) => Ok(value),
+        Err(_) => Err(at_parameter(place, ResponseCode::Insufficient.anywhere())),
+    }
 }
 
 /// Refuses bytes that are left over behind the parameters.

@@ -7,7 +7,7 @@ ghost use Rattle.tpm_actions.specs.StartAuthSession.{Asks, binding_of, parameter
 
 use crate::answer::Answer;
 use crate::call::Call;
-use crate::reading::{at_parameter, end, memory_refused};
+use crate::reading::{end, memory_refused, parameter};
 use tpm_auth::check::Check;
 use tpm_auth::refused::Refused;
 use tpm_bytes::cursor::Cursor;
@@ -45,11 +45,11 @@ fn read_parameters(parameters: &[u8]) -> Result<Asked, Refused>
     ensures few { IfOk result (λ asked. length asked.nonce_caller.now ≤ 32) }
 {
     let mut text = Cursor::new(parameters);
-    let nonce_caller = read_buffer(&mut text, MOST_BYTES).map_err(|rc| at_parameter(1, rc))?;
-    let salt = read_buffer(&mut text, MOST_BYTES).map_err(|rc| at_parameter(2, rc))?;
-    let kind = SessionType::read(&mut text).map_err(|rc| at_parameter(3, rc))?;
-    let symmetric = SymmetricDefinition::read(&mut text).map_err(|rc| at_parameter(4, rc))?;
-    let hash = read_hash(&mut text).map_err(|rc| at_parameter(5, rc))?;
+    let nonce_caller = parameter(1, read_buffer(&mut text, MOST_BYTES))?;
+    let salt = parameter(2, read_buffer(&mut text, MOST_BYTES))?;
+    let kind = parameter(3, SessionType::read(&mut text))?;
+    let symmetric = parameter(4, SymmetricDefinition::read(&mut text))?;
+    let hash = parameter(5, read_hash(&mut text))?;
     end(&text)?;
     Ok(Asked {
         nonce_caller,

@@ -6,7 +6,7 @@ ghost use Rattle.tpm_actions.specs.Startup.{lacks_state, reset_hierarchies, star
 
 use crate::answer::Answer;
 use crate::call::Call;
-use crate::reading::{at_parameter, end};
+use crate::reading::{end, parameter};
 use tpm_auth::check::Check;
 use tpm_auth::refused::Refused;
 use tpm_bytes::cursor::Cursor;
@@ -50,7 +50,7 @@ pub fn startup<K: Keep>(keep: &mut K, call: &Call, answer: &mut Answer) -> Resul
         (K.record_of keep.old) result answer.new (K.record_of keep.new) }
 {
     let mut parameters = Cursor::new(call.parameters);
-    let kind = StartupType::read(&mut parameters).map_err(|rc| at_parameter(1, rc))?;
+    let kind = parameter(1, StartupType::read(&mut parameters))?;
     end(&parameters)?;
     let fixed = keep.fixed_mut();
     if lacks_state(kind, fixed.saved) {

@@ -42,7 +42,7 @@ creation_refusal before creation.Attributes = parameter_fault (before + 2) 2 cod
 creation_refusal before creation.DataSize = parameter_fault (before + 3) 1 code.Size
 
 -- a check that refuses by its own fault
-abbrev or_refusal : {X F : Type 0} → (F → Refused) → Result X F → Result X Refused
+abbrev pub or_refusal : {X F : Type 0} → (F → Refused) → Result X F → Result X Refused
 or_refusal refusal (Ok x) = Ok x
 or_refusal refusal (Err fault) = Err (refusal fault)
 

@@ -5,7 +5,7 @@ ghost use Rattle.tpm_types.specs.Locality.{locality_number};
 ghost use Rattle.tpm_actions_object.specs.Creation.{Asks, creation_data, creation_text, hierarchy_parent, object_parent, parameters_in, parameters_of, ticket_text};
 
 use tpm_actions::answer::Parameters;
-use tpm_actions::reading::{at_parameter, end};
+use tpm_actions::reading::{end, number, parameter};
 use tpm_auth::refused::Refused;
 use tpm_bytes::cursor::Cursor;
 use tpm_bytes::sink::Sink;
@@ -76,10 +76,10 @@ pub fn read_asked(parameters: &[u8]) -> Result<Asked, Refused>
     ensures read { Asks (parameters_in parameters.now) result }
 {
     let mut text = Cursor::new(parameters);
-    let given = read_filled(&mut text).map_err(|rc| at_parameter(1, rc))?;
-    let template = read_filled(&mut text).map_err(|rc| at_parameter(2, rc))?;
-    let outside_info = Octets::read(&mut text).map_err(|rc| at_parameter(3, rc))?;
-    let selection = PcrSelection::read(&mut text).map_err(|rc| at_parameter(4, rc))?;
+    let given = parameter(1, read_filled(&mut text))?;
+    let template = parameter(2, read_filled(&mut text))?;
+    let outside_info = parameter(3, Octets::read(&mut text))?;
+    let selection = parameter(4, PcrSelection::read(&mut text))?;
     end(&text)?;
     Ok(Asked {
         given,

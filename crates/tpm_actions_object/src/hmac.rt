@@ -8,7 +8,7 @@ use crate::checks::action_refusal;
 use crate::loaded::loaded;
 use tpm_actions::answer::Answer;
 use tpm_actions::call::Call;
-use tpm_actions::reading::{at_parameter, end};
+use tpm_actions::reading::{end, parameter};
 use tpm_auth::refused::Refused;
 use tpm_bytes::cursor::Cursor;
 use tpm_mac::{HashAlg, hmac_parts};
@@ -63,8 +63,8 @@ pub fn hmac<K: Keep>(keep: &mut K, call: &Call, answer: &mut Answer) -> Result<(
 {
     let object = loaded(keep, call.first_handle()?)?;
     let mut text = Cursor::new(call.parameters);
-    let buffer = read_buffer(&mut text, MOST_BYTES).map_err(|rc| at_parameter(1, rc))?;
-    let asked = read_hash_or_null(&mut text).map_err(|rc| at_parameter(2, rc))?;
+    let buffer = parameter(1, read_buffer(&mut text, MOST_BYTES))?;
+    let asked = parameter(2, read_hash_or_null(&mut text))?;
     end(&text)?;
     let scheme = scheme_of(object.public.parameters)?;
     if object.public.attributes.has(ObjectAttribute::Restricted) {

@@ -8,7 +8,7 @@ use crate::checks::{parameter_fault, public_passes};
 use crate::loaded::{check_parent, is_fixed, loaded, no_place};
 use tpm_actions::answer::Answer;
 use tpm_actions::call::Call;
-use tpm_actions::reading::{at_parameter, end, memory_refused};
+use tpm_actions::reading::{end, memory_refused, parameter};
 use tpm_auth::refused::Refused;
 use tpm_bytes::cursor::Cursor;
 use tpm_object::object::Object;
@@ -43,8 +43,8 @@ pub fn load<K: Keep>(keep: &mut K, call: &Call, answer: &mut Answer) -> Result<(
 {
     let parent = loaded(keep, call.first_handle()?)?;
     let mut text = Cursor::new(call.parameters);
-    let private = read_buffer(&mut text, MOST_BYTES).map_err(|rc| at_parameter(1, rc))?;
-    let public: Public = read_filled(&mut text).map_err(|rc| at_parameter(2, rc))?;
+    let private = parameter(1, read_buffer(&mut text, MOST_BYTES))?;
+    let public: Public = parameter(2, read_filled(&mut text))?;
     end(&text)?;
     check_parent(parent)?;
     public_passes(1, &public, is_fixed(parent))?;

@@ -1,6 +1,6 @@
--- What the policy commands share: the session that a command's handle names, and an assertion on
--- it. TPM 2.0 Library, Part 3, section 23.
-use Rattle.std.specs.Prelude.{◌≡◌, ℕ, List, None, Result, Ok, Err, ok_or}
+-- The commands that assert something on the policy of a session: on which session, what, and the
+-- row that all of them have. TPM 2.0 Library, Part 3, section 23.
+use Rattle.std.specs.Prelude.{◌≡◌, Bool, true, false, List, [], Option, Result, Ok, Err, ok_or}
 use Rattle.std.specs.Borrow.{Bor}
 use Rattle.tpm_bytes.specs.Reading.{◌>>=◌}
 use Rattle.tpm_policy.specs.declared.fault.PolicyFault.{PolicyFault}
@@ -9,6 +9,8 @@ use Rattle.tpm_policy.specs.State.{Policy}
 use Rattle.tpm_policy.specs.Use.{is_trial}
 use Rattle.tpm_session.specs.declared.session.Session.{Session}
 use Rattle.tpm_session.specs.Sessions.{session_at, with_session_policy}
+use Rattle.tpm_types.specs.declared.command_code.CommandCode.{CommandCode}
+use Rattle.tpm_types.specs.declared.command_code.CommandCode.TheVariants as command
 use Rattle.tpm_types.specs.declared.handle.Handle.{Handle}
 use Rattle.tpm_types.specs.declared.rc.ResponseCode.TheVariants as code
 use Rattle.tpm_types.specs.Rc.{plain}
@@ -16,35 +18,92 @@ use Rattle.tpm_record.specs.Record.{Record}
 use Rattle.tpm_auth.specs.declared.check.Check.TheVariants as check
 use Rattle.tpm_auth.specs.declared.refused.Refused.{Refused}
 use Rattle.tpm_auth.specs.Refused.{refusal}
-use Rattle.tpm_actions.specs.Answer.{Body, answer_of}
+use Rattle.tpm_actions.specs.Answer.{Body, Plain, answer_of}
+use Rattle.tpm_actions.specs.Request.{Request, first_handle, second_handle}
 use Rattle.tpm_actions.specs.Rows.{Success}
+use Rattle.tpm_actions_policy.specs.PolicyAuthValue.{auth_value_assertion}
+use Rattle.tpm_actions_policy.specs.PolicyCommandCode.{command_code_assertion}
+use Rattle.tpm_actions_policy.specs.PolicyLocality.{locality_assertion}
+use Rattle.tpm_actions_policy.specs.PolicyOr.{or_assertion}
+use Rattle.tpm_actions_policy.specs.PolicyPassword.{password_assertion}
+use Rattle.tpm_actions_policy.specs.PolicyPcr.{pcr_assertion}
+use Rattle.tpm_actions_policy.specs.PolicySecret.{no_ticket, secret_assertion}
 
--- the policy or trial session of a handle; without one no row acts. That does not occur: the
--- general checks have found it
-abbrev pub policy_session : Record → Handle → Result Session Refused
-policy_session r handle =
-    ok_or (session_at r.sessions handle) (refusal check.Handles (plain code.Failure))
+-- whether a command asserts something
+abbrev pub asserts : CommandCode → Bool
+asserts command.PolicyPcr = true
+asserts command.PolicyOr = true
+asserts command.PolicyAuthValue = true
+asserts command.PolicyPassword = true
+asserts command.PolicyCommandCode = true
+asserts command.PolicyLocality = true
+asserts command.PolicySecret = true
+asserts _ = false
+
+-- the handle of the session on which it does: behind that of an entity where it authorizes one
+abbrev pub session_handle : CommandCode → List Handle → Result Handle Refused
+session_handle command.PolicySecret handles = second_handle handles
+session_handle _ handles = first_handle handles
+
+-- where there is not what the general checks have found no row acts. That does not occur
+abbrev pub no_row : Refused
+no_row = refusal check.Handles (plain code.Failure)
+
+-- what is asserted; every other command has another row
+abbrev pub assertion_in : CommandCode
+    → Record → Request → Result (Session → Assertion) Refused
+assertion_in command.PolicyPcr r q = pcr_assertion r q
+assertion_in command.PolicyOr r q = or_assertion q.parameters
+assertion_in command.PolicyAuthValue r q = auth_value_assertion q.parameters
+assertion_in command.PolicyPassword r q = password_assertion q.parameters
+assertion_in command.PolicyCommandCode r q = command_code_assertion q.parameters
+assertion_in command.PolicyLocality r q = locality_assertion q.parameters
+assertion_in command.PolicySecret r q = secret_assertion r q
+assertion_in _ r q = Err no_row
+
+-- what is answered
+abbrev pub body_of : CommandCode → Body
+body_of command.PolicySecret = no_ticket
+body_of _ = Plain []
+
+-- the policy or trial session of a handle
+abbrev pub policy_session : List (Option Session) → Handle → Result Session Refused
+policy_session sessions handle = ok_or (session_at sessions handle) no_row
 
 -- an assertion that is refused refuses its command, by the same check
 abbrev pub by_its_check : Result Policy PolicyFault → Result Policy Refused
 by_its_check (Ok policy) = Ok policy
 by_its_check (Err fault) = Err (refusal (check.Action fault.check) fault.rc)
 
--- the session of a handle with another policy, and this answer
-abbrev pub policy_success : Record → Handle → Body → Policy → Success
-policy_success r handle body policy = record {
-  answer = answer_of body;
-  after = record r { sessions = with_session_policy r.sessions handle policy };
-}
+-- what an assertion makes of the policy of a session
+abbrev pub policy_after : (Session → Assertion) → Session → Result Policy Refused
+policy_after assertion s =
+    by_its_check (asserted s.hash (is_trial s.kind) (assertion s) s.policy)
 
--- what an assertion on the session of a handle does: the session's policy is what it makes of it
-abbrev pub assertion_on : Record → Handle → (Session → Assertion) → Body → Result Success Refused
-assertion_on r handle assertion answer = do
-  s ← policy_session r handle
-  policy ← by_its_check (asserted s.hash (is_trial s.kind) (assertion s) s.policy)
-  Ok (policy_success r handle answer policy)
+-- the session of a handle has what an assertion makes of its policy
+abbrev pub with_assertion : List (Option Session) → Handle → (Session → Assertion)
+    → Result (List (Option Session)) Refused
+with_assertion sessions handle assertion = do
+  s ← policy_session sessions handle
+  policy ← policy_after assertion s
+  Ok (with_session_policy sessions handle policy)
+
+-- the row of a command that asserts something
+unfoldable pub assertion_row : CommandCode → Record → Request → Result Success Refused
+assertion_row code r q = do
+  handle ← session_handle code q.handles
+  assertion ← assertion_in code r q
+  sessions ← with_assertion r.sessions handle assertion
+  Ok (record { answer = answer_of (body_of code); after = record r { sessions = sessions } })
 
 -- The code's search for a session stands for the definition's.
 abbrev pub IsSession : Result Session Refused → Result (Bor Session) Refused → Type 0
 IsSession wanted (Ok session) = wanted ≡ Ok session.now
 IsSession wanted (Err e) = wanted ≡ Err e
+
+-- An assertion was made, and changed the sessions alone; or it was refused, and changed nothing.
+abbrev pub IsMade : Result (List (Option Session)) Refused
+    → Record → Result (Unit {0}) Refused → Record → Type 0
+IsMade change old (Ok made) new =
+    (change ≡ Ok new.sessions) × (new ≡ record old { sessions = new.sessions })
+IsMade change old (Err e) new = (change ≡ Err e) × (new ≡ old)

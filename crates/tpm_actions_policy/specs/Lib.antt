@@ -1,5 +1,3 @@
-pub mod Assertions
-pub mod PolicyRestart
 pub mod PolicyPcr
 pub mod PolicyOr
 pub mod PolicyAuthValue
@@ -7,4 +5,7 @@ pub mod PolicyPassword
 pub mod PolicyCommandCode
 pub mod PolicyLocality
 pub mod PolicySecret
+pub mod Assertions
+pub mod Asked
+pub mod PolicyRestart
 pub mod PolicyGetDigest

@@ -1,11 +1,10 @@
 -- TPM2_PolicyGetDigest. TPM 2.0 Library, Part 3, section 23.19.
-use Rattle.std.specs.Prelude.{None, Result, Ok}
+use Rattle.std.specs.Prelude.{Result, Ok}
 use Rattle.tpm_bytes.specs.Reading.{◌>>=◌}
-use Rattle.tpm_bytes.specs.Writing.{sized_text}
 use Rattle.tpm_record.specs.Record.{Record}
 use Rattle.tpm_auth.specs.declared.refused.Refused.{Refused}
-use Rattle.tpm_actions.specs.Request.{Request, first_handle}
 use Rattle.tpm_actions.specs.Answer.{Sized, answer_of}
+use Rattle.tpm_actions.specs.Request.{Request, first_handle}
 use Rattle.tpm_actions.specs.Rows.{Success, all_read, unchanged}
 use Rattle.tpm_actions_policy.specs.Assertions.{policy_session}
 
@@ -14,5 +13,5 @@ unfoldable pub policy_get_digest_row : Record → Request → Result Success Ref
 policy_get_digest_row r q = do
   handle ← first_handle q.handles
   ended ← all_read q.parameters
-  s ← policy_session r handle
+  s ← policy_session r.sessions handle
   Ok (unchanged r (answer_of (Sized s.policy.digest)))

@@ -1,21 +1,16 @@
 -- TPM2_PolicyLocality. TPM 2.0 Library, Part 3, section 23.8.
-use Rattle.std.specs.Prelude.{[], Result}
+use Rattle.std.specs.Prelude.{ℕ, List, Result, Ok}
 use Rattle.std.specs.Int.{w8}
 use Rattle.tpm_bytes.specs.Reading.{◌>>=◌, number_at, or_fault}
-use Rattle.tpm_policy.specs.Assertion.{Locality}
+use Rattle.tpm_policy.specs.Assertion.{Assertion, Locality}
+use Rattle.tpm_session.specs.declared.session.Session.{Session}
 use Rattle.tpm_types.specs.declared.rc.ResponseCode.TheVariants as code
 use Rattle.tpm_types.specs.Rc.{plain}
-use Rattle.tpm_record.specs.Record.{Record}
 use Rattle.tpm_auth.specs.declared.refused.Refused.{Refused}
-use Rattle.tpm_actions.specs.Request.{Request, first_handle}
-use Rattle.tpm_actions.specs.Answer.{Plain}
-use Rattle.tpm_actions.specs.Rows.{Success, all_read, parameter}
-use Rattle.tpm_actions_policy.specs.Assertions.{assertion_on}
+use Rattle.tpm_actions.specs.Rows.{only}
 
 -- locality: a bit for each that is allowed
-unfoldable pub policy_locality_row : Record → Request → Result Success Refused
-policy_locality_row r q = do
-  handle ← first_handle q.handles
-  number ← parameter 1 (or_fault (number_at w8 q.parameters) (plain code.Insufficient))
-  ended ← all_read number.1
-  assertion_on r handle (λ s. Locality number.0) (Plain [])
+abbrev pub locality_assertion : List ℕ → Result (Session → Assertion) Refused
+locality_assertion text = do
+  localities ← only (or_fault (number_at w8 text) (plain code.Insufficient))
+  Ok (λ s. Locality localities)

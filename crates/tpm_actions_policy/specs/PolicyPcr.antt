@@ -1,34 +1,40 @@
 -- TPM2_PolicyPCR. TPM 2.0 Library, Part 3, section 23.7.
-use Rattle.std.specs.Prelude.{ℕ, List, [], Result}
+use Rattle.std.specs.Prelude.{ℕ, List, Result, Ok}
 use Rattle.tpm_bytes.specs.Reading.{◌>>=◌}
 use Rattle.tpm_pcr.specs.Banks.{select_digest_of}
-use Rattle.tpm_policy.specs.Assertion.{Pcr, PcrParts}
+use Rattle.tpm_policy.specs.Assertion.{Assertion, Pcr, PcrParts}
 use Rattle.tpm_session.specs.declared.session.Session.{Session}
 use Rattle.tpm_types.specs.declared.pcr_selection.BankSelection.{BankSelection}
 use Rattle.tpm_types.specs.Buffer.{buffer_at}
 use Rattle.tpm_types.specs.PcrSelection.{selection_at, selection_text}
 use Rattle.tpm_record.specs.Record.{Record}
 use Rattle.tpm_auth.specs.declared.refused.Refused.{Refused}
-use Rattle.tpm_actions.specs.Request.{Request, first_handle}
-use Rattle.tpm_actions.specs.Answer.{Plain}
-use Rattle.tpm_actions.specs.Rows.{Success, all_read, parameter}
-use Rattle.tpm_actions_policy.specs.Assertions.{assertion_on}
+use Rattle.tpm_actions.specs.Request.{Request}
+use Rattle.tpm_actions.specs.Rows.{all_read, parameter}
 
--- the given digest, and a selection of PCRs with the digest of their values now, by the session's
--- hash
-abbrev pub pcr_parts_of : Record → List ℕ → List BankSelection → Session → PcrParts
-pcr_parts_of r given selection s = record {
-  given = given;
-  selection = selection_text selection;
-  digest = select_digest_of r.fixed.banks s.hash selection;
+-- pcrDigest, pcrs
+pub record Parameters : Type 0 where
+  pub given : List ℕ
+  pub selection : List BankSelection
+
+abbrev pub pcr_parameters : List ℕ → Result Parameters Refused
+pcr_parameters text = do
+  given ← parameter 1 (buffer_at 32 text)
+  selection ← parameter 2 (selection_at given.1)
+  ended ← all_read selection.1
+  Ok (record { given = given.0; selection = selection.0 })
+
+-- the selected PCRs with the digest of their values now, by the session's hash
+abbrev pub pcr_parts_of : Record → Parameters → Session → PcrParts
+pcr_parts_of r p s = record {
+  given = p.given;
+  selection = selection_text p.selection;
+  digest = select_digest_of r.fixed.banks s.hash p.selection;
   update_count = r.fixed.banks.update_count;
 }
 
--- pcrDigest, pcrs
-unfoldable pub policy_pcr_row : Record → Request → Result Success Refused
-policy_pcr_row r q = do
-  handle ← first_handle q.handles
-  given ← parameter 1 (buffer_at 32 q.parameters)
-  selection ← parameter 2 (selection_at given.1)
-  ended ← all_read selection.1
-  assertion_on r handle (λ s. Pcr (pcr_parts_of r given.0 selection.0 s)) (Plain [])
+-- the values of PCRs are compared, and no PCR may change
+abbrev pub pcr_assertion : Record → Request → Result (Session → Assertion) Refused
+pcr_assertion r q = do
+  p ← pcr_parameters q.parameters
+  Ok (λ s. Pcr (pcr_parts_of r p s))

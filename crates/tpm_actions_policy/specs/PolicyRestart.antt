@@ -1,18 +1,22 @@
 -- TPM2_PolicyRestart. TPM 2.0 Library, Part 3, section 11.2.
-use Rattle.std.specs.Prelude.{[], Result, Ok}
+use Rattle.std.specs.Prelude.{Result, Ok}
 use Rattle.tpm_bytes.specs.Reading.{◌>>=◌}
 use Rattle.tpm_policy.specs.State.{starting}
+use Rattle.tpm_session.specs.Sessions.{with_session_policy}
 use Rattle.tpm_record.specs.Record.{Record}
 use Rattle.tpm_auth.specs.declared.refused.Refused.{Refused}
+use Rattle.tpm_actions.specs.Answer.{nothing}
 use Rattle.tpm_actions.specs.Request.{Request, first_handle}
-use Rattle.tpm_actions.specs.Answer.{Plain}
 use Rattle.tpm_actions.specs.Rows.{Success, all_read}
-use Rattle.tpm_actions_policy.specs.Assertions.{policy_session, policy_success}
+use Rattle.tpm_actions_policy.specs.Assertions.{policy_session}
 
 -- the session's policy is as it started; no parameters
 unfoldable pub policy_restart_row : Record → Request → Result Success Refused
 policy_restart_row r q = do
   handle ← first_handle q.handles
   ended ← all_read q.parameters
-  s ← policy_session r handle
-  Ok (policy_success r handle (Plain []) (starting s.hash))
+  s ← policy_session r.sessions handle
+  Ok (record {
+    answer = nothing;
+    after = record r { sessions = with_session_policy r.sessions handle (starting s.hash) };
+  })

@@ -3,8 +3,9 @@
 //! What each policy command does: a file a command, as in tpm_actions, on which it stands (TPM 2.0
 //! Library, Part 3, section 23).
 //!
-//! A command reads its parameters, makes an assertion on a copy of the session's policy, which can
-//! refuse it, and keeps what the assertion made of that. What an assertion is stands in tpm_policy.
+//! Seven commands assert something. Each reads what, and `assertions::make_assertion` asserts it on
+//! a copy of the session's policy, which the session takes where the assertion is not refused. What
+//! an assertion is stands in tpm_policy.
 
 mod assertions;
 pub mod policy_auth_value;

@@ -1,39 +1,33 @@
 ghost use Rattle.std.specs.Prelude.{◌≡◌};
+ghost use Rattle.tpm_types.specs.declared.command_code.CommandCode.TheVariants as command;
 ghost use Rattle.tpm_actions.specs.Answer.{IsEmpty};
 ghost use Rattle.tpm_actions.specs.Request.{request_of};
 ghost use Rattle.tpm_actions.specs.Rows.{Acts};
-ghost use Rattle.tpm_actions_policy.specs.PolicyCommandCode.{policy_command_code_row};
+ghost use Rattle.tpm_actions_policy.specs.Assertions.{assertion_row};
 
-use crate::assertions::{by_its_check, policy_session};
+use crate::assertions::{Asked, make_assertion};
 use tpm_actions::answer::Answer;
 use tpm_actions::call::Call;
-use tpm_actions::reading::{at_parameter, end};
+use tpm_actions::reading::{end, number};
 use tpm_auth::refused::Refused;
 use tpm_bytes::cursor::Cursor;
 use tpm_record::keep::Keep;
-use tpm_types::rc::ResponseCode;
 
 /// TPM2_PolicyCommandCode: allows one command alone.
-#[tactic(auto, unfolding(crate::specs::PolicyCommandCode::policy_command_code_row))]
+#[tactic(auto, unfolding(crate::specs::Assertions::assertion_row))]
 pub fn policy_command_code<K: Keep>(
     keep: &mut K,
     call: &Call,
     _answer: &mut Answer,
 ) -> Result<(), Refused>
     requires { IsEmpty _answer.old }
-    ensures { Acts (policy_command_code_row (K.record_of keep.old) (request_of call.now))
+    ensures { Acts
+        (assertion_row command.PolicyCommandCode (K.record_of keep.old) (request_of call.now))
         (K.record_of keep.old) result _answer.new (K.record_of keep.new) }
 {
     let handle = call.first_handle()?;
     let mut parameters = Cursor::new(call.parameters);
-    let number = parameters
-        .u32()
-        .map_err(|_| at_parameter(1, ResponseCode::Insufficient.anywhere()))?;
+    let code = number(1, parameters.u32())?;
     end(&parameters)?;
-    let session = policy_session(keep, handle)?;
-    let mut policy = session.policy.copy();
-    let asserted = policy.command_code(session.hash, number);
-    asserted.map_err(by_its_check)?;
-    keep.sessions_mut().set_policy(handle, policy);
-    Ok(())
+    make_assertion(keep, handle, &Asked::CommandCode(code))
 }

@@ -1,10 +1,11 @@
 ghost use Rattle.std.specs.Prelude.{◌≡◌};
+ghost use Rattle.tpm_types.specs.declared.command_code.CommandCode.TheVariants as command;
 ghost use Rattle.tpm_actions.specs.Answer.{IsEmpty};
 ghost use Rattle.tpm_actions.specs.Request.{request_of};
 ghost use Rattle.tpm_actions.specs.Rows.{Acts};
-ghost use Rattle.tpm_actions_policy.specs.PolicyPassword.{policy_password_row};
+ghost use Rattle.tpm_actions_policy.specs.Assertions.{assertion_row};
 
-use crate::assertions::policy_session;
+use crate::assertions::{Asked, make_assertion};
 use tpm_actions::answer::Answer;
 use tpm_actions::call::Call;
 use tpm_actions::reading::end;
@@ -13,21 +14,18 @@ use tpm_bytes::cursor::Cursor;
 use tpm_record::keep::Keep;
 
 /// TPM2_PolicyPassword: demands the entity's authorization value as a password.
-#[tactic(auto, unfolding(crate::specs::PolicyPassword::policy_password_row))]
+#[tactic(auto, unfolding(crate::specs::Assertions::assertion_row))]
 pub fn policy_password<K: Keep>(
     keep: &mut K,
     call: &Call,
     _answer: &mut Answer,
 ) -> Result<(), Refused>
     requires { IsEmpty _answer.old }
-    ensures { Acts (policy_password_row (K.record_of keep.old) (request_of call.now))
+    ensures { Acts
+        (assertion_row command.PolicyPassword (K.record_of keep.old) (request_of call.now))
         (K.record_of keep.old) result _answer.new (K.record_of keep.new) }
 {
     let handle = call.first_handle()?;
     end(&Cursor::new(call.parameters))?;
-    let session = policy_session(keep, handle)?;
-    let mut policy = session.policy.copy();
-    policy.password(session.hash);
-    keep.sessions_mut().set_policy(handle, policy);
-    Ok(())
+    make_assertion(keep, handle, &Asked::Password)
 }

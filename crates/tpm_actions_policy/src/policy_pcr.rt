@@ -1,47 +1,81 @@
 ghost use Rattle.std.specs.Prelude.{◌≡◌};
+ghost use Rattle.tpm_types.specs.declared.command_code.CommandCode.TheVariants as command;
 ghost use Rattle.tpm_actions.specs.Answer.{IsEmpty};
 ghost use Rattle.tpm_actions.specs.Request.{request_of};
 ghost use Rattle.tpm_actions.specs.Rows.{Acts};
-ghost use Rattle.tpm_actions_policy.specs.PolicyPcr.{policy_pcr_row};
+ghost use Rattle.tpm_policy.specs.Assertion as assertion;
+ghost use Rattle.tpm_policy.specs.Assertion.{Asserts, asserted};
+ghost use Rattle.tpm_policy.specs.Use.{is_trial};
+ghost use Rattle.tpm_actions_policy.specs.Asked.{pcrs_of};
+ghost use Rattle.tpm_actions_policy.specs.Assertions.{assertion_row};
+ghost use Rattle.tpm_actions_policy.specs.PolicyPcr.{pcr_parts_of};
 
-use crate::assertions::{by_its_check, is_trial, policy_session};
+use crate::assertions::{Asked, is_trial, make_assertion};
 use tpm_actions::answer::Answer;
 use tpm_actions::call::Call;
-use tpm_actions::reading::{at_parameter, end};
+use tpm_actions::reading::{end, parameter};
 use tpm_auth::refused::Refused;
 use tpm_bytes::cursor::Cursor;
+use tpm_policy::fault::PolicyFault;
 use tpm_policy::pcr::PcrAssertion;
+use tpm_policy::state::PolicyState;
 use tpm_record::keep::Keep;
+use tpm_session::session::Session;
 use tpm_types::buffer::read_buffer;
 use tpm_types::pcr_selection::PcrSelection;
 
 /// The most bytes of pcrDigest.
 const MOST_BYTES: usize = 32;
 
+/// The PCRs that are to be compared, with the given digest of their values.
+#[derive(Clone, Copy)]
+pub struct ComparedPcrs<'a> {
+    given: &'a [u8],
+    selection: &'a PcrSelection,
+}
+
+impl ComparedPcrs<'_> {
+    /// Compares them as they are now, in the policy of a session.
+    pub(crate) fn assert_on<K: Keep>(
+        &self,
+        keep: &K,
+        session: &Session,
+        policy: &mut PolicyState,
+    ) -> Result<(), PolicyFault>
+        ensures { Asserts
+            (asserted session.now.hash (is_trial session.now.kind)
+            (assertion.Pcr (pcr_parts_of (K.record_of keep.now) (pcrs_of self.now) session.now))
+            policy.old)
+            policy.old result policy.new }
+    {
+        let banks = &keep.fixed().banks;
+        let digest = banks.select_digest(session.hash, self.selection);
+        let pcrs = PcrAssertion {
+            given: self.given,
+            selection: self.selection,
+            digest: digest.as_slice(),
+            update_count: banks.update_count(),
+        };
+        policy.pcr(session.hash, is_trial(session), &pcrs)
+    }
+}
+
 /// TPM2_PolicyPCR: compares the values of PCRs, and allows no change of any PCR behind it.
-#[tactic(auto, unfolding(crate::specs::PolicyPcr::policy_pcr_row))]
+#[tactic(auto, unfolding(crate::specs::Assertions::assertion_row))]
 pub fn policy_pcr<K: Keep>(keep: &mut K, call: &Call, _answer: &mut Answer) -> Result<(), Refused>
     requires { IsEmpty _answer.old }
-    ensures { Acts (policy_pcr_row (K.record_of keep.old) (request_of call.now))
+    ensures { Acts
+        (assertion_row command.PolicyPcr (K.record_of keep.old) (request_of call.now))
         (K.record_of keep.old) result _answer.new (K.record_of keep.new) }
 {
     let handle = call.first_handle()?;
     let mut parameters = Cursor::new(call.parameters);
-    let given = read_buffer(&mut parameters, MOST_BYTES).map_err(|rc| at_parameter(1, rc))?;
-    let selection = PcrSelection::read(&mut parameters).map_err(|rc| at_parameter(2, rc))?;
+    let given = parameter(1, read_buffer(&mut parameters, MOST_BYTES))?;
+    let selection = parameter(2, PcrSelection::read(&mut parameters))?;
     end(&parameters)?;
-    let session = policy_session(keep, handle)?;
-    let banks = &keep.fixed().banks;
-    let digest = banks.select_digest(session.hash, &selection);
-    let pcrs = PcrAssertion {
+    let pcrs = ComparedPcrs {
         given,
         selection: &selection,
-        digest: digest.as_slice(),
-        update_count: banks.update_count(),
     };
-    let mut policy = session.policy.copy();
-    let asserted = policy.pcr(session.hash, is_trial(session), &pcrs);
-    asserted.map_err(by_its_check)?;
-    keep.sessions_mut().set_policy(handle, policy);
-    Ok(())
+    make_assertion(keep, handle, &Asked::Pcr(pcrs))
 }

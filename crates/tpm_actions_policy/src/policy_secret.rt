@@ -1,20 +1,30 @@
-ghost use Rattle.std.specs.Prelude.{◌≡◌, ◌≤◌, IfOk, length};
+ghost use Rattle.std.specs.Prelude.{◌≡◌};
+ghost use Rattle.tpm_types.specs.declared.command_code.CommandCode.TheVariants as command;
 ghost use Rattle.tpm_actions.specs.Answer.{IsEmpty};
 ghost use Rattle.tpm_actions.specs.Request.{request_of};
 ghost use Rattle.tpm_actions.specs.Rows.{Acts};
-ghost use Rattle.tpm_actions_policy.specs.PolicySecret.{Asks, null_ticket, parameters_in, policy_secret_row};
+ghost use Rattle.tpm_policy.specs.Assertion as assertion;
+ghost use Rattle.tpm_policy.specs.Assertion.{Asserts, asserted};
+ghost use Rattle.tpm_policy.specs.Use.{is_trial};
+ghost use Rattle.tpm_record.specs.Entity.{name_of};
+ghost use Rattle.tpm_actions_policy.specs.Asked.{Asks, secret_asked};
+ghost use Rattle.tpm_actions_policy.specs.Assertions.{assertion_row};
+ghost use Rattle.tpm_actions_policy.specs.PolicySecret.{secret_of, secret_parameters};
 
-use crate::assertions::{by_its_check, is_trial, policy_session};
+use crate::assertions::{Asked, is_trial, make_assertion};
 use tpm_actions::answer::Answer;
 use tpm_actions::call::Call;
-use tpm_actions::reading::{at_parameter, end};
+use tpm_actions::reading::{end, number, parameter};
 use tpm_auth::refused::Refused;
 use tpm_bytes::cursor::Cursor;
+use tpm_policy::fault::PolicyFault;
 use tpm_policy::secret::SecretAssertion;
+use tpm_policy::state::PolicyState;
 use tpm_record::entity::name_of;
 use tpm_record::keep::Keep;
+use tpm_session::session::Session;
 use tpm_types::buffer::read_buffer;
-use tpm_types::rc::ResponseCode;
+use tpm_types::handle::Handle;
 
 /// The most bytes of nonceTPM, cpHashA and policyRef.
 const MOST_BYTES: usize = 32;
@@ -22,29 +32,55 @@ const MOST_BYTES: usize = 32;
 /// An empty timeout, and the null ticket: TPM_ST_AUTH_SECRET, TPM_RH_NULL, an empty digest.
 const NO_TICKET: [u8; 10] = [0, 0, 0x80, 0x23, 0x40, 0, 0, 7, 0, 0];
 
-/// What is asked for.
+/// The entity whose secret is shown, and for what it is.
 #[derive(Clone, Copy)]
-pub struct Asked<'a> {
+pub struct ShownSecret<'a> {
+    entity: Handle,
     nonce: &'a [u8],
     cp_hash: &'a [u8],
     reference: &'a [u8],
     expiration: u32,
 }
 
-#[tactic(auto, unfolding(crate::specs::PolicySecret::parameters_in))]
-fn read_parameters(parameters: &[u8]) -> Result<Asked, Refused>
-    ensures read { Asks (parameters_in parameters.now) result }
-    ensures few { IfOk result (λ asked. length asked.cp_hash.now ≤ 32) }
+impl ShownSecret<'_> {
+    /// Asserts it in the policy of a session.
+    pub(crate) fn assert_on<K: Keep>(
+        &self,
+        keep: &K,
+        session: &Session,
+        policy: &mut PolicyState,
+    ) -> Result<(), PolicyFault>
+        ensures { Asserts
+            (asserted session.now.hash (is_trial session.now.kind)
+            (assertion.Secret (secret_of (secret_asked self.now)
+            (name_of (K.record_of keep.now) self.now.entity) session.now)) policy.old)
+            policy.old result policy.new }
+    {
+        let name = name_of(keep, self.entity);
+        let secret = SecretAssertion {
+            name: &name,
+            nonce: self.nonce,
+            nonce_tpm: session.nonce_tpm.as_slice(),
+            cp_hash: self.cp_hash,
+            reference: self.reference,
+            expiration: self.expiration,
+        };
+        policy.secret(session.hash, is_trial(session), &secret)
+    }
+}
+
+#[tactic(auto, unfolding(crate::specs::PolicySecret::secret_parameters))]
+fn read_secret<'a>(entity: Handle, parameters: &'a [u8]) -> Result<ShownSecret<'a>, Refused>
+    ensures { Asks entity (secret_parameters parameters.now) result }
 {
     let mut text = Cursor::new(parameters);
-    let nonce = read_buffer(&mut text, MOST_BYTES).map_err(|rc| at_parameter(1, rc))?;
-    let cp_hash = read_buffer(&mut text, MOST_BYTES).map_err(|rc| at_parameter(2, rc))?;
-    let reference = read_buffer(&mut text, MOST_BYTES).map_err(|rc| at_parameter(3, rc))?;
-    let expiration = text
-        .u32()
-        .map_err(|_| at_parameter(4, ResponseCode::Insufficient.anywhere()))?;
+    let nonce = parameter(1, read_buffer(&mut text, MOST_BYTES))?;
+    let cp_hash = parameter(2, read_buffer(&mut text, MOST_BYTES))?;
+    let reference = parameter(3, read_buffer(&mut text, MOST_BYTES))?;
+    let expiration = number(4, text.u32())?;
     end(&text)?;
-    Ok(Asked {
+    Ok(ShownSecret {
+        entity,
         nonce,
         cp_hash,
         reference,
@@ -53,29 +89,16 @@ fn read_parameters(parameters: &[u8]) -> Result<Asked, Refused>
 }
 
 /// TPM2_PolicySecret: shows that the entity was authorized.
-#[tactic(auto, unfolding(crate::specs::PolicySecret::policy_secret_row, crate::specs::PolicySecret::null_ticket))]
+#[tactic(auto, unfolding(crate::specs::Assertions::assertion_row))]
 pub fn policy_secret<K: Keep>(keep: &mut K, call: &Call, answer: &mut Answer) -> Result<(), Refused>
     requires { IsEmpty answer.old }
-    ensures { Acts (policy_secret_row (K.record_of keep.old) (request_of call.now))
+    ensures { Acts
+        (assertion_row command.PolicySecret (K.record_of keep.old) (request_of call.now))
         (K.record_of keep.old) result answer.new (K.record_of keep.new) }
 {
-    let entity = call.first_handle()?;
     let handle = call.second_handle()?;
-    let p = read_parameters(call.parameters)?;
-    let session = policy_session(keep, handle)?;
-    let name = name_of(keep, entity);
-    let secret = SecretAssertion {
-        name: &name,
-        nonce: p.nonce,
-        nonce_tpm: session.nonce_tpm.as_slice(),
-        cp_hash: p.cp_hash,
-        reference: p.reference,
-        expiration: p.expiration,
-    };
-    let mut policy = session.policy.copy();
-    let asserted = policy.secret(session.hash, is_trial(session), &secret);
-    asserted.map_err(by_its_check)?;
-    keep.sessions_mut().set_policy(handle, policy);
+    let secret = read_secret(call.first_handle()?, call.parameters)?;
+    make_assertion(keep, handle, &Asked::Secret(secret))?;
     let _ = answer.parameters.put(&NO_TICKET);
     Ok(())
 }

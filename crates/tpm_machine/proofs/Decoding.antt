@@ -1,5 +1,5 @@
 -- What the general checks decode is what the whole buffer spells.
-use Rattle.std.proofs.Common.{arith, refl, sym, cond, Bool, true, false, ◌≤◌, ◌*◌, ◌≡◌, ℕ, not, List, [], ◌∷◌, ◌+◌, length, Result, Ok, Err, IfOk, ap, ◌∙◌, Option, None}
+use Rattle.std.proofs.Common.{arith, refl, sym, Bool, true, false, ◌≤◌, ◌*◌, ◌≡◌, ℕ, not, List, [], ◌∷◌, ◌+◌, length, Result, Ok, Err, IfOk, ap, ◌∙◌, Option, None}
 use Rattle.std.proofs.lemmas.Bool.{false≢true}
 use Rattle.std.specs.Prelude.{◌||◌}
 use Rattle.std.specs.List.{find, list_any, zip}

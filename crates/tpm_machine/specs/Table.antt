@@ -21,15 +21,9 @@ use Rattle.tpm_actions_object.specs.Hmac.{hmac_row}
 use Rattle.tpm_actions_object.specs.Load.{load_row}
 use Rattle.tpm_actions_object.specs.ReadPublic.{read_public_row}
 use Rattle.tpm_actions_object.specs.Unseal.{unseal_row}
-use Rattle.tpm_actions_policy.specs.PolicyAuthValue.{policy_auth_value_row}
-use Rattle.tpm_actions_policy.specs.PolicyCommandCode.{policy_command_code_row}
+use Rattle.tpm_actions_policy.specs.Assertions.{assertion_row}
 use Rattle.tpm_actions_policy.specs.PolicyGetDigest.{policy_get_digest_row}
-use Rattle.tpm_actions_policy.specs.PolicyLocality.{policy_locality_row}
-use Rattle.tpm_actions_policy.specs.PolicyOr.{policy_or_row}
-use Rattle.tpm_actions_policy.specs.PolicyPassword.{policy_password_row}
-use Rattle.tpm_actions_policy.specs.PolicyPcr.{policy_pcr_row}
 use Rattle.tpm_actions_policy.specs.PolicyRestart.{policy_restart_row}
-use Rattle.tpm_actions_policy.specs.PolicySecret.{policy_secret_row}
 
 -- what a command does to a record
 unfoldable pub row_of : Record → CommandCode → Request → Result Success Refused
@@ -38,22 +32,22 @@ row_of r command.CreatePrimary q = create_primary_row r q
 row_of r command.PcrEvent q = pcr_event_row r q
 row_of r command.PcrReset q = pcr_reset_row r q
 row_of r command.Startup q = startup_row r q
-row_of r command.PolicySecret q = policy_secret_row r q
+row_of r command.PolicySecret q = assertion_row command.PolicySecret r q
 row_of r command.Create q = create_row r q
 row_of r command.Hmac q = hmac_row r q
 row_of r command.Load q = load_row r q
 row_of r command.Unseal q = unseal_row r q
 row_of r command.FlushContext q = flush_context_row r q
-row_of r command.PolicyAuthValue q = policy_auth_value_row r q
-row_of r command.PolicyCommandCode q = policy_command_code_row r q
-row_of r command.PolicyLocality q = policy_locality_row r q
-row_of r command.PolicyOr q = policy_or_row r q
+row_of r command.PolicyAuthValue q = assertion_row command.PolicyAuthValue r q
+row_of r command.PolicyCommandCode q = assertion_row command.PolicyCommandCode r q
+row_of r command.PolicyLocality q = assertion_row command.PolicyLocality r q
+row_of r command.PolicyOr q = assertion_row command.PolicyOr r q
 row_of r command.ReadPublic q = read_public_row r q
 row_of r command.StartAuthSession q = start_auth_session_row r q
 row_of r command.GetRandom q = get_random_row r q
 row_of r command.PcrRead q = pcr_read_row r q
-row_of r command.PolicyPcr q = policy_pcr_row r q
+row_of r command.PolicyPcr q = assertion_row command.PolicyPcr r q
 row_of r command.PolicyRestart q = policy_restart_row r q
 row_of r command.PcrExtend q = pcr_extend_row r q
 row_of r command.PolicyGetDigest q = policy_get_digest_row r q
-row_of r command.PolicyPassword q = policy_password_row r q
+row_of r command.PolicyPassword q = assertion_row command.PolicyPassword r q

@@ -1,0 +1,44 @@
+-- What the code asks to be asserted, wherever its bytes lie in memory.
+use Rattle.std.specs.Prelude.{◌≡◌, Result, Ok, Err}
+use Rattle.tpm_policy.specs.Assertion as assertion
+use Rattle.tpm_policy.specs.Assertion.{Assertion}
+use Rattle.tpm_session.specs.declared.session.Session.{Session}
+use Rattle.tpm_types.specs.declared.handle.Handle.{Handle}
+use Rattle.tpm_types.specs.DigestList.{digests_of}
+use Rattle.tpm_record.specs.Entity.{name_of}
+use Rattle.tpm_record.specs.Record.{Record}
+use Rattle.tpm_auth.specs.declared.refused.Refused.{Refused}
+use Rattle.tpm_actions_policy.specs.PolicyPcr.{Parameters as PcrParameters, pcr_parts_of}
+use Rattle.tpm_actions_policy.specs.PolicySecret.{Parameters as SecretParameters, secret_of}
+use Rattle.tpm_actions_policy.specs.declared.assertions.Asked.{Asked}
+use Rattle.tpm_actions_policy.specs.declared.assertions.Asked.TheVariants as asked
+use Rattle.tpm_actions_policy.specs.declared.policy_pcr.ComparedPcrs.{ComparedPcrs}
+use Rattle.tpm_actions_policy.specs.declared.policy_secret.ShownSecret.{ShownSecret}
+
+abbrev pub pcrs_of : ComparedPcrs → PcrParameters
+pcrs_of pcrs = record { given = pcrs.given.now; selection = pcrs.selection.now.banks.items }
+
+abbrev pub secret_asked : ShownSecret → SecretParameters
+secret_asked secret = record {
+  nonce = secret.nonce.now;
+  cp_hash = secret.cp_hash.now;
+  reference = secret.reference.now;
+  expiration = secret.expiration;
+}
+
+-- The code's reading of the parameters stands for the definition's, with this entity.
+abbrev pub Asks : Handle
+    → Result SecretParameters Refused → Result ShownSecret Refused → Type 0
+Asks entity read (Ok secret) = (read ≡ Ok (secret_asked secret)) × (secret.entity ≡ entity)
+Asks entity read (Err e) = read ≡ Err e
+
+-- the assertion that is asked for, on a session of this record
+abbrev pub assertion_of : Record → Asked → Session → Assertion
+assertion_of r (asked.Pcr pcrs) s = assertion.Pcr (pcr_parts_of r (pcrs_of pcrs) s)
+assertion_of r (asked.Or digests) s = assertion.Or (digests_of digests.now.digests.items)
+assertion_of r asked.AuthValue s = assertion.AuthValue
+assertion_of r asked.Password s = assertion.Password
+assertion_of r (asked.CommandCode number) s = assertion.CommandCode number
+assertion_of r (asked.Locality localities) s = assertion.Locality localities
+assertion_of r (asked.Secret secret) s =
+    assertion.Secret (secret_of (secret_asked secret) (name_of r secret.entity) s)

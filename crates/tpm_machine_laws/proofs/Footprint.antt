@@ -1,0 +1,32 @@
+-- A success touches the part of its command.
+use Rattle.std.proofs.Common.{rules, IfOk}
+use Rattle.tpm_types.specs.declared.command_code.CommandCode.{CommandCode}
+use Rattle.tpm_types.specs.declared.command_code.CommandCode.TheVariants as command
+use Rattle.tpm_record.specs.Record.{Record}
+use Rattle.tpm_actions.specs.Request.{Request}
+use Rattle.tpm_actions.specs.Startup.{startup_row}
+use Rattle.tpm_actions.specs.GetRandom.{get_random_row}
+use Rattle.tpm_actions.specs.PcrRead.{pcr_read_row}
+use Rattle.tpm_actions.specs.PcrExtend.{pcr_extend_row}
+use Rattle.tpm_actions.specs.PcrEvent.{pcr_event_row}
+use Rattle.tpm_actions.specs.PcrReset.{pcr_reset_row}
+use Rattle.tpm_actions.specs.FlushContext.{flush_context_row}
+use Rattle.tpm_actions.specs.HierarchyChangeAuth.{hierarchy_change_auth_row}
+use Rattle.tpm_actions.specs.StartAuthSession.{start_auth_session_row}
+use Rattle.tpm_actions_object.specs.Create.{create_row}
+use Rattle.tpm_actions_object.specs.CreatePrimary.{create_primary_row}
+use Rattle.tpm_actions_object.specs.Hmac.{hmac_row}
+use Rattle.tpm_actions_object.specs.Load.{load_row}
+use Rattle.tpm_actions_object.specs.ReadPublic.{read_public_row}
+use Rattle.tpm_actions_object.specs.Unseal.{unseal_row}
+use Rattle.tpm_actions_policy.specs.Assertions.{assertion_row}
+use Rattle.tpm_actions_policy.specs.PolicyGetDigest.{policy_get_digest_row}
+use Rattle.tpm_actions_policy.specs.PolicyRestart.{policy_restart_row}
+use Rattle.tpm_machine.specs.Table.{row_of}
+use Rattle.tpm_machine_laws.proofs.Binding.{ok_bind}
+use Rattle.tpm_machine_laws.specs.Footprint.{Touches, part_of}
+
+pub row_touches : (r : Record) (c : CommandCode) (q : Request) → IfOk (row_of r c q) (λ s. Touches (part_of c) r s.after)
+unfolding row_of startup_row get_random_row pcr_read_row pcr_extend_row pcr_event_row pcr_reset_row flush_context_row hierarchy_change_auth_row start_auth_session_row create_row create_primary_row hmac_row load_row read_public_row unseal_row assertion_row policy_get_digest_row policy_restart_row
+row_touches r command.Startup q = search (rules, ok_bind)
+row_touches r _ q = search (rules, ok_bind)

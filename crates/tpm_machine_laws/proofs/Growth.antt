@@ -1,0 +1,155 @@
+-- A success takes one place more where its command grows, and else no more.
+use Rattle.std.proofs.Common.{rules, arith, ◌≡◌, ◌+◌, ℕ, Bool, true, false, List, Option, Some, Ok, IfOk, slice_set, refl, ap}
+use Rattle.tpm_types.specs.declared.command_code.CommandCode.{CommandCode}
+use Rattle.tpm_types.specs.declared.command_code.CommandCode.TheVariants as command
+use Rattle.tpm_types.specs.declared.handle.Handle.{Handle}
+use Rattle.tpm_types.specs.CommandCode.{shape_of}
+use Rattle.tpm_object.specs.Object.{transient_byte}
+use Rattle.tpm_object.specs.declared.object.Object.{Object}
+use Rattle.tpm_policy.specs.State.{Policy, starting}
+use Rattle.tpm_session.specs.declared.session.Session.{Session}
+use Rattle.tpm_session.specs.Session.{with_policy}
+use Rattle.tpm_record.specs.Record.{Record}
+use Rattle.tpm_actions.specs.Request.{Request, first_handle, second_handle}
+use Rattle.tpm_actions.specs.Rows.{all_read}
+use Rattle.tpm_actions.specs.FlushContext.{flush_context_row, flushed_handle}
+use Rattle.tpm_actions.specs.StartAuthSession.{parameters_in, parameters_pass, session_place, start_auth_session_row}
+use Rattle.tpm_actions_object.specs.CreatePrimary.{create_primary_row, named_hierarchy}
+use Rattle.tpm_actions_object.specs.Creation.{parameters_in as creation_parameters}
+use Rattle.tpm_actions_object.specs.Load.{load_row, parameters_in as load_parameters, sensitive_of}
+use Rattle.tpm_actions_object.specs.Checks.{given_passes, public_passes}
+use Rattle.tpm_actions_object.specs.Loaded.{is_fixed, loaded_at, parent_passes, place_for}
+use Rattle.tpm_actions_policy.specs.Assertions.{assertion_in, assertion_row, policy_after, policy_session, session_handle, with_assertion}
+use Rattle.tpm_actions_policy.specs.PolicyRestart.{policy_restart_row}
+use Rattle.tpm_machine.specs.Table.{row_of}
+use Rattle.tpm_machine_laws.specs.Footprint.{Part, Nothing, Sessions, Objects, Loaded, Hierarchies, Banks, Beginning, Touches, part_of}
+use Rattle.tpm_machine_laws.proofs.Binding.{ok_bind, ok_bind_is, ok_then, ok_weaker, some_is}
+use Rattle.tpm_machine_laws.proofs.Footprint.{row_touches}
+use Rattle.tpm_places.specs.Places.{taken_count}
+use Rattle.tpm_places.proofs.NumberedLaws.{changed_taken, put_taken, removed_taken}
+use Rattle.tpm_session.specs.Sessions.{flushed, session_byte, with_session_policy}
+use Rattle.tpm_record.specs.Objects.{with_object, without_object}
+use Rattle.tpm_machine_laws.specs.Shapes.{Grows, taken_in}
+
+-- ---- one place more
+
+more_sessions : (r : Record) (place : ℕ) (s : Session) → session_place r.sessions ≡ Ok place → taken_in (record r { sessions = slice_set r.sessions place (Some s) }) ≡ taken_in r + 1
+more_sessions r place s is = let more = put_taken session_byte r.sessions place s (some_is _ _ place is) in omega (arith, more)
+
+more_objects : (r : Record) (n place : ℕ) (o : Object) → place_for n r ≡ Ok place → taken_in (record r { objects = with_object r.objects place o }) ≡ taken_in r + 1
+more_objects r n place o is = let more = put_taken transient_byte r.objects place o (some_is _ _ place is) in omega (arith, more)
+
+start_grows : (r : Record) (q : Request) → IfOk (start_auth_session_row r q) (λ s. Grows true r s.after)
+unfolding start_auth_session_row
+start_grows r q =
+    ok_bind _ (second_handle q.handles) _ (λ bind.
+    ok_bind _ (parameters_in q.parameters) _ (λ p.
+    ok_bind _ (parameters_pass p) _ (λ passed.
+    ok_bind_is _ (session_place r.sessions) _ (λ place is. more_sessions r place _ is))))
+
+create_primary_grows : (r : Record) (q : Request) → IfOk (create_primary_row r q) (λ s. Grows true r s.after)
+unfolding create_primary_row
+create_primary_grows r q =
+    ok_bind _ (first_handle q.handles) _ (λ handle.
+    ok_bind _ (named_hierarchy handle) _ (λ hierarchy.
+    ok_bind _ (creation_parameters q.parameters) _ (λ p.
+    ok_bind _ (public_passes 0 true p.template) _ (λ t.
+    ok_bind _ (given_passes 3 p.given p.template) _ (λ c.
+    ok_bind_is _ (place_for 7 r) _ (λ place is. more_objects r 7 place _ is))))))
+
+load_grows : (r : Record) (q : Request) → IfOk (load_row r q) (λ s. Grows true r s.after)
+unfolding load_row
+load_grows r q =
+    ok_bind _ (first_handle q.handles) _ (λ handle.
+    ok_bind _ (loaded_at r handle) _ (λ parent.
+    ok_bind _ (load_parameters q.parameters) _ (λ p.
+    ok_bind _ (parent_passes parent) _ (λ a1.
+    ok_bind _ (public_passes 1 (is_fixed parent) p.public) _ (λ t.
+    ok_bind _ (sensitive_of parent p.public p.private) _ (λ sensitive.
+    ok_bind_is _ (place_for 6 r) _ (λ place is. more_objects r 6 place _ is)))))))
+
+-- ---- no more places
+
+flushed_grows : (r : Record) (handle : Handle) → Grows false r (record r { sessions = flushed r.sessions handle; objects = without_object r.objects handle })
+unfolding flushed without_object
+flushed_grows r handle =
+    let sessions = removed_taken session_byte r.sessions handle.number in
+    let objects = removed_taken transient_byte r.objects handle.number in
+    omega (arith, sessions, objects)
+
+flush_grows : (r : Record) (q : Request) → IfOk (flush_context_row r q) (λ s. Grows false r s.after)
+unfolding flush_context_row
+flush_grows r q =
+    let fewer = λ (handle : Handle). flushed_grows r handle in
+    ok_bind _ (flushed_handle q.parameters) _ (λ handle. search (rules, ok_bind))
+
+policy_same : (sessions : List (Option Session)) (handle : Handle) (policy : Policy) → taken_count (with_session_policy sessions handle policy) ≡ taken_count sessions
+unfolding with_session_policy
+policy_same sessions handle policy = changed_taken session_byte (λ s. with_policy s policy) sessions handle.number
+
+same_sessions : (r : Record) (sessions : List (Option Session)) → taken_count sessions ≡ taken_count r.sessions → Grows false r (record r { sessions = sessions })
+same_sessions r sessions same = omega (arith, same)
+
+assertion_grows : (r : Record) (c : CommandCode) (q : Request) → IfOk (assertion_row c r q) (λ s. Grows false r s.after)
+unfolding assertion_row
+assertion_grows r c q =
+    ok_bind _ (session_handle c q.handles) _ (λ handle.
+    ok_bind _ (assertion_in c r q) _ (λ assertion.
+    ok_then (λ sessions. taken_count sessions ≡ taken_count r.sessions) _ (with_assertion r.sessions handle assertion) _
+    (ok_bind _ (policy_session r.sessions handle) _ (λ s.
+    ok_bind _ (policy_after assertion s) _ (λ policy. policy_same r.sessions handle policy)))
+    (λ sessions same. same_sessions r sessions same)))
+
+restart_grows : (r : Record) (q : Request) → IfOk (policy_restart_row r q) (λ s. Grows false r s.after)
+unfolding policy_restart_row
+restart_grows r q =
+    ok_bind _ (first_handle q.handles) _ (λ handle.
+    ok_bind _ (all_read q.parameters) _ (λ ended.
+    ok_bind _ (policy_session r.sessions handle) _ (λ s.
+    same_sessions r (with_session_policy r.sessions handle (starting s.hash)) (policy_same r.sessions handle (starting s.hash)))))
+
+-- whether a part is neither the sessions nor the objects
+abbrev keeps_places : Part → Bool
+keeps_places Sessions = false
+keeps_places Objects = false
+keeps_places Loaded = false
+keeps_places _ = true
+
+touched_grows : (p : Part) (old new : Record) → keeps_places p ≡ true → Touches p old new → Grows false old new
+touched_grows Nothing old new fixed touches = let same = ap (λ (r : Record). taken_in r) touches in omega (arith, same)
+touched_grows Sessions old new fixed touches = absurd cc
+touched_grows Objects old new fixed touches = absurd cc
+touched_grows Loaded old new fixed touches = absurd cc
+touched_grows Hierarchies old new fixed touches = let same = ap (λ (r : Record). taken_in r) touches in omega (arith, same)
+touched_grows Banks old new fixed touches = let same = ap (λ (r : Record). taken_in r) touches in omega (arith, same)
+touched_grows Beginning old new fixed touches = let same = ap (λ (r : Record). taken_in r) touches.0 in omega (arith, same)
+
+fixed_grows : (r : Record) (c : CommandCode) (q : Request) → keeps_places (part_of c) ≡ true → IfOk (row_of r c q) (λ s. Grows false r s.after)
+fixed_grows r c q fixed = ok_weaker (λ s. Touches (part_of c) r s.after) _ (row_of r c q) (row_touches r c q) (λ s touches. touched_grows (part_of c) r s.after fixed touches)
+
+pub row_grows : (r : Record) (c : CommandCode) (q : Request) → IfOk (row_of r c q) (λ s. Grows (shape_of c).grows r s.after)
+unfolding row_of shape_of
+row_grows r command.StartAuthSession q = start_grows r q
+row_grows r command.CreatePrimary q = create_primary_grows r q
+row_grows r command.Load q = load_grows r q
+row_grows r command.FlushContext q = flush_grows r q
+row_grows r command.PolicyPcr q = assertion_grows r command.PolicyPcr q
+row_grows r command.PolicyOr q = assertion_grows r command.PolicyOr q
+row_grows r command.PolicyAuthValue q = assertion_grows r command.PolicyAuthValue q
+row_grows r command.PolicyPassword q = assertion_grows r command.PolicyPassword q
+row_grows r command.PolicyCommandCode q = assertion_grows r command.PolicyCommandCode q
+row_grows r command.PolicyLocality q = assertion_grows r command.PolicyLocality q
+row_grows r command.PolicySecret q = assertion_grows r command.PolicySecret q
+row_grows r command.PolicyRestart q = restart_grows r q
+row_grows r command.Startup q = fixed_grows r command.Startup q refl
+row_grows r command.GetRandom q = fixed_grows r command.GetRandom q refl
+row_grows r command.PcrRead q = fixed_grows r command.PcrRead q refl
+row_grows r command.PcrExtend q = fixed_grows r command.PcrExtend q refl
+row_grows r command.PcrEvent q = fixed_grows r command.PcrEvent q refl
+row_grows r command.PcrReset q = fixed_grows r command.PcrReset q refl
+row_grows r command.HierarchyChangeAuth q = fixed_grows r command.HierarchyChangeAuth q refl
+row_grows r command.Create q = fixed_grows r command.Create q refl
+row_grows r command.Hmac q = fixed_grows r command.Hmac q refl
+row_grows r command.ReadPublic q = fixed_grows r command.ReadPublic q refl
+row_grows r command.Unseal q = fixed_grows r command.Unseal q refl
+row_grows r command.PolicyGetDigest q = fixed_grows r command.PolicyGetDigest q refl

@@ -1,0 +1,55 @@
+-- What of a record the success of each command may touch.
+use Rattle.std.specs.Prelude.{◌≡◌}
+use Rattle.tpm_types.specs.declared.command_code.CommandCode.{CommandCode}
+use Rattle.tpm_types.specs.declared.command_code.CommandCode.TheVariants as command
+use Rattle.tpm_record.specs.Record.{Record}
+
+-- the parts of a record: none of it; the sessions; the objects; both; the hierarchies; the banks; and
+-- what a startup begins, which is all of the fixed part, and of the banks the update counter alone
+pub data Part : Type 0 where
+  Nothing : Part
+  Sessions : Part
+  Objects : Part
+  Loaded : Part
+  Hierarchies : Part
+  Banks : Part
+  Beginning : Part
+
+abbrev pub part_of : CommandCode → Part
+part_of command.HierarchyChangeAuth = Hierarchies
+part_of command.CreatePrimary = Objects
+part_of command.PcrEvent = Banks
+part_of command.PcrReset = Banks
+part_of command.Startup = Beginning
+part_of command.PolicySecret = Sessions
+part_of command.Create = Nothing
+part_of command.Hmac = Nothing
+part_of command.Load = Objects
+part_of command.Unseal = Nothing
+part_of command.FlushContext = Loaded
+part_of command.PolicyAuthValue = Sessions
+part_of command.PolicyCommandCode = Sessions
+part_of command.PolicyLocality = Sessions
+part_of command.PolicyOr = Sessions
+part_of command.ReadPublic = Nothing
+part_of command.StartAuthSession = Sessions
+part_of command.GetRandom = Nothing
+part_of command.PcrRead = Nothing
+part_of command.PolicyPcr = Sessions
+part_of command.PolicyRestart = Sessions
+part_of command.PcrExtend = Banks
+part_of command.PolicyGetDigest = Nothing
+part_of command.PolicyPassword = Sessions
+
+-- A record differs from an older one in this part alone.
+abbrev pub Touches : Part → Record → Record → Type 0
+Touches Nothing old new = new ≡ old
+Touches Sessions old new = new ≡ record old { sessions = new.sessions }
+Touches Objects old new = new ≡ record old { objects = new.objects }
+Touches Loaded old new = new ≡ record old { sessions = new.sessions; objects = new.objects }
+Touches Hierarchies old new =
+    new ≡ record old { fixed = record old.fixed { hierarchies = new.fixed.hierarchies } }
+Touches Banks old new = new ≡ record old { fixed = record old.fixed { banks = new.fixed.banks } }
+Touches Beginning old new =
+    (new ≡ record old { fixed = new.fixed })
+    × (new.fixed.banks ≡ record old.fixed.banks { update_count = 0 })

@@ -1,0 +1,3 @@
+pub mod Footprint
+pub mod Shapes
+pub mod Sessions

@@ -1,0 +1,27 @@
+-- Sessions that the entries of a command name.
+use Rattle.std.specs.Prelude.{◌≡◌, true, List, [], ◌∷◌, is_some}
+use Rattle.tpm_session.specs.Sessions.{session_at}
+use Rattle.tpm_types.specs.declared.handle.Handle.{Handle}
+use Rattle.tpm_types.specs.declared.handle.SessionKind.{SessionKind}
+use Rattle.tpm_types.specs.declared.handle.SessionKind.TheVariants as kind
+use Rattle.tpm_types.specs.AuthEntry.{Entry}
+use Rattle.tpm_types.specs.Handle.{session_kind}
+use Rattle.tpm_record.specs.Record.{Record}
+use Rattle.tpm_auth.specs.Entries.{session_of}
+
+-- An entry of this kind is a password, or the session that it names is there.
+abbrev pub HasSession : SessionKind → Record → Entry → Type 0
+HasSession kind.Password r e = Unit {0}
+HasSession kind.Session r e = is_some (session_of r e) ≡ true
+HasSession kind.Other r e = ⊥
+
+-- And each of these entries.
+abbrev pub HaveSessions : Record → List Entry → Type 0
+HaveSessions r [] = Unit {0}
+HaveSessions r (e ∷ es) = HasSession (session_kind e.session) r e × HaveSessions r es
+
+-- Whatever session there was is there still.
+abbrev pub SessionsStay : Record → Record → Type 0
+SessionsStay old new =
+    (handle : Handle) → is_some (session_at old.sessions handle) ≡ true
+    → is_some (session_at new.sessions handle) ≡ true

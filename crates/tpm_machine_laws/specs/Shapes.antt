@@ -1,0 +1,89 @@
+-- What a command's shape says of its success, of its growth and of its parameters.
+use Rattle.std.specs.Prelude.{◌≡◌, ◌≢◌, ◌≤◌, ◌⊎◌, ℕ, ◌+◌, Bool, true, false, List, [], ◌∷◌, is_some, Result, Ok, Err}
+use Rattle.std.specs.Int.{w8, w16, w32}
+use Rattle.tpm_bytes.specs.Reading.{◌>>=◌, number_at, or_fault}
+use Rattle.tpm_places.specs.Places.{taken_count}
+use Rattle.tpm_types.specs.declared.command_code.CommandCode.{CommandCode}
+use Rattle.tpm_types.specs.declared.rc.Rc.{Rc}
+use Rattle.tpm_types.specs.declared.rc.ResponseCode.TheVariants as code
+use Rattle.tpm_types.specs.declared.shape.ParameterKind.{ParameterKind}
+use Rattle.tpm_types.specs.declared.shape.ParameterKind.TheVariants as kind
+use Rattle.tpm_types.specs.Algorithm.{hash_at, hash_or_null_at}
+use Rattle.tpm_types.specs.Buffer.{buffer_at}
+use Rattle.tpm_types.specs.CommandCode.{shape_of}
+use Rattle.tpm_types.specs.DigestList.{digest_list_at}
+use Rattle.tpm_types.specs.DigestValues.{digest_values_at}
+use Rattle.tpm_types.specs.Filled.{filled_by}
+use Rattle.tpm_types.specs.PcrSelection.{selection_at}
+use Rattle.tpm_types.specs.Public.{public_at}
+use Rattle.tpm_types.specs.Rc.{plain}
+use Rattle.tpm_types.specs.SensitiveCreate.{sensitive_create_at}
+use Rattle.tpm_types.specs.SessionType.{session_type_at}
+use Rattle.tpm_types.specs.StartupType.{startup_type_at}
+use Rattle.tpm_types.specs.Symmetric.{symmetric_at}
+use Rattle.tpm_record.specs.Record.{Record}
+use Rattle.tpm_auth.specs.declared.check.Check.TheVariants as check
+use Rattle.tpm_auth.specs.declared.refused.Refused.{Refused}
+use Rattle.tpm_actions.specs.Answer.{begins_sized}
+use Rattle.tpm_actions.specs.Rows.{Success, all_read, parameter}
+
+-- A success has a handle, and a sized buffer as the first parameter of its answer, exactly where the
+-- command's shape says so.
+abbrev pub AnswersItsShape : CommandCode → Success → Type 0
+AnswersItsShape c s =
+    (is_some s.answer.handle ≡ (shape_of c).answers_handle)
+    × (begins_sized s.answer.body ≡ (shape_of c).sized_answer)
+
+-- how many places are taken, by sessions and by objects
+abbrev pub taken_in : Record → ℕ
+taken_in r = taken_count r.sessions + taken_count r.objects
+
+-- One place more is taken where a command grows; else no more are.
+abbrev pub Grows : Bool → Record → Record → Type 0
+Grows true old new = taken_in new ≡ taken_in old + 1
+Grows false old new = taken_in new ≤ taken_in old
+
+-- what stands behind a parameter, or its fault
+abbrev pub behind : {X : Type 0} → Result (X × List ℕ) Rc → Result (List ℕ) Rc
+behind (Ok p) = Ok p.1
+behind (Err rc) = Err rc
+
+-- what stands behind a parameter of this kind
+abbrev pub behind_kind : ParameterKind → List ℕ → Result (List ℕ) Rc
+behind_kind kind.StartupType text = behind (startup_type_at text)
+behind_kind kind.SessionType text = behind (session_type_at text)
+behind_kind kind.U8 text = behind (or_fault (number_at w8 text) (plain code.Insufficient))
+behind_kind kind.U16 text = behind (or_fault (number_at w16 text) (plain code.Insufficient))
+behind_kind kind.U32 text = behind (or_fault (number_at w32 text) (plain code.Insufficient))
+behind_kind kind.Hash text = behind (hash_at text)
+behind_kind kind.HashOrNull text = behind (hash_or_null_at text)
+behind_kind kind.Symmetric text = behind (symmetric_at text)
+behind_kind kind.Selection text = behind (selection_at text)
+behind_kind kind.Digests text = behind (digest_values_at text)
+behind_kind kind.DigestList text = behind (digest_list_at text)
+behind_kind (kind.Buffer most) text = behind (buffer_at most text)
+behind_kind kind.SensitiveCreate text = behind (filled_by sensitive_create_at text)
+behind_kind kind.Public text = behind (filled_by public_at text)
+
+-- parameters of these kinds, the first of them of this number, and nothing behind them; or the first
+-- fault
+abbrev pub spelled : ℕ → List ParameterKind → List ℕ → Result (Unit {0}) Refused
+spelled n [] text = all_read text
+spelled n (kind ∷ kinds) text = do
+  rest ← parameter n (behind_kind kind text)
+  spelled (n + 1) kinds rest
+
+-- A row refuses no parameter.
+abbrev pub ParametersPass : {X : Type 0} → Result X Refused → Type 0
+ParametersPass (Ok s) = Unit {0}
+ParametersPass (Err e) = e.check ≢ check.Parameters
+
+-- A row refuses parameters with this fault, unless it refuses a handle first.
+abbrev pub ParametersFail : {X : Type 0} → Refused → Result X Refused → Type 0
+ParametersFail fault (Ok s) = ⊥
+ParametersFail fault (Err e) = (e ≡ fault) ⊎ (e.check ≡ check.Handles)
+
+-- A row refuses parameters exactly where they are not spelled so, and then with the first fault.
+abbrev pub ReadsParameters : {X : Type 0} → Result (Unit {0}) Refused → Result X Refused → Type 0
+ReadsParameters (Ok done) row = ParametersPass row
+ReadsParameters (Err fault) row = ParametersFail fault row
