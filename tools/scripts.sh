@@ -1,16 +1,20 @@
 #!/bin/sh
 # Runs the scripts of tests/ and examples/, and the shell tests of tests/, with each of the two
-# programs that `rt ci` leaves, and compares what comes of them with the files beside them.
+# programs that `rt ci` leaves, and compares what comes of them with the files beside them. Then it
+# runs the scripts that are to end well with tpmsim_lists, which keeps the device's state in lists
+# and not in fixed slots: the same bytes over both keeps.
 #
 #   tools/scripts.sh                   all of them
 #   tools/scripts.sh pcr_extend files  these
 #
-# NAME.tpm is run as `PROGRAM run NAME.tpm`, and NAME.sh as `sh NAME.sh PROGRAM`. NAME.out is what
-# standard output must be, NAME.err what standard error must be (no file: empty), and NAME.status
-# the exit status (no file: 0). The last line is `N passed, M failed`.
+# NAME.tpm is run as `PROGRAM run NAME.tpm`, or as `tpmsim_lists <NAME.tpm`, and NAME.sh as `sh
+# NAME.sh PROGRAM`. NAME.out is what standard output must be, NAME.err what standard error must be
+# (no file: empty), and NAME.status the exit status (no file: 0). The last line is `N passed, M
+# failed`.
 set -u
 
 top=$(CDPATH='' cd "$(dirname "$0")/.." && pwd -P) || exit 1
+lists=$top/crates/tpmsim_lists/out/tpmsim_lists
 work=$(mktemp -d) || exit 1
 trap 'rm -rf "$work"' EXIT
 : >"$work/empty"
@@ -42,6 +46,20 @@ first_difference() {
     ' "$1" "$base.out" "$work/output"
 }
 
+# status_of TEST: the exit status that is wanted.
+status_of() {
+    if [ -f "${1%.*}.status" ]; then cat "${1%.*}.status"; else echo 0; fi
+}
+
+# run TEST PROGRAM: runs a test with a program.
+run() {
+    case $1,$2 in
+    *.sh,*) timeout 120 sh "$1" "$2" </dev/null ;;
+    *,"$lists") timeout 120 "$2" <"$1" ;;
+    *) timeout 120 "$2" run "$1" </dev/null ;;
+    esac
+}
+
 # check TEST PROGRAM: counts a test that is run with a program, and says what differs.
 check() {
     base=${1%.*}
@@ -51,12 +69,8 @@ check() {
         return
     fi
     status=0
-    case $1 in
-    *.tpm) timeout 120 "$2" run "$1" ;;
-    *) timeout 120 sh "$1" "$2" ;;
-    esac </dev/null >"$work/output" 2>"$work/error" || status=$?
-    wanted_status=0
-    [ ! -f "$base.status" ] || wanted_status=$(cat "$base.status")
+    run "$1" "$2" >"$work/output" 2>"$work/error" || status=$?
+    wanted_status=$(status_of "$1")
     wanted_error=$work/empty
     [ ! -f "$base.err" ] || wanted_error=$base.err
 
@@ -103,6 +117,16 @@ for program in "$top/crates/tpmsim/out/tpmsim" "$top/crates/tpmsim/out/tpmsim.by
     done
 done
 [ "$programs" -gt 0 ] || fail 'no program was there to be run'
+
+if [ -x "$lists" ]; then
+    for test do
+        case $test,$(status_of "$test") in
+        *.tpm,0) check "$test" "$lists" ;;
+        esac
+    done
+else
+    echo "${lists#"$top/"} is not there"
+fi
 
 echo "$passed passed, $failed failed"
 [ "$failed" -eq 0 ]

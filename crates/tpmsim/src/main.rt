@@ -14,6 +14,7 @@ use arguments::Arguments;
 use fault::Fault;
 use std::process::ExitCode;
 use std::{env, fs};
+use tpm_record::kept::SlotKeep;
 use tpmsim_script::run::run_script;
 
 fn main(rt: HostRuntime) -> ExitCode {
@@ -32,11 +33,11 @@ fn try_main(rt: &HostRuntime) -> Result<(), Fault> {
         .collect(rt.alloc())?;
     match Arguments::parse(rt.alloc(), words.as_slice())? {
         Arguments::Run { script: "-" } => {
-            run_script(rt.alloc(), &mut rt.stdin(), &mut rt.stdout())?;
+            run_script::<SlotKeep, _, _>(rt.alloc(), &mut rt.stdin(), &mut rt.stdout())?;
         }
         Arguments::Run { script } => {
             let mut file = fs::open(rt, script).map_err(|error| Fault::of_io(error, Fault::File))?;
-            run_script(rt.alloc(), &mut file, &mut rt.stdout())?;
+            run_script::<SlotKeep, _, _>(rt.alloc(), &mut file, &mut rt.stdout())?;
         }
     }
     Ok(())

@@ -6,6 +6,7 @@
 //!
 //! A crate with tests is proved twice, so the tests of all crates stand in this one.
 
+mod ascending;
 mod banks;
 mod bytes;
 mod ciphers;

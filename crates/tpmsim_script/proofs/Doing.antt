@@ -4,42 +4,41 @@ use Rattle.std.specs.Prelude.{nat_le, option_and_then}
 use Rattle.std.proofs.lemmas.Bool.{false≢true, le-leb, lt-leb}
 use Rattle.std.specs.Io.KnownBytes.{Appends}
 use Rattle.std.specs.Prelude.{OnOk, OnErr}
-use Rattle.tpm_record.specs.Record.{Record}
-use Rattle.tpm_machine.specs.Events.{Given, Cycled}
-use Rattle.tpm_machine.specs.Step.{Stepped, step, step_where}
+use Rattle.tpm_machine.specs.Events.{Given}
+use Rattle.tpm_machine.specs.Step.{Stepped, step}
 use Rattle.tpmsim_script.specs.Line.{Meaning, line_meaning}
 use Rattle.tpmsim_script.specs.Player.{Did}
 use Rattle.tpmsim_script.specs.declared.line_fault.LineFault.{LineFault}
 use Rattle.tpmsim_script.specs.declared.line_fault.LineFault.TheVariants.{Bad, Write}
 use Rattle.tpmsim_script.specs.Script.{Playing, Effect, answer, execute, perform, perform_line}
 
-said_done : (refused : Bool) (p : Playing) (line : List ℕ) (said : Meaning) → length line ≤ 65536 → line_meaning line ≡ Some said → perform_line refused p line ≡ perform refused p said
+said_done : (p : Playing) (line : List ℕ) (said : Meaning) → length line ≤ 65536 → line_meaning line ≡ Some said → perform_line p line ≡ perform p said
 unfolding perform_line
-said_done refused p line said short e =
-    ap (λ b. cond b (option_and_then (perform refused p) (line_meaning line)) None) (le-leb (length line) 65536 short) ∙ ap (option_and_then (perform refused p)) e
+said_done p line said short e =
+    ap (λ b. cond b (option_and_then (perform p) (line_meaning line)) None) (le-leb (length line) 65536 short) ∙ ap (option_and_then (perform p)) e
 
 chosen_none : (b : Bool) → cond b None None ≡ (let none : Option Effect = None in none)
 chosen_none true = refl
 chosen_none false = refl
 
-pub unsaid_done : (refused : Bool) (p : Playing) (line : List ℕ) → line_meaning line ≡ None → perform_line refused p line ≡ None
+pub unsaid_done : (p : Playing) (line : List ℕ) → line_meaning line ≡ None → perform_line p line ≡ None
 unfolding perform_line
-unsaid_done refused p line e = ap (λ said. cond (nat_le (length line) 65536) (option_and_then (perform refused p) said) None) e ∙ chosen_none (nat_le (length line) 65536)
+unsaid_done p line e = ap (λ said. cond (nat_le (length line) 65536) (option_and_then (perform p) said) None) e ∙ chosen_none (nat_le (length line) 65536)
 
 pub nothing_printed : (known : Option (List ℕ)) → Appends known known []
 nothing_printed None = tt
 nothing_printed (Some known) = sym (append-nil known)
 
 -- a line that is too long is bad
-pub lt_none : (refused : Bool) (p : Playing) (line : List ℕ) → 65536 < length line → perform_line refused p line ≡ None
+pub lt_none : (p : Playing) (line : List ℕ) → 65536 < length line → perform_line p line ≡ None
 unfolding perform_line
-lt_none refused p line long = ap (λ b. cond b (option_and_then (perform refused p) (line_meaning line)) None) (lt-leb (length line) 65536 long)
+lt_none p line long = ap (λ b. cond b (option_and_then (perform p) (line_meaning line)) None) (lt-leb (length line) 65536 long)
 
 -- a line did what it says
 pub did_said : (p : Playing) (line : List ℕ) (said : Meaning) (old : Option (List ℕ)) (before : Playing) (result : Result (Unit {0}) LineFault) (new : Option (List ℕ)) (after : Playing)
-    → length line ≤ 65536 → line_meaning line ≡ Some said → Did (λ refused. perform refused p said) old before result new after → Did (λ refused. perform_line refused p line) old before result new after
-did_said p line said old before (Ok done) new after short e did = (did.0, did.1, said_done did.0 p line said short e ∙ did.2, did.3, did.4)
-did_said p line said old before (Err Bad) new after short e did = (λ refused. said_done refused p line said short e ∙ did.0 refused, did.1, did.2)
+    → length line ≤ 65536 → line_meaning line ≡ Some said → Did (perform p said) old before result new after → Did (perform_line p line) old before result new after
+did_said p line said old before (Ok done) new after short e did = (did.0, said_done p line said short e ∙ did.1, did.2, did.3)
+did_said p line said old before (Err Bad) new after short e did = (said_done p line said short e ∙ did.0, did.1, did.2)
 did_said p line said old before (Err Write) new after short e did = tt
 
 abbrev is_bad : Result (Unit {0}) LineFault → Bool
@@ -49,15 +48,10 @@ is_bad other = false
 bad_is_no_write : (let bad : Result (Unit {0}) LineFault = Err Bad in bad ≡ Err Write) → ⊥
 bad_is_no_write e = false≢true (sym (ap is_bad e))
 
--- a command that was executed, with memory refused to it or not, and whose response was printed
-pub executed : (refused : Bool) (p : Playing) (buffer : List ℕ) (s : Stepped) (old : Option (List ℕ)) (result : Result (Unit {0}) LineFault) (new : Option (List ℕ)) (after : Playing)
-    → step_where refused p.device (Given buffer p.locality p.waited p.random) ≡ s → OnOk result (Appends old new (answer p s).text) → after ≡ (answer p s).next → OnErr result (result ≡ Err Write)
-    → Did (λ refused. Some (execute refused p buffer)) old p result new after
-executed refused p buffer s old (Ok done) new after is ok next err = (refused, answer p s, ap (λ s. Some (answer p s)) is, ok, next)
-executed refused p buffer s old (Err Bad) new after is ok next err = absurd (bad_is_no_write err)
-executed refused p buffer s old (Err Write) new after is ok next err = tt
-
--- a power cycle wants no memory
-pub cycled_anyway : (refused : Bool) (r : Record) → step_where refused r Cycled ≡ step r Cycled
-cycled_anyway true r = refl
-cycled_anyway false r = refl
+-- a command that was executed, and whose response was printed
+pub executed : (p : Playing) (buffer : List ℕ) (s : Stepped) (old : Option (List ℕ)) (result : Result (Unit {0}) LineFault) (new : Option (List ℕ)) (after : Playing)
+    → s ≡ step p.device (Given buffer p.locality p.waited p.random) → OnOk result (Appends old new (answer p s).text) → after ≡ (answer p s).next → OnErr result (result ≡ Err Write)
+    → Did (Some (execute p buffer)) old p result new after
+executed p buffer s old (Ok done) new after is ok next err = (answer p s, ap (λ s. Some (answer p s)) (sym is), ok, next)
+executed p buffer s old (Err Bad) new after is ok next err = absurd (bad_is_no_write err)
+executed p buffer s old (Err Write) new after is ok next err = tt

@@ -1,4 +1,4 @@
-ghost use Rattle.std.specs.Prelude.{◌≡◌, ◌*◌, ◌+◌, ◌≤◌, [], length, IfOk, OnOk, OnErr};
+ghost use Rattle.std.specs.Prelude.{◌≡◌, ◌*◌, ◌+◌, ◌≤◌, [], false, length, IfOk, OnOk, OnErr};
 ghost use Rattle.std.specs.Io.KnownBytes.{Keeps};
 ghost use Rattle.tpmsim_script.specs.Answers.{backlog, printout};
 ghost use Rattle.tpmsim_script.specs.Line.{hex_of, meaning_of};
@@ -16,23 +16,24 @@ use std::array;
 use std::io::Write;
 use tpm_machine::event::{Event, Outcome};
 use tpm_machine::machine::Machine;
-use tpm_record::kept::SlotKeep;
+use tpm_record::keep::Keep;
 
-/// A device, and what the lines of a script so far say of its next command.
+/// A device, by a way of keeping its state, and what the lines of a script so far say of its next
+/// command.
 #[derive(Drop)]
-pub struct Player {
+pub struct Player<K: Keep> {
     script: Script,
-    machine: Machine<SlotKeep>,
+    machine: Machine<K>,
     /// That of the event before, which the next is written over.
     outcome: Outcome,
     pub answers: Answers,
 }
 
-impl Player {
+impl<K: Keep> Player<K> {
     /// A new device that was manufactured with the bytes 00 to ff.
-    pub fn new(alloc: Global) -> Result<Player, ScriptFault>
+    pub fn new(alloc: Global) -> Result<Player<K>, ScriptFault>
         ensures fault { OnErr result (result ≡ Err ScriptFault.NoMemory) }
-        ensures playing { IfOk result (λ player. playing_of player ≡ at_first) }
+        ensures playing { IfOk result (λ player. playing_of K.record_of player ≡ at_first) }
         ensures answers { IfOk result (λ player. backlog player.answers ≡ []) }
     {
         let answers = Answers::new(alloc)?;
@@ -46,7 +47,7 @@ impl Player {
     }
 
     /// Does what a line says, and prints the response to a command. What is written in hex goes to
-    /// `room`.
+    /// `room`. Of a keep that can be refused memory nothing is said.
     #[tactic(auto, using(crate::proofs::Doing::unsaid_done))]
     pub fn line<W: Write>(
         &mut self,
@@ -56,9 +57,11 @@ impl Player {
     ) -> Result<(), LineFault>
         requires limit { length line.now ≤ 65536 }
         requires room { length line.now ≤ 2 * length room.old }
-        ensures { Did (λ refused. perform_line refused (playing_of self.old) line.now)
-            (printout (W.contents writer.old) self.old.answers) (playing_of self.old) result
-            (printout (W.contents writer.new) self.new.answers) (playing_of self.new) }
+        ensures { K.can_refuse ≡ false → Did
+            (perform_line (playing_of K.record_of self.old) line.now)
+            (printout (W.contents writer.old) self.old.answers) (playing_of K.record_of self.old)
+            result
+            (printout (W.contents writer.new) self.new.answers) (playing_of K.record_of self.new) }
     {
         let said = Line::parse(line)?;
         self.perform(said, room, writer)
@@ -67,7 +70,7 @@ impl Player {
     /// Writes all responses so far.
     pub fn flush<W: Write>(&mut self, writer: &mut W) -> Result<(), ScriptFault>
         ensures fault { OnErr result (result ≡ Err ScriptFault.Write) }
-        ensures playing { playing_of self.new ≡ playing_of self.old }
+        ensures playing { playing_of K.record_of self.new ≡ playing_of K.record_of self.old }
         ensures empty { OnOk result (backlog self.new.answers ≡ []) }
         ensures printed { OnOk result (Keeps
             (printout (W.contents writer.old) self.old.answers)
@@ -85,9 +88,11 @@ impl Player {
         writer: &mut W,
     ) -> Result<(), LineFault>
         requires { length (hex_of (meaning_of line)) ≤ 2 * length room.old }
-        ensures { Did (λ refused. perform refused (playing_of self.old) (meaning_of line.entry))
-            (printout (W.contents writer.old) self.old.answers) (playing_of self.old) result
-            (printout (W.contents writer.new) self.new.answers) (playing_of self.new) }
+        ensures { K.can_refuse ≡ false → Did
+            (perform (playing_of K.record_of self.old) (meaning_of line.entry))
+            (printout (W.contents writer.old) self.old.answers) (playing_of K.record_of self.old)
+            result
+            (printout (W.contents writer.new) self.new.answers) (playing_of K.record_of self.new) }
     {
         match line {
             Line::Command(digits) => self.execute(decode(digits, room)?, writer)?,
@@ -105,9 +110,11 @@ impl Player {
 
     /// Executes a command, and prints the response.
     fn execute<W: Write>(&mut self, buffer: &[u8], writer: &mut W) -> Result<(), LineFault>
-        ensures { Did (λ refused. Some (execute refused (playing_of self.old) buffer.now))
-            (printout (W.contents writer.old) self.old.answers) (playing_of self.old) result
-            (printout (W.contents writer.new) self.new.answers) (playing_of self.new) }
+        ensures { K.can_refuse ≡ false → Did
+            (Some (execute (playing_of K.record_of self.old) buffer.now))
+            (printout (W.contents writer.old) self.old.answers) (playing_of K.record_of self.old)
+            result
+            (printout (W.contents writer.new) self.new.answers) (playing_of K.record_of self.new) }
     {
         let event = self.script.command(buffer);
         self.machine.execute_into(&event, &mut self.outcome);

@@ -11,6 +11,7 @@ use crate::lines::{Lines, Next};
 use crate::player::Player;
 use std::alloc::{AllocError, Global};
 use std::io::{Read, Write};
+use tpm_record::keep::Keep;
 
 /// How many lines a script may have.
 pub const SCRIPT_LINES: u32 = 1_048_576;
@@ -18,22 +19,22 @@ pub const SCRIPT_LINES: u32 = 1_048_576;
 /// How many bytes a line can write in hex.
 const DECODED_LIMIT: usize = 32_768;
 
-/// Runs the script that `reader` gives on a new device, and writes the response to each command to
-/// `writer`. It takes memory once, at the start. Whatever the fault, the lines before it were run,
-/// and their responses written, but for those that a `Write` fault cut off. A script of more than
-/// [`SCRIPT_LINES`] lines ends with a `Read` fault.
-pub fn run_script<R: Read, W: Write>(
+/// Runs the script that `reader` gives on a new device, whose state is kept by `K`, and writes the
+/// response to each command to `writer`. But for the keep it takes memory once, at the start.
+/// Whatever the fault, the lines before it were run, and their responses written, but for those
+/// that a `Write` fault cut off. A script of more than [`SCRIPT_LINES`] lines ends with a `Read`
+/// fault.
+pub fn run_script<K: Keep, R: Read, W: Write>(
     alloc: Global,
     reader: &mut R,
     writer: &mut W,
 ) -> Result<(), ScriptFault>
-    // What is written is what the script prints, to its end or up to its first bad line. Where
-    // memory is refused to a command, MEMORY is printed in place of the success of a command that
-    // grows something, and nothing else is changed.
-    ensures played { Ran (Plays (R.remaining reader.old)
+    // What is written is what the script prints, to its end or up to its first bad line. This is
+    // said of a keep that can never be refused memory.
+    ensures played { K.can_refuse ≡ false → Ran (Plays (R.remaining reader.old)
         (W.contents writer.old) (W.contents writer.new) at_first 1) result }
 {
-    let mut run = Run::new(alloc)?;
+    let mut run = Run::<K>::new(alloc)?;
     let mut room = room(alloc)?;
     let outcome = run.lines(reader, writer, &mut room);
     run.player.flush(writer)?;
@@ -49,15 +50,15 @@ fn room(alloc: Global) -> Result<Vec<u8>, AllocError>
 
 /// A script, and what plays it.
 #[derive(Drop)]
-struct Run {
+struct Run<K: Keep> {
     lines: Lines,
-    player: Player,
+    player: Player<K>,
 }
 
-impl Run {
-    fn new(alloc: Global) -> Result<Run, ScriptFault>
+impl<K: Keep> Run<K> {
+    fn new(alloc: Global) -> Result<Run<K>, ScriptFault>
         ensures fault { OnErr result (result ≡ Err ScriptFault.NoMemory) }
-        ensures playing { IfOk result (λ run. playing_of run.player ≡ at_first) }
+        ensures playing { IfOk result (λ run. playing_of K.record_of run.player ≡ at_first) }
         ensures lines { IfOk result (λ run. rest_of run.lines ≡ []) }
         ensures ended { IfOk result (λ run. run.lines.ended ≡ false) }
         ensures answers { IfOk result (λ run. backlog run.player.answers ≡ []) }
@@ -78,10 +79,11 @@ impl Run {
     ) -> Result<(), ScriptFault>
         requires room { length room.old ≡ DECODED_LIMIT }
         requires agrees { Agrees (R.remaining reader.old) self.old.lines }
-        ensures { Ran (Plays (text_left (R.remaining reader.old) self.old.lines)
+        ensures { K.can_refuse ≡ false → Ran (Plays
+            (text_left (R.remaining reader.old) self.old.lines)
             (printout (W.contents writer.old) self.old.player.answers)
             (printout (W.contents writer.new) self.new.player.answers)
-            (playing_of self.old.player) 1) result }
+            (playing_of K.record_of self.old.player) 1) result }
     {
         for number in 1..SCRIPT_LINES + 1 {
             match self.next_line(reader, writer, number) {
@@ -109,7 +111,8 @@ impl Run {
         number: u32,
     ) -> Result<bool, ScriptFault>
         requires { Agrees (R.remaining reader.old) self.old.lines }
-        ensures played { playing_of self.new.player ≡ playing_of self.old.player }
+        ensures played { playing_of K.record_of self.new.player
+            ≡ playing_of K.record_of self.old.player }
         ensures found { NextFound number
             (text_left (R.remaining reader.old) self.old.lines) result (line_of self.new.lines)
             (text_left (R.remaining reader.new) self.new.lines) }

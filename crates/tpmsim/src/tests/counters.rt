@@ -1,10 +1,12 @@
-//! Time, Clock and the counts, which no command reads yet.
+//! Time, Clock and the counts, which no command reads yet, over both keeps.
 
+use std::alloc::Global;
+use std::process::Abort;
 use std::test::Fail;
 use tpm_machine::event::Event;
 use tpm_machine::machine::Machine;
 use tpm_record::keep::Keep;
-use tpm_record::kept::ListKeep;
+use tpm_record::kept::{ListKeep, SlotKeep};
 use tpm_types::locality::Locality;
 
 /// TPM2_Startup(CLEAR), so many milliseconds after the command before it.
@@ -15,7 +17,12 @@ fn startup(elapsed_ms: u32) -> Event<'static> {
 
 #[test]
 fn a_power_cycle_ends_time_and_not_clock(rt: HostRuntime) -> Result<(), Fail> {
-    let mut machine: Machine<ListKeep> = Machine::manufacture(rt.alloc(), &[0; 256])?;
+    check_power_cycle::<ListKeep, HostRuntime>(&rt, rt.alloc())?;
+    check_power_cycle::<SlotKeep, HostRuntime>(&rt, rt.alloc())
+}
+
+fn check_power_cycle<K: Keep, R: Abort>(rt: &R, alloc: Global) -> Result<(), Fail> {
+    let mut machine: Machine<K> = Machine::manufacture(alloc, &[0; 256])?;
     machine.execute(&startup(7));
     machine.execute(&startup(5));
     let fixed = machine.keep().fixed();
@@ -30,7 +37,12 @@ fn a_power_cycle_ends_time_and_not_clock(rt: HostRuntime) -> Result<(), Fail> {
 
 #[test]
 fn counters_stop_at_their_ends(rt: HostRuntime) -> Result<(), Fail> {
-    let mut keep = ListKeep::empty(rt.alloc())?;
+    check_ends::<ListKeep, HostRuntime>(&rt, rt.alloc())?;
+    check_ends::<SlotKeep, HostRuntime>(&rt, rt.alloc())
+}
+
+fn check_ends<K: Keep, R: Abort>(rt: &R, alloc: Global) -> Result<(), Fail> {
+    let mut keep = K::empty(alloc)?;
     let fixed = keep.fixed_mut();
     fixed.time = u64::MAX - 8;
     fixed.clock = u64::MAX - 6;

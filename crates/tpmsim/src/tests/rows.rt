@@ -1,11 +1,13 @@
-//! The row that each command reports: its code, and the check that refused it.
+//! The row that each command reports: its code, and the check that refused it. Each test is run
+//! over both keeps.
 
 use std::alloc::{AllocError, Global};
 use std::process::Abort;
 use std::test::Fail;
 use tpm_machine::event::{Event, Outcome, Row};
 use tpm_machine::machine::Machine;
-use tpm_record::kept::ListKeep;
+use tpm_record::keep::Keep;
+use tpm_record::kept::{ListKeep, SlotKeep};
 use tpm_types::locality::Locality;
 
 pub const NO_SESSIONS: u16 = 0x8001;
@@ -325,9 +327,14 @@ fn each_check_of_policies_is_reported(rt: HostRuntime) -> Result<(), Fail> {
     check_rows(&rt, rt.alloc(), &cases)
 }
 
-/// Executes the commands on a new device, and compares each row that is reported.
-pub fn check_rows(rt: &impl Abort, alloc: Global, cases: &[Wanted]) -> Result<(), Fail> {
-    let mut machine: Machine<ListKeep> = Machine::manufacture(alloc, &[0; 256])?;
+/// Executes the commands on a new device, over both keeps, and compares each row that is reported.
+pub fn check_rows<R: Abort>(rt: &R, alloc: Global, cases: &[Wanted]) -> Result<(), Fail> {
+    check_rows_over::<ListKeep, R>(rt, alloc, cases)?;
+    check_rows_over::<SlotKeep, R>(rt, alloc, cases)
+}
+
+fn check_rows_over<K: Keep, R: Abort>(rt: &R, alloc: Global, cases: &[Wanted]) -> Result<(), Fail> {
+    let mut machine: Machine<K> = Machine::manufacture(alloc, &[0; 256])?;
     for case in cases {
         let buffer = case.buffer(alloc)?;
         let row = machine.execute(&command(buffer.as_slice())).row;
@@ -341,7 +348,12 @@ pub fn check_rows(rt: &impl Abort, alloc: Global, cases: &[Wanted]) -> Result<()
 
 #[test]
 fn a_length_is_checked_before_and_behind_the_tag(rt: HostRuntime) -> Result<(), Fail> {
-    let mut machine: Machine<ListKeep> = Machine::manufacture(rt.alloc(), &[0; 256])?;
+    check_lengths::<ListKeep, HostRuntime>(&rt, rt.alloc())?;
+    check_lengths::<SlotKeep, HostRuntime>(&rt, rt.alloc())
+}
+
+fn check_lengths<K: Keep, R: Abort>(rt: &R, alloc: Global) -> Result<(), Fail> {
+    let mut machine: Machine<K> = Machine::manufacture(alloc, &[0; 256])?;
     let whole = [0x80, 1, 0, 0, 0, 11, 0, 0, 1, 0x7b];
     for (buffer, check) in [(&whole[..9], 1), (&whole, 3)] {
         let row = machine.execute(&command(buffer)).row;
@@ -352,15 +364,20 @@ fn a_length_is_checked_before_and_behind_the_tag(rt: HostRuntime) -> Result<(), 
 
 #[test]
 fn a_run_tells_each_outcome_once(rt: HostRuntime) -> Result<(), Fail> {
-    let startup = case(NO_SESSIONS, STARTUP, &[CLEAR], "ok").buffer(rt.alloc())?;
-    let random = case(NO_SESSIONS, GET_RANDOM, &[CLEAR], "G5").buffer(rt.alloc())?;
+    check_run::<ListKeep, HostRuntime>(&rt, rt.alloc())?;
+    check_run::<SlotKeep, HostRuntime>(&rt, rt.alloc())
+}
+
+fn check_run<K: Keep, R: Abort>(rt: &R, alloc: Global) -> Result<(), Fail> {
+    let startup = case(NO_SESSIONS, STARTUP, &[CLEAR], "ok").buffer(alloc)?;
+    let random = case(NO_SESSIONS, GET_RANDOM, &[CLEAR], "G5").buffer(alloc)?;
     let events = [
         command(startup.as_slice()),
         Event::PowerCycle,
         command(random.as_slice()),
     ];
-    let mut machine: Machine<ListKeep> = Machine::manufacture(rt.alloc(), &[0; 256])?;
-    let mut told = Vec::new(rt.alloc());
+    let mut machine: Machine<K> = Machine::manufacture(alloc, &[0; 256])?;
+    let mut told = Vec::new(alloc);
     let mut kept = true;
     machine.run(
         &events,

@@ -1,11 +1,15 @@
-//! Sessions by their handles, and numbers that were computed outside: HMACs and hashes by Python's
-//! `hmac` and `hashlib`, the encrypted parameter by OpenSSL.
+//! Sessions by their handles, in both kinds of places, and numbers that were computed outside: HMACs
+//! and hashes by Python's `hmac` and `hashlib`, the encrypted parameter by OpenSSL.
 
 ghost use Rattle.std.specs.Prelude.{◌≤◌, length};
 
+use std::alloc::Global;
+use std::process::Abort;
 use tpm_mac::HashAlg;
 use tpm_name::Name;
+use tpm_places::fixed_places::FixedPlaces;
 use tpm_places::list_places::ListPlaces;
+use tpm_places::places::Places;
 use tpm_policy::state::PolicyState;
 use tpm_session::encryption::SymmetricFault;
 use tpm_session::entry::CommandText;
@@ -19,6 +23,10 @@ use tpm_types::auth_value::AuthValue;
 use tpm_types::handle::Handle;
 use tpm_types::session_type::SessionType;
 use tpm_types::symmetric::SymmetricDefinition;
+
+type InList = ListPlaces<Session, 16>;
+
+type InSlots = FixedPlaces<Session, 16>;
 
 const NONCE_CALLER: &[u8] = &[0xaa; 16];
 
@@ -76,8 +84,8 @@ fn start(kind: SessionType, binding: Option<Binding>) -> Start<'static> {
 }
 
 /// The number of the handle of a session that starts.
-fn started(
-    sessions: &mut Sessions<ListPlaces<Session, 16>>,
+fn started<S: Places<Session, 16>>(
+    sessions: &mut Sessions<S>,
     kind: SessionType,
 ) -> Result<u32, StartFault> {
     sessions
@@ -86,14 +94,19 @@ fn started(
 }
 
 /// The TPM's nonce of a session.
-fn nonce_of(sessions: &Sessions<ListPlaces<Session, 16>>, number: u32) -> Option<&[u8]> {
+fn nonce_of<S: Places<Session, 16>>(sessions: &Sessions<S>, number: u32) -> Option<&[u8]> {
     let session = sessions.get(Handle { number })?;
     Some(session.nonce_tpm.as_slice())
 }
 
 #[test]
 fn sessions_are_found_by_their_handles(rt: HostRuntime) {
-    let mut sessions: Sessions<ListPlaces<Session, 16>> = Sessions::new(rt.alloc());
+    find_sessions::<InList, HostRuntime>(&rt, rt.alloc());
+    find_sessions::<InSlots, HostRuntime>(&rt, rt.alloc());
+}
+
+fn find_sessions<S: Places<Session, 16>, R: Abort>(rt: &R, alloc: Global) {
+    let mut sessions: Sessions<S> = Sessions::new(alloc);
     assert_eq!(rt; started(&mut sessions, SessionType::Hmac), Ok(0x0200_0000));
     assert_eq!(rt;
         started(&mut sessions, SessionType::Policy),
@@ -126,7 +139,12 @@ fn sessions_are_found_by_their_handles(rt: HostRuntime) {
 
 #[test]
 fn sixteen_sessions_start(rt: HostRuntime) {
-    let mut sessions: Sessions<ListPlaces<Session, 16>> = Sessions::new(rt.alloc());
+    fill_sessions::<InList, HostRuntime>(&rt, rt.alloc());
+    fill_sessions::<InSlots, HostRuntime>(&rt, rt.alloc());
+}
+
+fn fill_sessions<S: Places<Session, 16>, R: Abort>(rt: &R, alloc: Global) {
+    let mut sessions: Sessions<S> = Sessions::new(alloc);
     for number in 0x0300_0000..0x0300_0010u32 {
         assert_eq!(rt; started(&mut sessions, SessionType::Policy), Ok(number));
     }

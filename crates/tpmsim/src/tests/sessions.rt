@@ -1,6 +1,8 @@
-//! A caller's side of an HMAC session, over whole texts; and what a refused authorization counts.
+//! A caller's side of an HMAC session, over whole texts, and what a refused authorization counts:
+//! over both keeps.
 
 use std::alloc::Global;
+use std::process::Abort;
 use std::test::Fail;
 use tpm_aes::Aes128;
 use tpm_auth::grant::authorize;
@@ -9,7 +11,8 @@ use tpm_bytes::cursor::Cursor;
 use tpm_mac::{HashAlg, digest_parts, hmac_parts, kdfa};
 use tpm_machine::event::Event;
 use tpm_machine::machine::Machine;
-use tpm_record::kept::ListKeep;
+use tpm_record::keep::Keep;
+use tpm_record::kept::{ListKeep, SlotKeep};
 use tpm_types::locality::Locality;
 use tpm_types::whole_command::Command;
 
@@ -49,7 +52,7 @@ fn joined(alloc: Global, parts: &[&[u8]]) -> Result<Vec<u8>, Fail> {
 }
 
 /// A new device that was started, with that session.
-fn device(alloc: Global) -> Result<Machine<ListKeep>, Fail> {
+fn device<K: Keep>(alloc: Global) -> Result<Machine<K>, Fail> {
     let mut machine = Machine::manufacture(alloc, &[0; 256])?;
     machine.execute(&event(STARTUP));
     machine.execute(&event(START));
@@ -83,7 +86,12 @@ fn encrypted_new(session: &[u8; 32]) -> [u8; 3] {
 
 #[test]
 fn owner_auth_is_changed_through_a_session(rt: HostRuntime) -> Result<(), Fail> {
-    let mut machine = device(rt.alloc())?;
+    change_owner_auth::<ListKeep, HostRuntime>(&rt, rt.alloc())?;
+    change_owner_auth::<SlotKeep, HostRuntime>(&rt, rt.alloc())
+}
+
+fn change_owner_auth<K: Keep, R: Abort>(rt: &R, alloc: Global) -> Result<(), Fail> {
+    let mut machine: Machine<K> = device(alloc)?;
     let key = session_key();
     let value = encrypted_new(&key);
     let hash = digest_parts(HashAlg::Sha256, &[CHANGE_AUTH, OWNER, &[0, 3], &value]);
@@ -102,16 +110,16 @@ fn owner_auth_is_changed_through_a_session(rt: HostRuntime) -> Result<(), Fail> 
         &[0, 3],
         &value,
     ];
-    let buffer = joined(rt.alloc(), sized)?;
+    let buffer = joined(alloc, sized)?;
     let outcome = machine.execute(&event(buffer.as_slice()));
 
     let hash = digest_parts(HashAlg::Sha256, &[&[0; 4], CHANGE_AUTH]);
-    let new_key = joined(rt.alloc(), &[&key, b"new"])?;
+    let new_key = joined(alloc, &[&key, b"new"])?;
     let text: &[&[u8]] = &[hash.as_slice(), &DEVICE, &CALLER, ATTRIBUTES];
     let hmac = hmac_parts(HashAlg::Sha256, new_key.as_slice(), text);
     let header = b"\x80\x02\0\0\0\x43\0\0\0\0\0\0\0\0\0\x10";
     let wanted = joined(
-        rt.alloc(),
+        alloc,
         &[header, &DEVICE, ATTRIBUTES, &[0, 32], hmac.as_slice()],
     )?;
     assert_eq!(rt; outcome.response.as_slice(), wanted.as_slice());
@@ -119,7 +127,7 @@ fn owner_auth_is_changed_through_a_session(rt: HostRuntime) -> Result<(), Fail> 
 }
 
 /// What the refusal of a command's authorization counts, and its code.
-fn refusal(machine: &Machine<ListKeep>, buffer: &[u8]) -> Option<(u32, Counted)> {
+fn refusal<K: Keep>(machine: &Machine<K>, buffer: &[u8]) -> Option<(u32, Counted)> {
     let command = Command::read(&mut Cursor::new(buffer)).ok()?;
     match authorize(machine.keep(), &command, here()) {
         Ok(_) => None,
@@ -129,7 +137,12 @@ fn refusal(machine: &Machine<ListKeep>, buffer: &[u8]) -> Option<(u32, Counted)>
 
 #[test]
 fn tries_at_lockout_count(rt: HostRuntime) -> Result<(), Fail> {
-    let machine = device(rt.alloc())?;
+    try_lockout::<ListKeep, HostRuntime>(&rt, rt.alloc())?;
+    try_lockout::<SlotKeep, HostRuntime>(&rt, rt.alloc())
+}
+
+fn try_lockout<K: Keep, R: Abort>(rt: &R, alloc: Global) -> Result<(), Fail> {
+    let machine: Machine<K> = device(alloc)?;
     let lockout =
         b"\x80\x02\0\0\0\x1e\0\0\x01\x29\x40\0\0\x0a\0\0\0\x0a\x40\0\0\x09\0\0\x01\0\x01\x01\0\0";
     let owner =

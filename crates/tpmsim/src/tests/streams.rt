@@ -3,6 +3,7 @@
 use std::io;
 use std::io::{ErrorKind, Read, Write};
 use std::test::Fail;
+use tpm_record::kept::SlotKeep;
 use tpmsim_script::fault::ScriptFault;
 use tpmsim_script::run::run_script;
 
@@ -51,7 +52,8 @@ fn a_reader_is_not_asked_again(rt: HostRuntime) -> Result<(), Fail> {
         let turns = [Turn::Gives(STARTUP), turn, Turn::Gives(b"\ncmd\n")];
         let mut reader = Reader { turns: &turns };
         let mut writer = Vec::new(rt.alloc());
-        assert_eq!(rt; run_script(rt.alloc(), &mut reader, &mut writer), outcome);
+        let given = run_script::<SlotKeep, _, _>(rt.alloc(), &mut reader, &mut writer);
+        assert_eq!(rt; given, outcome);
         assert_eq!(rt; writer.as_slice(), written);
         assert_eq!(rt; reader.turns.len(), 1);
     }
@@ -100,7 +102,7 @@ fn a_writer_may_take_pieces_and_fail(rt: HostRuntime) -> Result<(), Fail> {
             room,
             flushes,
         };
-        let given = run_script(rt.alloc(), &mut reader, &mut writer);
+        let given = run_script::<SlotKeep, _, _>(rt.alloc(), &mut reader, &mut writer);
         assert_eq!(rt; given, outcome, "room for {room}");
         assert_eq!(rt;
             Some(writer.taken.as_slice()),

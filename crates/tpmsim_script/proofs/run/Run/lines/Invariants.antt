@@ -1,18 +1,19 @@
-use Rattle.std.proofs.Common.{ℕ, List, Option}
+use Rattle.std.proofs.Common.{◌≡◌, ℕ, List, Option, false}
 use Rattle.tpmsim_script.specs.Answers.{printout}
 use Rattle.tpmsim_script.specs.Lines.{Agrees, text_left}
 use Rattle.tpmsim_script.specs.Player.{playing_of}
 use Rattle.tpmsim_script.specs.Script.{Plays}
 use Rattle.tpmsim_script.proofs.run.Run.lines.Given as goal
 
--- what is left to be played decides about the whole
+-- what is left to be played decides about the whole, where no memory can be refused
 abbrev pub invariant-loop-number : goal.invariant-loop-number
 invariant-loop-number g l =
     let remaining = g.R.Read.remaining in
     let contents = g.W.Write.contents in
+    let record_of = g.K.Keep.record_of in
     record {
-      whole : (new : Option (List ℕ)) (bad : Option ℕ)
-          → Plays (text_left (remaining l.reader) l.self.lines) (printout (contents l.writer) l.self.player.answers) new (playing_of l.self.player) l.number bad
-          → Plays (text_left (remaining l.fn.reader) l.fn.self.lines) (printout (contents l.fn.writer) l.fn.self.player.answers) new (playing_of l.fn.self.player) 1 bad;
+      whole : g.K.Keep.can_refuse ≡ false → (new : Option (List ℕ)) (bad : Option ℕ)
+          → Plays (text_left (remaining l.reader) l.self.lines) (printout (contents l.writer) l.self.player.answers) new (playing_of record_of l.self.player) l.number bad
+          → Plays (text_left (remaining l.fn.reader) l.fn.self.lines) (printout (contents l.fn.writer) l.fn.self.player.answers) new (playing_of record_of l.fn.self.player) 1 bad;
       agrees : Agrees (remaining l.reader) l.self.lines;
     }

@@ -9,7 +9,7 @@ use Rattle.tpmsim_script.proofs.run.Run.next_line.Given as goal
 abbrev pub invariant-loop : goal.invariant-loop
 invariant-loop g l =
     record {
-      playing : playing_of l.self.player ≡ playing_of l.fn.self.player;
+      playing : playing_of g.K.Keep.record_of l.self.player ≡ playing_of g.K.Keep.record_of l.fn.self.player;
       unbroken : IsUnbroken (line_of l.self.lines);
       text : Keeps (text_left (g.R.Read.remaining l.fn.reader) l.fn.self.lines) (prepend_known (line_of l.self.lines ++ rest_of l.self.lines) (g.R.Read.remaining l.reader));
       agrees : Agrees (g.R.Read.remaining l.reader) l.self.lines;
