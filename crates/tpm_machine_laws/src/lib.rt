@@ -1,8 +1,8 @@
 #![tactic(auto)]
 
 //! Laws over the rows of all commands, each on the contract of a function that does nothing: what
-//! of the record a success touches, what a command's shape says of it, and that sessions in use
-//! stay.
+//! of the record a row's success touches, what a command's shape says of it, and that sessions in
+//! use stay. Behind a row, sessions are rolled and end, which is the step's and no row's.
 //!
 //! It stands on the definitions of tpm_machine. A row is opened here, so that theorems over
 //! histories need not open any.
@@ -16,7 +16,7 @@ ghost use Rattle.tpm_actions.specs.Request.{Request};
 ghost use Rattle.tpm_machine.specs.Step.{Accepted, acceptance};
 ghost use Rattle.tpm_machine.specs.Table.{row_of};
 ghost use Rattle.tpm_machine_laws.specs.Footprint.{Touches, part_of};
-ghost use Rattle.tpm_machine_laws.specs.Sessions.{HaveSessions};
+ghost use Rattle.tpm_machine_laws.specs.Sessions.{HaveSessions, SessionsStay};
 ghost use Rattle.tpm_machine_laws.specs.Shapes.{AnswersItsShape, Grows, ReadsParameters, spelled};
 
 /// A success touches the part of its command, and nothing else.
@@ -43,8 +43,8 @@ pub fn rows_grow_by_their_shapes()
         → IfOk (row_of r c q) (λ s. Grows (shape_of c).grows r s.after) }
 {}
 
-/// A row refuses parameters exactly where they are not of the kinds that its command's shape lists,
-/// and then with their first fault.
+/// A row that refuses no handle refuses parameters exactly where they are not of the kinds that its
+/// command's shape lists, and then with their first fault.
 #[inline(always)]
 #[tactic(auto, using(crate::proofs::Parameters::row_reads))]
 pub fn rows_read_their_parameters()
@@ -52,7 +52,16 @@ pub fn rows_read_their_parameters()
         → ReadsParameters (spelled 1 (shape_of c).parameters q.parameters) (row_of r c q) }
 {}
 
-/// Behind the success of a command that may have sessions, that of each entry is still there.
+/// The row of a command that may have sessions leaves every session there.
+#[inline(always)]
+#[tactic(auto, using(crate::proofs::Sessions::row_stays))]
+pub fn rows_leave_sessions()
+    ensures { (r : Record) (c : CommandCode) (q : Request)
+        → (shape_of c).forbids_sessions ≡ false
+        → IfOk (row_of r c q) (λ s. SessionsStay r s.after) }
+{}
+
+/// Behind the row of a command that may have sessions, that of each entry is still there.
 #[inline(always)]
 #[tactic(auto, using(crate::proofs::Accepted::accepted_has))]
 pub fn sessions_in_use_stay()
