@@ -1,6 +1,6 @@
 """The device once more, in plain Python: what it answers to each event, and what it then is.
 
-It knows nothing of the product's code, and its rules are those of docs/TABLE.md. What no command
+It knows nothing of the product's code, and its rules are those of docs/table. What no command
 shows yet is left out: time, and the counting of tries.
 """
 

@@ -28,7 +28,7 @@ SE_HMAC, SE_POLICY, SE_TRIAL = 0x00, 0x01, 0x03
 CONTINUE_SESSION, AUDIT_EXCLUSIVE, AUDIT_RESET = 0x01, 0x02, 0x04
 RESERVED, DECRYPT, ENCRYPT, AUDIT = 0x18, 0x20, 0x40, 0x80
 
-# The response codes of docs/TABLE.md (Part 2, section 6.6.3), without their places; MEMORY, which no
+# The response codes of docs/table (Part 2, section 6.6.3), without their places; MEMORY, which no
 # script can ask for, is left out.
 CODES = {
     "BAD_TAG": 0x01E,

@@ -1,5 +1,5 @@
 """What every command goes through before its own parameters: the checks of its buffer, its handles
-and the entries of its authorization area, in the order of docs/TABLE.md.
+and the entries of its authorization area, in the order of docs/table/order_of_refusals.md.
 """
 
 from dataclasses import dataclass

@@ -1,7 +1,7 @@
 #!/usr/bin/env python3
 """Writes tests/localities.tpm: each PCR extended and reset from each locality.
 
-Which PCR changes from where is the table of TPM2_PCR_Extend in docs/TABLE.md, once more.
+Which PCR changes from where is the table of TPM2_PCR_Extend in docs/table/pcrs.md, once more.
 """
 
 import pathlib
