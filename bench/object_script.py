@@ -11,7 +11,8 @@ TPM2_HMAC is over 1,024 bytes. Each is authorized by a password.
 import pathlib
 import sys
 
-sys.path.insert(0, str(pathlib.Path(__file__).resolve().parent.parent / "tests" / "outside"))
+TOP = pathlib.Path(__file__).resolve().parent.parent
+sys.path += [str(TOP / "tests" / "outside" / it) for it in ("device", "scripts")]
 
 from frames import RH_OWNER, SHA256
 from object_caller import ObjectCaller, hmac_key, sealed, storage_key

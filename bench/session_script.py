@@ -11,7 +11,8 @@ sent.
 import pathlib
 import sys
 
-sys.path.insert(0, str(pathlib.Path(__file__).resolve().parent.parent / "tests" / "outside"))
+TOP = pathlib.Path(__file__).resolve().parent.parent
+sys.path += [str(TOP / "tests" / "outside" / it) for it in ("device", "scripts")]
 
 from caller import Caller, Use
 from frames import RH_OWNER

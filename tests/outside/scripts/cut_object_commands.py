@@ -1,0 +1,129 @@
+#!/usr/bin/env python3
+"""Writes tests/cut_object_commands.tpm: the commands of objects, cut to every shorter length."""
+
+import paths
+
+import cuts
+import frames
+import objects
+from cuts import AREA, HANDLE
+from device import MANUFACTURED, SEED_BYTES
+from frames import SHA256, command, entry, number, on_handle, sized
+from object_caller import hmac_key, sealed, storage_key
+
+HEAD = """\
+# The commands of objects, each cut to every shorter length: first as it is, and then with its
+# commandSize corrected. At last it comes whole. Written by tests/outside/cut_object_commands.py.
+"""
+
+# A storage key, and what is sealed under it, with random bytes that are zeros.
+PARENT, CHILD = 0x8000_0000, 0x8000_0001
+PCR_0 = [(SHA256, [0])]
+
+
+def template(public, data=b""):
+    return objects.Template(b"abc", data, public, b"outside", PCR_0)
+
+
+def creation(public, data=b""):
+    """The parameters of its creation."""
+    asked = template(public, data)
+    return frames.creation(
+        frames.sensitive_create(b"abc", data), sized(public.text), asked.outside_info, asked.pcrs
+    )
+
+
+def loading(data):
+    """The parameters of TPM2_Load of what was created with the storage key as its parent."""
+    parent = objects.primary(template(storage_key()), frames.RH_OWNER, MANUFACTURED[:SEED_BYTES])
+    public, sensitive, _ = objects.created(template(sealed(), data), bytes(256))
+    private = objects.wrapped(parent, public.name, sensitive, bytes(16))
+    return sized(private) + sized(public.text)
+
+
+def on_object(code, handle, parameters=b""):
+    return on_handle(code, handle, parameters, [entry(hmac=b"abc")])
+
+
+def creating(start, parameters):
+    """Where the pieces of a creation end, the parameters of which begin at `start`."""
+    end = start + len(parameters)
+    sensitive = start + 2 + int.from_bytes(parameters[:2], "big")
+    return [
+        (sensitive, "within inSensitive", "INSUFFICIENT/p1"),
+        (end - 19, "within inPublic", "INSUFFICIENT/p2"),
+        (end - 10, "within outsideInfo", "INSUFFICIENT/p3"),
+        (end, "within creationPCR", "INSUFFICIENT/p4"),
+    ]
+
+
+# The area with one entry, of the password "abc".
+AREA_ABC = (30, "within the authorization area", "AUTHSIZE")
+PRIMARY, SEALED, LOADED = creation(storage_key()), creation(sealed(), b"secret"), loading(b"secret")
+KEY = creation(hmac_key(), b"key")
+PRIVATE_END = AREA_ABC[0] + len(LOADED) - 2 - len(sealed(unique=bytes(32)).text)
+
+
+COMMANDS = [
+    cuts.STARTUP,
+    (
+        "TPM2_CreatePrimary of a storage key",
+        on_handle(frames.CREATE_PRIMARY, frames.RH_OWNER, PRIMARY),
+        [HANDLE, AREA, *creating(AREA[0], PRIMARY)],
+        "SUCCESS",
+    ),
+    (
+        "TPM2_Create of sealed data",
+        on_object(frames.CREATE, PARENT, SEALED),
+        [HANDLE, AREA_ABC, *creating(AREA_ABC[0], SEALED)],
+        "SUCCESS",
+    ),
+    (
+        "TPM2_Load of what was created",
+        on_object(frames.LOAD, PARENT, LOADED),
+        [
+            HANDLE,
+            AREA_ABC,
+            (PRIVATE_END, "within inPrivate", "INSUFFICIENT/p1"),
+            (AREA_ABC[0] + len(LOADED), "within inPublic", "INSUFFICIENT/p2"),
+        ],
+        "SUCCESS",
+    ),
+    (
+        "TPM2_ReadPublic",
+        command(frames.READ_PUBLIC, number(CHILD, 4)),
+        [(14, "within objectHandle", "INSUFFICIENT/h1")],
+        "SUCCESS",
+    ),
+    (
+        "TPM2_Unseal",
+        on_object(frames.UNSEAL, CHILD),
+        [HANDLE, AREA_ABC],
+        "SUCCESS",
+    ),
+    (
+        "TPM2_FlushContext of it",
+        command(frames.FLUSH_CONTEXT, number(CHILD, 4)),
+        [(14, "within flushHandle", "INSUFFICIENT/p1")],
+        "SUCCESS",
+    ),
+    (
+        "TPM2_CreatePrimary of an HMAC key",
+        on_handle(frames.CREATE_PRIMARY, frames.RH_OWNER, KEY),
+        [HANDLE, AREA, *creating(AREA[0], KEY)],
+        "SUCCESS",
+    ),
+    (
+        "TPM2_HMAC by it",
+        on_object(frames.HMAC, CHILD, sized(b"data") + number(SHA256, 2)),
+        [
+            HANDLE,
+            AREA_ABC,
+            (36, "within buffer", "INSUFFICIENT/p1"),
+            (38, "within hashAlg", "INSUFFICIENT/p2"),
+        ],
+        "SUCCESS",
+    ),
+]
+
+cuts.write("cut_object_commands.tpm", HEAD, COMMANDS)

@@ -1,0 +1,80 @@
+#!/usr/bin/env python3
+"""Writes the expected output NAME.out beside scripts NAME.tpm, without running the simulator.
+
+    python3 tests/outside/scripts/expected.py                    for every script in tests/
+    python3 tests/outside/scripts/expected.py tests/startup.tpm  for these
+
+The comment above a command, or above a few of them, names what must come: `: SUCCESS`, or a
+response code with its number, as in `: VALUE/p1 (1C4)`. It holds up to the next comment or empty
+line. What is answered is computed by device.py; where the comment names another outcome, that is a
+fault, and nothing is written.
+"""
+
+import pathlib
+import re
+import sys
+
+import paths
+
+import frames
+from device import Device
+
+WANTED = re.compile(r": (SUCCESS|[A-Z][A-Z0-9_]+(?:/[hps][1-9])?)(?: \(([0-9A-F]{3})\))?[.,;]")
+OUTCOMES = {"SUCCESS", *frames.CODES}
+RANDOM_BYTES = 256
+
+
+def wanted_of(comment):
+    """What a comment says must come: None for a success, else the name of a response code."""
+    named = [it for it in WANTED.findall(comment) if it[0].partition("/")[0] in OUTCOMES]
+    if len(named) != 1:
+        raise ValueError(f"the comment names {len(named)} outcomes:{comment}")
+    name, shown = named[0]
+    if name == "SUCCESS":
+        return None
+    code = frames.code_of(name)
+    if shown != f"{code:03X}":
+        raise ValueError(f"{name} is {code:03X}, and not {shown or 'without a number'}")
+    return name
+
+
+def responses_of(script):
+    """The responses that a script prints, up to its end or to a line of no known word."""
+    device, locality, random = Device(), 0, bytes(RANDOM_BYTES)
+    comment, in_comment = "", False
+    for line in script.splitlines():
+        word, _, argument = line.partition(" ")
+        if line.startswith("#"):
+            comment = (comment if in_comment else "") + line[1:]
+        elif word == "":
+            comment = ""
+        elif word == "cmd":
+            wanted = wanted_of(comment)
+            response, refused = device.execute(bytes.fromhex(argument), locality, random)
+            if refused != wanted:
+                raise ValueError(f"it is {refused or 'a success'}, which is not said:{comment}")
+            yield response
+        elif word == "loc":
+            locality = int(argument)
+        elif word == "entropy":
+            entropy = bytes.fromhex(argument)
+            random = (entropy * RANDOM_BYTES)[:RANDOM_BYTES]
+        elif word == "power":
+            device.power_cycle()
+        elif word != "wait":
+            return
+        in_comment = line.startswith("#")
+
+
+def main(names):
+    for path in map(pathlib.Path, names) if names else sorted(paths.TESTS.glob("*.tpm")):
+        lines = []
+        try:
+            for response in responses_of(path.read_text("ascii")):
+                lines.append(response.hex() + "\n")
+        except ValueError as fault:
+            sys.exit(f"{path}, command {len(lines) + 1}: {fault}")
+        path.with_suffix(".out").write_text("".join(lines), "ascii")
+
+
+main(sys.argv[1:])

@@ -1,0 +1,239 @@
+#!/usr/bin/env python3
+"""Writes tests/hmac_sessions.tpm: commands that HMAC sessions authorize."""
+
+import paths
+
+import frames
+from caller import Caller, Use, flipped
+from frames import RH_ENDORSEMENT, RH_OWNER, SHA1, SHA256, sized
+from script import Script
+
+NAMES = {SHA1: "SHA-1", SHA256: "SHA-256"}
+AUTH = b"owner"
+ENDS = 0x00
+
+script = Script(
+    "tests/hmac_sessions.tpm",
+    "HMAC sessions authorize commands: unbound, bound to the entity that they authorize, and bound "
+    "to another. Each of their hmacs was computed outside, and each line `entropy` gives new "
+    "random bytes, so that each command has its own nonces.",
+)
+caller = Caller(script)
+
+
+script.startup()
+caller.accepted('ownerAuth is "owner" from here on', caller.change_auth(RH_OWNER, AUTH, b""))
+caller.accepted(
+    'endorsementAuth is "endorsement"', caller.change_auth(RH_ENDORSEMENT, b"endorsement", b"")
+)
+
+
+def wrong_bytes(session, right):
+    """Each part of an authorized TPM2_HierarchyChangeAuth with one bit changed."""
+    entry = right.entries[0]
+    caller.refused(
+        "A wrong hmac: in its last byte, in its first, of half the length, and of no bytes",
+        "BAD_AUTH/s1",
+        right.but_entry(1, hmac=flipped(entry.hmac)),
+        right.but_entry(1, hmac=flipped(entry.hmac, 0)),
+        right.but_entry(1, hmac=entry.hmac[: len(entry.hmac) // 2]),
+        right.but_entry(1, hmac=b""),
+    )
+    caller.refused(
+        "And a byte too long",
+        "BAD_AUTH/s1" if session.algorithm == SHA1 else "SIZE/s1",
+        right.but_entry(1, hmac=entry.hmac + b"\0"),
+    )
+    caller.refused(
+        "Another nonce than the one that the hmac is of, and none",
+        "BAD_AUTH/s1",
+        right.but_entry(1, nonce=flipped(entry.nonce)),
+        right.but_entry(1, nonce=b""),
+    )
+    caller.refused(
+        "Other attributes, without continueSession",
+        "BAD_AUTH/s1",
+        right.but_entry(1, attributes=ENDS),
+    )
+    caller.refused(
+        "Other parameters, one bit of them or one byte less",
+        "BAD_AUTH/s1",
+        right.but(parameters=flipped(right.parameters)),
+        right.but(parameters=sized(AUTH[:-1])),
+    )
+    caller.refused(
+        "Another command, TPM2_PCR_Event, with the handle PCR 16",
+        "BAD_AUTH/s1",
+        right.but(code=frames.PCR_EVENT, handles=[16]),
+    )
+    caller.refused(
+        "Another handle, TPM_RH_ENDORSEMENT", "BAD_AUTH/s1", right.but(handles=[RH_ENDORSEMENT])
+    )
+
+
+for bind, words in (
+    (frames.RH_NULL, "to nothing"),
+    (RH_OWNER, "to TPM_RH_OWNER"),
+    (RH_ENDORSEMENT, "to TPM_RH_ENDORSEMENT"),
+):
+    for algorithm in (SHA1, SHA256):
+        script.chapter(
+            f"A session of {NAMES[algorithm]}, bound {words}, on TPM2_HierarchyChangeAuth of "
+            'TPM_RH_OWNER, which sets "owner" again.',
+        )
+        session = caller.start("TPM2_StartAuthSession", bind, algorithm)
+        right = caller.change_auth(RH_OWNER, AUTH, session)
+        wrong_bytes(session, right)
+        caller.accepted("As it was computed|and the nonces are new, which no refusal did", right)
+        caller.refused("The same buffer again, of a nonce that is past", "BAD_AUTH/s1", right)
+        caller.accepted(
+            "With the new nonce|and the session ends",
+            caller.change_auth(RH_OWNER, AUTH, Use(session, ENDS)),
+        )
+        caller.refused("It is no more", "REFERENCE_S0", caller.change_auth(RH_OWNER, AUTH, session))
+
+script.chapter("What is in the key of an hmac.")
+bound = caller.start("A session bound to TPM_RH_OWNER", RH_OWNER)
+other = caller.start("Another one, bound to TPM_RH_ENDORSEMENT", RH_ENDORSEMENT)
+unbound = caller.start("And one that is unbound")
+
+
+def with_key(key, build, *arguments):
+    """A command whose hmac has another key than the rule gives."""
+    with caller.breaking(key=lambda *_: key):
+        return build(*arguments)
+
+
+caller.refused(
+    "Bound to the entity, and its authorization value in the key all the same",
+    "BAD_AUTH/s1",
+    with_key(bound.key + AUTH, caller.change_auth, RH_OWNER, AUTH, bound),
+)
+caller.refused(
+    "Bound to another, without the entity's value, and with the value of that other one",
+    "BAD_AUTH/s1",
+    with_key(other.key, caller.change_auth, RH_OWNER, AUTH, other),
+    with_key(other.key + b"endorsement", caller.change_auth, RH_OWNER, AUTH, other),
+)
+caller.refused(
+    "Unbound, without the entity's value, and by no hmac at all",
+    "BAD_AUTH/s1",
+    with_key(b"", caller.change_auth, RH_OWNER, AUTH, Use(unbound, shows_empty_key=True)),
+    with_key(b"", caller.change_auth, RH_OWNER, AUTH, unbound),
+)
+for session, words in ((bound, "bound to it"), (other, "bound to another"), (unbound, "unbound")):
+    caller.accepted(f"As the rule is, {words}", caller.change_auth(RH_OWNER, AUTH, session))
+caller.accepted(
+    "The session that is bound to TPM_RH_OWNER on TPM_RH_ENDORSEMENT",
+    caller.change_auth(RH_ENDORSEMENT, b"endorsement", bound),
+)
+caller.accepted("And on PCR 16, whose authorization value is empty", caller.reset(bound))
+
+script.chapter("A refused command leaves the session's nonce, whatever refused it.")
+tried = caller.reset(bound, pcr=0)
+caller.refused("TPM2_PCR_Reset of PCR 0, which has a right hmac", "LOCALITY", tried)
+caller.refused(
+    "The same without continueSession, and the session does not end",
+    "LOCALITY",
+    caller.reset(Use(bound, ENDS), pcr=0),
+)
+caller.refused(
+    "TPM2_PCR_Event of 1,025 bytes, with a right hmac", "SIZE/p1", caller.event(bytes(1025), bound)
+)
+corrected = caller.reset(bound)
+caller.refused("PCR 16 with a wrong hmac", "BAD_AUTH/s1", corrected.but_entry(1, hmac=bytes(32)))
+caller.accepted("And with the right one, of the nonce that was there before them", corrected)
+
+script.chapter("Empty keys: an unbound session on an entity whose authorization value is empty.")
+caller.accepted("An empty hmac, which is answered by an empty one", caller.reset(unbound))
+caller.accepted(
+    "An hmac by the empty key, which is answered by one",
+    caller.reset(Use(unbound, shows_empty_key=True)),
+)
+shown = caller.reset(Use(unbound, shows_empty_key=True))
+caller.refused(
+    "A wrong one, here one byte, and with a wrong bit",
+    "BAD_AUTH/s1",
+    shown.but_entry(1, hmac=b"\0"),
+    shown.but_entry(1, hmac=flipped(shown.entries[0].hmac)),
+)
+caller.accepted("The right one", shown)
+caller.refused(
+    "With no hmac where the key is that of a session bound to TPM_RH_OWNER",
+    "BAD_AUTH/s1",
+    caller.reset(bound).but_entry(1, hmac=b""),
+)
+to_pcr = caller.start("A session bound to PCR 16, which has a key, of an empty value", 16)
+caller.refused("With no hmac", "BAD_AUTH/s1", caller.reset(to_pcr).but_entry(1, hmac=b""))
+caller.accepted("With its hmac", caller.reset(to_pcr))
+caller.accepted("It ends", caller.flush(to_pcr))
+
+script.chapter("Nonces of the caller have any length up to 32 bytes.")
+for nonce, words in ((b"", "no nonce"), (b"\x5a", "one byte"), (bytes(32), "32 bytes")):
+    caller.accepted(f"With {words}", caller.reset(Use(bound, nonce=nonce)))
+
+script.chapter("Sessions that authorize nothing, as entries of TPM2_GetRandom.")
+caller.accepted("One, bound to TPM_RH_OWNER", caller.random(4, bound))
+caller.accepted(
+    "Three, of which the unbound one has an empty hmac", caller.random(4, other, unbound, bound)
+)
+wrong = caller.random(4, other, unbound, bound)
+caller.refused(
+    "The third with a wrong hmac",
+    "BAD_AUTH/s3",
+    wrong.but_entry(3, hmac=flipped(wrong.entries[2].hmac)),
+)
+caller.refused(
+    "The unbound one with a wrong hmac", "BAD_AUTH/s2", wrong.but_entry(2, hmac=bytes(32))
+)
+caller.accepted("The right ones", wrong)
+caller.accepted(
+    "TPM2_PCR_Reset by a password, and two sessions beside it", caller.reset(b"", other, bound)
+)
+caller.accepted(
+    "Of three the second ends|and the others stay",
+    caller.random(2, other, Use(unbound, ENDS), bound),
+)
+caller.refused("The second again", "REFERENCE_S1", caller.random(2, other, unbound, bound))
+caller.accepted("The others", caller.random(2, other, bound))
+
+script.chapter("Authorization values with trailing zeros count without them.")
+caller.accepted('ownerAuth is "own" and two zeros', caller.change_auth(RH_OWNER, b"own\0\0", bound))
+caller.accepted(
+    'Bound to TPM_RH_OWNER while that had another value, and so with "own" in the key',
+    caller.change_auth(RH_OWNER, b"own\0\0\0", bound),
+)
+trailing = caller.start('A session that is bound to it now, with a key of "own"', RH_OWNER)
+caller.accepted(
+    'Set to "own" the value stays the same, and so does the binding',
+    caller.change_auth(RH_OWNER, b"own", trailing),
+)
+caller.accepted(
+    "And without it in the response's key", caller.change_auth(RH_OWNER, b"own\0", trailing)
+)
+
+for time in range(1, 41):
+    what = "" if time > 1 else "A session is used 40 times, here by TPM2_PCR_Event into PCR 16"
+    caller.accepted(what, caller.event(b"time %d" % time, trailing))
+caller.accepted("TPM2_PCR_Read of PCR 16", caller.read_pcr(16))
+
+caller.accepted("New random bytes, and so a new nonce", caller.reset(trailing))
+again = caller.reset(trailing)
+for what in ("Where they stay the same the nonce does too, and a buffer is accepted again", "", ""):
+    caller.received(again, script.command(what, "SUCCESS", again.buffer()))
+caller.accepted("Once more, and the random bytes are others", again)
+caller.refused("So it is not accepted again", "BAD_AUTH/s1", again)
+
+script.chapter("The longest response that there is, 601 bytes.")
+caller.accepted(
+    "TPM2_PCR_Read of sixteen banks, with three sessions of SHA-256 and nonces of 32 bytes",
+    caller.prepare(
+        frames.PCR_READ,
+        [],
+        frames.selection((SHA256, range(8)), *15 * [(SHA256, range(24))]),
+        *(caller.start("A session with a nonce of 32 bytes", RH_OWNER, size=32) for _ in range(3)),
+    ),
+)
+assert len(script.answers[-1]) == 601
+
+script.write()

@@ -1,0 +1,89 @@
+#!/usr/bin/env python3
+"""Writes tests/long_policy.tpm: a policy of all assertions, in a trial and a policy session."""
+
+import paths
+
+import frames
+import policy
+from frames import RH_OWNER, SHA1, SHA256, UNSEAL
+from policy_caller import HASHES, PolicyCaller, zeros
+from script import Script
+from sessions import digest, name_of
+
+BANKS = [(SHA1, [0, 7]), (SHA256, [0, 1, 2, 3, 4, 5, 6, 7, 8])]
+REFERENCE = b"first of January"
+
+script = Script(
+    "tests/long_policy.tpm",
+    "A policy of many assertions. A trial session comes to the digest that a policy session comes "
+    "to, without anything being so yet.",
+)
+caller = PolicyCaller(script)
+
+
+def values_digest(algorithm):
+    return digest(
+        algorithm, b"".join(script.device.banks[bank][pcr] for bank, pcrs in BANKS for pcr in pcrs)
+    )
+
+
+def both(what, trial, session, tell):
+    """An assertion in the trial session and in the policy session."""
+    caller.says(what, "SUCCESS", tell(trial), tell(session))
+
+
+script.startup()
+for pcr in (0, 4, 7, 8):
+    caller.accepted(f"TPM2_PCR_Event into PCR {pcr}", caller.event(b"boot %d" % pcr, b"", pcr=pcr))
+caller.accepted('ownerAuth is "owner"', caller.change_auth(RH_OWNER, b"owner", b""))
+
+for algorithm, name in HASHES:
+    script.chapter(f"{name}.")
+    trial = caller.trial("A trial session", algorithm=algorithm)
+    session = caller.policy("A policy session", algorithm=algorithm)
+    wanted = zeros(session)
+
+    given = values_digest(algorithm)
+    caller.says(
+        "TPM2_PolicyPCR in the trial session, with the digest that the values will have",
+        "SUCCESS",
+        caller.pcrs(trial, BANKS, given),
+    )
+    caller.says("In the policy session, without", "SUCCESS", caller.pcrs(session, BANKS))
+    wanted = policy.after_pcr(algorithm, wanted, frames.selection(*BANKS), given)
+
+    both("For the localities 0 and 1", trial, session, lambda it: caller.locality(it, 3))
+    wanted = policy.after_locality(algorithm, wanted, 3)
+
+    branches = [digest(algorithm, b"branch %d" % it) for it in range(7)] + [wanted]
+    both("One of eight branches", trial, session, lambda it: caller.branches(it, *branches))
+    wanted = policy.after_or(algorithm, branches)
+
+    for it in (trial, session):
+        caller.accepted(
+            "TPM2_PolicySecret of TPM_RH_OWNER, with a policyRef",
+            caller.secret(it, b"owner", of=RH_OWNER, policy_ref=REFERENCE),
+        )
+    wanted = policy.after_secret(algorithm, wanted, name_of(RH_OWNER), REFERENCE)
+
+    both("For Unseal", trial, session, lambda it: caller.command_code(it, UNSEAL))
+    wanted = policy.after_command_code(algorithm, wanted, UNSEAL)
+    both("With a password", trial, session, caller.password_told)
+    both("And with the value", trial, session, caller.auth_value_told)
+    wanted = policy.after_auth_value(algorithm, policy.after_auth_value(algorithm, wanted))
+
+    caller.digest_is("The trial session's digest", trial, wanted)
+    caller.digest_is("The policy session's is the same", session, wanted)
+
+    script.chapter("A trial session makes it with nothing being so, and a policy session does not.")
+    both("Both from the start", trial, session, caller.restart)
+    future = digest(algorithm, b"values that the PCRs do not have")
+    caller.says("PCRs of a future", "SUCCESS", caller.pcrs(trial, BANKS, future))
+    caller.says("In the policy session", "VALUE/p1", caller.pcrs(session, BANKS, future))
+    caller.says("Branches of which it is none", "SUCCESS", caller.branches(trial, *branches))
+    caller.says("In the policy session", "VALUE/p1", caller.branches(session, *branches))
+    caller.digest_is("The trial session's digest", trial, policy.after_or(algorithm, branches))
+    caller.digest_is("The policy session's is zeros yet", session, zeros(session))
+    for it in (trial, session):
+        caller.says("It is flushed", "SUCCESS", caller.flush(it))
+script.write()

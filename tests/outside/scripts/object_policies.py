@@ -1,0 +1,508 @@
+#!/usr/bin/env python3
+"""Writes tests/object_policies.tpm: policies that authorize objects, and what each of them asks."""
+
+import paths
+
+import policy
+from caller import Use
+from frames import (
+    ALG_NULL,
+    CONTINUE_SESSION,
+    DECRYPT,
+    ENCRYPT,
+    HMAC,
+    LOAD,
+    RH_ENDORSEMENT,
+    RH_OWNER,
+    SHA1,
+    SHA256,
+    UNSEAL,
+    selection,
+)
+from object_caller import HERE, ObjectCaller, hmac_key, sealed, storage_key
+from objects import Attribute
+from policy import AUTH_VALUE, PASSWORD
+from policy_caller import zeros
+from script import Script
+from sessions import command_hash, digest, name_of
+
+NO_DA, USER = Attribute.NO_DA, Attribute.USER_WITH_AUTH
+PCR_16 = [(SHA256, [16])]
+SECRET, PIN = b"secret", b"pin"
+
+script = Script(
+    "tests/object_policies.tpm",
+    "A policy session authorizes an object whose authPolicy is its digest. What it was told is "
+    "held against the command and the device, and it counts for one command.",
+)
+caller = ObjectCaller(script)
+script.startup()
+parent = caller.create_primary("A storage key", RH_OWNER, storage_key())
+
+
+def sealed_by(what, auth_policy, algorithm=SHA256, attributes=HERE | NO_DA, user_auth=PIN):
+    """An object that this policy authorizes."""
+    made = caller.create(
+        f"{what}: TPM2_Create",
+        parent,
+        sealed(algorithm, attributes, auth_policy=auth_policy),
+        user_auth=user_auth,
+        data=SECRET,
+    )
+    return caller.load("TPM2_Load", parent, made)
+
+
+def says(what, prepared):
+    caller.says(what, "SUCCESS", prepared)
+
+
+def start_again(session):
+    """What was asserted counts once: the policy state is the starting one."""
+    caller.digest_is("TPM2_PolicyGetDigest: zeros", session, zeros(session))
+
+
+AFTER_AUTH_VALUE = {
+    algorithm: policy.after_auth_value(algorithm, bytes(size))
+    for algorithm, size in ((SHA1, 20), (SHA256, 32))
+}
+
+# A demand for the authorization value.
+
+for algorithm, hash_name in ((SHA256, "SHA-256"), (SHA1, "SHA-1")):
+    script.chapter(
+        f"TPM2_PolicyPassword and TPM2_PolicyAuthValue, which make one digest, of {hash_name}."
+    )
+    handle = sealed_by(
+        'Sealed data whose value is "pin"', AFTER_AUTH_VALUE[algorithm], algorithm
+    )
+    session = caller.policy("A policy session", algorithm=algorithm)
+    caller.refused("Nothing is asserted", "POLICY_FAIL/s1", caller.unsealing(handle, session))
+
+    script.chapter("TPM2_PolicyPassword: the hmac is the value itself, and is answered empty.")
+    says("TPM2_PolicyPassword", caller.password_told(session))
+    by_password = Use(session, demand=PASSWORD)
+    right = caller.unsealing(handle, by_password)
+    caller.refused(
+        "An empty hmac, as the value is not empty", "BAD_AUTH/s1", right.but_entry(1, hmac=b"")
+    )
+    caller.refused(
+        "Another value",
+        "BAD_AUTH/s1",
+        *(right.but_entry(1, hmac=it) for it in (b"pi", b"pin1", b"\0pin", bytes(32))),
+    )
+    caller.refused(
+        "An hmac with the value in its key",
+        "BAD_AUTH/s1",
+        caller.unsealing(handle, Use(session, demand=AUTH_VALUE)),
+    )
+    caller.unseal("The value, in plain, with continueSession", handle, SECRET, by_password)
+    start_again(session)
+    caller.refused("Once more", "POLICY_FAIL/s1", caller.unsealing(handle, by_password))
+    says("TPM2_PolicyPassword again", caller.password_told(session))
+    padded = caller.unsealing(handle, by_password).but_entry(1, hmac=PIN + bytes(29))
+    caller.accepted("The value, and zeros behind it", padded)
+
+    script.chapter("TPM2_PolicyAuthValue: the value is in the key of the hmac and of the answer's.")
+    says("TPM2_PolicyAuthValue", caller.auth_value_told(session))
+    by_value = Use(session, demand=AUTH_VALUE)
+    caller.refused("The value in plain", "BAD_AUTH/s1", caller.unsealing(handle, by_password))
+    caller.refused("An empty hmac", "BAD_AUTH/s1", caller.unsealing(handle, Use(session)))
+    caller.refused(
+        "One of an empty key",
+        "BAD_AUTH/s1",
+        caller.unsealing(handle, Use(session, shows_empty_key=True)),
+    )
+    caller.unseal("With continueSession", handle, SECRET, by_value)
+    start_again(session)
+    caller.refused("Once more", "POLICY_FAIL/s1", caller.unsealing(handle, by_value))
+
+    script.chapter("Of the two the later one counts.")
+    VALUE, PLAIN = "TPM2_PolicyAuthValue", "TPM2_PolicyPassword"
+    for first, last, use, names in (
+        (caller.auth_value_told, caller.password_told, by_password, (VALUE, PLAIN)),
+        (caller.password_told, caller.auth_value_told, by_value, (PLAIN, VALUE)),
+    ):
+        twice = policy.after_auth_value(algorithm, AFTER_AUTH_VALUE[algorithm])
+        double = sealed_by("An object with both in its policy", twice, algorithm)
+        says(names[0], first(session))
+        says(names[1], last(session))
+        other = by_value if use is by_password else by_password
+        caller.refused("What the first asks for", "BAD_AUTH/s1", caller.unsealing(double, other))
+        caller.unseal("What the second asks for", double, SECRET, use)
+        caller.flush_objects("The object is flushed", double)
+
+    script.chapter("Without continueSession the session ends.")
+    says("TPM2_PolicyPassword", caller.password_told(session))
+    caller.unseal("By the password", handle, SECRET, Use(session, 0, demand=PASSWORD))
+    caller.says("It is no more", "REFERENCE_H0", caller.get_digest(session))
+
+    script.chapter("A session that is bound to the object.")
+    session = caller.policy("The object is bind", bind=handle, algorithm=algorithm, aes=True)
+    says("TPM2_PolicyAuthValue: it is in the key, bound or not", caller.auth_value_told(session))
+    caller.refused(
+        "An hmac without the value in its key",
+        "BAD_AUTH/s1",
+        caller.unsealing(handle, Use(session)),
+    )
+    caller.unseal("With it", handle, SECRET, Use(session, demand=AUTH_VALUE))
+    script.chapter(
+        "As a further entry it authorizes nothing, and has an hmac whatever is asked for."
+    )
+    says("TPM2_PolicyPassword", caller.password_told(session))
+    beside = caller.random(2, session)
+    caller.refused("The password there", "BAD_AUTH/s1", beside.but_entry(1, hmac=PIN))
+    caller.accepted("The hmac, and it keeps what it was told", beside)
+    caller.digest_is("TPM2_PolicyGetDigest", session, AFTER_AUTH_VALUE[algorithm])
+    hidden = Use(session, CONTINUE_SESSION | ENCRYPT, demand=PASSWORD)
+    caller.unseal("TPM2_Unseal by the password, with outData encrypted", handle, SECRET, hidden)
+    says("TPM2_PolicyAuthValue", caller.auth_value_told(session))
+    hidden = Use(session, CONTINUE_SESSION | ENCRYPT, demand=AUTH_VALUE)
+    caller.unseal("By the hmac, with outData encrypted", handle, SECRET, hidden)
+    says("TPM2_PolicyPassword", caller.password_told(session))
+    caller.unseal("By the password", handle, SECRET, Use(session, 0, demand=PASSWORD))
+    caller.flush_objects("The object is flushed", handle)
+
+    script.chapter("An object whose value is empty.")
+    handle = sealed_by("Sealed data", AFTER_AUTH_VALUE[algorithm], algorithm, user_auth=b"")
+    session = caller.policy("A policy session", algorithm=algorithm)
+    for what, told in (
+        ("TPM2_PolicyPassword", caller.password_told),
+        ("TPM2_PolicyAuthValue", caller.auth_value_told),
+    ):
+        says(what, told(session))
+        caller.unseal("With an empty hmac, which is answered by one", handle, SECRET, Use(session))
+    says("TPM2_PolicyAuthValue", caller.auth_value_told(session))
+    shown = Use(session, shows_empty_key=True, demand=AUTH_VALUE)
+    caller.unseal("With the hmac of an empty key, and it is answered by one", handle, SECRET, shown)
+    says("TPM2_PolicyPassword", caller.password_told(session))
+    caller.refused(
+        "That, where the password is asked for",
+        "BAD_AUTH/s1",
+        caller.unsealing(handle, shown),
+    )
+    by_password = caller.unsealing(handle, Use(session, demand=PASSWORD))
+    caller.accepted("Three zeros, as the password", by_password.but_entry(1, hmac=bytes(3)))
+    says("The session is flushed", caller.flush(session))
+    caller.flush_objects("The object is flushed", handle)
+
+# Without a demand.
+
+script.chapter("A policy that asks for no value: the key of the hmac is the session's alone.")
+AFTER_CODE = policy.after_command_code(SHA256, bytes(32), UNSEAL)
+handle = sealed_by("An object for TPM2_Unseal alone", AFTER_CODE)
+session = caller.policy("A session that is bound to nothing")
+says("TPM2_PolicyCommandCode", caller.command_code(session, UNSEAL))
+caller.refused(
+    "By the value", "BAD_AUTH/s1", caller.unsealing(handle, Use(session, demand=PASSWORD))
+)
+caller.refused(
+    "By an hmac with the value in its key",
+    "BAD_AUTH/s1",
+    caller.unsealing(handle, Use(session, demand=AUTH_VALUE)),
+)
+caller.unseal("By an empty hmac, as the key is empty", handle, SECRET, session)
+says("TPM2_PolicyCommandCode", caller.command_code(session, UNSEAL))
+caller.unseal("By one of the empty key", handle, SECRET, Use(session, shows_empty_key=True))
+bound = caller.policy(
+    "A session that is bound to TPM_RH_ENDORSEMENT, with AES", bind=RH_ENDORSEMENT, aes=True
+)
+says("TPM2_PolicyCommandCode", caller.command_code(bound, UNSEAL))
+caller.refused(
+    "An empty hmac", "BAD_AUTH/s1", caller.unsealing(handle, bound).but_entry(1, hmac=b"")
+)
+caller.unseal(
+    "The hmac by the session's key; outData is encrypted, with the value in that key",
+    handle,
+    SECRET,
+    Use(bound, CONTINUE_SESSION | ENCRYPT),
+)
+says("TPM2_PolicyCommandCode", caller.command_code(bound, UNSEAL))
+caller.unseal("Beside another session", handle, SECRET, bound, session)
+says("TPM2_PolicyCommandCode", caller.command_code(bound, UNSEAL))
+caller.unseal("The other authorizes nothing, and keeps what it was told", handle, SECRET, bound)
+caller.flush_objects("The object is flushed", handle)
+
+# The conditions.
+
+script.chapter("Each condition of a use in its order: all of them fail, and one is put right.")
+
+
+def tell_all(session, cp_hash, code=UNSEAL, localities=1):
+    """Something of each kind. The last assertion is that of the locality."""
+    says("TPM2_PolicyPCR", caller.pcrs(session, PCR_16))
+    says("TPM2_PolicyCommandCode", caller.command_code(session, code))
+    says("TPM2_PolicySecret with a cpHash", caller.secret(session, cp_hash=cp_hash))
+    says("TPM2_PolicyLocality", caller.locality(session, localities))
+
+
+def told_all(algorithm, values_digest, code=UNSEAL, localities=1):
+    told = bytes(20 if algorithm == SHA1 else 32)
+    told = policy.after_pcr(algorithm, told, selection(*PCR_16), values_digest)
+    told = policy.after_command_code(algorithm, told, code)
+    told = policy.after_secret(algorithm, told, name_of(RH_ENDORSEMENT), b"")
+    return policy.after_locality(algorithm, told, localities)
+
+
+PCR_16_DIGEST = digest(SHA256, bytes(32))
+right = told_all(SHA256, PCR_16_DIGEST)
+handle = sealed_by("An object with a policy of all of it", right)
+without = caller.create_primary(
+    "An object that has no policy", RH_OWNER, sealed(), user_auth=PIN, data=SECRET
+)
+wrong_hash = bytes([7]) * 32
+
+
+def cp_hash_of(handle, algorithm=SHA256):
+    return command_hash(algorithm, UNSEAL, [caller.names[handle]], b"")
+
+
+def wrong(handle, session):
+    """With an hmac that is wrong, too, which is compared last."""
+    return caller.unsealing(handle, Use(session)).but_entry(1, hmac=b"wrong")
+
+
+trial = caller.trial("A trial session")
+tell_all(trial, wrong_hash, LOAD, 2)
+caller.says("PCR 16 is reset", "SUCCESS", caller.reset(b""))
+caller.refused(
+    "A trial session, for either object",
+    "ATTRIBUTES/s1",
+    wrong(handle, trial),
+    wrong(without, trial),
+)
+says("It is flushed", caller.flush(trial))
+session = caller.policy("A policy session, with SHA-256")
+tell_all(session, wrong_hash, LOAD, 2)
+caller.says("PCR 16 is reset", "SUCCESS", caller.reset(b""))
+caller.refused("An object that has no policy", "AUTH_UNAVAILABLE", wrong(without, session))
+caller.refused("The PCRs have changed", "PCR_CHANGED", wrong(handle, session))
+says("TPM2_PolicyRestart", caller.restart(session))
+tell_all(session, wrong_hash, LOAD, 2)
+caller.refused("Another command code", "POLICY_CC/s1", wrong(handle, session))
+says("TPM2_PolicyRestart", caller.restart(session))
+tell_all(session, wrong_hash, UNSEAL, 2)
+caller.refused("Another cpHash", "POLICY_FAIL/s1", wrong(handle, session))
+says("TPM2_PolicyRestart", caller.restart(session))
+tell_all(session, cp_hash_of(handle), UNSEAL, 2)
+caller.refused("Another locality", "LOCALITY", wrong(handle, session))
+script.locality_is(1)
+caller.refused("From that locality: another digest", "POLICY_FAIL/s1", wrong(handle, session))
+script.locality_is(0)
+says("TPM2_PolicyRestart", caller.restart(session))
+tell_all(session, cp_hash_of(handle))
+caller.refused("A wrong hmac", "BAD_AUTH/s1", wrong(handle, session))
+caller.unseal("With nothing wrong", handle, SECRET, session)
+
+script.chapter("Each of them alone.")
+tell_all(session, cp_hash_of(handle))
+caller.says("PCR 16 is reset", "SUCCESS", caller.reset(b""))
+caller.refused("The PCRs have changed", "PCR_CHANGED", caller.unsealing(handle, session))
+says("TPM2_PolicyRestart", caller.restart(session))
+tell_all(session, wrong_hash)
+caller.refused(
+    "The cpHash is of another command", "POLICY_FAIL/s1", caller.unsealing(handle, session)
+)
+says("TPM2_PolicyRestart", caller.restart(session))
+tell_all(session, cp_hash_of(without))
+caller.refused("Of another object", "POLICY_FAIL/s1", caller.unsealing(handle, session))
+says("TPM2_PolicyRestart", caller.restart(session))
+tell_all(session, cp_hash_of(handle))
+for locality in (1, 2, 3, 4):
+    script.locality_is(locality)
+    caller.refused("From another locality", "LOCALITY", caller.unsealing(handle, session))
+script.locality_is(0)
+caller.unseal("From locality 0", handle, SECRET, session)
+says("The same assertions in another order: first the code", caller.command_code(session, UNSEAL))
+says("Then the PCRs", caller.pcrs(session, PCR_16))
+says("TPM2_PolicySecret", caller.secret(session, cp_hash=cp_hash_of(handle)))
+says("TPM2_PolicyLocality", caller.locality(session, 1))
+caller.refused("It is another digest", "POLICY_FAIL/s1", caller.unsealing(handle, session))
+
+script.chapter("The hash of the session is not nameAlg.")
+sha1 = caller.policy("A session with SHA-1", algorithm=SHA1)
+says("TPM2_PolicyPassword", caller.password_told(sha1))
+thirty_two = sealed_by("An object with nameAlg SHA-256", AFTER_AUTH_VALUE[SHA256])
+twenty = sealed_by("One with SHA-1", AFTER_AUTH_VALUE[SHA1], SHA1)
+caller.refused(
+    "The first", "POLICY_FAIL/s1", caller.unsealing(thirty_two, Use(sha1, demand=PASSWORD))
+)
+caller.unseal("The second", twenty, SECRET, Use(sha1, demand=PASSWORD))
+says("TPM2_PolicyRestart", caller.restart(session))
+says("TPM2_PolicyPassword in the session with SHA-256", caller.password_told(session))
+caller.refused(
+    "The second", "POLICY_FAIL/s1", caller.unsealing(twenty, Use(session, demand=PASSWORD))
+)
+caller.unseal("The first", thirty_two, SECRET, Use(session, demand=PASSWORD))
+caller.flush_objects("All are flushed", handle, without, thirty_two, twenty)
+says("A session, too", caller.flush(sha1))
+
+script.chapter("TPM2_PolicyPCR, a change, another assertion, and then the use.")
+after = policy.after_auth_value(
+    SHA256, policy.after_pcr(SHA256, bytes(32), selection(*PCR_16), PCR_16_DIGEST)
+)
+handle = sealed_by("An object with PCR 16 and TPM2_PolicyPassword in its policy", after)
+by_password = Use(session, demand=PASSWORD)
+says("TPM2_PolicyPCR", caller.pcrs(session, PCR_16))
+caller.says("PCR 16 is reset, to what it was", "SUCCESS", caller.reset(b""))
+says("TPM2_PolicyPassword", caller.password_told(session))
+caller.digest_is("The digest is the right one", session, after)
+caller.refused("TPM2_Unseal", "PCR_CHANGED", caller.unsealing(handle, by_password))
+says("TPM2_PolicyRestart", caller.restart(session))
+says("TPM2_PolicyPCR", caller.pcrs(session, PCR_16))
+says("TPM2_PolicyPassword", caller.password_told(session))
+caller.unseal("Without a change between them", handle, SECRET, by_password)
+caller.flush_objects("It is flushed", handle)
+
+# What else can be authorized, and by what.
+
+script.chapter("userWithAuth: what its absence and its presence mean.")
+FOR_HMAC = policy.after_command_code(SHA256, bytes(32), HMAC)
+for what, attributes, by_value in (
+    ("Without userWithAuth", NO_DA, False),
+    ("With userWithAuth", NO_DA | USER, True),
+):
+    handle = caller.create_primary(
+        f"{what}: an HMAC key with a policy",
+        RH_OWNER,
+        hmac_key(attributes=HERE | attributes, auth_policy=FOR_HMAC),
+        user_auth=PIN,
+        data=b"key",
+    )
+    plain = caller.start("An HMAC session")
+    bound = caller.start("One that is bound to it", bind=handle)
+    for words, use in (("By the password", PIN), ("By the one", plain), ("By the other", bound)):
+        prepared = caller.hmac(handle, b"text", ALG_NULL, use)
+        if by_value:
+            caller.accepted(words, prepared)
+        else:
+            caller.refused(words, "AUTH_UNAVAILABLE", prepared)
+    says("TPM2_PolicyCommandCode of TPM2_HMAC", caller.command_code(session, HMAC))
+    caller.refused("TPM2_Unseal by this policy", "POLICY_CC/s1", caller.unsealing(handle, session))
+    caller.accepted("TPM2_HMAC by this policy", caller.hmac(handle, b"text", ALG_NULL, session))
+    caller.refused(
+        "Once more",
+        "POLICY_FAIL/s1",
+        caller.hmac(handle, b"text", ALG_NULL, session),
+    )
+    for each in (plain, bound):
+        says("An HMAC session is flushed", caller.flush(each))
+    caller.flush_objects("The object is flushed", handle)
+
+script.chapter("A parent with a policy, by which its children are created and loaded.")
+PARENT_POLICY = policy.after_auth_value(SHA256, bytes(32))
+guarded = caller.create_primary(
+    "A storage key with TPM2_PolicyAuthValue as its policy",
+    RH_OWNER,
+    storage_key(auth_policy=PARENT_POLICY, attributes=storage_key().attributes & ~USER),
+    user_auth=b"parent",
+)
+caller.says(
+    "TPM2_Create by the password", "AUTH_UNAVAILABLE", caller.child(guarded, sealed(), data=b"x")
+)
+by_value = Use(session, demand=AUTH_VALUE)
+says("TPM2_PolicyAuthValue", caller.auth_value_told(session))
+made = caller.create("TPM2_Create by the policy", guarded, sealed(), by_value, data=SECRET)
+aes = caller.policy("A policy session with AES", aes=True)
+says("TPM2_PolicyAuthValue", caller.auth_value_told(aes))
+hidden = Use(aes, DECRYPT | ENCRYPT, demand=AUTH_VALUE)
+child = caller.load(
+    "TPM2_Load by the policy, with inPrivate and name encrypted", guarded, made, hidden
+)
+caller.unseal("TPM2_Unseal", child, SECRET)
+caller.flush_objects("Both are flushed", child, guarded)
+
+script.chapter("noDA: whether a wrong entry counts as a try.")
+for what, attributes, outcome in (
+    ("With noDA", NO_DA, "BAD_AUTH/s1"),
+    ("Without noDA", 0, "AUTH_FAIL/s1"),
+):
+    handle = sealed_by(what, AFTER_AUTH_VALUE[SHA256], attributes=HERE | USER | attributes)
+    caller.says("A wrong password", outcome, caller.unsealing(handle, b"nip"))
+    plain = caller.start("An HMAC session")
+    caller.refused(
+        "A wrong hmac", outcome, caller.unsealing(handle, plain).but_entry(1, hmac=bytes(32))
+    )
+    says("TPM2_PolicyPassword", caller.password_told(session))
+    caller.refused(
+        "A wrong password, by the policy",
+        outcome,
+        caller.unsealing(handle, Use(session, demand=PASSWORD)).but_entry(1, hmac=b"nip"),
+    )
+    says("TPM2_PolicyRestart", caller.restart(session))
+    says("TPM2_PolicyAuthValue", caller.auth_value_told(session))
+    caller.refused(
+        "A wrong hmac, by the policy",
+        outcome,
+        caller.unsealing(handle, Use(session, demand=AUTH_VALUE)).but_entry(1, hmac=bytes(32)),
+    )
+    caller.unseal("The right one", handle, SECRET, Use(session, demand=AUTH_VALUE))
+    says("TPM2_PolicyPassword", caller.password_told(session))
+    says("TPM2_PolicyCommandCode", caller.command_code(session, UNSEAL))
+    caller.refused(
+        "What is refused before it is compared is no try",
+        "POLICY_FAIL/s1",
+        caller.unsealing(handle, Use(session, demand=PASSWORD)).but_entry(1, hmac=b"nip"),
+    )
+    says("TPM2_PolicyRestart", caller.restart(session))
+    says("The HMAC session is flushed", caller.flush(plain))
+    caller.flush_objects("The object is flushed", handle)
+for what, attributes, outcome in (
+    ("With noDA", NO_DA, "BAD_AUTH/s1"),
+    ("Without noDA", 0, "AUTH_FAIL/s1"),
+):
+    handle = sealed_by(
+        f"{what}, and a policy without a demand", AFTER_CODE, attributes=HERE | attributes
+    )
+    bound = caller.policy("A policy session that is bound to it", bind=handle)
+    unbound = caller.policy("One that is bound to TPM_RH_OWNER", bind=RH_OWNER)
+    for words, each, code in (
+        ("The first: its key was made of the object's value", bound, outcome),
+        ("The second: nothing of it has the value in it", unbound, "BAD_AUTH/s1"),
+    ):
+        says("TPM2_PolicyCommandCode", caller.command_code(each, UNSEAL))
+        caller.refused(
+            words, code, caller.unsealing(handle, each).but_entry(1, hmac=bytes(32))
+        )
+        caller.unseal("The right one", handle, SECRET, each)
+    for each in (bound, unbound):
+        says("A session is flushed", caller.flush(each))
+    caller.flush_objects("The object is flushed", handle)
+
+# TPM2_PolicySecret by a policy.
+
+script.chapter("TPM2_PolicySecret of an object, authorized by the very session that it is told to.")
+handle = sealed_by("An object with TPM2_PolicyAuthValue as its policy", AFTER_AUTH_VALUE[SHA256])
+says("TPM2_PolicyAuthValue", caller.auth_value_told(session))
+told = caller.secret(session, Use(session, demand=AUTH_VALUE), of=handle)
+caller.accepted("TPM2_PolicySecret, first asserted, and then the session starts again", told)
+start_again(session)
+other = caller.policy("Another session")
+says("TPM2_PolicyAuthValue in the first", caller.auth_value_told(session))
+caller.accepted(
+    "TPM2_PolicySecret to the other, authorized by the first",
+    caller.secret(other, Use(session, demand=AUTH_VALUE), of=handle),
+)
+start_again(session)
+wanted = policy.after_secret(SHA256, bytes(32), caller.names[handle], b"")
+caller.digest_is("The other has the Name of the object in its digest", other, wanted)
+says("TPM2_PolicyPassword in the first", caller.password_told(session))
+caller.accepted(
+    "It ends with the command that asserts in it",
+    caller.secret(session, Use(session, 0, demand=PASSWORD), of=handle),
+)
+caller.says("It is no more", "REFERENCE_H0", caller.get_digest(session))
+target = sealed_by("An object with that secret as its policy", wanted)
+caller.unseal("TPM2_Unseal of it by the other session", target, SECRET, other)
+start_again(other)
+caller.refused("Once more", "POLICY_FAIL/s1", caller.unsealing(target, other))
+trial = caller.trial("A trial session")
+says("TPM2_PolicyAuthValue in the other", caller.auth_value_told(other))
+caller.accepted(
+    "TPM2_PolicySecret to the trial session",
+    caller.secret(trial, Use(other, demand=AUTH_VALUE), of=handle),
+)
+caller.digest_is("It is the same digest", trial, wanted)
+caller.refused(
+    "By the trial session itself", "ATTRIBUTES/s1", caller.secret(trial, trial, of=handle)
+)
+script.write()

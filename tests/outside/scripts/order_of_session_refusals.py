@@ -1,0 +1,196 @@
+#!/usr/bin/env python3
+"""Writes tests/order_of_session_refusals.tpm: commands with sessions and many faults."""
+
+import paths
+
+import frames
+from caller import Caller, Use, flipped
+from frames import (
+    CONTINUE_SESSION,
+    DECRYPT,
+    ENCRYPT,
+    FLUSH_CONTEXT,
+    HIERARCHY_CHANGE_AUTH,
+    PCR_EVENT,
+    RH_NULL,
+    RH_OWNER,
+    START_AUTH_SESSION,
+    number,
+    sized,
+)
+from general import Entry
+from script import Script
+
+DECRYPTS = CONTINUE_SESSION | DECRYPT
+ENCRYPTS = CONTINUE_SESSION | ENCRYPT
+NULLS = [RH_NULL, RH_NULL]
+
+script = Script(
+    "tests/order_of_session_refusals.tpm",
+    "The order of refusals of commands with sessions: of many faults one after the other is "
+    "repaired. What is answered is the first that is left, in the order of docs/TABLE.md.",
+)
+caller = Caller(script)
+
+
+def wrong(prepared, *places):
+    for place in places:
+        hmac = prepared.entries[place - 1].hmac
+        prepared = prepared.but_entry(place, hmac=flipped(hmac) if hmac else b"\0")
+    return prepared
+
+
+script.startup()
+first = caller.start("A session", RH_OWNER, aes=True)
+second = caller.start("Another one", RH_OWNER, aes=True)
+
+script.chapter(
+    "TPM2_StartAuthSession with two sessions that decrypt and encrypt; its first parameter is cut, "
+    "and the hmacs of both are wrong.",
+)
+
+
+def start(handles, parameters, *uses):
+    return caller.prepare(START_AUTH_SESSION, handles, parameters, *uses)
+
+
+uses = Use(first, DECRYPTS), Use(second, ENCRYPTS)
+cut = sized(bytes(16))[:-1]
+absent = Entry(0x0200_0005, b"", 0xFF, b"")
+caller.refused(
+    "tpmKey is not TPM_RH_NULL, and bind is not there",
+    "VALUE/h1",
+    wrong(start([RH_OWNER, 0x8000_0000], cut, *uses), 1, 2).but(entries=[absent]),
+)
+caller.refused(
+    "An object that is not there, as bind",
+    "REFERENCE_H1",
+    wrong(start([RH_NULL, 0x8000_0000], cut, *uses), 1, 2).but(entries=[absent]),
+)
+caller.refused(
+    "An NV index that is not there",
+    "HANDLE/h2",
+    wrong(start([RH_NULL, 0x0100_0000], cut, *uses), 1, 2).but(entries=[absent]),
+)
+caller.refused(
+    "A bind that is no entity",
+    "VALUE/h2",
+    wrong(start([RH_NULL, 0x0200_0000], cut, *uses), 1, 2).but(entries=[absent]),
+)
+caller.refused(
+    "A session that is not there, as the first entry",
+    "REFERENCE_S0",
+    start(NULLS, cut, *uses).but(entries=[absent]),
+)
+caller.refused(
+    "As the second, whose fault comes before the first one's wrong hmac",
+    "REFERENCE_S1",
+    wrong(start(NULLS, cut, uses[0]), 1).but(
+        entries=[*wrong(start(NULLS, cut, uses[0]), 1).entries, absent]
+    ),
+)
+caller.refused("Both hmacs", "BAD_AUTH/s1", wrong(start(NULLS, cut, *uses), 1, 2))
+caller.refused("The second one's", "BAD_AUTH/s2", wrong(start(NULLS, cut, *uses), 2))
+caller.refused(
+    "The first parameter, which cannot be decrypted", "INSUFFICIENT/p1", start(NULLS, cut, *uses)
+)
+no_type = sized(bytes(15)) + sized(b"\1") + b"\2" + frames.symmetric(False) + number(4, 2) + b"\0"
+caller.refused("It is whole, and sessionType is 02", "VALUE/p3", start(NULLS, no_type, *uses))
+hmac = sized(bytes(15)) + sized(b"\1") + b"\0" + frames.symmetric(False) + number(4, 2)
+caller.refused("A byte behind the parameters", "SIZE", start(NULLS, hmac + b"\0", *uses))
+caller.refused("A nonce of 15 bytes", "SIZE/p1", start(NULLS, hmac, *uses))
+caller.refused(
+    "A salt", "VALUE/p2", start(NULLS, frames.start_auth_session(bytes(16), salt=b"\1")[1], *uses)
+)
+caller.accepted("No fault is left", start(NULLS, frames.start_auth_session(bytes(16))[1], *uses))
+
+script.chapter("TPM2_PCR_Event into PCR 17 from locality 0, with two sessions and a cut parameter.")
+
+
+def event(text, *uses, pcr=17):
+    return caller.prepare(PCR_EVENT, [pcr], text, *uses)
+
+
+caller.refused("PCR 24, and no sessions (tag 8001)", "VALUE/h1", event(b"", pcr=24))
+caller.refused("No sessions (tag 8001)", "AUTH_MISSING", event(b""))
+caller.refused(
+    "encrypt, as the first answer is no sized buffer, in the second entry",
+    "ATTRIBUTES/s2",
+    wrong(event(b"\0", first, Use(second, ENCRYPTS)), 1, 2),
+)
+caller.refused(
+    "The first hmac of two that are wrong",
+    "BAD_AUTH/s1",
+    wrong(event(b"\0", first, Use(second, DECRYPTS)), 1, 2),
+)
+caller.refused(
+    "A wrong password", "BAD_AUTH/s1", wrong(event(b"\0", b"x", Use(second, DECRYPTS)), 2)
+)
+caller.refused(
+    "The second hmac",
+    "BAD_AUTH/s2",
+    wrong(event(b"\0", first, Use(second, DECRYPTS)), 2),
+    wrong(event(b"\0", b"", Use(second, DECRYPTS)), 2),
+)
+caller.refused(
+    "The third hmac", "BAD_AUTH/s3", wrong(event(b"\0", b"", first, Use(second, DECRYPTS)), 3)
+)
+caller.refused(
+    "The parameter that is cut",
+    "INSUFFICIENT/p1",
+    event(b"\0", first, Use(second, DECRYPTS)),
+    event(b"\xff\xff", first, Use(second, DECRYPTS)),
+)
+caller.refused(
+    "One that is too long, and a byte behind it",
+    "SIZE/p1",
+    event(sized(bytes(1025)) + b"\0", first, Use(second, DECRYPTS)),
+)
+caller.refused(
+    "A byte behind it", "SIZE", event(sized(bytes(1024)) + b"\0", first, Use(second, DECRYPTS))
+)
+caller.refused("The locality", "LOCALITY", event(sized(bytes(1024)), first, Use(second, DECRYPTS)))
+script.locality_is(3)
+caller.accepted(
+    "From locality 3 no fault is left", event(sized(bytes(1024)), first, Use(second, DECRYPTS))
+)
+script.locality_is(0)
+
+script.chapter("TPM2_HierarchyChangeAuth of TPM_RH_OWNER.")
+
+
+def change(text, *uses):
+    return caller.prepare(HIERARCHY_CHANGE_AUTH, [RH_OWNER], text, *uses)
+
+
+caller.refused(
+    "A wrong hmac, and a value that is too long",
+    "BAD_AUTH/s1",
+    wrong(change(sized(bytes(33)), first), 1),
+)
+caller.refused(
+    "That value, and a byte behind it", "SIZE/p1", change(sized(bytes(33)) + b"\0", first)
+)
+caller.refused("The byte behind it", "SIZE", change(sized(b"abc") + b"\0", first))
+caller.accepted("No fault is left", change(sized(b"abc"), first))
+
+script.chapter("TPM2_FlushContext of the first session.")
+
+
+def flush(text, tag=frames.NO_SESSIONS):
+    return frames.command(FLUSH_CONTEXT, text, tag)
+
+
+script.command(
+    "With sessions (tag 8002) and nothing behind the header",
+    "AUTH_CONTEXT",
+    flush(b"", frames.SESSIONS),
+)
+script.command("No handle", "INSUFFICIENT/p1", flush(b""))
+script.command(
+    "A byte behind a handle that is no session's", "SIZE", flush(number(RH_OWNER, 4) + b"\0")
+)
+script.command("That handle", "VALUE/p1", flush(number(RH_OWNER, 4)))
+script.command("A session that is not there", "HANDLE/p1", flush(number(0x0200_0009, 4)))
+script.command("The session", "SUCCESS", flush(number(first.handle, 4)))
+script.write()

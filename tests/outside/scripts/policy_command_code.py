@@ -1,0 +1,91 @@
+#!/usr/bin/env python3
+"""Writes tests/policy_command_code.tpm: TPM2_PolicyCommandCode, of each code that there is."""
+
+import paths
+
+import frames
+import policy
+from frames import SE_POLICY, SE_TRIAL, SHA1, SHA256, UNSEAL, number
+from policy_caller import PolicyCaller, zeros
+from script import Script
+
+NV_READ, READ_PUBLIC, UNKNOWN = 0x14E, 0x173, 0x194
+
+script = Script(
+    "tests/policy_command_code.tpm",
+    "TPM2_PolicyCommandCode: the policy is for one command alone. Its parameter is the code of a "
+    "command, served or not.",
+)
+caller = PolicyCaller(script)
+
+
+def raw(session, text):
+    return caller.told(frames.POLICY_COMMAND_CODE, session, text)
+
+
+script.startup()
+for session in caller.each_session():
+    caller.says(
+        "A code that is no command's: 0, 11E, 194, and all ones",
+        "POLICY_CC/p1",
+        *(caller.command_code(session, it) for it in (0, 0x11E, UNKNOWN, 0xFFFF_FFFF)),
+    )
+    caller.says("No code, and cut", "INSUFFICIENT/p1", raw(session, b""), raw(session, bytes(3)))
+    caller.says(
+        "A byte behind it, also where it is no command's",
+        "SIZE",
+        raw(session, number(UNSEAL, 4) + b"\0"),
+        raw(session, number(UNKNOWN, 4) + b"\0"),
+    )
+    caller.digest_is("The digest is zeros", session, zeros(session))
+
+    once = policy.after_command_code(session.algorithm, zeros(session), UNSEAL)
+    caller.says("The code of Unseal", "SUCCESS", caller.command_code(session, UNSEAL))
+    caller.digest_is("Its digest", session, once)
+    caller.says(
+        "Another code, in a trial session too, NV_Read and ReadPublic",
+        "VALUE/p1",
+        caller.command_code(session, NV_READ),
+        caller.command_code(session, READ_PUBLIC),
+    )
+    caller.says(
+        "One that is no command's, which is another as well",
+        "VALUE/p1",
+        caller.command_code(session, UNKNOWN),
+        caller.command_code(session, 0),
+    )
+    caller.says("Cut, all the same", "INSUFFICIENT/p1", raw(session, number(NV_READ, 4)[:3]))
+    caller.digest_is("The digest is as it was", session, once)
+    caller.says("The code of Unseal once more", "SUCCESS", caller.command_code(session, UNSEAL))
+    twice = policy.after_command_code(session.algorithm, once, UNSEAL)
+    caller.digest_is("And it is in the digest again", session, twice)
+    caller.says("NV_Read", "VALUE/p1", caller.command_code(session, NV_READ))
+
+for kind, name, algorithm, hash_name in (
+    (SE_POLICY, "policy", SHA256, "SHA-256"),
+    (SE_TRIAL, "trial", SHA1, "SHA-1"),
+):
+    script.chapter(f"Each code that there is, in a {name} session of {hash_name}.")
+    session = caller.start("It is started", kind=kind, algorithm=algorithm)
+    for code in sorted(policy.COMMANDS):
+        caller.says(
+            f"{code:X} in a new policy, and the digest of it",
+            "SUCCESS",
+            caller.restart(session),
+            caller.command_code(session, code),
+        )
+        after = policy.after_command_code(algorithm, zeros(session), code)
+        caller.digest_is("", session, after)
+
+    script.chapter("And each number between 11F and 18D that is no code.")
+    caller.says("TPM2_PolicyRestart", "SUCCESS", caller.restart(session))
+    others = sorted(set(range(0x11F, 0x18E)) - policy.COMMANDS)
+    caller.says(
+        "All of them", "POLICY_CC/p1", *(caller.command_code(session, it) for it in others)
+    )
+    caller.says(
+        "Unseal's code with a vendor's bit, with a reserved bit, and with its bytes turned round",
+        "POLICY_CC/p1",
+        *(caller.command_code(session, it) for it in (0x2000_015E, 0x0001_015E, 0x5E01_0000)),
+    )
+script.write()

@@ -1,0 +1,158 @@
+#!/usr/bin/env python3
+"""Writes tests/policy_or.tpm: TPM2_PolicyOR, and of which lists it is."""
+
+import paths
+
+import frames
+import policy
+from frames import number, sized
+from policy_caller import PolicyCaller, is_trial, zeros
+from script import Script
+from sessions import digest
+
+script = Script(
+    "tests/policy_or.tpm",
+    "TPM2_PolicyOR: the digest is one of two to eight in a list, and becomes that of the list.",
+)
+caller = PolicyCaller(script)
+
+
+def other(session, count):
+    """Digests of this session's size, none of which it comes to."""
+    return [digest(session.algorithm, b"branch %d" % it) for it in range(count)]
+
+
+def joins(what, session, *branches):
+    caller.says(what, "SUCCESS", caller.branches(session, *branches))
+    caller.digest_is("Its digest", session, policy.after_or(session.algorithm, branches))
+
+
+def again(session):
+    """As a new one; its digest is zeros."""
+    caller.says("TPM2_PolicyRestart", "SUCCESS", caller.restart(session))
+    return zeros(session)
+
+
+def raw(session, text):
+    return caller.told(frames.POLICY_OR, session, text)
+
+
+script.startup()
+for session in caller.each_session():
+    current = zeros(session)
+    joins("The digest is the first of two", session, current, *other(session, 1))
+    joins("The second of two", session, *other(session, 1), again(session))
+    joins("The last of eight", session, *other(session, 7), again(session))
+    joins("The fourth of seven", session, *other(session, 3), again(session), *other(session, 3))
+    joins("Two that are the same", session, *2 * [again(session)])
+    caller.says("TPM2_PolicyAuthValue", "SUCCESS", caller.auth_value_told(session))
+    branches = [b"", zeros(session)]
+    current = policy.after_auth_value(
+        session.algorithm,
+        policy.after_or(session.algorithm, 2 * [zeros(session)]),
+    )
+    joins(
+        "Another digest than zeros, the third of three|and the zeros that it is hashed behind are "
+        "not the digest before",
+        session,
+        *other(session, 2),
+        current,
+    )
+    current = policy.after_or(session.algorithm, [*other(session, 2), current])
+    joins("The digest of that, the first of two", session, current, *other(session, 1))
+    current = policy.after_or(session.algorithm, [current, *other(session, 1)])
+    joins("The digest of that, the second of them", session, *other(session, 1), current)
+
+    current = again(session)
+    joins(
+        "Elements of other lengths beside it, of 0, 1, 19, 20, 21, 31 and 32 bytes",
+        session,
+        *(bytes([it]) * it for it in (0, 1, 19, 20, 21, 31, 32)),
+        current,
+    )
+    current = again(session)
+    absent = [
+        ("The digest is not among two", other(session, 2)),
+        ("Not among eight", other(session, 8)),
+        ("A byte of it is missing, or one too many", [current[:-1], (current + b"\0")[:32]]),
+        ("It has another last bit", [current[:-1] + b"\1", current[:-1]]),
+        ("No element has a byte", [b"", b""]),
+    ]
+    if len(current) == 32:
+        absent[2] = ("A byte of it is missing, or is not zero", [current[1:], b"\1" + current[1:]])
+    for what, branches in absent:
+        if is_trial(session):
+            again(session)
+            joins(f"{what}, which a trial session does not look at", session, *branches)
+        else:
+            caller.says(what, "VALUE/p1", caller.branches(session, *branches))
+            caller.digest_is("Its digest is as it was", session, current)
+
+    current = again(session)
+    caller.says(
+        "A list of no digests, of one, of nine, and of 2^32 - 1",
+        "SIZE/p1",
+        caller.branches(session),
+        caller.branches(session, current),
+        caller.branches(session, *9 * [current]),
+        caller.branches(session, current, current, count=0xFFFF_FFFF),
+    )
+    caller.says(
+        "The number of one and of nine, and nothing behind it",
+        "SIZE/p1",
+        raw(session, number(1, 4)),
+        raw(session, number(9, 4)),
+    )
+    caller.says(
+        "An element of 33 bytes, the first or the second, whole or cut",
+        "SIZE/p1",
+        caller.branches(session, bytes(33), current),
+        caller.branches(session, current, bytes(33)),
+        raw(session, number(2, 4) + number(33, 2)),
+        raw(session, number(2, 4) + b"\xff\xff"),
+    )
+    whole = frames.sized_list(current, current)
+    size = len(sized(current))
+    caller.says(
+        "Cut: within the number, before the first element, within its size and its bytes, before "
+        "the second, and within that",
+        "INSUFFICIENT/p1",
+        *(raw(session, whole[:it]) for it in (0, 3, 4, 5, 6, 3 + size, 4 + size, 5 + size)),
+        raw(session, whole[:-1]),
+    )
+    caller.says(
+        "A list that says three and has two",
+        "INSUFFICIENT/p1",
+        caller.branches(session, current, current, count=3),
+    )
+    caller.says(
+        "A byte behind the list, also where the digest is not among it, and a list that says two "
+        "and has three",
+        "SIZE",
+        raw(session, whole + b"\0"),
+        raw(session, frames.sized_list(*other(session, 2)) + b"\0"),
+        caller.branches(session, current, current, current, count=2),
+    )
+    caller.digest_is("No refusal changed the digest", session, current)
+
+script.chapter("What was recorded before a list stays behind it.")
+session = caller.policy("A policy session is started")
+cp_hash = digest(session.algorithm, b"a command")
+caller.says(
+    "A command, localities, PCRs and a cpHash are recorded",
+    "SUCCESS",
+    caller.command_code(session, frames.GET_RANDOM),
+    caller.locality(session, 0b01100),
+    caller.pcrs(session, [(frames.SHA256, [0])]),
+    caller.secret(session, cp_hash=cp_hash),
+)
+response = caller.says("Its digest", "SUCCESS", caller.get_digest(session))
+current = response[-len(zeros(session)) :]
+joins("The digest is the first of two", session, current, *other(session, 1))
+caller.says("Another command", "VALUE/p1", caller.command_code(session, frames.PCR_READ))
+caller.says("Localities of which none is left", "RANGE/p1", caller.locality(session, 0b10011))
+another = digest(session.algorithm, b"another command")
+caller.says("Another cpHash", "CPHASH", caller.secret(session, cp_hash=another))
+caller.accepted("TPM2_PCR_Reset of PCR 16", caller.reset(b""))
+caller.says("PCRs, of which one changed", "PCR_CHANGED", caller.pcrs(session, [(frames.SHA256, [0])]))
+script.write()

@@ -1,0 +1,232 @@
+#!/usr/bin/env python3
+"""Writes tests/policy_pcr.tpm: TPM2_PolicyPCR, its selections, and PCRs that change behind it."""
+
+import paths
+
+import frames
+import policy
+from frames import RH_NULL, SHA1, SHA256, number, selection, sized
+from policy_caller import PolicyCaller, is_trial, zeros
+from script import Script
+from sessions import digest
+
+ALL = range(24)
+
+script = Script(
+    "tests/policy_pcr.tpm",
+    "TPM2_PolicyPCR: the policy is for PCRs that have the values of now. Its parameters are the "
+    "digest that they should have, if any, and the selection of PCRs.",
+)
+caller = PolicyCaller(script)
+
+
+def values_digest(session, banks):
+    """The hash of the values of a selection, bank by bank, and in each by number."""
+    values = (script.device.banks[alg][pcr] for alg, pcrs in banks for pcr in sorted(pcrs))
+    return digest(session.algorithm, b"".join(values))
+
+
+def after(session, banks, old=None, given=b""):
+    before = zeros(session) if old is None else old
+    hashed = given or values_digest(session, banks)
+    return policy.after_pcr(session.algorithm, before, selection(*banks), hashed)
+
+
+def restarted(session):
+    caller.says("TPM2_PolicyRestart", "SUCCESS", caller.restart(session))
+
+
+def changed(what, session, banks):
+    """Refused in a policy session, and not in a trial session."""
+    outcome = "SUCCESS" if is_trial(session) else "PCR_CHANGED"
+    caller.says(what, outcome, caller.pcrs(session, banks))
+
+
+def raw(session, text):
+    return caller.told(frames.POLICY_PCR, session, text)
+
+
+def edges(session):
+    """What is refused of the parameters, and the digest is zeros behind it."""
+    one = selection((SHA256, [0]))
+    caller.says(
+        "pcrDigest that is cut",
+        "INSUFFICIENT/p1",
+        *(raw(session, it) for it in (b"", b"\0", b"\0\x01", number(32, 2) + bytes(31))),
+    )
+    caller.says(
+        "One of 33 bytes, whole or cut",
+        "SIZE/p1",
+        raw(session, sized(bytes(33)) + one),
+        raw(session, number(33, 2)),
+        raw(session, b"\xff\xff"),
+    )
+    caller.says(
+        "The selection that is cut: within its number, before its first bank, within the bank's "
+        "hash, before its size, within its bits, and where it has a bank less than it says",
+        "INSUFFICIENT/p2",
+        *(raw(session, sized(b"") + one[:it]) for it in (0, 3, 4, 5, 6, 7, 9)),
+        raw(session, sized(b"") + number(2, 4) + one[4:]),
+    )
+    caller.says(
+        "Of seventeen banks, whole, and with nothing behind that number",
+        "SIZE/p2",
+        raw(session, sized(b"") + selection(*17 * [(SHA256, [0])])),
+        raw(session, sized(b"") + number(17, 4)),
+        raw(session, sized(b"") + number(0xFFFF_FFFF, 4)),
+    )
+    caller.says(
+        "A hash that is neither SHA-1 nor SHA-256: TPM_ALG_NULL, and SHA-384 as the second",
+        "HASH/p2",
+        raw(session, sized(b"") + selection((0x0010, [0]))),
+        raw(session, sized(b"") + selection((SHA1, [0]), (0x000C, [0]))),
+    )
+    caller.says(
+        "A bank of two octets, and of four",
+        "VALUE/p2",
+        raw(session, sized(b"") + number(1, 4) + number(SHA256, 2) + b"\2\0\0"),
+        raw(session, sized(b"") + number(1, 4) + number(SHA256, 2) + b"\4\0\0\0\0"),
+    )
+    caller.says(
+        "A byte behind them, also where pcrDigest is another",
+        "SIZE",
+        raw(session, sized(b"") + one + b"\0"),
+        raw(session, sized(bytes(32)) + one + b"\0"),
+    )
+    caller.digest_is("The digest is zeros", session, zeros(session))
+
+
+script.startup()
+for pcr in (0, 1, 7, 8, 16, 23):
+    caller.accepted(f"TPM2_PCR_Event into PCR {pcr}", caller.event(b"event %d" % pcr, b"", pcr=pcr))
+
+for session in caller.each_session():
+    edges(session)
+    for what, banks in (
+        ("No bank at all, and so no value", []),
+        ("A bank of which no PCR is selected", [(SHA256, [])]),
+        ("PCR 0", [(SHA256, [0])]),
+        ("PCR 0 in the other bank", [(SHA1, [0])]),
+        ("PCR 0 in both banks", [(SHA1, [0]), (SHA256, [0])]),
+        ("The same banks in another order", [(SHA256, [0]), (SHA1, [0])]),
+        ("A bank twice, with one PCR", [(SHA256, [7]), (SHA256, [7])]),
+        ("And with two", [(SHA256, [8]), (SHA256, [7])]),
+        ("PCR 17, all ones, and PCR 23", [(SHA1, [23, 17])]),
+        ("Nine PCRs, of which TPM2_PCR_Read gives eight", [(SHA256, range(9))]),
+        ("All PCRs of a bank", [(SHA1, ALL)]),
+        ("All PCRs in both banks", [(SHA256, ALL), (SHA1, ALL)]),
+        ("Sixteen banks", 8 * [(SHA1, [0, 16]), (SHA256, [1, 8])]),
+        ("Sixteen banks with all PCRs", 16 * [(SHA256, ALL)]),
+    ):
+        caller.says(what, "SUCCESS", caller.restart(session), caller.pcrs(session, banks))
+        caller.digest_is("Its digest", session, after(session, banks))
+
+    script.chapter("A digest that is given.")
+    both = [(SHA1, [1]), (SHA256, [0, 23])]
+    right = values_digest(session, both)
+    restarted(session)
+    caller.says("The right one", "SUCCESS", caller.pcrs(session, both, right))
+    once = after(session, both)
+    caller.digest_is("It is as if none were given", session, once)
+    nothing = digest(session.algorithm, b"")
+    caller.says("The right one of no values", "SUCCESS", caller.pcrs(session, [], nothing))
+    twice = after(session, [], once)
+    caller.digest_is("Its digest, behind the one before", session, twice)
+    for words, given in (
+        ("Another, by one bit", right[:-1] + bytes([right[-1] ^ 1])),
+        ("One that is a byte too short", right[:-1]),
+        ("The first of its bytes alone", right[:1]),
+        ("That of other values", values_digest(session, [(SHA256, [0, 1])])),
+        ("Zeros of its size", bytes(len(right))),
+        ("Zeros of another size", bytes(52 - len(right))),
+        ("The right one and a byte behind it", (right + b"\0")[:32]),
+    ):
+        if given == right:
+            continue
+        restarted(session)
+        outcome = "SUCCESS" if is_trial(session) else "VALUE/p1"
+        caller.says(words, outcome, caller.pcrs(session, both, given))
+        wanted = after(session, both, given=given) if is_trial(session) else zeros(session)
+        words = "It is in the digest as it is" if is_trial(session) else "The digest is as it was"
+        caller.digest_is(words, session, wanted)
+
+    script.chapter("PCRs that change behind it.")
+    zero = [(SHA256, [0])]
+    restarted(session)
+    caller.says("PCR 0", "SUCCESS", caller.pcrs(session, zero))
+    caller.says("Once more, and nothing has changed", "SUCCESS", caller.pcrs(session, zero))
+    value = digest(SHA256, b"more")
+    extend = frames.digests((SHA256, value))
+    caller.accepted(
+        "TPM2_PCR_Extend of PCR 0", caller.prepare(frames.PCR_EXTEND, [0], extend, b"")
+    )
+    changed("TPM2_PolicyPCR again", session, zero)
+    changed("And of PCRs that are as they were, or of none", session, [(SHA256, [1])])
+    changed("", session, [])
+    caller.says(
+        "With a wrong digest it is no other refusal",
+        "SUCCESS" if is_trial(session) else "PCR_CHANGED",
+        caller.pcrs(session, zero, b"wrong"),
+    )
+    restarted(session)
+    caller.says("A policy from the start has the new value", "SUCCESS", caller.pcrs(session, zero))
+    caller.digest_is("Its digest", session, after(session, zero))
+    caller.accepted(
+        "PCR 16, which is not selected, is extended in one bank",
+        caller.prepare(frames.PCR_EXTEND, [16], frames.digests((SHA1, bytes(20))), b""),
+    )
+    changed("TPM2_PolicyPCR again", session, zero)
+    restarted(session)
+    caller.says("From the start", "SUCCESS", caller.pcrs(session, zero))
+    caller.accepted("TPM2_PCR_Reset of PCR 23", caller.reset(b"", pcr=23))
+    changed("TPM2_PolicyPCR again", session, zero)
+    restarted(session)
+    caller.says("From the start", "SUCCESS", caller.pcrs(session, zero))
+    caller.accepted("TPM2_PCR_Event into PCR 23", caller.event(b"abc", b"", pcr=23))
+    changed("TPM2_PolicyPCR again", session, zero)
+
+    script.chapter("What changes no PCR.")
+    restarted(session)
+    caller.says("From the start", "SUCCESS", caller.pcrs(session, zero))
+    caller.accepted("TPM2_PCR_Event on TPM_RH_NULL", caller.event(b"abc", b"", pcr=RH_NULL))
+    caller.accepted(
+        "TPM2_PCR_Extend of PCR 0 by no digest",
+        caller.prepare(frames.PCR_EXTEND, [0], frames.digests(), b""),
+    )
+    caller.refused("TPM2_PCR_Reset of PCR 0", "LOCALITY", caller.reset(b"", pcr=0))
+    caller.refused("TPM2_PCR_Event by a wrong password", "BAD_AUTH/s1", caller.event(b"a", b"x"))
+    caller.accepted("TPM2_PCR_Read", caller.read_pcr(0))
+    caller.says("TPM2_PolicyPCR again", "SUCCESS", caller.pcrs(session, zero))
+    twice = after(session, zero, after(session, zero))
+    caller.digest_is("Its digest, of twice the same", session, twice)
+
+script.chapter("Other assertions are not refused where a PCR has changed.")
+session = caller.policy("A policy session")
+zero = [(SHA256, [0])]
+caller.says("TPM2_PolicyPCR", "SUCCESS", caller.pcrs(session, zero))
+told = after(session, zero)
+caller.accepted("TPM2_PCR_Event into PCR 0", caller.event(b"abc", b"", pcr=0))
+caller.says("TPM2_PolicyAuthValue", "SUCCESS", caller.auth_value_told(session))
+told = policy.after_auth_value(session.algorithm, told)
+caller.digest_is("Its digest", session, told)
+
+script.chapter("That nothing changes is asked from the first one on, also where it selects none.")
+restarted(session)
+caller.says("No PCR", "SUCCESS", caller.pcrs(session, []))
+caller.accepted("TPM2_PCR_Event into PCR 0", caller.event(b"abc", b"", pcr=0))
+caller.says("PCR 0", "PCR_CHANGED", caller.pcrs(session, zero))
+
+script.chapter("But not from one that was refused.")
+restarted(session)
+caller.says("A wrong digest", "VALUE/p1", caller.pcrs(session, zero, bytes(32)))
+caller.digest_is("The digest is zeros", session, zeros(session))
+caller.accepted("TPM2_PCR_Event into PCR 0", caller.event(b"abc", b"", pcr=0))
+caller.says("PCR 0", "SUCCESS", caller.pcrs(session, zero))
+caller.digest_is("Its digest", session, after(session, zero))
+
+script.chapter("Each session by itself.")
+other = caller.policy("Another policy session")
+caller.accepted("TPM2_PCR_Reset of PCR 16", caller.reset(b""))
+caller.says("It has not been told of a PCR", "SUCCESS", caller.pcrs(other, zero))
+caller.says("But the one before has", "PCR_CHANGED", caller.pcrs(session, zero))
+script.write()

@@ -1,0 +1,296 @@
+#!/usr/bin/env python3
+"""Writes tests/policy_sessions_that_encrypt.tpm: policy sessions that authorize nothing."""
+
+import paths
+
+import frames
+import policy
+from caller import Use, flipped
+from frames import (
+    CONTINUE_SESSION,
+    DECRYPT,
+    ENCRYPT,
+    RH_ENDORSEMENT,
+    RH_LOCKOUT,
+    RH_OWNER,
+    SE_POLICY,
+    SE_TRIAL,
+    SHA1,
+)
+from policy_caller import HASHES, KINDS, PolicyCaller, zeros
+from script import Script
+from sessions import digest, name_of
+
+DECRYPTS, ENCRYPTS = CONTINUE_SESSION | DECRYPT, CONTINUE_SESSION | ENCRYPT
+
+script = Script(
+    "tests/policy_sessions_that_encrypt.tpm",
+    "Policy sessions and trial sessions as further entries: they authorize nothing there, and are "
+    "held against their hmac as HMAC sessions are. They can decrypt and encrypt, and keep what "
+    "they were told.",
+)
+caller = PolicyCaller(script)
+
+
+def wrong(prepared, place):
+    hmac = prepared.entries[place - 1].hmac
+    return prepared.but_entry(place, hmac=flipped(hmac) if hmac else b"\0")
+
+
+script.startup()
+caller.accepted('ownerAuth is "owner"', caller.change_auth(RH_OWNER, b"owner", b""))
+hmac = caller.start("An HMAC session, bound to TPM_RH_OWNER, with AES", RH_OWNER, aes=True)
+
+for algorithm, hash_name in HASHES:
+    for kind, name in KINDS:
+        script.chapter(f"A {name} session of {hash_name}, bound to TPM_RH_OWNER.")
+        session = caller.start(
+            "It is started", RH_OWNER, algorithm=algorithm, aes=True, kind=kind, size=20
+        )
+        caller.says("TPM2_PolicyAuthValue", "SUCCESS", caller.auth_value_told(session))
+        told = policy.after_auth_value(algorithm, zeros(session))
+        caller.accepted(
+            "TPM2_PCR_Event by a password, and the data is encrypted by it",
+            caller.event(b"event data", b"", Use(session, DECRYPTS)),
+        )
+        caller.accepted(
+            "TPM2_HierarchyChangeAuth by a password: its key has no authorization value",
+            caller.change_auth(RH_OWNER, b"another", b"owner", Use(session, DECRYPTS)),
+        )
+        caller.accepted(
+            "By an HMAC session, whose hmac has its nonce",
+            caller.change_auth(RH_OWNER, b"owner", hmac, Use(session, DECRYPTS)),
+        )
+        caller.accepted(
+            "TPM2_GetRandom, which it encrypts", caller.random(20, Use(session, ENCRYPTS))
+        )
+        caller.accepted(
+            "TPM2_GetRandom that it does not encrypt", caller.random(20, hmac, session)
+        )
+        caller.digest_is("Its digest is as it was", session, told)
+        encrypted = caller.get_digest(session, Use(session, ENCRYPTS))
+        caller.accepted("TPM2_PolicyGetDigest, which it encrypts itself", encrypted)
+        caller.accepted(
+            "And which the HMAC session encrypts",
+            caller.get_digest(session, session, Use(hmac, ENCRYPTS)),
+        )
+        right = caller.event(b"event data", b"", Use(session, DECRYPTS))
+        caller.refused(
+            "A wrong hmac: by a bit, none, and the attribute taken away",
+            "BAD_AUTH/s2",
+            wrong(right, 2),
+            right.but_entry(2, hmac=b""),
+            right.but_entry(2, attributes=CONTINUE_SESSION),
+        )
+        with caller.breaking(key=lambda *_: session.key + b"owner"):
+            valued = caller.event(b"event data", b"", Use(session, DECRYPTS))
+        caller.refused("ownerAuth in its key", "BAD_AUTH/s2", valued)
+        caller.refused(
+            "Parameters that cannot be decrypted",
+            "INSUFFICIENT/p1",
+            caller.prepare(frames.PCR_EVENT, [16], b"\0\1", b"", Use(session, DECRYPTS)),
+        )
+        caller.accepted("The right one", right)
+        caller.refused("It is of a nonce that is past", "BAD_AUTH/s2", right)
+        caller.digest_is("Its digest is as it was", session, told)
+
+        caller.accepted(
+            "TPM2_PolicyPCR whose digest it decrypts itself|and its digest is of the plain one",
+            caller.pcrs(session, [], digest(algorithm, b""), [Use(session, DECRYPTS)]),
+        )
+        told = policy.after_pcr(
+            algorithm, told, frames.selection(), digest(algorithm, b"")
+        )
+        caller.digest_is("Its digest", session, told)
+        caller.accepted(
+            "TPM2_PolicySecret, of which it decrypts nonceTPM itself: the one of before",
+            caller.secret(
+                session, b"owner", Use(session, DECRYPTS), of=RH_OWNER, nonce_tpm=session.nonce_tpm
+            ),
+        )
+        caller.accepted(
+            "And which the HMAC session decrypts, that authorizes",
+            caller.secret(
+                session, Use(hmac, DECRYPTS), session, of=RH_OWNER, nonce_tpm=session.nonce_tpm
+            ),
+        )
+        caller.accepted(
+            "Decrypted by it, where the HMAC session authorizes and encrypts",
+            caller.secret(
+                session,
+                Use(hmac, ENCRYPTS),
+                Use(session, DECRYPTS),
+                of=RH_OWNER,
+                nonce_tpm=session.nonce_tpm,
+            ),
+        )
+        caller.accepted(
+            "It encrypts, behind a password, and there is nothing to encrypt",
+            caller.secret(session, b"owner", Use(session, ENCRYPTS), of=RH_OWNER),
+        )
+        for _ in range(4):
+            told = policy.after_secret(algorithm, told, name_of(RH_OWNER), b"")
+        caller.digest_is("Its digest", session, told)
+        if kind == SE_POLICY:
+            given = caller.secret(
+                session,
+                b"owner",
+                Use(session, DECRYPTS),
+                of=RH_OWNER,
+                nonce_tpm=flipped(session.nonce_tpm),
+            )
+            caller.refused("Another nonceTPM, decrypted", "NONCE/p1", given)
+        caller.refused(
+            "encrypt, where no sized buffer is answered: TPM2_PolicyPCR and TPM2_PolicyRestart",
+            "ATTRIBUTES/s1",
+            caller.pcrs(session, [], b"", [Use(session, ENCRYPTS)]),
+            caller.restart(session, Use(session, ENCRYPTS)),
+        )
+        parameters = frames.sized_list(bytes(20), bytes(20))
+        caller.refused(
+            "decrypt, where the first parameter is no sized buffer: TPM2_PolicyOR, "
+            "TPM2_PolicyGetDigest, TPM2_PolicyRestart, TPM2_PolicyCommandCode, "
+            "TPM2_PolicyLocality, TPM2_PolicyAuthValue and TPM2_PolicyPassword",
+            "ATTRIBUTES/s1",
+            *(
+                caller.prepare(code, [session.handle], text, session).but_entry(
+                    1, attributes=DECRYPTS
+                )
+                for code, text in (
+                    (frames.POLICY_OR, parameters),
+                    (frames.POLICY_GET_DIGEST, b""),
+                    (frames.POLICY_RESTART, b""),
+                    (frames.POLICY_COMMAND_CODE, bytes(4)),
+                    (frames.POLICY_LOCALITY, b"\1"),
+                    (frames.POLICY_AUTH_VALUE, b""),
+                    (frames.POLICY_PASSWORD, b""),
+                )
+            ),
+        )
+        caller.refused(
+            "encrypt on the others: TPM2_PolicyOR, TPM2_PolicyCommandCode, TPM2_PolicyLocality, "
+            "TPM2_PolicyAuthValue and TPM2_PolicyPassword",
+            "ATTRIBUTES/s1",
+            *(
+                caller.prepare(code, [session.handle], text, session).but_entry(
+                    1, attributes=ENCRYPTS
+                )
+                for code, text in (
+                    (frames.POLICY_OR, parameters),
+                    (frames.POLICY_COMMAND_CODE, bytes(4)),
+                    (frames.POLICY_LOCALITY, b"\1"),
+                    (frames.POLICY_AUTH_VALUE, b""),
+                    (frames.POLICY_PASSWORD, b""),
+                )
+            ),
+        )
+        caller.accepted("It encrypts, and ends", caller.random(20, Use(session, ENCRYPT)))
+
+script.chapter("Without a key: the hmac may be left out.")
+for algorithm, hash_name in HASHES:
+    for kind, name in KINDS:
+        session = caller.start(
+            f"A {name} session of {hash_name} that is bound to nothing",
+            algorithm=algorithm,
+            aes=True,
+            kind=kind,
+        )
+        caller.accepted(
+            "Behind a password, with no hmac|and none is answered",
+            caller.event(b"event data", b"", Use(session, DECRYPTS)),
+        )
+        caller.accepted(
+            "With an hmac by the empty key",
+            caller.event(b"event data", b"", Use(session, DECRYPTS, shows_empty_key=True)),
+        )
+        shown = caller.event(b"event data", b"", Use(session, DECRYPTS, shows_empty_key=True))
+        caller.refused(
+            "With a wrong one, and with a byte",
+            "BAD_AUTH/s2",
+            wrong(shown, 2),
+            shown.but_entry(2, hmac=b"\0"),
+        )
+        caller.accepted("The right one", shown)
+        caller.accepted(
+            "TPM2_GetRandom, which it encrypts without a key",
+            caller.random(8, Use(session, ENCRYPTS)),
+        )
+        caller.accepted(
+            "TPM2_PolicyGetDigest, which it encrypts",
+            caller.get_digest(session, Use(session, ENCRYPTS)),
+        )
+        caller.digest_is("Its digest is zeros", session, zeros(session))
+        caller.says("It is flushed", "SUCCESS", caller.flush(session))
+
+script.chapter("Without AES.")
+plain = caller.policy("A policy session", bind=RH_OWNER)
+caller.refused(
+    "decrypt and encrypt",
+    "SYMMETRIC/s1",
+    caller.pcrs(plain, [], b"", [Use(plain, DECRYPTS)]),
+    caller.get_digest(plain, Use(plain, ENCRYPTS)),
+)
+caller.refused(
+    "Behind a password", "SYMMETRIC/s2", caller.event(b"a", b"", Use(plain, DECRYPTS))
+)
+
+script.chapter("Started beside others, and with others beside it.")
+first = caller.policy("A policy session, with AES", bind=RH_OWNER, aes=True)
+second = caller.start(
+    "TPM2_StartAuthSession of another, by which it is encrypted in both directions",
+    RH_ENDORSEMENT,
+    kind=SE_TRIAL,
+    aes=True,
+    uses=[Use(first, DECRYPTS | ENCRYPT)],
+)
+third = caller.start(
+    "Of an HMAC session: the trial session decrypts and the policy session encrypts",
+    RH_OWNER,
+    aes=True,
+    uses=[Use(second, DECRYPTS), Use(first, ENCRYPTS)],
+)
+caller.accepted(
+    "Three beside a password would be four; two", caller.event(b"a", b"", first, second)
+)
+caller.accepted(
+    "TPM2_HierarchyChangeAuth by the HMAC session, with both: the first hmac has the nonce of the "
+    "one that decrypts",
+    caller.change_auth(RH_OWNER, b"owner", third, second, Use(first, DECRYPTS)),
+)
+with caller.breaking(nonces_of_others=lambda *_: []):
+    left_out = caller.change_auth(RH_OWNER, b"owner", third, second, Use(first, DECRYPTS))
+caller.refused("Where it is left out", "BAD_AUTH/s1", left_out)
+
+
+def secret(*uses):
+    return caller.secret(first, third, *uses, of=RH_OWNER, nonce_tpm=first.nonce_tpm)
+
+
+caller.accepted(
+    "TPM2_PolicySecret in the policy session, which encrypts, and the trial session decrypts: the "
+    "first hmac has the nonces of both, in this order",
+    secret(Use(first, ENCRYPTS), Use(second, DECRYPTS)),
+)
+caller.accepted("The other way round", secret(Use(first, DECRYPTS), Use(second, ENCRYPTS)))
+caller.accepted("One does both", secret(second, Use(first, DECRYPTS | ENCRYPT)))
+with caller.breaking(nonces_of_others=lambda *_: [first.nonce_tpm, second.nonce_tpm]):
+    turned = secret(Use(first, ENCRYPTS), Use(second, DECRYPTS))
+caller.refused("In the other order", "BAD_AUTH/s1", turned)
+caller.says("TPM2_PolicyRestart", "SUCCESS", caller.restart(first))
+for it, kind in ((first, SE_POLICY), (second, SE_TRIAL)):
+    assert it.kind == kind
+    caller.digest_is("Its digest is zeros", it, zeros(it))
+
+script.chapter("Bound to TPM_RH_LOCKOUT, a wrong hmac is a try at its value.")
+locked = caller.policy("A policy session", bind=RH_LOCKOUT)
+trial = caller.trial("A trial session, of SHA-1", bind=RH_LOCKOUT, algorithm=SHA1)
+for it in (locked, trial):
+    caller.refused("Behind a password", "AUTH_FAIL/s2", wrong(caller.event(b"a", b"", it), 2))
+    caller.refused("As the first entry", "AUTH_FAIL/s1", wrong(caller.random(1, it), 1))
+    caller.accepted("A right one", caller.random(1, it))
+caller.refused(
+    "One that is bound to TPM_RH_OWNER, beside them",
+    "BAD_AUTH/s3",
+    wrong(caller.random(1, locked, trial, first), 3),
+)
+script.write()

@@ -1,0 +1,377 @@
+"""A random script, and what device.py answers to it:
+
+    random_script.py SEED COUNT FOLDER
+
+writes FOLDER/SEED.tpm, with so many commands, and FOLDER/SEED.out. Most commands are such that they
+may succeed; in some a field is wrong, and in some the bytes. tools/random_scripts.sh compares the
+program's answers with them.
+"""
+
+import pathlib
+import random
+import sys
+from dataclasses import replace
+
+import paths
+
+import frames
+import general
+import policy
+import sessions
+from device import Device
+from frames import ALG_NULL, CONTINUE_SESSION, DECRYPT, ENCRYPT, KEYEDHASH, RH_NULL, RS_PW
+from frames import SHA1, SHA256, SYMCIPHER, number, sized
+from general import Entry, Refusal, Short
+from objects import Attribute, Public
+
+SELDOM = 0.04
+AUTH_VALUES = b"", b"a", b"secret"
+PCR_NUMBERS = 0, 7, 10, 16, 17, 23
+KINDS = frames.SE_HMAC, frames.SE_HMAC, frames.SE_POLICY, frames.SE_POLICY, frames.SE_TRIAL
+OPEN = Attribute.FIXED_TPM | Attribute.FIXED_PARENT | Attribute.USER_WITH_AUTH
+STORES = OPEN | Attribute.RESTRICTED | Attribute.DECRYPT | Attribute.SENSITIVE_DATA_ORIGIN
+USES = frames.UNSEAL, frames.HMAC, frames.CREATE, frames.LOAD, frames.POLICY_SECRET
+RANDOM_BYTES = 256
+
+
+class Writer(random.Random):
+    """Random commands for a device, which it knows from within."""
+
+    def __init__(self, seed):
+        super().__init__(seed)
+        self.device, self.locality = Device(), 0
+        self.lines, self.answers = [f"# Random script {seed}."], []
+        self.made, self.digests = [], [b""]
+
+    # Choices.
+
+    def happens(self, chance=SELDOM):
+        return self.random() < chance
+
+    def some_bytes(self, most):
+        return self.randbytes(self.choice((0, 1, most // 2, most, most)) + self.happens(0.01))
+
+    def bent(self, data):
+        """With one bit changed."""
+        at = self.randrange(len(data))
+        return data[:at] + bytes([data[at] ^ 1 << self.randrange(8)]) + data[at + 1 :]
+
+    def hash(self):
+        return 0x000C if self.happens(0.01) else self.choice((SHA1, SHA256, SHA256))
+
+    def hierarchy(self):
+        return self.choice(general.PRIMARY_HIERARCHIES)
+
+    def object(self, test=lambda it: True):
+        """The handle of a loaded object, if any; seldom of one that is not there."""
+        fitting = [it for it in self.device.objects if test(self.device.objects[it])]
+        if self.happens(0.02) or not fitting:
+            return self.choice((0x80000000 + self.randrange(9), 0x81000000, RH_NULL))
+        return self.choice(fitting)
+
+    def session(self, *kinds):
+        """The handle of a session of one of these kinds, seldom of none or another."""
+        held = self.device.sessions
+        fitting = [it for it in held if held[it].kind in kinds or self.happens(0.02)]
+        return self.choice(fitting) if fitting else 0x03000000 + self.randrange(17)
+
+    def entity(self):
+        return self.choice(
+            (*general.HIERARCHIES, self.choice(PCR_NUMBERS), self.object(), self.object())
+        )
+
+    def selection(self):
+        banks = self.sample((SHA1, SHA256), self.randrange(3))
+        return [(bank, self.sample(PCR_NUMBERS, self.randrange(4))) for bank in banks]
+
+    # Objects.
+
+    def attributes(self, usual):
+        """The usual attributes of an object, with some changed."""
+        extra = self.choice((0, 0, Attribute.NO_DA, Attribute.NO_DA | Attribute.ADMIN_WITH_POLICY))
+        if self.happens(0.15):
+            usual &= ~Attribute.USER_WITH_AUTH
+        if self.happens(0.05):
+            usual ^= 1 << self.randrange(20)
+        return usual | extra
+
+    def public(self):
+        usual, kind, scheme = self.choice(
+            (
+                (STORES, SYMCIPHER, ALG_NULL),
+                (OPEN, KEYEDHASH, ALG_NULL),
+                (OPEN, KEYEDHASH, ALG_NULL),
+                (OPEN | Attribute.SIGN, KEYEDHASH, self.choice((ALG_NULL, SHA1, SHA256))),
+            )
+        )
+        digest, algorithm = self.choice(self.digests), self.hash()
+        if len(digest) not in (0, 20 if algorithm == SHA1 else 32) and not self.happens(0.1):
+            digest = b""
+        unique = self.some_bytes(32)
+        return Public(kind, algorithm, self.attributes(usual), digest, scheme, unique)
+
+    def creation(self):
+        public = self.public()
+        seals = public.kind == KEYEDHASH and not public.has(Attribute.SIGN)
+        given = public.kind == KEYEDHASH and (seals or self.happens(0.5))
+        data = self.some_bytes(128) if given != self.happens() else b""
+        if public.has(Attribute.SIGN) and not given:
+            attributes = public.attributes | Attribute.SENSITIVE_DATA_ORIGIN
+            public = replace(public, attributes=attributes)
+        user_auth = self.choice(AUTH_VALUES) + bytes(self.randrange(2))
+        sensitive = frames.sensitive_create(user_auth, data)
+        return frames.creation(
+            sensitive, sized(public.text), self.some_bytes(34), self.selection()
+        )
+
+    # The commands: handles and parameters.
+
+    def start(self):
+        algorithm = self.hash()
+        nonce = self.randbytes(self.choice((16, 20, 20)) - self.happens())
+        bind = self.choice((RH_NULL, RH_NULL, self.entity()))
+        aes, kind = self.choice((True, False)), self.choice(KINDS)
+        return frames.start_auth_session(nonce, bind, algorithm, aes, kind=kind)
+
+    def told(self, parameters=b""):
+        return [self.session(frames.SE_POLICY, frames.SE_TRIAL)], parameters
+
+    def policy_secret(self):
+        (handle,), _ = self.told()
+        held = self.device.sessions.get(handle)
+        nonce = self.choice((b"", held.nonce_tpm if held else b"", self.some_bytes(32)))
+        cp_hash = self.choice((b"", b"", self.randbytes(self.choice((20, 32, 31)))))
+        expiration = int(self.happens())
+        parameters = frames.policy_secret(nonce, cp_hash, self.some_bytes(4), expiration)
+        return [self.entity(), handle], parameters
+
+    def policy_or(self):
+        (handle,), _ = self.told()
+        held = self.device.sessions.get(handle)
+        branches = self.choices(self.digests, k=self.choice((2, 3, 8, 9, 1)))
+        if held and not self.happens():
+            branches[-1] = held.policy.digest
+        return [handle], frames.sized_list(*branches)
+
+    def load(self):
+        """What was created before, mostly under the parent that is loaded again."""
+        parent = self.object(lambda it: it.public.is_parent)
+        name = self.device.name(parent)
+        fitting = [it for it in self.made if it[0] == name or self.happens(0.02)]
+        _, private, public = self.choice(fitting or [(b"", self.randbytes(99), self.public().text)])
+        if self.happens():
+            private = self.bent(private)
+        return [parent], sized(private) + sized(public)
+
+    def hmac(self):
+        algorithm = self.choice((SHA1, SHA256, SHA256, ALG_NULL, 0x0012))
+        data = self.some_bytes(self.choice((4, 64, 1024)))
+        return [self.keyed(signs=True)], sized(data) + number(algorithm, 2)
+
+    def keyed(self, signs):
+        """A key of HMACs, or sealed data; seldom the other, or a storage key."""
+        wanted = KEYEDHASH, signs
+        return self.object(
+            lambda it: (it.public.kind, it.public.has(Attribute.SIGN)) == wanted or self.happens()
+        )
+
+    def flushed(self):
+        held = [*self.device.objects, *self.device.sessions, 0x80000007, 0x02000000, RH_NULL]
+        return [], number(self.choice(held), 4)
+
+    def pcr(self):
+        return [self.choice((*PCR_NUMBERS, *PCR_NUMBERS, RH_NULL, 24))]
+
+    def extension(self):
+        values = [(SHA256, self.randbytes(32)), (SHA1, self.randbytes(20))]
+        return self.pcr(), frames.digests(*values[: self.randrange(3)])
+
+    COMMANDS = {
+        frames.STARTUP: (1, lambda w: ([], number(w.randrange(2) * w.happens(0.5), 2))),
+        frames.GET_RANDOM: (2, lambda w: ([], number(w.randrange(70), 2))),
+        frames.PCR_READ: (2, lambda w: ([], frames.selection(*w.selection()))),
+        frames.PCR_EXTEND: (2, extension),
+        frames.PCR_EVENT: (2, lambda w: (w.pcr(), sized(w.some_bytes(1024)))),
+        frames.PCR_RESET: (2, lambda w: (w.pcr(), b"")),
+        frames.HIERARCHY_CHANGE_AUTH: (
+            3,
+            lambda w: ([w.choice(general.HIERARCHIES)], sized(w.choice(AUTH_VALUES) + bytes(2))),
+        ),
+        frames.FLUSH_CONTEXT: (12, flushed),
+        frames.START_AUTH_SESSION: (14, start),
+        frames.POLICY_RESTART: (1, told),
+        frames.POLICY_PCR: (
+            4,
+            lambda w: w.told(sized(w.happens() * b"given") + frames.selection(*w.selection())),
+        ),
+        frames.POLICY_OR: (3, policy_or),
+        frames.POLICY_AUTH_VALUE: (4, told),
+        frames.POLICY_PASSWORD: (4, told),
+        frames.POLICY_COMMAND_CODE: (4, lambda w: w.told(number(w.choice((*USES, 0x999)), 4))),
+        frames.POLICY_LOCALITY: (3, lambda w: w.told(number(w.choice((0, 1, 3, 31, 31, 32)), 1))),
+        frames.POLICY_SECRET: (6, policy_secret),
+        frames.POLICY_GET_DIGEST: (3, told),
+        frames.CREATE_PRIMARY: (16, lambda w: ([w.hierarchy()], w.creation())),
+        frames.CREATE: (16, lambda w: ([w.object(lambda it: it.public.is_parent)], w.creation())),
+        frames.LOAD: (14, load),
+        frames.READ_PUBLIC: (4, lambda w: ([w.object()], b"")),
+        frames.UNSEAL: (12, lambda w: ([w.keyed(signs=False)], b"")),
+        frames.HMAC: (10, hmac),
+    }
+
+    # Entries.
+
+    def entries(self, code, handles):
+        """With what a command is authorized: a session or the password for the handle that needs
+        it, and seldom sessions that only encrypt.
+        """
+        shape, found = general.SHAPES[code], []
+        if shape.authorized and not self.happens(0.01):
+            found.append(self.authorizing(handles[0]))
+        while shape.sessions and self.device.sessions and self.happens(0.15):
+            found.append(Entry(self.choice([*self.device.sessions]), b"", 0, b""))
+        for entry in found:
+            self.describe(entry, shape)
+        return found
+
+    def authorizing(self, handle):
+        held, entity = self.device.sessions, self.device.policy_entity(handle)
+        fits = [RS_PW, *(it for it in held if held[it].kind == frames.SE_HMAC or self.happens())]
+        for it in held:
+            if entity and held[it].policy.digest == entity.auth_policy and not held[it].is_trial:
+                fits += [it] * 9
+        return Entry(self.choice(fits), b"", 0, b"")
+
+    def describe(self, entry, shape):
+        entry.attributes = CONTINUE_SESSION if self.random() < 0.9 else 0
+        if self.happens(0.01):
+            entry.attributes |= 1 << self.randrange(8)
+        if entry.handle == RS_PW:
+            return
+        held = self.device.sessions[entry.handle]
+        entry.nonce = self.randbytes(self.choice((16, len(held.nonce_tpm))))
+        if held.aes and shape.sized_parameter and self.happens(0.4):
+            entry.attributes |= DECRYPT
+        if held.aes and shape.sized_answer and self.happens(0.4):
+            entry.attributes |= ENCRYPT
+
+    def authenticated(self, command):
+        """The same command with its first parameter encrypted and its hmacs written."""
+        device, found = self.device, command.with_attribute(DECRYPT)
+        if found and found[1].handle in device.sessions:
+            _, entry, handle = found
+            held = device.sessions[entry.handle]
+            key = device.encryption_key(held, handle)
+            command.parameters = sessions.on_first_buffer(
+                lambda data: sessions.encrypted(
+                    held.algorithm, key, entry.nonce, held.nonce_tpm, data
+                ),
+                command.parameters,
+            )
+        for place, entry, handle in command.places():
+            entry.hmac = self.hmac_of(command, place, entry, handle)
+            if self.happens(0.02):
+                entry.hmac = self.choice((b"", self.some_bytes(32), entry.hmac + b"\0"))
+
+    def hmac_of(self, command, place, entry, handle):
+        device = self.device
+        if entry.handle == RS_PW:
+            return device.auth_value(handle) + bytes(self.randrange(2))
+        held = device.sessions[entry.handle]
+        if general.is_policy(entry.handle) and handle is not None:
+            entry.demand = held.policy.demand
+            if entry.demand == policy.PASSWORD:
+                return device.auth_value(handle)
+        key = device.key(entry, handle)
+        if not key and self.happens(0.8):
+            return b""
+        names = device.names(command)
+        return sessions.entry_hmac(
+            held.algorithm,
+            key,
+            sessions.command_hash(held.algorithm, command.code, names, command.parameters),
+            entry.nonce,
+            held.nonce_tpm,
+            device.nonces_of_others(command, place, handle),
+            entry.attributes,
+        )
+
+    # Sending.
+
+    def buffer(self):
+        codes = list(self.COMMANDS)
+        (code,) = self.choices(codes, [self.COMMANDS[it][0] for it in codes])
+        handles, parameters = self.COMMANDS[code][1](self)
+        if self.happens(0.02):
+            parameters = parameters[: self.randrange(len(parameters) + 1)] + self.some_bytes(2)
+        entries = self.entries(code, handles)
+        command = general.Command(code, handles, entries, parameters)
+        try:
+            self.authenticated(command)
+        except (Short, KeyError, IndexError):
+            pass
+        return self.damaged(self.spelled(command))
+
+    @staticmethod
+    def spelled(command):
+        handles = b"".join(number(it, 4) for it in command.handles)
+        if not command.entries:
+            return frames.command(command.code, handles + command.parameters)
+        entries = [
+            frames.entry(it.handle, it.nonce, it.attributes, it.hmac) for it in command.entries
+        ]
+        body = handles + frames.area(*entries) + command.parameters
+        return frames.command(command.code, body, frames.SESSIONS)
+
+    def damaged(self, buffer):
+        """Seldom with a bit changed, or cut, commandSize being right then."""
+        if self.happens(0.02):
+            return self.bent(buffer)
+        if self.happens(0.01):
+            cut = buffer[: self.randrange(len(buffer))]
+            return cut[:2] + number(len(cut), 4) + cut[6:] if len(cut) > 6 else cut
+        return buffer
+
+    def step(self):
+        if self.happens(0.003):
+            self.device.power_cycle()
+            self.lines.append("power")
+        if self.happens(0.02):
+            self.locality = self.randrange(5)
+            self.lines.append(f"loc {self.locality}")
+        if not self.device.started and not self.happens(0.1):
+            buffer = frames.command(frames.STARTUP, number(0, 2))
+        else:
+            buffer = self.buffer()
+        seed = self.randbytes(7)
+        drawn = (seed * RANDOM_BYTES)[:RANDOM_BYTES]
+        self.lines += [f"entropy {seed.hex()}", f"cmd {buffer.hex()}"]
+        response, refused = self.device.execute(buffer, self.locality, drawn)
+        self.answers.append(response)
+        self.note(buffer, response, refused)
+        return refused
+
+    def note(self, buffer, response, refused):
+        """Keeps what TPM2_Create answered in plain, and the digests that policies have."""
+        if not refused and buffer[:2] == number(frames.SESSIONS, 2):
+            if int.from_bytes(buffer[6:10], "big") == frames.CREATE:
+                fields = general.Fields(response[14:])
+                parent = self.device.name(int.from_bytes(buffer[10:14], "big"))
+                self.made = [*self.made[-20:], (parent, fields.sized(), fields.sized())]
+        for held in self.device.sessions.values():
+            if held.policy.digest not in self.digests:
+                self.digests = [b"", *self.digests[-20:], held.policy.digest]
+
+
+def main(seed, count, folder):
+    writer = Writer(int(seed))
+    outcomes = [writer.step() for _ in range(int(count))]
+    path = pathlib.Path(folder) / f"{seed}.tpm"
+    path.write_text("\n".join(writer.lines) + "\n", "ascii")
+    answers = "".join(it.hex() + "\n" for it in writer.answers)
+    path.with_suffix(".out").write_text(answers, "ascii")
+    return outcomes
+
+
+if __name__ == "__main__":
+    main(*sys.argv[1:])

@@ -1,0 +1,92 @@
+#!/usr/bin/env python3
+"""Writes tests/read_public.tpm: TPM2_ReadPublic, and the Names that it answers."""
+
+import paths
+
+from caller import Use
+from frames import ENCRYPT, READ_PUBLIC, RH_NULL, RH_OWNER, SHA1, SHA256, command, number
+from object_caller import ObjectCaller, hmac_key, sealed, storage_key
+from script import Script
+from sessions import digest
+
+script = Script(
+    "tests/read_public.tpm",
+    "TPM2_ReadPublic answers an object's public area, its Name, which is nameAlg and the hash of "
+    "that area, and its qualified name, which has the Names of all that are above it in it. It "
+    "needs no authorization.",
+)
+caller = ObjectCaller(script)
+
+
+def read(handle):
+    return command(READ_PUBLIC, number(handle, 4))
+
+
+script.command("Before TPM2_Startup", "INITIALIZE", read(0x8000_0000))
+script.startup()
+script.command(
+    "No object's handle: TPM_RH_OWNER, TPM_RH_NULL, PCR 0, an NV index, sessions",
+    "VALUE/h1",
+    *map(read, (RH_OWNER, RH_NULL, 0, 0x0100_0000, 0x0200_0000, 0x0300_0000, 0xFFFF_FFFF)),
+)
+script.command(
+    "A transient object, while there is none",
+    "REFERENCE_H0",
+    *map(read, (0x8000_0000, 0x8000_0007, 0x8000_0008, 0x80FF_FFFF)),
+)
+script.command(
+    "A persistent object, while there is none",
+    "HANDLE/h1",
+    *map(read, (0x8100_0000, 0x81FF_FFFF)),
+)
+script.command("Three bytes of a handle", "INSUFFICIENT/h1", command(READ_PUBLIC, b"\x80\0\0"))
+
+script.chapter("Qualified names: of a primary object, of its child, and of that one's child.")
+qualified_names = {}
+for hierarchy, name in ((RH_OWNER, "TPM_RH_OWNER"), (RH_NULL, "TPM_RH_NULL")):
+    qualified, handles = number(hierarchy, 4), []
+    primary = caller.create_primary(f"A storage key in {name}", hierarchy, storage_key())
+    handles.append(primary)
+    for algorithm, what in (
+        (SHA1, "A storage key under it, with nameAlg SHA-1"),
+        (SHA256, "One under that, with nameAlg SHA-256"),
+    ):
+        made = caller.create(f"{what}: TPM2_Create", handles[-1], storage_key(algorithm))
+        handles.append(caller.load("TPM2_Load", handles[-1], made))
+    for handle, algorithm, what in (
+        (handles[0], SHA256, "The first"),
+        (handles[1], SHA1, "The second"),
+        (handles[2], SHA256, "The third"),
+    ):
+        public, answered = caller.read_public(f"{what}: TPM2_ReadPublic", handle)
+        qualified = number(algorithm, 2) + digest(algorithm, qualified + public.name)
+        assert answered == qualified
+    caller.flush_objects("They are flushed", *handles)
+
+script.chapter("What is wrong with the command.")
+key = caller.create_primary(
+    'An HMAC key, whose value is "a"', RH_OWNER, hmac_key(), user_auth=b"a", data=b"key"
+)
+whole = caller.public(key)
+caller.says("A byte behind the handle", "SIZE", whole.but(parameters=b"\0"))
+caller.says("A password, as it needs none", "HANDLE/s1", caller.public(key, b"a"))
+session, other = caller.start("A session", aes=True), caller.start("And another")
+caller.read_public("TPM2_ReadPublic with both", key, session, other)
+caller.read_public("With outPublic encrypted", key, Use(session, 0x01 | ENCRYPT))
+caller.refused(
+    "There is no parameter to decrypt",
+    "ATTRIBUTES/s1",
+    caller.public(key, session).but_entry(1, attributes=0x21),
+)
+stranger = caller.create_primary("Another object", RH_OWNER, sealed(), data=b"secret")
+bound = caller.start("A session that is bound to the HMAC key", bind=key)
+right = caller.public(key, bound)
+caller.refused(
+    "With its hmac, which has the Name of the HMAC key in it, for the other object",
+    "BAD_AUTH/s1",
+    right.but(handles=[stranger]),
+)
+caller.read_public("For the right one", key, bound)
+caller.flush_objects("Both are flushed", key, stranger)
+script.command("They are no more", "REFERENCE_H0", read(key), read(stranger))
+script.write()
