@@ -1,5 +1,5 @@
 -- Where the code finds a key among the entries, and that an edit there is an edit under the key.
-use Rattle.std.proofs.Common.{◌≡◌, ℕ, zero, suc, ◌<◌, ◌≤◌, Bool, true, false, cond, [], ◌∷◌, ◌++◌, length, get_or, slice_set, Option, Some, None, IfSome, is_some, refl, sym, ap, ◌∙◌, arith}
+use Rattle.std.proofs.Common.{◌≡◌, ℕ, zero, suc, ◌<◌, ◌≤◌, Bool, true, false, cond, [], ◌∷◌, ◌++◌, length, get_or, slice_set, Option, Some, None, IfSome, is_some, refl, sym, ap, subst, ◌∙◌, arith}
 use Rattle.std.specs.Prelude.{nat_le, ◌==◌}
 use Rattle.std.specs.List.{position, position_or_len, insert, remove}
 use Rattle.std.proofs.lemmas.Bool.{eqb-true, ltb-false}
@@ -132,3 +132,14 @@ module _ {X : Type 0} where
       let here : (get_or es i e).0 ≡ key = eqb-true _ key (position-Some (has key) es i e (sym is)).1 in
       let same : e.0 ≡ key = ap (λ (p : ℕ × X). p.0) (sym read) ∙ here in
       ap (λ (k : ℕ). slice_set es i (k, x)) same ∙ set_position es key i x (sym is)
+
+  -- an entry at an index, which is read and written there under this key
+  pub record Lent (es : Entries X) (key i : ℕ) (e : ℕ × X) : Type 0 where
+    pub value : at_key es key ≡ Some e.1
+    pub written : (x : X) → slice_set es i (e.0, x) ≡ changed_key es key x
+
+  -- so is the one that is lent of the entries which a container shows as a slice
+  pub lent_at : (shown es : Entries X) (key i : ℕ) (e : ℕ × X) → shown ≡ es → e ≡ get_or es i e → ((e : ℕ × X) → get_or shown i e ≡ e → at_key shown key ≡ Some e.1) → ((e : ℕ × X) (x : X) → get_or shown i e ≡ e → slice_set shown i (e.0, x) ≡ changed_key shown key x) → Lent es key i e
+  lent_at shown es key i e same read value written =
+      let is : get_or shown i e ≡ e = ap (λ (l : Entries X). get_or l i e) same ∙ sym {b = get_or es i e} read in
+      subst (λ (l : Entries X). Lent l key i e) same (record { value = value e is; written = λ x. written e x is })

@@ -181,11 +181,17 @@ module _ {X : Type 0} (kind : X → ℕ) where
       let one = one_taken places number x is in
       omega (arith, set, one)
 
+  pub removed_one : (places : Places) (number : ℕ) (x : X) → at_number kind places number ≡ Some x → taken_count (without_number kind places number) + 1 ≡ taken_count places
+  removed_one places number x is =
+      let there = taken_there places number x None is in
+      rw (removed_some places number x is) (omega (arith, there))
+
+  -- whether or not there was one, no more are taken
   pub removed_taken : (places : Places) (number : ℕ) → taken_count (without_number kind places number) ≤ taken_count places
   removed_taken places number = by (at_number kind places number) refl
     where
       by : (o : Option X) → at_number kind places number ≡ o → taken_count (without_number kind places number) ≤ taken_count places
-      by (Some x) is = let there = taken_there places number x None is in rw (removed_some places number x is) (omega (arith, there))
+      by (Some x) is = let one = removed_one places number x is in omega (arith, one)
       by None is = rw (removed_absent places number is) (omega arith)
 
   pub changed_taken : (change : X → X) (places : Places) (number : ℕ) → taken_count (changed_at kind change places number) ≡ taken_count places
@@ -205,9 +211,10 @@ module _ {X : Type 0} (kind : X → ℕ) where
     taken = taken;
     removed_gone = removed_gone;
     removed_others = removed_others;
+    removed_absent = removed_absent;
     changed_found = changed_found;
     changed_others = changed_others;
     put_taken = put_taken;
-    removed_taken = removed_taken;
+    removed_one = removed_one;
     changed_taken = changed_taken;
   }

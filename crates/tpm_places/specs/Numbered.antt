@@ -1,6 +1,6 @@
 -- Places as a map from numbers. The three lower bytes of a number name a place, its highest byte is
 -- the kind of what is there: under a number of another kind than its own a value is not found.
-use Rattle.std.specs.Prelude.{◌≡◌, ◌≢◌, ℕ, ◌+◌, ◌*◌, ◌/◌, ◌%◌, ◌^◌, ◌==◌, ◌<◌, ◌≤◌, is_some, List, length, Option, Some, None, option_and_then, if◌then◌else◌, slice_set}
+use Rattle.std.specs.Prelude.{◌≡◌, ◌≢◌, ℕ, ◌+◌, ◌*◌, ◌/◌, ◌%◌, ◌^◌, ◌==◌, ◌<◌, is_some, List, length, Option, Some, None, option_and_then, if◌then◌else◌, slice_set}
 use Rattle.std.specs.Option.{option_map_or}
 use Rattle.tpm_places.specs.Places.{at_place, lowest_free, taken_count}
 
@@ -58,6 +58,9 @@ module _ {X : Type 0} where
         → at_number kind (without_number kind places number) number ≡ None
     pub removed_others : (places : List (Option X)) (number other : ℕ) → other ≢ number
         → at_number kind (without_number kind places number) other ≡ at_number kind places other
+    -- where nothing was there, nothing changes, so as many are taken
+    pub removed_absent : (places : List (Option X)) (number : ℕ)
+        → at_number kind places number ≡ None → without_number kind places number ≡ places
     -- what is changed and keeps its kind is found changed, and all else stays
     pub changed_found : (change : X → X) → ((x : X) → kind (change x) ≡ kind x)
         → (places : List (Option X)) (number : ℕ) (x : X) → at_number kind places number ≡ Some x
@@ -65,12 +68,13 @@ module _ {X : Type 0} where
     pub changed_others : (change : X → X) → ((x : X) → kind (change x) ≡ kind x)
         → (places : List (Option X)) (number other : ℕ) → other ≢ number
         → at_number kind (changed_at kind change places number) other ≡ at_number kind places other
-    -- with one that is put one more is taken, with one that is removed no more, and with one that is
-    -- changed as many
+    -- with one that is put one more is taken, with one that is removed one less, and with one that
+    -- is changed as many
     pub put_taken : (places : List (Option X)) (place : ℕ) (x : X)
         → lowest_free places ≡ Some place
         → taken_count (slice_set places place (Some x)) ≡ taken_count places + 1
-    pub removed_taken : (places : List (Option X)) (number : ℕ)
-        → taken_count (without_number kind places number) ≤ taken_count places
+    pub removed_one : (places : List (Option X)) (number : ℕ) (x : X)
+        → at_number kind places number ≡ Some x
+        → taken_count (without_number kind places number) + 1 ≡ taken_count places
     pub changed_taken : (change : X → X) (places : List (Option X)) (number : ℕ)
         → taken_count (changed_at kind change places number) ≡ taken_count places

@@ -1,4 +1,4 @@
-use crate::cells::free_cell;
+use crate::cells::free_place;
 use crate::places::{PlaceFault, Places};
 use arrayvec::ArrayVec;
 use std::alloc::Global;
@@ -49,11 +49,7 @@ impl<T: Drop, const N: usize> Places<T, N> for FixedPlaces<T, N> {
     }
 
     fn free(&self) -> Option<usize> {
-        if let Some(place) = free_cell(self.cells.as_slice()) {
-            return Some(place);
-        }
-        let place = self.cells.len();
-        if place == N { None } else { Some(place) }
+        free_place(self.cells.as_slice(), N)
     }
 
     fn insert(&mut self, value: T) -> Result<usize, PlaceFault> {
