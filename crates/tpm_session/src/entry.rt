@@ -1,9 +1,12 @@
-ghost use Rattle.std.specs.Prelude.{◌≡◌, ◌≤◌, ◌++◌, length};
+ghost use Rattle.std.specs.Prelude.{◌≡◌, ◌≤◌, IsTrue, ◌↔◌, length};
+ghost use Rattle.tpm_bytes.specs.Writing.{Puts};
 ghost use Rattle.tpm_mac.specs.Digest.{digest_size};
 ghost use Rattle.tpm_mac.specs.Hmac.{hmac_of};
 
 use crate::session::Session;
 use arrayvec::ArrayVec;
+use std::marker::Model;
+use tpm_bytes::sink::{Full, Sink};
 use tpm_mac::{Digest, HashAlg, hmac_parts};
 use tpm_types::auth_entry::SessionAttributes;
 
@@ -21,24 +24,97 @@ pub struct CommandText<'a> {
     pub attributes: SessionAttributes,
 }
 
-/// The HMAC of a response's entry under a key, from the parts of its text in their order.
-fn response_mac_under<'a>(
-    alg: HashAlg,
-    key: &[u8],
+/// The text of an entry's HMAC, in its parts (TPM 2.0 Library, Part 1, section 19.6.5). Contracts
+/// see it as its bytes.
+#[derive(Drop)]
+pub struct EntryText<'a> {
     hash: &'a [u8],
     newer: &'a [u8],
     older: &'a [u8],
-    attributes: &'a [u8],
-) -> Digest
-    ensures value { result.items
-        ≡ hmac_of alg key.now (hash.now ++ newer.now ++ older.now ++ attributes.now) }
-    ensures size { length result.items ≡ digest_size alg }
-{
-    hmac_parts(alg, key, &[hash, newer, older, attributes])
+    decrypt: &'a [u8],
+    encrypt: &'a [u8],
+    attributes: SessionAttributes,
+}
+
+impl<'a> Model for EntryText<'a> {
+    ghost use Rattle.std.specs.Prelude.{ℕ, List};
+    ghost use Rattle.tpm_session.specs.EntryText.{entry_text};
+
+    ghost Value = { List ℕ };
+
+    ghost view = { λ t.
+        entry_text t.hash.now t.newer.now t.older.now t.decrypt.now t.encrypt.now t.attributes };
+}
+
+impl<'a> EntryText<'a> {
+    ghost use Rattle.tpm_session.specs.EntryText.{entry_text};
+
+    /// The text of these parts, of which none is copied.
+    pub fn of(
+        hash: &'a [u8],
+        newer: &'a [u8],
+        older: &'a [u8],
+        decrypt: &'a [u8],
+        encrypt: &'a [u8],
+        attributes: SessionAttributes,
+    ) -> EntryText<'a>
+        ensures { result
+            ≡ entry_text hash.now newer.now older.now decrypt.now encrypt.now attributes }
+    {
+        EntryText {
+            hash,
+            newer,
+            older,
+            decrypt,
+            encrypt,
+            attributes,
+        }
+    }
+
+    /// Whether there is room for it.
+    fn fits(&self, room: usize) -> bool
+        ensures { IsTrue result ↔ (length self.now ≤ room) }
+    {
+        let (hash, newer, older) = (self.hash.len(), self.newer.len(), self.older.len());
+        let (decrypt, encrypt) = (self.decrypt.len(), self.encrypt.len());
+        let parts = hash as u128 + newer as u128 + older as u128 + decrypt as u128;
+        parts + encrypt as u128 + 1 <= room as u128
+    }
+
+    /// Writes it at the end, or nothing where it does not fit.
+    pub fn write<const N: usize>(&self, sink: &mut Sink<N>) -> Result<(), Full>
+        ensures { Puts N self.now sink.old result sink.new }
+    {
+        if !self.fits(N - sink.len()) {
+            return Err(Full);
+        }
+        let _ = sink.put(self.hash);
+        let _ = sink.put(self.newer);
+        let _ = sink.put(self.older);
+        let _ = sink.put(self.decrypt);
+        let _ = sink.put(self.encrypt);
+        let _ = sink.put(&[self.attributes.octet]);
+        Ok(())
+    }
+
+    /// Its HMAC under a key.
+    fn mac(&self, alg: HashAlg, key: &[u8]) -> Digest
+        ensures value { result.items ≡ hmac_of alg key.now self.now }
+        ensures size { length result.items ≡ digest_size alg }
+    {
+        let (newer, older) = (self.newer, self.older);
+        let (decrypt, encrypt) = (self.decrypt, self.encrypt);
+        let attributes = [self.attributes.octet];
+        hmac_parts(
+            alg,
+            key,
+            &[self.hash, newer, older, decrypt, encrypt, &attributes],
+        )
+    }
 }
 
 impl Session {
-    ghost use Rattle.tpm_session.specs.EntryText.{command_mac_of, entry_key, parts_of, response_mac_of};
+    ghost use Rattle.tpm_session.specs.EntryText.{command_mac_of, command_text, entry_key, parts_of, response_mac_of, response_text};
 
     /// The session's key, and behind it an authorization value.
     pub(crate) fn key_with(&self, auth_value: &[u8]) -> ArrayVec<u8, 64>
@@ -51,6 +127,33 @@ impl Session {
         key
     }
 
+    /// What a command's entry of this session authenticates.
+    pub fn command_text<'a>(&'a self, text: &CommandText<'a>) -> EntryText<'a>
+        ensures { result ≡ command_text self.now (parts_of text.now) }
+    {
+        EntryText::of(
+            text.hash,
+            text.nonce_caller,
+            self.nonce_tpm.as_slice(),
+            text.decrypt_nonce,
+            text.encrypt_nonce,
+            text.attributes,
+        )
+    }
+
+    /// What a response's entry of this session authenticates, over the hash of the response.
+    pub fn response_text<'a>(
+        &'a self,
+        hash: &'a [u8],
+        nonce_caller: &'a [u8],
+        attributes: SessionAttributes,
+    ) -> EntryText<'a>
+        ensures { result ≡ response_text self.now hash.now nonce_caller.now attributes }
+    {
+        let newer = self.nonce_tpm.as_slice();
+        EntryText::of(hash, newer, nonce_caller, &[], &[], attributes)
+    }
+
     /// The HMAC of a command's entry by this session.
     #[tactic(auto, unfolding(crate::specs::EntryText::command_mac_of))]
     pub fn command_mac(&self, auth_value: &[u8], text: &CommandText) -> Digest
@@ -59,14 +162,7 @@ impl Session {
         ensures size { length result.items ≡ digest_size self.now.hash }
     {
         let key = self.key_with(auth_value);
-        let (newer, older) = (text.nonce_caller, self.nonce_tpm.as_slice());
-        let (decrypt, encrypt) = (text.decrypt_nonce, text.encrypt_nonce);
-        let attributes = [text.attributes.octet];
-        hmac_parts(
-            self.hash,
-            key.as_slice(),
-            &[text.hash, newer, older, decrypt, encrypt, &attributes],
-        )
+        self.command_text(text).mac(self.hash, key.as_slice())
     }
 
     /// The HMAC of a response's entry by this session, over the hash of the response.
@@ -84,15 +180,7 @@ impl Session {
         ensures size { length result.items ≡ digest_size self.now.hash }
     {
         let key = self.key_with(auth_value);
-        let newer = self.nonce_tpm.as_slice();
-        let attributes = [attributes.octet];
-        response_mac_under(
-            self.hash,
-            key.as_slice(),
-            hash,
-            newer,
-            nonce_caller,
-            &attributes,
-        )
+        let text = self.response_text(hash, nonce_caller, attributes);
+        text.mac(self.hash, key.as_slice())
     }
 }
