@@ -43,11 +43,11 @@ pub fn create<K: Keep>(keep: &mut K, call: &Call, answer: &mut Answer) -> Result
     given_passes(4, &asked.given, &asked.template)?;
     let drawn = drawn_by(&asked.template, &asked.given);
     let created = create_areas(&asked.template, &asked.given, call.random);
-    let name = Name::of_object(&created.public);
     let iv = initial_vector(call.random, drawn);
-    let private = wrap(parent, &name, &created.sensitive, &iv);
+    let private = wrap(parent, &created.public, &created.sensitive, &iv);
     let text = &mut answer.parameters;
     let _ = text.put_sized(private.as_slice());
+    let name = Name::of_object(&created.public);
     let above = Parent::of_object(parent);
     put_creation(
         keep,

@@ -4,7 +4,6 @@ ghost use Rattle.tpm_bytes.specs.Writing.{sized_text};
 ghost use Rattle.tpm_name.specs.Name.{object_name};
 ghost use Rattle.tpm_types.specs.Public.{object_type};
 ghost use Rattle.tpm_types.specs.Sensitive.{IsSensitive, sensitive_text};
-ghost use Rattle.tpm_types.specs.declared.public.Public.{Public};
 ghost use Rattle.tpm_types.specs.declared.sensitive.Sensitive.{Sensitive};
 
 use crate::object::Object;
@@ -115,20 +114,21 @@ fn buffers_fit(sensitive: &Sensitive)
     let _ = sensitive.auth_value.len() + sensitive.seed_value.len() + sensitive.sensitive.len();
 }
 
-/// The private area of the object of this Name: its sensitive area, encrypted and authenticated by
-/// its parent (TPM 2.0 Library, Part 1, section 22).
+/// The private area of the object with this public area: its sensitive area, encrypted and
+/// authenticated by its parent (TPM 2.0 Library, Part 1, section 22).
 #[tactic(auto, unfolding(crate::specs::PrivateArea::private_text))]
-pub fn wrap(parent: &Object, name: &Name, sensitive: &Sensitive, iv: &[u8; 16]) -> Sink<256>
-    ensures value { result ≡ private_text parent.now name.now iv.now sensitive.now }
+pub fn wrap(parent: &Object, public: &Public, sensitive: &Sensitive, iv: &[u8; 16]) -> Sink<256>
+    ensures value { result
+        ≡ private_text parent.now (object_name public.now) iv.now sensitive.now }
     ensures small { length result ≤ 254 }
-    // Unwrapping undoes it, for the public area of that Name and type.
-    ensures undone { (public : Public) → object_name public ≡ name.now
-        → object_type public ≡ sensitive.now.object_type
-        → unwrapped parent.now public result ≡ Ok sensitive.now }
+    // Unwrapping undoes it, where both areas are of one type.
+    ensures undone { object_type public.now ≡ sensitive.now.object_type
+        → unwrapped parent.now public.now result ≡ Ok sensitive.now }
 {
     buffers_fit(sensitive);
-    let protected = protected_text(parent, name, sensitive, iv);
-    let integrity = integrity(parent, name, protected.as_slice());
+    let name = Name::of_object(public);
+    let protected = protected_text(parent, &name, sensitive, iv);
+    let integrity = integrity(parent, &name, protected.as_slice());
     let mut text = Sink::new();
     let _ = text.put_sized(integrity.as_slice());
     let _ = text.put(protected.as_slice());

@@ -129,8 +129,7 @@ fn is_unwrapped() -> Option<bool> {
     let parent = primary_of(STORAGE, NOTHING)?;
     let (template, given) = (public_of(KEY)?, given_of(JEFE)?);
     let created = create(&template, &given, &[7; 256]);
-    let name = Name::of_object(&created.public);
-    let private = wrap(&parent, &name, &created.sensitive, &[9; 16]);
+    let private = wrap(&parent, &created.public, &created.sensitive, &[9; 16]);
     let area = unwrap(&parent, &created.public, private.as_slice()).ok()?;
     let is_same = area.sensitive.is_same(b"Jefe");
     let is_refused = unwrap(&parent, &template, private.as_slice()).is_err();
