@@ -1,10 +1,10 @@
 -- Comparisons of authorization values, and how they fail. TPM 2.0 Library, Part 1, sections 19.4
 -- (password authorizations) and 19.8 (dictionary attacks).
-use Rattle.std.specs.Prelude.{ℕ, ◌==◌, ◌&&◌, nat_le, nat_eq, Bool, List, length, take, drop, Option, Some, None}
-use Rattle.std.specs.List.{list_all}
-use Rattle.std.specs.Cmp.Lexicographic.{pointwise}
+use Rattle.std.specs.Prelude.{ℕ, Bool, List, Option, Some, None}
+use Rattle.std.specs.Str.{bytes_eq}
 use Rattle.tpm_session.specs.declared.session.Protection.{Protection}
 use Rattle.tpm_session.specs.declared.session.Protection.TheVariants as protection
+use Rattle.tpm_types.specs.AuthValue.{trimmed}
 use Rattle.tpm_types.specs.declared.rc.ResponseCode.TheVariants as code
 use Rattle.tpm_auth.specs.Entries.{entry_fault}
 use Rattle.tpm_auth.specs.Refused.{refusal}
@@ -14,13 +14,9 @@ use Rattle.tpm_auth.specs.declared.refused.Counted.TheVariants as counted
 use Rattle.tpm_auth.specs.declared.refused.Refused.{Refused}
 use Rattle.tpm_auth.specs.declared.session_grant.Grant.{Grant}
 
--- a password counts without its trailing zeros: it is the authorization value, and behind that
--- zeros alone
+-- a password is an authorization value where they are the same without their trailing zeros
 abbrev pub is_password_of : List ℕ → List ℕ → Bool
-is_password_of value password =
-    nat_le (length value) (length password)
-    && pointwise nat_eq (take (length value) password) value
-    && list_all (λ byte. byte == 0) (drop (length value) password)
+is_password_of value password = bytes_eq (trimmed password) (trimmed value)
 
 -- a comparison that failed in entry n: AUTH_FAIL where a protected entity is touched, which counts,
 -- and else BAD_AUTH

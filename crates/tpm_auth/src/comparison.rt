@@ -1,6 +1,5 @@
-ghost use Rattle.std.specs.Prelude.{◌≡◌, ◌==◌, nat_eq};
-ghost use Rattle.std.specs.Cmp.Lexicographic.{pointwise};
-ghost use Rattle.std.specs.List.{list_all};
+ghost use Rattle.std.specs.Prelude.{◌≡◌};
+ghost use Rattle.tpm_types.specs.AuthValue.{trimmed};
 ghost use Rattle.tpm_auth.specs.Comparison.{check_of, failure, is_password_of};
 
 use crate::check::Check;
@@ -9,27 +8,23 @@ use crate::session_grant::Grant;
 use tpm_session::session::Protection;
 use tpm_types::rc::ResponseCode;
 
-fn is_same(bytes: &[u8], others: &[u8]) -> bool
-    ensures { result ≡ pointwise nat_eq bytes.now others.now }
+/// The bytes without the zeros at their end.
+fn trimmed(bytes: &[u8]) -> &[u8]
+    ensures { result.now ≡ trimmed bytes.now }
 {
-    bytes == others
+    let mut size = bytes.len();
+    while size > 0 && bytes[size - 1] == 0 {
+        size -= 1;
+    }
+    &bytes[..size]
 }
 
-fn is_zeros(bytes: &[u8]) -> bool
-    ensures { result ≡ list_all (λ byte. byte == 0) bytes.now }
-{
-    bytes.iter().all(|byte| *byte == 0)
-}
-
-/// Whether a password is an authorization value, apart from trailing zeros.
+/// Whether a password is an authorization value: neither counts with the zeros at its end (TPM 2.0
+/// Library, Part 1, section 19.4).
 pub fn is_password_of(value: &[u8], password: &[u8]) -> bool
     ensures { result ≡ is_password_of value.now password.now }
 {
-    if password.len() < value.len() {
-        return false;
-    }
-    let (front, rest) = password.split_at(value.len());
-    is_same(front, value) && is_zeros(rest)
+    trimmed(password) == trimmed(value)
 }
 
 /// The refusal of a comparison that failed in the entry of this number.
