@@ -6,6 +6,7 @@ ghost use Rattle.tpm_auth.specs.Entries.{decrypts};
 ghost use Rattle.tpm_types.specs.Locality.{locality_number};
 ghost use Rattle.tpm_policy.specs.Use.{parts_of};
 ghost use Rattle.tpm_session.specs.ParameterHash.{command_hash_of};
+ghost use Rattle.tpm_auth.specs.EmptyHmac.{EmptyHmacHasNoKey};
 ghost use Rattle.tpm_auth.specs.SessionGrant.{binding_protection, by_policy, comparison_holds, demanded, entry_nonce, hashed_command, is_authentic, is_bound_to, nonce_where, only_encrypts, or_protection, other_entries, session_grant, takes_value, touched, use_of, used_auth_value};
 
 use crate::check::Check;
@@ -344,3 +345,11 @@ pub fn check_session<K: Keep>(
         Err(failure(check_of(grant), number, touched(keep, session, grant)))
     }
 }
+
+/// What is accepted of a session with an empty HMAC had an empty key, or a policy demanded a
+/// password. It does nothing.
+#[inline(always)]
+#[tactic(auto, using(crate::proofs::EmptyHmac::no_key))]
+pub fn empty_hmac_laws()
+    ensures { EmptyHmacHasNoKey }
+{}

@@ -1,0 +1,20 @@
+-- Entries of sessions whose HMAC is empty. TPM 2.0 Library, Part 1, section 19.6.5 (HMAC
+-- computation: where the key is empty, the HMAC may be), and section 19.7 (policies that demand a
+-- password).
+use Rattle.std.specs.Prelude.{◌≡◌, ◌⊎◌, ℕ, true, [], Option, Ok}
+use Rattle.tpm_session.specs.EntryText.{entry_key}
+use Rattle.tpm_session.specs.declared.session.Session.{Session}
+use Rattle.tpm_types.specs.declared.handle.Handle.{Handle}
+use Rattle.tpm_types.specs.AuthEntry.{Entry}
+use Rattle.tpm_types.specs.Command.{Whole}
+use Rattle.tpm_record.specs.Record.{Record}
+use Rattle.tpm_auth.specs.SessionGrant.{demands_password, session_grant, used_auth_value}
+use Rattle.tpm_auth.specs.declared.session_grant.Grant.{Grant}
+
+-- a session's entry that is accepted with an empty HMAC has an empty key, session key and
+-- authorization value, or it authorizes by a policy that demands a password
+abbrev pub EmptyHmacHasNoKey : Type 0
+EmptyHmacHasNoKey =
+    (r : Record) (c : Whole) (locality n : ℕ) (used : Option Handle) (e : Entry) (s : Session)
+    (accepted : Option Grant) → session_grant r c locality n used e s ≡ Ok accepted → e.hmac ≡ []
+    → (entry_key s (used_auth_value r s accepted) ≡ []) ⊎ (demands_password accepted ≡ true)
