@@ -5,6 +5,7 @@ ghost use Rattle.std.specs.Prelude.{◌≤◌, length};
 
 use std::alloc::Global;
 use std::process::Abort;
+use tpm_bytes::sink::Sink;
 use tpm_mac::HashAlg;
 use tpm_name::Name;
 use tpm_places::fixed_places::FixedPlaces;
@@ -197,21 +198,40 @@ fn bound_session(symmetric: SymmetricDefinition) -> Session {
     }
 }
 
-#[test]
-fn an_entry_has_an_hmac(rt: HostRuntime) {
-    let session = bound_session(SymmetricDefinition::Null);
-    let attributes = SessionAttributes { octet: 0x21 };
-    let text = CommandText {
+const ATTRIBUTES: SessionAttributes = SessionAttributes { octet: 0x21 };
+
+/// What a command's entry is about, with nonces of two other sessions.
+fn command_text() -> CommandText<'static> {
+    CommandText {
         hash: COMMAND_HASH,
         nonce_caller: NONCE_CALLER,
         decrypt_nonce: b"dec",
         encrypt_nonce: b"en",
-        attributes,
-    };
-    let command = session.command_mac(b"entity", &text);
+        attributes: ATTRIBUTES,
+    }
+}
+
+#[test]
+fn an_entry_has_an_hmac(rt: HostRuntime) {
+    let session = bound_session(SymmetricDefinition::Null);
+    let command = session.command_mac(b"entity", &command_text());
     assert_eq!(rt; command.as_slice(), COMMAND_MAC);
-    let response = session.response_mac(b"entity", RESPONSE_HASH, NONCE_CALLER, attributes);
+    let response = session.response_mac(b"entity", RESPONSE_HASH, NONCE_CALLER, ATTRIBUTES);
     assert_eq!(rt; response.as_slice(), RESPONSE_MAC);
+}
+
+#[test]
+fn an_entry_s_text_is_written(rt: HostRuntime) {
+    let session = bound_session(SymmetricDefinition::Null);
+    let mut bytes: Sink<161> = Sink::new();
+    let written = session.command_text(&command_text()).write(&mut bytes);
+    assert!(rt; written.is_ok());
+    assert_eq!(rt; bytes.len(), 70);
+    assert!(rt; bytes.as_slice().ends_with(b"\xbbdecen\x21"));
+    let mut short: Sink<64> = Sink::new();
+    let text = session.response_text(RESPONSE_HASH, NONCE_CALLER, ATTRIBUTES);
+    assert!(rt; text.write(&mut short).is_err());
+    assert_eq!(rt; short.len(), 0);
 }
 
 #[test]
