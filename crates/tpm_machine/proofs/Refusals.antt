@@ -1,4 +1,4 @@
--- A refusal is ten bytes, and changes nothing but the time.
+-- A refusal is its text, and changes nothing but the time.
 use Rattle.std.proofs.Common.{◌≡◌, ◌≢◌, ℕ, List, length, Bool, true, false, cond, Result, Ok, Err, refl, ap, sym, ◌∙◌}
 use Rattle.std.proofs.lemmas.Bool.{false≢true}
 use Rattle.tpm_types.specs.Command.{Whole}
@@ -6,8 +6,9 @@ use Rattle.tpm_types.specs.CommandCode.{code_number, shape_of}
 use Rattle.tpm_record.specs.Record.{Record}
 use Rattle.tpm_record.specs.Tick.{ticked}
 use Rattle.tpm_auth.specs.declared.refused.Refused.{Refused}
-use Rattle.tpm_auth.specs.declared.refused.Counted.{Counted}
-use Rattle.tpm_auth.specs.declared.refused.Counted.TheVariants as counted
+use Rattle.tpm_auth.specs.Check.{check_number}
+use Rattle.tpm_actions.specs.Rows.{memory_refused}
+use Rattle.tpm_machine.specs.Answer.{refusal_text}
 use Rattle.tpm_machine.specs.Events.{Happening, Given, Cycled}
 use Rattle.tpm_machine.specs.General.{in_command}
 use Rattle.tpm_machine.specs.Safe.{IsHarmless}
@@ -16,20 +17,20 @@ use Rattle.tpm_machine.specs.declared.general.Refusal.{Refusal}
 
 -- the same of a record whose time has passed
 abbrev LeavesRecord : Record → Stepped → Type 0
-LeavesRecord r x = x.row.check ≢ 0 → (length x.response ≡ 10) × (counted : Counted) × (x.after ≡ counted_in counted r)
+LeavesRecord r x = x.row.check ≢ 0 → (length x.response ≡ 10) × (refused : Refused) × (x.response ≡ refusal_text refused) × (x.row.check ≡ check_number refused.check) × (x.after ≡ counted_in refused.counted r)
 
 answer_leaves : (r : Record) (random : List ℕ) (a : Result Accepted Refusal) → LeavesRecord r (answer_of r random a)
 answer_leaves r random (Ok a) refused = absurd (refused refl)
-answer_leaves r random (Err e) refused = (refl, e.refused.counted, refl)
+answer_leaves r random (Err e) refused = (refl, e.refused, refl, refl, refl)
 
 -- MEMORY is such a refusal too
 starved_leaves : (grows : Bool) (r : Record) (random : List ℕ) (a : Accepted) → LeavesRecord r (cond grows (starved r a.command) (success_step a random))
-starved_leaves true r random a refused = (refl, counted.None, refl)
+starved_leaves true r random a refused = (refl, memory_refused, refl, refl, refl)
 starved_leaves false r random a refused = absurd (refused refl)
 
 starved_answer_leaves : (r : Record) (random : List ℕ) (a : Result Accepted Refusal) → LeavesRecord r (starved_answer r random a)
 starved_answer_leaves r random (Ok a) refused = starved_leaves (shape_of a.command.code).grows r random a refused
-starved_answer_leaves r random (Err e) refused = (refl, e.refused.counted, refl)
+starved_answer_leaves r random (Err e) refused = (refl, e.refused, refl, refl, refl)
 
 step_harmless : (refused : Bool) (r : Record) (event : Happening) → IsHarmless r event (step_where refused r event)
 step_harmless false r (Given buffer locality elapsed random) =

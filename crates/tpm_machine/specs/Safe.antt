@@ -2,8 +2,10 @@
 use Rattle.std.specs.Prelude.{◌≡◌, ◌≢◌, ◌≤◌, length, IfOk}
 use Rattle.tpm_record.specs.Record.{Record}
 use Rattle.tpm_record.specs.Tick.{ticked}
-use Rattle.tpm_auth.specs.declared.refused.Counted.{Counted}
+use Rattle.tpm_auth.specs.Check.{check_number}
+use Rattle.tpm_auth.specs.declared.refused.Refused.{Refused}
 use Rattle.tpm_actions.specs.Answer.{body_text}
+use Rattle.tpm_machine.specs.Answer.{refusal_text}
 use Rattle.tpm_machine.specs.Events.{Happening, Given, Cycled}
 use Rattle.tpm_machine.specs.Step.{Accepted, Stepped, accepted, counted_in}
 
@@ -12,11 +14,14 @@ abbrev pub only_ticked : Record → Happening → Record
 only_ticked r (Given buffer locality elapsed random) = ticked r elapsed
 only_ticked r Cycled = r
 
--- A refusal is ten bytes, and changes nothing but Time and Clock and what it counts.
+-- A refusal is the ten bytes of its text, reports its check, and changes nothing but Time and Clock
+-- and what it counts.
 abbrev pub IsHarmless : Record → Happening → Stepped → Type 0
 IsHarmless r event x = x.row.check ≢ 0
     → (length x.response ≡ 10)
-    × (counted : Counted) × (x.after ≡ counted_in counted (only_ticked r event))
+    × (refused : Refused) × (x.response ≡ refusal_text refused)
+    × (x.row.check ≡ check_number refused.check)
+    × (x.after ≡ counted_in refused.counted (only_ticked r event))
 
 -- A row draws at most 96 of the event's 256 random bytes, so that three nonces are left, and
 -- answers at most 2,048 bytes of parameters.

@@ -78,7 +78,8 @@ impl<K: Keep> Machine<K> {
         // What holds of every record: values of their sizes, numbers of their widths.
         ensures is_record { IsRecord (state_of K.record_of self.new) }
 
-        // A refusal is ten bytes, and changes nothing but the time.
+        // A refusal is the ten bytes of its response code, and its row names its check; it changes
+        // nothing but the time.
         ensures harmless { IsHarmless (state_of K.record_of self.old) (happening event.now)
             (seen (state_of K.record_of self.new) result) }
 
