@@ -12,6 +12,7 @@ use Rattle.tpm_auth.specs.declared.refused.Refused.{Refused}
 use Rattle.tpm_actions.specs.Request.{Request}
 use Rattle.tpm_actions.specs.Rows.{ActsIfRoom, Success}
 use Rattle.tpm_actions.specs.declared.answer.Answer.{Answer}
+use Rattle.tpm_machine.specs.Entries.{DrawsFew}
 use Rattle.tpm_machine.specs.Answer.{Written, answer_to, text_of, written_of}
 use Rattle.tpm_machine.specs.General.{general, in_command}
 use Rattle.tpm_machine.specs.Safe.{IsModest}
@@ -56,11 +57,16 @@ accepted_answers can r random c grants (Ok a) answer effect response after (same
     ∙ ap (λ (x : List (Option Grant)). answer_to a.command x (written_of a.success.answer) a.success.after random) (sym granted) in
     answers_exactly can r random (Ok a) _ (λ i. record { response = (whole i).response; row = record { code = code_number (back i).code; check = 0 }; after = (whole i).after })
 
--- and that its row is modest, as the answer has room for so much alone
-pub accepted_modest : (c : Whole) (grants : List (Option Grant)) (a : Result Accepted Refused) (answer : Answer) (effect : Record) → answer.drawn ≤ 96 → length answer.parameters ≤ 2048 → Succeeds a c grants answer effect → IfOk a IsModest
-accepted_modest c grants (Err e) answer effect few short never = tt
-accepted_modest c grants (Ok a) answer effect few short (same, granted, written, left) =
-    (subst (λ (n : ℕ). n ≤ 96) written.2 few, subst (λ (l : List ℕ). length l ≤ 2048) written.1 short)
+-- and that it is modest, as the answer has room for so much alone, and nonces are short
+pub accepted_modest : (random : List ℕ) (c : Whole) (grants : List (Option Grant)) (a : Result Accepted Refused) (answer : Answer) (effect : Record) → answer.drawn ≤ 96 → length answer.parameters ≤ 2048 → DrawsFew random effect c.entries answer.drawn → Succeeds a c grants answer effect → IfOk a (IsModest random)
+accepted_modest random c grants (Err e) answer effect few short drawn never = tt
+accepted_modest random c grants (Ok a) answer effect few short drawn (same, granted, written, left) = (
+  subst (λ (n : ℕ). n ≤ 96) written.2 few,
+  subst (λ (l : List ℕ). length l ≤ 2048) written.1 short,
+  subst (λ (n : ℕ). DrawsFew random a.success.after a.command.entries n) written.2
+      (subst (λ (x : Whole). DrawsFew random a.success.after x.entries answer.drawn) (sym same)
+      (subst (λ (x : Record). DrawsFew random x c.entries answer.drawn) left drawn)),
+)
 
 -- a command that is not authorized is refused
 pub not_authorized : (can : Bool) (r : Record) (c : Whole) (locality : ℕ) (random : List ℕ) (e : Refused) → authorize r c locality ≡ Err e → RefusesOrStarves can c (acceptance r c locality random) e

@@ -1,5 +1,5 @@
 -- The header of a response that has nothing behind it, and the response to a command that has entries.
-use Rattle.std.proofs.Common.{arith, ◌≡◌, ◌≤◌, ℕ, List, [], ◌∷◌, ◌++◌, drop, length, Option, ap, append-nil, refl, sym, ◌∙◌}
+use Rattle.std.proofs.Common.{arith, length-drop, ◌+◌, ◌≡◌, ◌≤◌, ℕ, List, [], ◌∷◌, ◌++◌, drop, length, Option, ap, append-nil, refl, sym, ◌∙◌}
 use Rattle.std.specs.Int.{w16, w32, to_be_bytes}
 use Rattle.tpm_types.specs.declared.handle.Handle.{Handle}
 use Rattle.tpm_types.specs.AuthEntry.{Entry}
@@ -7,7 +7,7 @@ use Rattle.tpm_types.specs.Command.{Whole}
 use Rattle.tpm_record.specs.Record.{Record}
 use Rattle.tpm_auth.specs.declared.session_grant.Grant.{Grant}
 use Rattle.tpm_machine.specs.Answer.{Written, answer_to, framed, handle_answer, success_text}
-use Rattle.tpm_machine.specs.Entries.{entries_answer, entries_ended, entries_rolled}
+use Rattle.tpm_machine.specs.Entries.{Drawn, DrawsFew, entries_answer, entries_ended, entries_rolled}
 use Rattle.tpm_machine.specs.Granted.{Granted, granted_entries}
 use Rattle.tpm_machine.specs.Parameters.{encrypted_answer}
 
@@ -49,3 +49,11 @@ answered_with c grants a effect random mid after entries granted draws left para
     (rw (← paired) answered)
     spelled
     (rw (← paired) ended)
+
+-- three nonces are drawn behind the bytes of the row
+pub drawn_few : (r mid : Record) (entries sent : List Entry) (draws left random : List ℕ) (drawn : ℕ)
+    → entries ≡ sent → draws ≡ drop drawn random → entries_rolled r entries draws ≡ record { after = mid; left = left } → length draws ≤ length left + 96 → drawn ≤ 96 → DrawsFew random r sent drawn
+drawn_few r mid entries sent draws left random drawn same behind rolled few row =
+    let is : length left ≡ length (entries_rolled r sent (drop drawn random)).left =
+    sym (ap (λ (x : Drawn). length x.left) rolled) ∙ ap (λ (l : List Entry). length (entries_rolled r l draws).left) same ∙ ap (λ (l : List ℕ). length (entries_rolled r sent l).left) behind in
+    omega (arith, is, ap length behind, length-drop drawn random)

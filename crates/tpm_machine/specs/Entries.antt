@@ -1,7 +1,7 @@
 -- What a success does with the sessions of its entries, and what it answers for each entry. TPM 2.0
 -- Library, Part 1, section 19.6 (session nonces and HMACs), and Part 2, section 10.13.3
 -- (TPMS_AUTH_RESPONSE).
-use Rattle.std.specs.Prelude.{ℕ, ◌==◌, ◌||◌, not, List, [], ◌∷◌, ◌++◌, length, take, drop, if◌then◌else◌, Option, is_some}
+use Rattle.std.specs.Prelude.{ℕ, ◌+◌, ◌≤◌, ◌==◌, ◌||◌, not, List, [], ◌∷◌, ◌++◌, length, take, drop, if◌then◌else◌, Option, is_some}
 use Rattle.std.specs.List.{flat_map, fold}
 use Rattle.std.specs.Option.{option_map_or}
 use Rattle.tpm_bytes.specs.Writing.{sized_text}
@@ -44,6 +44,12 @@ entries_rolled r [] left = record { after = r; left = left }
 entries_rolled r (e ∷ es) left =
     let first = entry_rolled r e left in
     entries_rolled first.after es first.left
+
+-- At most 192 of the random bytes are drawn by a row that draws so many, and by the entries behind
+-- it.
+abbrev pub DrawsFew : List ℕ → Record → List Entry → (drawn : ℕ) → Type 0
+DrawsFew random r entries drawn =
+    length random ≤ length (entries_rolled r entries (drop drawn random)).left + 192
 
 -- the answer to a password: no nonce, continueSession, no HMAC
 abbrev pub password_answer : List ℕ

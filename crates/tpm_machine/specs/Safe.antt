@@ -1,11 +1,12 @@
 -- What a refusal leaves, and what a success may take, said of a step and apart from it.
-use Rattle.std.specs.Prelude.{◌≡◌, ◌≢◌, ◌≤◌, length, IfOk}
+use Rattle.std.specs.Prelude.{◌≡◌, ◌≢◌, ℕ, ◌≤◌, List, length, IfOk}
 use Rattle.tpm_record.specs.Record.{Record}
 use Rattle.tpm_record.specs.Tick.{ticked}
 use Rattle.tpm_auth.specs.Check.{check_number}
 use Rattle.tpm_auth.specs.declared.refused.Refused.{Refused}
 use Rattle.tpm_actions.specs.Answer.{body_text}
 use Rattle.tpm_machine.specs.Answer.{refusal_text}
+use Rattle.tpm_machine.specs.Entries.{DrawsFew}
 use Rattle.tpm_machine.specs.Events.{Happening, Given, Cycled}
 use Rattle.tpm_machine.specs.Step.{Accepted, Stepped, accepted, counted_in}
 
@@ -24,12 +25,13 @@ IsHarmless r event x = x.row.check ≢ 0
     × (x.after ≡ counted_in refused.counted (only_ticked r event))
 
 -- A row draws at most 96 of the event's 256 random bytes, so that three nonces are left, and
--- answers at most 2,048 bytes of parameters.
-abbrev pub IsModest : Accepted → Type 0
-IsModest a =
+-- answers at most 2,048 bytes of parameters; row and nonces together draw at most 192.
+abbrev pub IsModest : List ℕ → Accepted → Type 0
+IsModest random a =
     (a.success.answer.drawn ≤ 96) × (length (body_text a.success.answer.body) ≤ 2048)
+    × DrawsFew random a.success.after a.command.entries a.success.answer.drawn
 
 abbrev pub AcceptsModestly : Record → Happening → Type 0
 AcceptsModestly r (Given buffer locality elapsed random) =
-    let t = ticked r elapsed in IfOk (accepted t buffer locality random) IsModest
+    let t = ticked r elapsed in IfOk (accepted t buffer locality random) (IsModest random)
 AcceptsModestly r Cycled = Unit {0}

@@ -54,8 +54,9 @@ fn roll_entry<K: Keep>(keep: &mut K, entry: &AuthEntry, draws: &mut Draws)
 pub fn roll_entries<K: Keep>(keep: &mut K, entries: &[AuthEntry], draws: &mut Draws)
     requires few { length entries.now ≤ 3 }
     requires random { 96 ≤ length draws.old }
-    ensures { entries_rolled (K.record_of keep.old) (map entry_of entries.now) draws.old
+    ensures rolled { entries_rolled (K.record_of keep.old) (map entry_of entries.now) draws.old
         ≡ record { after = K.record_of keep.new; left = draws.new } }
+    ensures drawn { length draws.old ≤ length draws.new + 96 }
 {
     for entry in entries {
         roll_entry(keep, entry, draws);

@@ -1,7 +1,7 @@
-ghost use Rattle.std.specs.Prelude.{◌≡◌, ◌≤◌, List, [], IfOk, OnErr, false, length, map, true};
+ghost use Rattle.std.specs.Prelude.{◌≡◌, ◌≤◌, ◌<◌, ◌^◌, List, [], IfOk, OnErr, false, length, map, true};
 ghost use Rattle.tpm_record.specs.IsRecord.{IsRecord};
 ghost use Rattle.tpm_record.specs.Record.{manufactured};
-ghost use Rattle.tpm_machine.specs.Events.{happening};
+ghost use Rattle.tpm_machine.specs.Events.{IsEvent, happening};
 ghost use Rattle.tpm_machine.specs.Run.{Runs, after_all};
 ghost use Rattle.tpm_machine.specs.Safe.{AcceptsModestly, IsHarmless};
 ghost use Rattle.tpm_machine.specs.State.{state_of};
@@ -83,12 +83,16 @@ impl<K: Keep> Machine<K> {
         ensures harmless { IsHarmless (state_of K.record_of self.old) (happening event.now)
             (seen (state_of K.record_of self.new) result) }
 
-        // A row that is accepted draws at most 96 random bytes, and answers at most 2,048 bytes.
+        // A row that is accepted draws at most 96 random bytes, and answers at most 2,048 bytes;
+        // with the new nonces of its entries it draws at most 192.
         ensures modest { result.row.check ≡ 0
             → AcceptsModestly (state_of K.record_of self.old) (happening event.now) }
 
         // With what stands before and behind such an answer a response has at most so many bytes.
         ensures fits { length result.response.items ≤ 2273 }
+
+        // It is such an event as can happen: locality 0 to 4, a time of 32 bits, 256 random bytes.
+        ensures event { IsEvent (happening event.now) }
     {
         let mut outcome = Outcome::empty();
         self.execute_into(event, &mut outcome);
@@ -109,6 +113,7 @@ impl<K: Keep> Machine<K> {
         ensures modest { outcome.new.row.check ≡ 0
             → AcceptsModestly (state_of K.record_of self.old) (happening event.now) }
         ensures fits { length outcome.new.response.items ≤ 2273 }
+        ensures event { IsEvent (happening event.now) }
     {
         outcome.response.clear();
         outcome.row = self.advance(event, &mut outcome.response);
@@ -128,6 +133,7 @@ impl<K: Keep> Machine<K> {
         ensures modest { result.check ≡ 0
             → AcceptsModestly (state_of K.record_of self.old) (happening event.now) }
         ensures fits { length text.new.items ≤ 2273 }
+        ensures event { IsEvent (happening event.now) }
     {
         match event {
             Event::PowerCycle => {
@@ -140,6 +146,7 @@ impl<K: Keep> Machine<K> {
                 elapsed_ms,
                 random,
             } => {
+                read_command(*locality, *elapsed_ms, random);
                 tick(&mut self.keep, *elapsed_ms);
                 self.command(buffer, *locality, random, text)
             }
@@ -188,15 +195,17 @@ impl<K: Keep> Machine<K> {
     ) -> Row
         requires { text.old.items ≡ [] }
         ensures answer { Answers K.can_refuse (state_of K.record_of self.old) random.now
-            (accepted (state_of K.record_of self.old) buffer.now (locality_number locality) random.now)
+            (accepted (state_of K.record_of self.old) buffer.now
+            (locality_number locality) random.now)
             (record {
               response = text.new.items;
               row = result;
               after = state_of K.record_of self.new;
             }) }
         ensures modest { result.check ≡ 0 → IfOk
-            (accepted (state_of K.record_of self.old) buffer.now (locality_number locality) random.now)
-            IsModest }
+            (accepted (state_of K.record_of self.old) buffer.now
+            (locality_number locality) random.now)
+            (IsModest random.now) }
         ensures fits { length text.new.items ≤ 2273 }
     {
         let command = match decode(&self.keep, buffer) {
@@ -239,7 +248,7 @@ impl<K: Keep> Machine<K> {
               after = state_of K.record_of self.new;
             }) }
         ensures modest { result.check ≡ 0 → IfOk (acceptance (state_of K.record_of self.old)
-            (whole_of command.now) (locality_number locality) random.now) IsModest }
+            (whole_of command.now) (locality_number locality) random.now) (IsModest random.now) }
         ensures fits { length text.new.items ≤ 2273 }
     {
         self.answer.clear();
@@ -259,12 +268,24 @@ impl<K: Keep> Machine<K> {
 
 ghost use Rattle.tpm_auth.specs.Check.{check_number};
 ghost use Rattle.tpm_machine.specs.Answer.{refusal_text};
+ghost use Rattle.tpm_types.specs.Locality.{locality_number};
+
+/// Does nothing. What holds of every command's event is what the types of its parts say of them.
+#[inline(always)]
+fn read_command(locality: Locality, elapsed_ms: u32, random: &[u8; 256])
+    ensures locality { locality_number locality ≤ 4 }
+    ensures elapsed { elapsed_ms < 2 ^ 32 }
+    ensures random { length random.now ≡ 256 }
+{
+    let _first = random[0];
+}
 
 /// Writes the response to a command that is refused, and gives the row.
 fn refuse(refusal: Refusal, text: &mut Response) -> Row
     requires { text.old.items ≡ [] }
     ensures text { text.new.items ≡ refusal_text refusal.refused }
-    ensures row { result ≡ record { code = refusal.code; check = check_number refusal.refused.check } }
+    ensures row { result ≡
+        record { code = refusal.code; check = check_number refusal.refused.check } }
     ensures size { length text.new.items ≡ 10 }
 {
     write_refusal(refusal.refused, text);

@@ -4,6 +4,7 @@ ghost use Rattle.std.specs.List.{zip};
 ghost use Rattle.tpm_types.specs.AuthEntry.{entry_of};
 ghost use Rattle.tpm_types.specs.Command.{whole_of};
 ghost use Rattle.tpm_machine.specs.Answer.{answer_to, framed, handle_answer, refusal_tag, refusal_text, text_of};
+ghost use Rattle.tpm_machine.specs.Entries.{DrawsFew};
 ghost use Rattle.tpm_machine.specs.Parameters.{encrypted_answer};
 
 use crate::draws::Draws;
@@ -149,6 +150,8 @@ fn write_with_sessions<K: Keep>(
     ensures answer { record { response = text.new.items; after = K.record_of keep.new }
         ≡ answer_to (whole_of command.now) grants.now.entries.items
         (text_of answer.old) (K.record_of keep.old) random.now }
+    ensures drawn { DrawsFew random.now (K.record_of keep.old) (whole_of command.now).entries
+        answer.old.drawn }
     ensures fits { length text.new.items ≤ 2273 }
 {
     let entries = command.entries.as_slice();
@@ -178,6 +181,8 @@ pub fn write_success<K: Keep>(
     ensures answer { record { response = text.new.items; after = K.record_of keep.new }
         ≡ answer_to (whole_of command.now) grants.now.entries.items
         (text_of answer.old) (K.record_of keep.old) random.now }
+    ensures drawn { DrawsFew random.now (K.record_of keep.old) (whole_of command.now).entries
+        answer.old.drawn }
     // An answer has no room for more.
     ensures room { length answer.old.parameters ≤ ANSWER_LIMIT }
     ensures fits { length text.new.items ≤ 2273 }

@@ -9,5 +9,5 @@ invariant-loop-entry g l =
     let record_of = g.K.Keep.record_of in
     record {
       rolled : entries_rolled (record_of l.keep) (map entry_of (drop l.entry-index l.entries)) l.draws ≡ entries_rolled (record_of l.initial.keep) (map entry_of l.entries) l.initial.draws;
-      random : 96 ≤ length l.draws + 32 * l.entry-index;
+      random : length l.initial.draws ≤ length l.draws + 32 * l.entry-index;
     }
