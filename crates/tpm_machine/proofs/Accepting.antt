@@ -68,6 +68,9 @@ accepted_modest random c grants (Ok a) answer effect few short drawn (same, gran
       (subst (λ (x : Record). DrawsFew random x c.entries answer.drawn) left drawn)),
 )
 
+-- what a command that is authorized does
+pub ruleset acting = (accepted_answers, accepted_modest, refused_answers)
+
 -- a command that is not authorized is refused
 pub not_authorized : (can : Bool) (r : Record) (c : Whole) (locality : ℕ) (random : List ℕ) (e : Refused) → authorize r c locality ≡ Err e → RefusesOrStarves can c (acceptance r c locality random) e
 unfolding acceptance

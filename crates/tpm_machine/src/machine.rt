@@ -226,7 +226,7 @@ impl<K: Keep> Machine<K> {
 
     /// Does what a command asks for that its entries authorize so.
     #[inline(always)]
-    #[tactic(auto, using(crate::proofs::Accepting::accepted_answers, crate::proofs::Accepting::accepted_modest, crate::proofs::Refusals::refused_answers))]
+    #[tactic(auto, using(crate::proofs::Accepting::acting))]
     fn act(
         &mut self,
         command: &Command,
