@@ -8,7 +8,7 @@ use Rattle.clap.specs.declared.error.kind.ErrorKind.TheVariants as refused
 use Rattle.tpmsim.specs.declared.fault.Fault.{Fault}
 use Rattle.tpmsim.specs.declared.fault.Fault.TheVariants.{Usage, ScriptLine, File, Memory}
 use Rattle.tpmsim_script.specs.declared.fault.ScriptFault.{ScriptFault}
-use Rattle.tpmsim_script.specs.declared.fault.ScriptFault.TheVariants.{Line, Read, Write, NoMemory}
+use Rattle.tpmsim_script.specs.declared.fault.ScriptFault.TheVariants.{Line, Read, TooManyLines, Write, NoMemory}
 
 -- Memory of an error of that kind, and else the other fault
 abbrev pub fault_or : Fault → ErrorKind → Fault
@@ -24,6 +24,7 @@ fault_of_words _ = Usage
 abbrev pub fault_of : ScriptFault → Fault
 fault_of (Line number) = ScriptLine number
 fault_of Read = File
+fault_of TooManyLines = File
 fault_of Write = File
 fault_of NoMemory = Memory
 

@@ -77,7 +77,7 @@ impl From<ScriptFault> for Fault {
     fn from(fault: ScriptFault) -> Fault {
         match fault {
             ScriptFault::Line(number) => Fault::ScriptLine(number),
-            ScriptFault::Read | ScriptFault::Write => Fault::File,
+            ScriptFault::Read | ScriptFault::TooManyLines | ScriptFault::Write => Fault::File,
             ScriptFault::NoMemory => Fault::Memory,
         }
     }

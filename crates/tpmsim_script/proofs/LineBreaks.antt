@@ -123,10 +123,10 @@ rest_behind bytes from count end h =
 
 -- what stands next where no 0a was read
 pub stopped_finds : (old new : Lines) (ended : Bool) (line : List ℕ) → old.ended ≡ ended → line_of new ≡ line → line_of new ≡ line_of old ++ rest_of old → rest_of new ≡ []
-    → IsUnbroken (line_of old) → position is_break (rest_of old) ≡ None → Finds old (next_at ended line) new
-stopped_finds old new false line e l whole behind h none = (whole, behind, subst IsUnbroken (sym whole) (found_more (line_of old) (rest_of old) h none), e)
-stopped_finds old new true [] e l whole behind h none = (sym whole ∙ l, behind, e)
-stopped_finds old new true (byte ∷ line) e l whole behind h none = λ more follows.
+    → IsUnbroken (line_of old) → position is_break (rest_of old) ≡ None → length (line_of new) ≤ 65536 → Finds old (next_at ended line) new
+stopped_finds old new false line e l whole behind h none short = (whole, behind, subst IsUnbroken (sym whole) (found_more (line_of old) (rest_of old) h none), e, short)
+stopped_finds old new true [] e l whole behind h none short = (sym whole ∙ l, behind, e)
+stopped_finds old new true (byte ∷ line) e l whole behind h none short = λ more follows.
     let some : 0 < length (line_of old ++ rest_of old) = omega (arith, ap length (sym whole ∙ l)) in
     found_last (line_of old) (rest_of old) more h none (follows e) some
     ∙ ap (λ (x : List ℕ). x ∷ lines_of ([] ++ more)) (sym whole) ∙ ap (λ (rest : List ℕ). line_of new ∷ lines_of (rest ++ more)) (sym behind)

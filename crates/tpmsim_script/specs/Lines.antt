@@ -1,8 +1,8 @@
 -- What the buffer of a script's lines holds.
-use Rattle.std.specs.Prelude.{◌≡◌, ℕ, ◌==◌, ◌<◌, Bool, true, false}
+use Rattle.std.specs.Prelude.{◌≡◌, ℕ, ◌==◌, ◌<◌, ◌≤◌, Bool, true, false}
 use Rattle.std.specs.Prelude.{List, [], ◌∷◌, ◌++◌, length, Option, Some, None}
 use Rattle.std.specs.List.{All, slice_range}
-use Rattle.std.specs.Io.KnownBytes.{IsAtEnd, prepend_known}
+use Rattle.std.specs.Io.KnownBytes.{Consumes, IsAtEnd, prepend_known}
 use Rattle.tpmsim_script.specs.Line.{lines_of}
 use Rattle.tpmsim_script.specs.declared.lines.Lines.{Lines}
 use Rattle.tpmsim_script.specs.declared.lines.Next.{Next}
@@ -45,7 +45,7 @@ Finds old Line new = (more : List ℕ) → MayFollow old more
 Finds old TooLong new = (more : List ℕ) → BeginsTooLong (line_of old ++ (rest_of old ++ more))
 Finds old Incomplete new =
     (line_of new ≡ line_of old ++ rest_of old) × (rest_of new ≡ [])
-    × IsUnbroken (line_of new) × (old.ended ≡ false)
+    × IsUnbroken (line_of new) × (old.ended ≡ false) × (length (line_of new) ≤ 65536)
 Finds old End new = (line_of old ++ rest_of old ≡ []) × (rest_of new ≡ []) × (old.ended ≡ true)
 
 -- A buffer that says that its reader has ended is right.
@@ -62,3 +62,7 @@ abbrev pub LosesFirstLine : Option (List ℕ) → List ℕ → Option (List ℕ)
 LosesFirstLine None line new = Unit {0}
 LosesFirstLine (Some text) line None = ⊥
 LosesFirstLine (Some text) line (Some rest) = lines_of text ≡ line ∷ lines_of rest
+
+-- A text lost the start of a line: nothing of it ends one.
+abbrev pub LosesStart : Option (List ℕ) → Option (List ℕ) → Type 0
+LosesStart old new = (start : List ℕ) × IsUnbroken start × Consumes old new start

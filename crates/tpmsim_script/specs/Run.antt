@@ -1,7 +1,9 @@
 -- How a run of a script ends, and what its steps find.
-use Rattle.std.specs.Prelude.{◌≡◌, ℕ, Bool, true, false, List, []}
+use Rattle.std.specs.Prelude.{◌≡◌, ℕ, ◌+◌, Bool, true, false, List, [], ◌∷◌, ◌++◌, length}
 use Rattle.std.specs.Prelude.{Option, Some, None, IfSome, Result, Ok, Err}
-use Rattle.tpmsim_script.specs.Lines.{BeginsTooLong, LosesFirstLine}
+use Rattle.tpmsim_script.specs.Line.{lines_of}
+use Rattle.tpmsim_script.specs.Lines.{BeginsTooLong, IsUnbroken, LosesFirstLine}
+use Rattle.tpmsim_script.specs.Script.{IsOutput, Playing, play}
 use Rattle.tpmsim_script.specs.declared.fault.ScriptFault.{ScriptFault}
 use Rattle.tpmsim_script.specs.declared.fault.ScriptFault.TheVariants as fault
 
@@ -12,17 +14,67 @@ Ran P (Ok done) = P None
 Ran P (Err (fault.Line number)) = P (Some number)
 Ran P (Err other) = Unit {0}
 
+-- the fact, where the reader failed
+abbrev pub OnUnread : {X : Type 0} → Result X ScriptFault → Type 0 → Type 0
+OnUnread (Err fault.Read) fact = fact
+OnUnread other fact = Unit {0}
+
+-- the fact, where there are too many lines
+abbrev pub OnTooMany : {X : Type 0} → Result X ScriptFault → Type 0 → Type 0
+OnTooMany (Err fault.TooManyLines) fact = fact
+OnTooMany other fact = Unit {0}
+
+-- the fact, where there was no memory
+abbrev pub OnNoMemory : {X : Type 0} → Result X ScriptFault → Type 0 → Type 0
+OnNoMemory (Err fault.NoMemory) fact = fact
+OnNoMemory other fact = Unit {0}
+
+-- Lines of the text were played from p on, the first of them under this number and none of them
+-- bad, and what they print was written behind what the writer held (old): those before the line of
+-- the number next, which are all but the rest.
+abbrev pub PlaysUpTo : Option (List ℕ) → Option (List ℕ) → Option (List ℕ)
+    → Playing → ℕ → ℕ → List (List ℕ) → Type 0
+PlaysUpTo None old new p number next rest = Unit {0}
+PlaysUpTo (Some text) old new p number next rest =
+    (played : List (List ℕ)) × (lines_of text ≡ played ++ rest)
+    × (next ≡ number + length played) × IsOutput old new None (play p number played)
+
+-- The reader failed before the bytes that it has left (left): what it gave were the lines that were
+-- played, none of them bad, and the start of one more.
+abbrev pub PlaysToFailure : Option (List ℕ) → Option (List ℕ)
+    → Option (List ℕ) → Option (List ℕ) → Playing → Type 0
+PlaysToFailure None left old new p = Unit {0}
+PlaysToFailure (Some text) None old new p = ⊥
+PlaysToFailure (Some text) (Some left) old new p =
+    (start : List ℕ) × (next : ℕ) × IsUnbroken start
+    × PlaysUpTo (Some text) old new p 1 next (lines_of (start ++ left))
+
+-- The 1,048,576 lines that a script may have were played, none of them bad, and there is one more.
+abbrev pub PlaysAllAllowed : Option (List ℕ) → Option (List ℕ) → Option (List ℕ) → Playing → Type 0
+PlaysAllAllowed text old new p =
+    (line : List ℕ) × (rest : List (List ℕ)) × PlaysUpTo text old new p 1 1048577 (line ∷ rest)
+
 -- The text's first line is this, or the text is empty, or its first line is too long and has this
--- number.
+-- number; or reading or writing failed, and nothing else.
 abbrev pub NextFound : ℕ → Option (List ℕ)
     → Result Bool ScriptFault → List ℕ → Option (List ℕ) → Type 0
 NextFound number old (Ok true) line new = LosesFirstLine old line new
 NextFound number old (Ok false) line new = IfSome old (λ text. text ≡ [])
 NextFound number old (Err (fault.Line bad)) line new = (bad ≡ number) × IfSome old BeginsTooLong
-NextFound number old (Err other) line new = Unit {0}
+NextFound number old (Err fault.Read) line new = Unit {0}
+NextFound number old (Err fault.Write) line new = Unit {0}
+NextFound number old (Err other) line new = ⊥
 
--- the fact, unless reading, writing or memory failed
+-- the fact, unless writing or memory failed
 abbrev pub UnlessFailed : {X : Type 0} → Result X ScriptFault → Type 0 → Type 0
 UnlessFailed (Ok x) fact = fact
 UnlessFailed (Err (fault.Line number)) fact = fact
+UnlessFailed (Err fault.Read) fact = fact
 UnlessFailed (Err other) fact = Unit {0}
+
+-- how a run ends behind the last line that a script may have, by what was found there
+abbrev pub end_at_limit : Result Bool ScriptFault → Result (Unit {0}) ScriptFault
+end_at_limit (Ok true) = Err fault.TooManyLines
+end_at_limit (Ok false) = Ok tt
+end_at_limit (Err (fault.Line number)) = Err fault.TooManyLines
+end_at_limit (Err other) = Err other

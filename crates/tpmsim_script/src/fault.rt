@@ -9,8 +9,10 @@ use tpm_record::keep::NoMemory;
 pub enum ScriptFault {
     /// The line of this number, from 1, is none of a script's lines.
     Line(u32),
-    /// The script could not be read, or has more lines than a script may have.
+    /// The reader failed. The whole lines of what it had given were run.
     Read,
+    /// There are more lines than a script may have. So many as it may have were run.
+    TooManyLines,
     /// The responses could not be written.
     Write,
     /// There is no memory for the device or the buffers. Nothing was read.

@@ -50,7 +50,7 @@ pub struct Lines {
 impl Lines {
     ghost use Rattle.std.specs.Prelude.{◌+◌, ◌<◌, ◌==◌, ◌++◌, [], false, take, drop, length};
     ghost use Rattle.std.specs.Prelude.{IfOk, OnOk, OnErr};
-    ghost use Rattle.std.specs.Io.KnownBytes.{Consumes};
+    ghost use Rattle.std.specs.Io.KnownBytes.{Consumes, Keeps};
     ghost use Rattle.tpmsim_script.specs.Lines.{Agrees, Finds, IsUnbroken};
     ghost use Rattle.tpmsim_script.specs.Lines.{line_of, next_at, rest_of};
 
@@ -109,6 +109,7 @@ impl Lines {
         ensures line { OnOk result
             (line_of self.new ≡ line_of self.old ++ take count (rest_of self.old)) }
         ensures rest { OnOk result (rest_of self.new ≡ drop past (rest_of self.old)) }
+        ensures limit { OnOk result (length (line_of self.new) ≤ LINE_LIMIT) }
         ensures long { OnErr result (LINE_LIMIT < length (line_of self.old) + count) }
         ensures ended { self.new.ended ≡ self.old.ended }
     {
@@ -122,6 +123,7 @@ impl Lines {
     fn take_rest(&mut self) -> Result<(), TooLong>
         ensures line { OnOk result (line_of self.new ≡ line_of self.old ++ rest_of self.old) }
         ensures rest { OnOk result (rest_of self.new ≡ []) }
+        ensures limit { OnOk result (length (line_of self.new) ≤ LINE_LIMIT) }
         ensures long { OnErr result
             (LINE_LIMIT < length (line_of self.old) + length (rest_of self.old)) }
         ensures ended { self.new.ended ≡ self.old.ended }
@@ -152,6 +154,7 @@ impl Lines {
         ensures agrees { OnOk result (Agrees (R.remaining reader.new) self.new) }
         ensures ended { OnOk result (self.new.ended ≡ (length (rest_of self.new) == 0)) }
         ensures none { OnErr result (rest_of self.new ≡ []) }
+        ensures kept { OnErr result (Keeps (R.remaining reader.old) (R.remaining reader.new)) }
     {
         self.next = 0;
         self.filled = 0;

@@ -1,9 +1,11 @@
 ghost use Rattle.std.specs.Prelude.{◌≡◌, [], false, length, vec_len, IfOk, OnOk, OnErr};
 ghost use Rattle.std.specs.Io.KnownBytes.{Keeps};
 ghost use Rattle.tpmsim_script.specs.Answers.{backlog, printout};
-ghost use Rattle.tpmsim_script.specs.Lines.{Agrees, line_of, rest_of, text_left};
+ghost use Rattle.tpmsim_script.specs.Lines.{Agrees, LosesStart, line_of, rest_of, text_left};
 ghost use Rattle.tpmsim_script.specs.Player.{playing_of};
-ghost use Rattle.tpmsim_script.specs.Run.{NextFound, UnlessFailed, Ran};
+ghost use Rattle.tpmsim_script.specs.Run.{NextFound, OnNoMemory, OnTooMany, OnUnread};
+ghost use Rattle.tpmsim_script.specs.Run.{PlaysAllAllowed, PlaysToFailure, UnlessFailed, Ran};
+ghost use Rattle.tpmsim_script.specs.Run.{end_at_limit};
 ghost use Rattle.tpmsim_script.specs.Script.{Plays, at_first};
 
 use crate::fault::ScriptFault;
@@ -22,8 +24,7 @@ const DECODED_LIMIT: usize = 32_768;
 /// Runs the script that `reader` gives on a new device, whose state is kept by `K`, and writes the
 /// response to each command to `writer`. But for the keep it takes memory once, at the start.
 /// Whatever the fault, the lines before it were run, and their responses written, but for those
-/// that a `Write` fault cut off. A script of more than [`SCRIPT_LINES`] lines ends with a `Read`
-/// fault.
+/// that a `Write` fault cut off. Of a script of more than [`SCRIPT_LINES`] lines so many are run.
 pub fn run_script<K: Keep, R: Read, W: Write>(
     alloc: Global,
     reader: &mut R,
@@ -33,6 +34,21 @@ pub fn run_script<K: Keep, R: Read, W: Write>(
     // said of a keep that can never be refused memory.
     ensures played { K.can_refuse ≡ false → Ran (Plays (R.remaining reader.old)
         (W.contents writer.old) (W.contents writer.new) at_first 1) result }
+
+    // Where the reader failed, the whole lines of what it had given were played and written, and
+    // only the start of one more was not.
+    ensures read { K.can_refuse ≡ false → OnUnread result (PlaysToFailure
+        (R.remaining reader.old) (R.remaining reader.new)
+        (W.contents writer.old) (W.contents writer.new) at_first) }
+
+    // There are too many lines only where as many as a script may have were played and written, and
+    // one more is there.
+    ensures too_many { K.can_refuse ≡ false → OnTooMany result (PlaysAllAllowed
+        (R.remaining reader.old) (W.contents writer.old) (W.contents writer.new) at_first) }
+
+    // Where there is no memory, nothing was read or written.
+    ensures no_memory { OnNoMemory result ((R.remaining reader.new ≡ R.remaining reader.old)
+        × (W.contents writer.new ≡ W.contents writer.old)) }
 {
     let mut run = Run::<K>::new(alloc)?;
     let mut room = room(alloc)?;
@@ -79,11 +95,22 @@ impl<K: Keep> Run<K> {
     ) -> Result<(), ScriptFault>
         requires room { length room.old ≡ DECODED_LIMIT }
         requires agrees { Agrees (R.remaining reader.old) self.old.lines }
-        ensures { K.can_refuse ≡ false → Ran (Plays
+        ensures played { K.can_refuse ≡ false → Ran (Plays
             (text_left (R.remaining reader.old) self.old.lines)
             (printout (W.contents writer.old) self.old.player.answers)
             (printout (W.contents writer.new) self.new.player.answers)
             (playing_of K.record_of self.old.player) 1) result }
+        ensures read { K.can_refuse ≡ false → OnUnread result (PlaysToFailure
+            (text_left (R.remaining reader.old) self.old.lines) (R.remaining reader.new)
+            (printout (W.contents writer.old) self.old.player.answers)
+            (printout (W.contents writer.new) self.new.player.answers)
+            (playing_of K.record_of self.old.player)) }
+        ensures too_many { K.can_refuse ≡ false → OnTooMany result (PlaysAllAllowed
+            (text_left (R.remaining reader.old) self.old.lines)
+            (printout (W.contents writer.old) self.old.player.answers)
+            (printout (W.contents writer.new) self.new.player.answers)
+            (playing_of K.record_of self.old.player)) }
+        ensures memory { OnNoMemory result ⊥ }
     {
         for number in 1..SCRIPT_LINES + 1 {
             match self.next_line(reader, writer, number) {
@@ -95,11 +122,8 @@ impl<K: Keep> Run<K> {
                 return Err(fault.at(number));
             }
         }
-        match self.next_line(reader, writer, SCRIPT_LINES) {
-            Ok(false) => Ok(()),
-            Err(ScriptFault::Write) => Err(ScriptFault::Write),
-            _ => Err(ScriptFault::Read),
-        }
+        let next = self.next_line(reader, writer, SCRIPT_LINES);
+        end_at_limit(next)
     }
 
     /// Goes to the next line, of this number, and tells whether there is one. The responses are
@@ -120,19 +144,33 @@ impl<K: Keep> Run<K> {
         ensures printed { UnlessFailed result (Keeps
             (printout (W.contents writer.old) self.old.player.answers)
             (printout (W.contents writer.new) self.new.player.answers)) }
+        ensures read { OnUnread result (LosesStart
+            (text_left (R.remaining reader.old) self.old.lines) (R.remaining reader.new)) }
     {
         self.lines.next();
-        for _ in 0..u64::MAX {
+        loop {
             match self.lines.find() {
                 Next::Line => return Ok(true),
                 Next::End => return Ok(false),
                 Next::TooLong => return Err(ScriptFault::Line(number)),
                 Next::Incomplete => {
                     self.player.flush(writer)?;
-                    self.lines.fill(reader).map_err(|_| ScriptFault::Read)?;
+                    if let Err(_error) = self.lines.fill(reader) {
+                        return Err(ScriptFault::Read);
+                    }
                 }
             }
         }
-        Err(ScriptFault::Read)
+    }
+}
+
+/// How a run ends behind the last line that a script may have, by what was found there.
+fn end_at_limit(next: Result<bool, ScriptFault>) -> Result<(), ScriptFault>
+    ensures { result ≡ end_at_limit next }
+{
+    match next {
+        Ok(false) => Ok(()),
+        Ok(true) | Err(ScriptFault::Line(_)) => Err(ScriptFault::TooManyLines),
+        Err(fault) => Err(fault),
     }
 }

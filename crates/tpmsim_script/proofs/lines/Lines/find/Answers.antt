@@ -20,7 +20,7 @@ returns-in-Ok-take_rest-clause-found c =
     let none : position (λ (byte : ℕ). byte == 10) (rest_of c.args.self.now) ≡ None = search rules in
     let old = c.args.self.now in
     let new = c.take_rest.new.self in
-    rw c.stopped.ensures (stopped_finds old new new.ended (line_of new) (sym c.in-Ok-take_rest.ensures.ended) refl c.in-Ok-take_rest.ensures.line c.in-Ok-take_rest.ensures.rest c.requires none)
+    rw c.stopped.ensures (stopped_finds old new new.ended (line_of new) (sym c.in-Ok-take_rest.ensures.ended) refl c.in-Ok-take_rest.ensures.line c.in-Ok-take_rest.ensures.rest c.requires none c.in-Ok-take_rest.ensures.limit)
 
 pub returns-in-Err-take_rest-clause-found : goal.returns-in-Err-take_rest-clause-found
 returns-in-Err-take_rest-clause-found c =

@@ -1,12 +1,13 @@
+use Rattle.std.proofs.Common.{arith}
 use Rattle.std.specs.Prelude.{◌≡◌, Ok, Err, false}
 use Rattle.tpmsim_script.specs.Answers.{printout}
 use Rattle.tpmsim_script.specs.Lines.{line_of, text_left}
 use Rattle.tpmsim_script.specs.Player.{playing_of}
-use Rattle.tpmsim_script.proofs.Plays.{did_and_went_on, did_there, ran_to_fault, ran_to_line}
+use Rattle.tpmsim_script.proofs.Plays.{did_and_went_on, did_there, ended_many, ended_played, ended_read, ended_with_memory, failed_few, failed_read, failed_with_memory, ran_to_fault, ran_to_line, reached_on, stopped_few, stopped_read, stopped_with_memory}
 use Rattle.tpmsim_script.proofs.run.Run.lines.Goals as goal
 
-pub returns-in-Err : goal.returns-in-Err
-returns-in-Err g c = λ cannot.
+pub returns-in-Err-clause-played : goal.returns-in-Err-clause-played
+returns-in-Err-clause-played g c = λ cannot.
     let remaining = g.R.Read.remaining in
     let contents = g.W.Write.contents in
     let record_of = g.K.Keep.record_of in
@@ -16,8 +17,69 @@ returns-in-Err g c = λ cannot.
     (text_left (remaining after.reader) after.self.lines) (playing_of record_of loop.self.player) loop.number c.in-Err.fault (line_of after.self.lines) _
     c.in-Err.ensures.found c.in-Err.ensures.printed (λ bad. loop.invariant.whole cannot (printout (contents after.writer) after.self.player.answers) bad)
 
-pub returns-in-Err-line : goal.returns-in-Err-line
-returns-in-Err-line g c = λ cannot.
+pub returns-in-Err-clause-read : goal.returns-in-Err-clause-read
+returns-in-Err-clause-read g c = λ cannot.
+    let remaining = g.R.Read.remaining in
+    let contents = g.W.Write.contents in
+    let record_of = g.K.Keep.record_of in
+    let loop = c.loop-number in
+    let after = c.next_line.new in
+    failed_read (text_left (remaining loop.reader) loop.self.lines) (remaining after.reader) (printout (contents loop.writer) loop.self.player.answers) (printout (contents after.writer) after.self.player.answers)
+    _ _ (playing_of record_of loop.self.player) _ loop.number c.in-Err.fault c.in-Err.ensures.read c.in-Err.ensures.printed (loop.invariant.leads cannot (printout (contents after.writer) after.self.player.answers))
+
+pub returns-in-Err-clause-too_many : goal.returns-in-Err-clause-too_many
+returns-in-Err-clause-too_many g c = λ cannot.
+    let loop = c.loop-number in
+    failed_few (text_left (g.R.Read.remaining loop.reader) loop.self.lines) _ loop.number c.in-Err.fault _ _ c.in-Err.ensures.found
+
+pub returns-in-Err-clause-memory : goal.returns-in-Err-clause-memory
+returns-in-Err-clause-memory g c =
+    let loop = c.loop-number in
+    failed_with_memory (text_left (g.R.Read.remaining loop.reader) loop.self.lines) _ loop.number c.in-Err.fault _ c.in-Err.ensures.found
+
+pub returns-in-Err-line-clause-read : goal.returns-in-Err-line-clause-read
+returns-in-Err-line-clause-read g c = λ cannot. rw c.at.ensures (stopped_read c.loop-number.number c.in-Err-line.fault _)
+
+pub returns-in-Err-line-clause-too_many : goal.returns-in-Err-line-clause-too_many
+returns-in-Err-line-clause-too_many g c = λ cannot. rw c.at.ensures (stopped_few c.loop-number.number c.in-Err-line.fault _)
+
+pub returns-in-Err-line-clause-memory : goal.returns-in-Err-line-clause-memory
+returns-in-Err-line-clause-memory g c = rw c.at.ensures (stopped_with_memory c.loop-number.number c.in-Err-line.fault _)
+
+pub returns-clause-played : goal.returns-clause-played
+returns-clause-played g c = λ cannot.
+    let remaining = g.R.Read.remaining in
+    let contents = g.W.Write.contents in
+    let loop = c.loop-number in
+    let after = c.next_line-next.new in
+    rw c.end_at_limit.ensures (ended_played (text_left (remaining loop.reader) loop.self.lines) _ (printout (contents loop.writer) loop.self.player.answers) (printout (contents after.writer) after.self.player.answers)
+    (playing_of g.K.Keep.record_of loop.self.player) loop.number _ c.next_line-next.result _ _ c.next_line-next.ensures.found c.next_line-next.ensures.printed (λ bad. loop.invariant.whole cannot (printout (contents after.writer) after.self.player.answers) bad))
+
+pub returns-clause-read : goal.returns-clause-read
+returns-clause-read g c = λ cannot.
+    let remaining = g.R.Read.remaining in
+    let contents = g.W.Write.contents in
+    let loop = c.loop-number in
+    let after = c.next_line-next.new in
+    rw c.end_at_limit.ensures (ended_read (text_left (remaining loop.reader) loop.self.lines) (remaining after.reader) (printout (contents loop.writer) loop.self.player.answers) (printout (contents after.writer) after.self.player.answers)
+    _ _ (playing_of g.K.Keep.record_of loop.self.player) _ loop.number c.next_line-next.result c.next_line-next.ensures.read c.next_line-next.ensures.printed (loop.invariant.leads cannot (printout (contents after.writer) after.self.player.answers)))
+
+pub returns-clause-too_many : goal.returns-clause-too_many
+returns-clause-too_many g c = λ cannot.
+    let remaining = g.R.Read.remaining in
+    let contents = g.W.Write.contents in
+    let loop = c.loop-number in
+    let after = c.next_line-next.new in
+    rw c.end_at_limit.ensures (ended_many (text_left (remaining loop.reader) loop.self.lines) _ (printout (contents loop.writer) loop.self.player.answers) (printout (contents after.writer) after.self.player.answers)
+    _ _ (playing_of g.K.Keep.record_of loop.self.player) _ loop.number _ c.next_line-next.result _ (omega arith) c.next_line-next.ensures.found c.next_line-next.ensures.printed (loop.invariant.leads cannot (printout (contents after.writer) after.self.player.answers)))
+
+pub returns-clause-memory : goal.returns-clause-memory
+returns-clause-memory g c =
+    let loop = c.loop-number in
+    rw c.end_at_limit.ensures (ended_with_memory (text_left (g.R.Read.remaining loop.reader) loop.self.lines) _ _ c.next_line-next.result _ c.next_line-next.ensures.found)
+
+pub returns-in-Err-line-clause-played : goal.returns-in-Err-line-clause-played
+returns-in-Err-line-clause-played g c = λ cannot.
     let remaining = g.R.Read.remaining in
     let contents = g.W.Write.contents in
     let record_of = g.K.Keep.record_of in
@@ -46,6 +108,11 @@ loop-number-preserved g c =
           (did_and_went_on (text_left (remaining loop.reader) loop.self.lines) (text_left (remaining after.reader) after.self.lines)
           (printout (contents loop.writer) loop.self.player.answers) (printout (contents after.writer) after.self.player.answers) (printout (contents last.writer) last.self.answers) new
           (playing_of record_of loop.self.player) (playing_of record_of last.self) loop.number (line_of after.self.lines) _ bad
+          (rw c.in-Ok-true.field-0-test at c.in-Ok-true.ensures.found) c.in-Ok-true.ensures.printed (did cannot) rest);
+      leads = λ cannot new next behind rest. loop.invariant.leads cannot new next behind
+          (reached_on (text_left (remaining loop.reader) loop.self.lines) (text_left (remaining after.reader) after.self.lines)
+          (printout (contents loop.writer) loop.self.player.answers) (printout (contents after.writer) after.self.player.answers) (printout (contents last.writer) last.self.answers) new
+          (playing_of record_of loop.self.player) (playing_of record_of last.self) loop.number (line_of after.self.lines) _ next behind
           (rw c.in-Ok-true.field-0-test at c.in-Ok-true.ensures.found) c.in-Ok-true.ensures.printed (did cannot) rest);
       agrees = c.in-Ok-true.ensures.agrees;
     }

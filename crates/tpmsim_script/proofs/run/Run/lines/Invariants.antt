@@ -3,6 +3,7 @@ use Rattle.tpmsim_script.specs.Answers.{printout}
 use Rattle.tpmsim_script.specs.Lines.{Agrees, text_left}
 use Rattle.tpmsim_script.specs.Player.{playing_of}
 use Rattle.tpmsim_script.specs.Script.{Plays}
+use Rattle.tpmsim_script.proofs.Plays.{Leads}
 use Rattle.tpmsim_script.proofs.run.Run.lines.Given as goal
 
 -- what is left to be played decides about the whole, where no memory can be refused
@@ -15,5 +16,8 @@ invariant-loop-number g l =
       whole : g.K.Keep.can_refuse ≡ false → (new : Option (List ℕ)) (bad : Option ℕ)
           → Plays (text_left (remaining l.reader) l.self.lines) (printout (contents l.writer) l.self.player.answers) new (playing_of record_of l.self.player) l.number bad
           → Plays (text_left (remaining l.fn.reader) l.fn.self.lines) (printout (contents l.fn.writer) l.fn.self.player.answers) new (playing_of record_of l.fn.self.player) 1 bad;
+      leads : g.K.Keep.can_refuse ≡ false → (new : Option (List ℕ))
+          → Leads (text_left (remaining l.reader) l.self.lines) (printout (contents l.writer) l.self.player.answers) (playing_of record_of l.self.player) l.number
+          (text_left (remaining l.fn.reader) l.fn.self.lines) (printout (contents l.fn.writer) l.fn.self.player.answers) (playing_of record_of l.fn.self.player) new;
       agrees : Agrees (remaining l.reader) l.self.lines;
     }

@@ -1,4 +1,4 @@
-use Rattle.std.proofs.Common.{◌≡◌, ◌++◌}
+use Rattle.std.proofs.Common.{◌≡◌, ◌+◌, ◌-◌, ◌*◌, ◌++◌, cond, length}
 use Rattle.std.specs.Io.KnownBytes.{Keeps, prepend_known}
 use Rattle.tpmsim_script.specs.Answers.{printout}
 use Rattle.tpmsim_script.specs.Lines.{Agrees, IsUnbroken, line_of, rest_of, text_left}
@@ -6,8 +6,8 @@ use Rattle.tpmsim_script.specs.Player.{playing_of}
 use Rattle.tpmsim_script.proofs.run.Run.next_line.Given as goal
 
 -- what has come of the line and what is left are what was left, and nothing that was printed is lost
-abbrev pub invariant-loop : goal.invariant-loop
-invariant-loop g l =
+abbrev pub invariant-loop-self : goal.invariant-loop-self
+invariant-loop-self g l =
     record {
       playing : playing_of g.K.Keep.record_of l.self.player ≡ playing_of g.K.Keep.record_of l.fn.self.player;
       unbroken : IsUnbroken (line_of l.self.lines);
@@ -15,3 +15,8 @@ invariant-loop g l =
       agrees : Agrees (g.R.Read.remaining l.reader) l.self.lines;
       printed : Keeps (printout (g.W.Write.contents l.fn.writer) l.fn.self.player.answers) (printout (g.W.Write.contents l.writer) l.self.player.answers);
     }
+
+-- A read makes the line longer, but for the first one, or is the last.
+abbrev pub decreases-loop-self : goal.decreases-loop-self
+decreases-loop-self g l =
+    cond l.self.lines.ended 0 (1 + (2 * (65536 - length (line_of l.self.lines)) + (1 - length (rest_of l.self.lines))))
