@@ -1,7 +1,7 @@
 #!/bin/sh
 # Tries the wrong bodies under wrong/: each turns the meaning of one function, and the prover must
 # refuse it. They are like those in the crates' must-fail/, which every run of the gate tries; these
-# are run whole before a piece of work is called done (docs/GATE.md says when that was last). They
+# are run whole before a piece of work is called done (docs/GATE.md says with which code). They
 # take the place of must-fail/ in a copy of the repository. Needs rt.
 #
 #   tools/wrong_bodies.sh            all of them
@@ -9,7 +9,7 @@
 set -eu
 
 repository=$(CDPATH='' cd "$(dirname "$0")/.." && pwd -P)
-[ "$#" -gt 0 ] || set -- $(ls "$repository/wrong")
+[ "$#" -gt 0 ] || set -- $(cd "$repository/wrong" && ls -d */ | tr -d /)
 folder=$(mktemp -d)
 trap 'rm -rf "$folder"' EXIT
 

@@ -7,10 +7,10 @@ use Rattle.tpm_pcr.specs.declared.changes.ChangeFault.TheVariants.{Locality, Fai
 use Rattle.tpm_types.specs.declared.rc.ResponseCode.TheVariants as code
 use Rattle.tpm_types.specs.Rc.{plain}
 use Rattle.tpm_record.specs.Record.{Record}
-use Rattle.tpm_auth.specs.Refused.{refusal}
+use Rattle.tpm_types.specs.Refused.{refusal}
 use Rattle.tpm_types.specs.declared.action_check.ActionCheck.TheVariants as action
-use Rattle.tpm_auth.specs.declared.check.Check.TheVariants as check
-use Rattle.tpm_auth.specs.declared.refused.Refused.{Refused}
+use Rattle.tpm_types.specs.declared.check.Check.TheVariants as check
+use Rattle.tpm_types.specs.declared.refused.Refused.{Refused}
 
 -- A1: the PCR may not be changed so from this locality; A2: the updates could not be counted
 abbrev pub change_refusal : ChangeFault → Refused

@@ -5,7 +5,7 @@ use Rattle.tpm_pcr.specs.Changes.{event_digests}
 use Rattle.tpm_types.specs.Buffer.{buffer_at}
 use Rattle.tpm_types.specs.DigestValues.{digest_values_text}
 use Rattle.tpm_record.specs.Record.{Record}
-use Rattle.tpm_auth.specs.declared.refused.Refused.{Refused}
+use Rattle.tpm_types.specs.declared.refused.Refused.{Refused}
 use Rattle.tpm_actions.specs.Request.{Request, first_handle}
 use Rattle.tpm_actions.specs.PcrChange.{with_banks}
 use Rattle.tpm_actions.specs.PcrExtend.{extended}

@@ -8,7 +8,7 @@ use Rattle.tpm_types.specs.declared.handle.Handle.{Handle}
 use Rattle.tpm_types.specs.DigestValues.{digest_values_at}
 use Rattle.tpm_types.specs.Handle.{pcr_of}
 use Rattle.tpm_record.specs.Record.{Record}
-use Rattle.tpm_auth.specs.declared.refused.Refused.{Refused}
+use Rattle.tpm_types.specs.declared.refused.Refused.{Refused}
 use Rattle.tpm_actions.specs.Request.{Request, first_handle}
 use Rattle.tpm_actions.specs.PcrChange.{on_pcr, with_banks}
 use Rattle.tpm_actions.specs.Answer.{nothing}

@@ -8,7 +8,7 @@ use Rattle.tpm_types.specs.declared.pcr_selection.BankSelection.{BankSelection}
 use Rattle.tpm_pcr.specs.Banks.{answer_selection, read_values}
 use Rattle.tpm_pcr.specs.Values.{BankValues}
 use Rattle.tpm_record.specs.Record.{Record}
-use Rattle.tpm_auth.specs.declared.refused.Refused.{Refused}
+use Rattle.tpm_types.specs.declared.refused.Refused.{Refused}
 use Rattle.tpm_actions.specs.Request.{Request}
 use Rattle.tpm_actions.specs.Answer.{Plain, answer_of}
 use Rattle.tpm_actions.specs.Rows.{Success, only, unchanged}

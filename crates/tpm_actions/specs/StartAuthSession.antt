@@ -20,10 +20,10 @@ use Rattle.tpm_types.specs.SessionType.{session_type_at}
 use Rattle.tpm_types.specs.Symmetric.{symmetric_at}
 use Rattle.tpm_record.specs.Entity.{auth_value_of, name_of, protection_of}
 use Rattle.tpm_record.specs.Record.{Record}
-use Rattle.tpm_auth.specs.Refused.{refusal}
+use Rattle.tpm_types.specs.Refused.{refusal}
 use Rattle.tpm_types.specs.declared.action_check.ActionCheck.TheVariants as action
-use Rattle.tpm_auth.specs.declared.check.Check.TheVariants as check
-use Rattle.tpm_auth.specs.declared.refused.Refused.{Refused}
+use Rattle.tpm_types.specs.declared.check.Check.TheVariants as check
+use Rattle.tpm_types.specs.declared.refused.Refused.{Refused}
 use Rattle.tpm_actions.specs.declared.start_auth_session.Asked.{Asked}
 use Rattle.tpm_actions.specs.Request.{Request, second_handle}
 use Rattle.tpm_actions.specs.Answer.{AnswerParts, Sized}

@@ -11,14 +11,14 @@ use Rattle.tpm_types.specs.declared.handle.HierarchyAuth.TheVariants as auth
 use Rattle.tpm_record.specs.declared.hierarchy.Hierarchies.{Hierarchies}
 use Rattle.tpm_record.specs.Entity.{with_hierarchy_auth}
 use Rattle.tpm_record.specs.Record.{Record}
-use Rattle.tpm_auth.specs.declared.refused.Refused.{Refused}
+use Rattle.tpm_types.specs.declared.refused.Refused.{Refused}
 use Rattle.tpm_actions.specs.Request.{Request}
 use Rattle.tpm_record.specs.declared.fixed.Fixed.{Fixed}
 use Rattle.tpm_record.specs.declared.fixed.Saved.{Saved}
 use Rattle.tpm_record.specs.declared.fixed.Saved.TheVariants.{Nothing}
-use Rattle.tpm_auth.specs.Refused.{refusal}
+use Rattle.tpm_types.specs.Refused.{refusal}
 use Rattle.tpm_types.specs.declared.action_check.ActionCheck.TheVariants as action
-use Rattle.tpm_auth.specs.declared.check.Check.TheVariants as check
+use Rattle.tpm_types.specs.declared.check.Check.TheVariants as check
 use Rattle.tpm_actions.specs.Answer.{nothing}
 use Rattle.tpm_actions.specs.Rows.{Success, only}
 
@@ -46,8 +46,8 @@ reset_fixed f random = record f {
   restart_count = 0;
 }
 
--- startupType; TPM2_Startup(CLEAR) where nothing was saved is a TPM Reset. A1: there is no state to
--- be restored
+-- startupType, from whatever locality; TPM2_Startup(CLEAR) where nothing was saved is a TPM Reset.
+-- A1: there is no state to be restored
 unfoldable pub startup_row : Record → Request → Result Success Refused
 startup_row r q = do
   type ← only (startup_type_at q.parameters)

@@ -1,7 +1,7 @@
 ghost use Rattle.std.specs.Prelude.{◌≤◌};
 
-use tpm_bytes::sink::Sink;
-use tpm_types::handle::Handle;
+use tpm_bytes::Sink;
+use tpm_types::Handle;
 
 /// The most bytes of a response's parameters that any command answers: TPM2_NV_Read's are the
 /// longest, a sized buffer of 1,024 bytes. An answer is made once and lent to each command, so no

@@ -1,10 +1,6 @@
 ghost use Rattle.std.specs.Prelude.{◌≡◌};
 
-use tpm_auth::check::Check;
-use tpm_auth::refused::Refused;
-use tpm_types::handle::Handle;
-use tpm_types::locality::Locality;
-use tpm_types::rc::ResponseCode;
+use tpm_types::{Check, Handle, Locality, Refused, ResponseCode};
 
 /// What a command is called with, once the general checks and the authorization have passed.
 #[derive(Clone, Copy)]

@@ -7,13 +7,9 @@ ghost use Rattle.tpm_actions.specs.Rows.{Acts};
 use crate::answer::Answer;
 use crate::call::Call;
 use crate::reading::{end, number};
-use tpm_auth::check::Check;
-use tpm_auth::refused::Refused;
-use tpm_bytes::cursor::Cursor;
-use tpm_record::keep::Keep;
-use tpm_types::action_check::ActionCheck;
-use tpm_types::handle::Handle;
-use tpm_types::rc::ResponseCode;
+use tpm_bytes::Cursor;
+use tpm_record::Keep;
+use tpm_types::{ActionCheck, Check, Handle, Refused, ResponseCode};
 
 fn can_be_flushed(handle: Handle) -> bool
     ensures { result ≡ can_be_flushed handle }

@@ -6,9 +6,9 @@ ghost use Rattle.tpm_actions.specs.Rows.{Acts};
 use crate::answer::Answer;
 use crate::call::Call;
 use crate::reading::{end, number};
-use tpm_auth::refused::Refused;
-use tpm_bytes::cursor::Cursor;
-use tpm_record::keep::Keep;
+use tpm_bytes::Cursor;
+use tpm_record::Keep;
+use tpm_types::Refused;
 
 /// The most bytes that one call answers.
 const MOST_RANDOM: usize = 32;

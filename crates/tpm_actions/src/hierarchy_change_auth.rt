@@ -7,10 +7,9 @@ ghost use Rattle.tpm_actions.specs.Rows.{Acts};
 use crate::answer::Answer;
 use crate::call::Call;
 use crate::reading::{end, parameter};
-use tpm_auth::refused::Refused;
-use tpm_bytes::cursor::Cursor;
-use tpm_record::keep::Keep;
-use tpm_types::auth_value::AuthValue;
+use tpm_bytes::Cursor;
+use tpm_record::Keep;
+use tpm_types::{AuthValue, Refused};
 
 /// TPM2_HierarchyChangeAuth: sets the authorization value of a hierarchy, or lockoutAuth.
 #[tactic(auto, unfolding(crate::specs::HierarchyChangeAuth::hierarchy_change_auth_row))]

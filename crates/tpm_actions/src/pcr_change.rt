@@ -1,11 +1,8 @@
 ghost use Rattle.std.specs.Prelude.{◌≡◌};
 ghost use Rattle.tpm_actions.specs.PcrChange.{change_refusal};
 
-use tpm_auth::check::Check;
-use tpm_auth::refused::Refused;
-use tpm_pcr::changes::ChangeFault;
-use tpm_types::action_check::ActionCheck;
-use tpm_types::rc::ResponseCode;
+use tpm_pcr::ChangeFault;
+use tpm_types::{ActionCheck, Check, Refused, ResponseCode};
 
 /// The refusal of a command that would change a PCR.
 pub fn change_refusal(fault: ChangeFault) -> Refused

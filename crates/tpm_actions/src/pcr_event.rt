@@ -7,11 +7,10 @@ use crate::answer::Answer;
 use crate::call::Call;
 use crate::pcr_change::change_refusal;
 use crate::reading::{end, parameter};
-use tpm_auth::refused::Refused;
-use tpm_bytes::cursor::Cursor;
-use tpm_pcr::changes::event_digests;
-use tpm_record::keep::Keep;
-use tpm_types::buffer::read_buffer;
+use tpm_bytes::Cursor;
+use tpm_pcr::event_digests;
+use tpm_record::Keep;
+use tpm_types::{Refused, read_buffer};
 
 /// The most bytes of an event's data.
 const MOST_EVENT: usize = 1024;

@@ -8,10 +8,9 @@ use crate::answer::Answer;
 use crate::call::Call;
 use crate::pcr_change::change_refusal;
 use crate::reading::{end, parameter};
-use tpm_auth::refused::Refused;
-use tpm_bytes::cursor::Cursor;
-use tpm_record::keep::Keep;
-use tpm_types::digest_values::DigestValues;
+use tpm_bytes::Cursor;
+use tpm_record::Keep;
+use tpm_types::{DigestValues, Refused};
 
 /// TPM2_PCR_Extend: extends a PCR by each digest in turn; on TPM_RH_NULL nothing is checked or
 /// changed.

@@ -10,11 +10,10 @@ ghost use Rattle.tpm_actions.specs.Rows.{Acts};
 use crate::answer::{Answer, Parameters};
 use crate::call::Call;
 use crate::reading::{end, parameter};
-use tpm_auth::refused::Refused;
-use tpm_bytes::cursor::Cursor;
-use tpm_pcr::banks::PcrReading;
-use tpm_record::keep::Keep;
-use tpm_types::pcr_selection::PcrSelection;
+use tpm_bytes::Cursor;
+use tpm_pcr::PcrReading;
+use tpm_record::Keep;
+use tpm_types::{PcrSelection, Refused};
 
 /// Writes the counter's low 32 bits, the selection, the values.
 fn write_reading(update_count: u64, reading: &PcrReading, answer: &mut Parameters)

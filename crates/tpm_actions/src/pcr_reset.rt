@@ -8,9 +8,9 @@ use crate::answer::Answer;
 use crate::call::Call;
 use crate::pcr_change::change_refusal;
 use crate::reading::end;
-use tpm_auth::refused::Refused;
-use tpm_bytes::cursor::Cursor;
-use tpm_record::keep::Keep;
+use tpm_bytes::Cursor;
+use tpm_record::Keep;
+use tpm_types::Refused;
 
 /// TPM2_PCR_Reset: makes a PCR zeros in both banks.
 #[tactic(auto, unfolding(crate::specs::PcrReset::pcr_reset_row))]

@@ -4,10 +4,8 @@ ghost use Rattle.tpm_types.specs.Rc.{plain};
 ghost use Rattle.tpm_types.specs.declared.rc.ResponseCode.TheVariants as code;
 ghost use Rattle.tpm_actions.specs.Rows.{all_read, memory_refused, parameter, parameter_refusal};
 
-use tpm_auth::check::Check;
-use tpm_auth::refused::Refused;
-use tpm_bytes::cursor::{Cursor, Short};
-use tpm_types::rc::{Rc, ResponseCode};
+use tpm_bytes::{Cursor, Short};
+use tpm_types::{Check, Rc, Refused, ResponseCode};
 
 /// A refusal of the parameter of this number.
 fn at_parameter(number: u8, rc: Rc) -> Refused

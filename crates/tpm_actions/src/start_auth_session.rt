@@ -8,23 +8,14 @@ ghost use Rattle.tpm_actions.specs.StartAuthSession.{Asks, binding_of, parameter
 use crate::answer::Answer;
 use crate::call::Call;
 use crate::reading::{end, memory_refused, parameter};
-use tpm_auth::check::Check;
-use tpm_auth::refused::Refused;
-use tpm_bytes::cursor::Cursor;
+use tpm_bytes::Cursor;
 use tpm_mac::HashAlg;
-use tpm_record::entity::{copied_auth_value, name_of, protection_of};
-use tpm_record::keep::Keep;
-use tpm_session::key::is_nonce_size;
-use tpm_session::nonce::Nonce;
-use tpm_session::session::Binding;
-use tpm_session::sessions::{Start, StartFault};
-use tpm_types::action_check::ActionCheck;
-use tpm_types::algorithm::read_hash;
-use tpm_types::buffer::read_buffer;
-use tpm_types::handle::Handle;
-use tpm_types::rc::{Rc, ResponseCode};
-use tpm_types::session_type::SessionType;
-use tpm_types::symmetric::SymmetricDefinition;
+use tpm_record::{Keep, copied_auth_value, name_of, protection_of};
+use tpm_session::{Binding, Nonce, Start, StartFault, is_nonce_size};
+use tpm_types::{
+    ActionCheck, Check, Handle, Rc, Refused, ResponseCode, SessionType, SymmetricDefinition,
+    read_buffer, read_hash,
+};
 
 /// The most bytes of nonceCaller and encryptedSalt.
 const MOST_BYTES: usize = 32;

@@ -7,17 +7,9 @@ ghost use Rattle.tpm_actions.specs.Startup.{lacks_state, reset_hierarchies, star
 use crate::answer::Answer;
 use crate::call::Call;
 use crate::reading::{end, parameter};
-use tpm_auth::check::Check;
-use tpm_auth::refused::Refused;
-use tpm_bytes::cursor::Cursor;
-use tpm_record::fixed::Saved;
-use tpm_record::hierarchy::{Hierarchies, Secrets};
-use tpm_record::keep::Keep;
-use tpm_types::action_check::ActionCheck;
-use tpm_types::auth_value::AuthValue;
-use tpm_types::handle::HierarchyAuth;
-use tpm_types::rc::ResponseCode;
-use tpm_types::startup_type::StartupType;
+use tpm_bytes::Cursor;
+use tpm_record::{Hierarchies, Keep, Saved, Secrets};
+use tpm_types::{ActionCheck, AuthValue, Check, HierarchyAuth, Refused, ResponseCode, StartupType};
 
 /// How many random bytes a TPM Reset draws: a seed and a proof.
 const RESET_DRAWS: usize = 64;

@@ -7,17 +7,17 @@ use Rattle.tpm_object.specs.declared.template.TemplateFault.{TemplateFault}
 use Rattle.tpm_object.specs.declared.template.TemplateFault.TheVariants as template
 use Rattle.tpm_object.specs.Creation.{creation_passes}
 use Rattle.tpm_object.specs.Template.{template_passes}
-use Rattle.tpm_types.specs.declared.public.Public.{Public}
-use Rattle.tpm_types.specs.SensitiveCreate.{SensitiveValues}
+use Rattle.tpm_types_object.specs.declared.public.Public.{Public}
+use Rattle.tpm_types_object.specs.SensitiveCreate.{SensitiveValues}
 use Rattle.tpm_types.specs.ActionCheck.{action_named}
 use Rattle.tpm_types.specs.declared.rc.Place.TheVariants as place
 use Rattle.tpm_types.specs.declared.rc.Rc.{Rc}
 use Rattle.tpm_types.specs.declared.rc.ResponseCode.{ResponseCode}
 use Rattle.tpm_types.specs.declared.rc.ResponseCode.TheVariants as code
 use Rattle.tpm_types.specs.Rc.{at, plain}
-use Rattle.tpm_auth.specs.declared.check.Check.TheVariants as check
-use Rattle.tpm_auth.specs.declared.refused.Refused.{Refused}
-use Rattle.tpm_auth.specs.Refused.{refusal}
+use Rattle.tpm_types.specs.declared.check.Check.TheVariants as check
+use Rattle.tpm_types.specs.declared.refused.Refused.{Refused}
+use Rattle.tpm_types.specs.Refused.{refusal}
 
 -- the refusal by a command's check of this number
 abbrev pub action_refusal : ℕ → Rc → Refused

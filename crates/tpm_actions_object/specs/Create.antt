@@ -1,14 +1,14 @@
 -- TPM2_Create. TPM 2.0 Library, Part 3, section 12.1.
 use Rattle.std.specs.Prelude.{ℕ, ◌+◌, List, take, drop, None, Result, Ok}
 use Rattle.tpm_bytes.specs.Reading.{◌>>=◌}
-use Rattle.tpm_name.specs.Name.{object_name}
+use Rattle.tpm_types_object.specs.ObjectName.{object_name}
 use Rattle.tpm_object.specs.declared.areas.Created.{Created}
 use Rattle.tpm_object.specs.declared.object.Object.{Object}
 use Rattle.tpm_object.specs.Areas.{created}
 use Rattle.tpm_object.specs.Creation.{drawn_by}
 use Rattle.tpm_object.specs.PrivateArea.{private_text}
 use Rattle.tpm_record.specs.Record.{Record}
-use Rattle.tpm_auth.specs.declared.refused.Refused.{Refused}
+use Rattle.tpm_types.specs.declared.refused.Refused.{Refused}
 use Rattle.tpm_actions.specs.Request.{Request, first_handle}
 use Rattle.tpm_actions.specs.Answer.{AnswerParts, SizedFirst}
 use Rattle.tpm_actions.specs.Rows.{Success, unchanged}

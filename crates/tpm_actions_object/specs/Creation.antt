@@ -8,23 +8,24 @@ use Rattle.tpm_bytes.specs.Writing.{sized_text}
 use Rattle.tpm_mac.specs.declared.algorithm.HashAlg.TheVariants.{Sha256}
 use Rattle.tpm_mac.specs.Digest.{hash_of}
 use Rattle.tpm_mac.specs.Hmac.{hmac_of}
-use Rattle.tpm_name.specs.Name.{handle_name, object_name}
+use Rattle.tpm_name.specs.Name.{handle_name}
+use Rattle.tpm_types_object.specs.ObjectName.{object_name}
 use Rattle.tpm_object.specs.declared.object.Object.{Object}
 use Rattle.tpm_pcr.specs.Banks.{select_digest_of}
-use Rattle.tpm_types.specs.declared.creation_data.CreationData.{CreationData}
+use Rattle.tpm_types_object.specs.declared.creation_data.CreationData.{CreationData}
 use Rattle.tpm_types.specs.declared.handle.HierarchyHandle.{HierarchyHandle}
 use Rattle.tpm_types.specs.declared.pcr_selection.BankSelection.{BankSelection}
-use Rattle.tpm_types.specs.declared.public.Public.{Public}
+use Rattle.tpm_types_object.specs.declared.public.Public.{Public}
 use Rattle.tpm_types.specs.Buffer.{buffer_at}
-use Rattle.tpm_types.specs.CreationData.{creation_data_text}
-use Rattle.tpm_types.specs.Filled.{filled_by}
+use Rattle.tpm_types_object.specs.CreationData.{creation_data_text}
+use Rattle.tpm_types_object.specs.Filled.{filled_by}
 use Rattle.tpm_types.specs.Handle.{hierarchy_handle}
 use Rattle.tpm_types.specs.PcrSelection.{selection_at}
-use Rattle.tpm_types.specs.Public.{public_at, public_text}
-use Rattle.tpm_types.specs.SensitiveCreate.{SensitiveValues, sensitive_create_at, sensitive_values_of}
+use Rattle.tpm_types_object.specs.Public.{public_at, public_text}
+use Rattle.tpm_types_object.specs.SensitiveCreate.{SensitiveValues, sensitive_create_at, sensitive_values_of}
 use Rattle.tpm_record.specs.Hierarchy.{secrets_of}
 use Rattle.tpm_record.specs.Record.{Record}
-use Rattle.tpm_auth.specs.declared.refused.Refused.{Refused}
+use Rattle.tpm_types.specs.declared.refused.Refused.{Refused}
 use Rattle.tpm_actions.specs.Rows.{all_read, parameter}
 use Rattle.tpm_actions_object.specs.declared.creation.Asked.{Asked}
 use Rattle.tpm_actions_object.specs.declared.creation.Parent.{Parent}

@@ -3,19 +3,19 @@ use Rattle.std.specs.Prelude.{ℕ, ◌==◌, List, Option, Some, None, if◌then
 use Rattle.tpm_bytes.specs.Reading.{◌>>=◌, refused_if}
 use Rattle.tpm_mac.specs.declared.algorithm.HashAlg.{HashAlg}
 use Rattle.tpm_mac.specs.Hmac.{hmac_of}
-use Rattle.tpm_types.specs.declared.object_attributes.ObjectAttribute.TheVariants as attribute
-use Rattle.tpm_types.specs.declared.public.KeyedHashScheme.{KeyedHashScheme}
-use Rattle.tpm_types.specs.declared.public.KeyedHashScheme.TheVariants as scheme
-use Rattle.tpm_types.specs.declared.public.PublicParameters.{PublicParameters}
-use Rattle.tpm_types.specs.declared.public.PublicParameters.TheVariants.{KeyedHash, SymCipher}
+use Rattle.tpm_types_object.specs.declared.object_attributes.ObjectAttribute.TheVariants as attribute
+use Rattle.tpm_types_object.specs.declared.public.KeyedHashScheme.{KeyedHashScheme}
+use Rattle.tpm_types_object.specs.declared.public.KeyedHashScheme.TheVariants as scheme
+use Rattle.tpm_types_object.specs.declared.public.PublicParameters.{PublicParameters}
+use Rattle.tpm_types_object.specs.declared.public.PublicParameters.TheVariants.{KeyedHash, SymCipher}
 use Rattle.tpm_types.specs.declared.rc.Place.TheVariants as place
 use Rattle.tpm_types.specs.declared.rc.ResponseCode.TheVariants as code
 use Rattle.tpm_types.specs.Algorithm.{hash_number, hash_or_null_at}
 use Rattle.tpm_types.specs.Buffer.{buffer_at}
-use Rattle.tpm_types.specs.ObjectAttributes.{has}
+use Rattle.tpm_types_object.specs.ObjectAttributes.{has}
 use Rattle.tpm_types.specs.Rc.{at, plain}
 use Rattle.tpm_record.specs.Record.{Record}
-use Rattle.tpm_auth.specs.declared.refused.Refused.{Refused}
+use Rattle.tpm_types.specs.declared.refused.Refused.{Refused}
 use Rattle.tpm_actions.specs.Request.{Request, first_handle}
 use Rattle.tpm_actions.specs.Answer.{Sized, answer_of}
 use Rattle.tpm_actions.specs.Rows.{Success, all_read, parameter, unchanged}

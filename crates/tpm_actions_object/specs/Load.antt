@@ -1,19 +1,19 @@
 -- TPM2_Load. TPM 2.0 Library, Part 3, section 12.2.
 use Rattle.std.specs.Prelude.{ℕ, List, Some, Result, Ok}
 use Rattle.tpm_bytes.specs.Reading.{◌>>=◌, or_fault}
-use Rattle.tpm_name.specs.Name.{object_name}
+use Rattle.tpm_types_object.specs.ObjectName.{object_name}
 use Rattle.tpm_object.specs.declared.object.Object.{Object}
 use Rattle.tpm_object.specs.Object.{loaded_object}
 use Rattle.tpm_object.specs.PrivateArea.{unwrapped}
-use Rattle.tpm_types.specs.declared.public.Public.{Public}
+use Rattle.tpm_types_object.specs.declared.public.Public.{Public}
 use Rattle.tpm_types.specs.declared.rc.ResponseCode.TheVariants as code
-use Rattle.tpm_types.specs.declared.sensitive.Sensitive.{Sensitive}
+use Rattle.tpm_types_object.specs.declared.sensitive.Sensitive.{Sensitive}
 use Rattle.tpm_types.specs.Buffer.{buffer_at}
-use Rattle.tpm_types.specs.Filled.{filled_by}
-use Rattle.tpm_types.specs.Public.{public_at}
+use Rattle.tpm_types_object.specs.Filled.{filled_by}
+use Rattle.tpm_types_object.specs.Public.{public_at}
 use Rattle.tpm_record.specs.Objects.{object_handle, with_object}
 use Rattle.tpm_record.specs.Record.{Record}
-use Rattle.tpm_auth.specs.declared.refused.Refused.{Refused}
+use Rattle.tpm_types.specs.declared.refused.Refused.{Refused}
 use Rattle.tpm_actions.specs.Request.{Request, first_handle}
 use Rattle.tpm_actions.specs.Answer.{AnswerParts, Sized}
 use Rattle.tpm_actions.specs.Rows.{Success, all_read, parameter}

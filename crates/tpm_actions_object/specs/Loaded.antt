@@ -6,16 +6,16 @@ use Rattle.tpm_object.specs.declared.object.Object.{Object}
 use Rattle.tpm_object.specs.Object.{is_storage_parent}
 use Rattle.tpm_places.specs.Places.{lowest_free}
 use Rattle.tpm_types.specs.declared.handle.Handle.{Handle}
-use Rattle.tpm_types.specs.declared.object_attributes.ObjectAttribute.TheVariants as attribute
+use Rattle.tpm_types_object.specs.declared.object_attributes.ObjectAttribute.TheVariants as attribute
 use Rattle.tpm_types.specs.declared.rc.Place.TheVariants as place
 use Rattle.tpm_types.specs.declared.rc.ResponseCode.TheVariants as code
-use Rattle.tpm_types.specs.ObjectAttributes.{has}
+use Rattle.tpm_types_object.specs.ObjectAttributes.{has}
 use Rattle.tpm_types.specs.Rc.{at, plain}
 use Rattle.tpm_record.specs.Entity.{object_of}
 use Rattle.tpm_record.specs.Record.{Record}
-use Rattle.tpm_auth.specs.declared.check.Check.TheVariants as check
-use Rattle.tpm_auth.specs.declared.refused.Refused.{Refused}
-use Rattle.tpm_auth.specs.Refused.{refusal}
+use Rattle.tpm_types.specs.declared.check.Check.TheVariants as check
+use Rattle.tpm_types.specs.declared.refused.Refused.{Refused}
+use Rattle.tpm_types.specs.Refused.{refusal}
 use Rattle.tpm_actions_object.specs.Checks.{action_refusal}
 
 -- the object of a handle; without one no row acts. That does not occur: the general checks have

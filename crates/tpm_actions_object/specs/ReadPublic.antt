@@ -2,11 +2,11 @@
 use Rattle.std.specs.Prelude.{◌++◌, Result, Ok}
 use Rattle.tpm_bytes.specs.Reading.{◌>>=◌}
 use Rattle.tpm_bytes.specs.Writing.{sized_text}
-use Rattle.tpm_name.specs.Name.{object_name}
+use Rattle.tpm_types_object.specs.ObjectName.{object_name}
 use Rattle.tpm_object.specs.declared.object.Object.{Object}
-use Rattle.tpm_types.specs.Public.{public_text}
+use Rattle.tpm_types_object.specs.Public.{public_text}
 use Rattle.tpm_record.specs.Record.{Record}
-use Rattle.tpm_auth.specs.declared.refused.Refused.{Refused}
+use Rattle.tpm_types.specs.declared.refused.Refused.{Refused}
 use Rattle.tpm_actions.specs.Request.{Request, first_handle}
 use Rattle.tpm_actions.specs.Answer.{Body, SizedFirst, answer_of}
 use Rattle.tpm_actions.specs.Rows.{Success, all_read, unchanged}

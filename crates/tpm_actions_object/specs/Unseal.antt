@@ -2,13 +2,13 @@
 use Rattle.std.specs.Prelude.{Result, Ok, not}
 use Rattle.tpm_bytes.specs.Reading.{◌>>=◌, refused_if}
 use Rattle.tpm_object.specs.Object.{is_keyed_hash}
-use Rattle.tpm_types.specs.declared.object_attributes.ObjectAttribute.TheVariants as attribute
+use Rattle.tpm_types_object.specs.declared.object_attributes.ObjectAttribute.TheVariants as attribute
 use Rattle.tpm_types.specs.declared.rc.Place.TheVariants as place
 use Rattle.tpm_types.specs.declared.rc.ResponseCode.TheVariants as code
-use Rattle.tpm_types.specs.ObjectAttributes.{has}
+use Rattle.tpm_types_object.specs.ObjectAttributes.{has}
 use Rattle.tpm_types.specs.Rc.{at, plain}
 use Rattle.tpm_record.specs.Record.{Record}
-use Rattle.tpm_auth.specs.declared.refused.Refused.{Refused}
+use Rattle.tpm_types.specs.declared.refused.Refused.{Refused}
 use Rattle.tpm_actions.specs.Request.{Request, first_handle}
 use Rattle.tpm_actions.specs.Answer.{Sized, answer_of}
 use Rattle.tpm_actions.specs.Rows.{Success, all_read, unchanged}

@@ -1,15 +1,10 @@
 ghost use Rattle.std.specs.Prelude.{◌≡◌, ◌≤◌};
-ghost use Rattle.tpm_types.specs.SensitiveCreate.{sensitive_values_of};
+ghost use Rattle.tpm_types_object.specs.SensitiveCreate.{sensitive_values_of};
 ghost use Rattle.tpm_actions_object.specs.Checks.{action_refusal, creation_refusal, given_passes, parameter_fault, public_passes, template_refusal};
 
-use tpm_auth::check::Check;
-use tpm_auth::refused::Refused;
-use tpm_object::creation::{CreationFault, check_creation};
-use tpm_object::template::{TemplateFault, check_template};
-use tpm_types::action_check::ActionCheck;
-use tpm_types::public::Public;
-use tpm_types::rc::{Rc, ResponseCode};
-use tpm_types::sensitive_create::SensitiveCreate;
+use tpm_object::{CreationFault, TemplateFault, check_creation, check_template};
+use tpm_types::{ActionCheck, Check, Rc, Refused, ResponseCode};
+use tpm_types_object::{Public, SensitiveCreate};
 
 /// The refusal by a command's check of this number.
 pub fn action_refusal(number: u8, rc: Rc) -> Refused

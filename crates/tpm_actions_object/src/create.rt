@@ -9,12 +9,11 @@ use crate::creation::{Parent, put_creation, read_asked};
 use crate::loaded::{check_parent, is_fixed, loaded};
 use tpm_actions::answer::Answer;
 use tpm_actions::call::Call;
-use tpm_auth::refused::Refused;
 use tpm_name::Name;
 use tpm_object::areas::create as create_areas;
-use tpm_object::creation::drawn_by;
-use tpm_object::private_area::wrap;
-use tpm_record::keep::Keep;
+use tpm_object::{drawn_by, wrap};
+use tpm_record::Keep;
+use tpm_types::Refused;
 
 /// How many random bytes the IV of a private area takes.
 const VECTOR_SIZE: usize = 16;
@@ -47,7 +46,7 @@ pub fn create<K: Keep>(keep: &mut K, call: &Call, answer: &mut Answer) -> Result
     let private = wrap(parent, &created.public, &created.sensitive, &iv);
     let text = &mut answer.parameters;
     let _ = text.put_sized(private.as_slice());
-    let name = Name::of_object(&created.public);
+    let name = created.public.name();
     let above = Parent::of_object(parent);
     put_creation(
         keep,

@@ -10,13 +10,10 @@ use crate::loaded::no_place;
 use tpm_actions::answer::Answer;
 use tpm_actions::call::Call;
 use tpm_actions::reading::memory_refused;
-use tpm_auth::check::Check;
-use tpm_auth::refused::Refused;
-use tpm_object::primary::derive_primary;
-use tpm_places::places::PlaceFault;
-use tpm_record::keep::Keep;
-use tpm_types::handle::{Handle, HierarchyHandle};
-use tpm_types::rc::ResponseCode;
+use tpm_object::derive_primary;
+use tpm_places::PlaceFault;
+use tpm_record::Keep;
+use tpm_types::{Check, Handle, HierarchyHandle, Refused, ResponseCode};
 
 fn named_hierarchy(handle: Handle) -> Result<HierarchyHandle, Refused>
     ensures { result ≡ named_hierarchy handle }

@@ -1,26 +1,18 @@
 ghost use Rattle.std.specs.Prelude.{◌≡◌, ◌+◌, ◌≤◌, ◌++◌, length};
 ghost use Rattle.tpm_bytes.specs.Writing.{sized_text};
-ghost use Rattle.tpm_name.specs.Name.{object_name};
+ghost use Rattle.tpm_types_object.specs.ObjectName.{object_name};
 ghost use Rattle.tpm_types.specs.Locality.{locality_number};
 ghost use Rattle.tpm_actions_object.specs.Creation.{Asks, creation_data, creation_text, hierarchy_parent, object_parent, parameters_in, parameters_of, ticket_text};
 
 use tpm_actions::answer::Parameters;
 use tpm_actions::reading::{end, number, parameter};
-use tpm_auth::refused::Refused;
-use tpm_bytes::cursor::Cursor;
-use tpm_bytes::sink::Sink;
+use tpm_bytes::{Cursor, Sink};
 use tpm_mac::{HashAlg, digest_parts, hmac_parts};
 use tpm_name::Name;
-use tpm_object::object::Object;
-use tpm_record::keep::Keep;
-use tpm_types::creation_data::CreationData;
-use tpm_types::filled::read_filled;
-use tpm_types::handle::HierarchyHandle;
-use tpm_types::locality::Locality;
-use tpm_types::octets::Octets;
-use tpm_types::pcr_selection::PcrSelection;
-use tpm_types::public::Public;
-use tpm_types::sensitive_create::SensitiveCreate;
+use tpm_object::Object;
+use tpm_record::Keep;
+use tpm_types::{HierarchyHandle, Locality, Octets, PcrSelection, Refused};
+use tpm_types_object::{CreationData, Public, SensitiveCreate, read_filled};
 
 /// TPM_ST_CREATION.
 const CREATION_TAG: u16 = 0x8021;

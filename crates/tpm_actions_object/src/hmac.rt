@@ -9,15 +9,11 @@ use crate::loaded::loaded;
 use tpm_actions::answer::Answer;
 use tpm_actions::call::Call;
 use tpm_actions::reading::{end, parameter};
-use tpm_auth::refused::Refused;
-use tpm_bytes::cursor::Cursor;
+use tpm_bytes::Cursor;
 use tpm_mac::{HashAlg, hmac_parts};
-use tpm_record::keep::Keep;
-use tpm_types::algorithm::{hash_number, read_hash_or_null};
-use tpm_types::buffer::read_buffer;
-use tpm_types::object_attributes::ObjectAttribute;
-use tpm_types::public::{KeyedHashScheme, PublicParameters};
-use tpm_types::rc::ResponseCode;
+use tpm_record::Keep;
+use tpm_types::{Refused, ResponseCode, hash_number, read_buffer, read_hash_or_null};
+use tpm_types_object::{KeyedHashScheme, ObjectAttribute, PublicParameters};
 
 /// The most bytes of the buffer.
 const MOST_BYTES: usize = 1024;

@@ -9,17 +9,12 @@ use crate::loaded::{check_parent, is_fixed, loaded, no_place};
 use tpm_actions::answer::Answer;
 use tpm_actions::call::Call;
 use tpm_actions::reading::{end, memory_refused, parameter};
-use tpm_auth::refused::Refused;
-use tpm_bytes::cursor::Cursor;
-use tpm_object::object::Object;
-use tpm_object::private_area::unwrap;
-use tpm_places::places::PlaceFault;
-use tpm_record::keep::Keep;
-use tpm_types::buffer::read_buffer;
-use tpm_types::filled::read_filled;
-use tpm_types::public::Public;
-use tpm_types::rc::ResponseCode;
-use tpm_types::sensitive::Sensitive;
+use tpm_bytes::Cursor;
+use tpm_object::{Object, unwrap};
+use tpm_places::PlaceFault;
+use tpm_record::Keep;
+use tpm_types::{Refused, ResponseCode, read_buffer};
+use tpm_types_object::{Public, Sensitive, read_filled};
 
 /// The most bytes of inPrivate.
 const MOST_BYTES: usize = 256;

@@ -2,13 +2,10 @@ ghost use Rattle.std.specs.Prelude.{◌≡◌};
 ghost use Rattle.tpm_actions_object.specs.Loaded.{IsLoaded, is_fixed, loaded_at, no_place, parent_passes};
 
 use crate::checks::action_refusal;
-use tpm_auth::check::Check;
-use tpm_auth::refused::Refused;
-use tpm_object::object::{Object, is_storage_parent};
-use tpm_record::keep::Keep;
-use tpm_types::handle::Handle;
-use tpm_types::object_attributes::ObjectAttribute;
-use tpm_types::rc::ResponseCode;
+use tpm_object::{Object, is_storage_parent};
+use tpm_record::Keep;
+use tpm_types::{Check, Handle, Refused, ResponseCode};
+use tpm_types_object::ObjectAttribute;
 
 /// The object of a handle.
 pub fn loaded<K: Keep>(keep: &K, handle: Handle) -> Result<&Object, Refused>

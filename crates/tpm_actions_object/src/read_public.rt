@@ -8,9 +8,9 @@ use crate::loaded::loaded;
 use tpm_actions::answer::Answer;
 use tpm_actions::call::Call;
 use tpm_actions::reading::end;
-use tpm_auth::refused::Refused;
-use tpm_bytes::cursor::Cursor;
-use tpm_record::keep::Keep;
+use tpm_bytes::Cursor;
+use tpm_record::Keep;
+use tpm_types::Refused;
 
 /// TPM2_ReadPublic: the public area of an object, its Name and its qualified Name.
 #[tactic(auto, unfolding(crate::specs::ReadPublic::read_public_row))]

@@ -9,12 +9,11 @@ use crate::loaded::loaded;
 use tpm_actions::answer::Answer;
 use tpm_actions::call::Call;
 use tpm_actions::reading::end;
-use tpm_auth::refused::Refused;
-use tpm_bytes::cursor::Cursor;
-use tpm_object::object::is_keyed_hash;
-use tpm_record::keep::Keep;
-use tpm_types::object_attributes::ObjectAttribute;
-use tpm_types::rc::ResponseCode;
+use tpm_bytes::Cursor;
+use tpm_object::is_keyed_hash;
+use tpm_record::Keep;
+use tpm_types::{Refused, ResponseCode};
+use tpm_types_object::ObjectAttribute;
 
 /// TPM2_Unseal: the data that an object seals.
 #[tactic(auto, unfolding(crate::specs::Unseal::unseal_row))]

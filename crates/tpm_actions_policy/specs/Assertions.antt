@@ -9,15 +9,15 @@ use Rattle.tpm_policy.specs.State.{Policy}
 use Rattle.tpm_policy.specs.Use.{is_trial}
 use Rattle.tpm_session.specs.declared.session.Session.{Session}
 use Rattle.tpm_session.specs.Sessions.{session_at, with_session_policy}
-use Rattle.tpm_types.specs.declared.command_code.CommandCode.{CommandCode}
-use Rattle.tpm_types.specs.declared.command_code.CommandCode.TheVariants as command
+use Rattle.tpm_types_command.specs.declared.command_code.CommandCode.{CommandCode}
+use Rattle.tpm_types_command.specs.declared.command_code.CommandCode.TheVariants as command
 use Rattle.tpm_types.specs.declared.handle.Handle.{Handle}
 use Rattle.tpm_types.specs.declared.rc.ResponseCode.TheVariants as code
 use Rattle.tpm_types.specs.Rc.{plain}
 use Rattle.tpm_record.specs.Record.{Record}
-use Rattle.tpm_auth.specs.declared.check.Check.TheVariants as check
-use Rattle.tpm_auth.specs.declared.refused.Refused.{Refused}
-use Rattle.tpm_auth.specs.Refused.{refusal}
+use Rattle.tpm_types.specs.declared.check.Check.TheVariants as check
+use Rattle.tpm_types.specs.declared.refused.Refused.{Refused}
+use Rattle.tpm_types.specs.Refused.{refusal}
 use Rattle.tpm_actions.specs.Answer.{Body, Plain, answer_of}
 use Rattle.tpm_actions.specs.Request.{Request, first_handle, second_handle}
 use Rattle.tpm_actions.specs.Rows.{Success}
@@ -66,7 +66,7 @@ abbrev pub body_of : CommandCode → Body
 body_of command.PolicySecret = no_ticket
 body_of _ = Plain []
 
--- the policy or trial session of a handle
+-- the session of a handle, which the general checks let be a policy or trial session alone
 abbrev pub policy_session : List (Option Session) → Handle → Result Session Refused
 policy_session sessions handle = ok_or (session_at sessions handle) no_row
 

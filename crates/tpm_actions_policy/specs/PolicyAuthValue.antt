@@ -3,7 +3,7 @@ use Rattle.std.specs.Prelude.{ℕ, List, Result, Ok}
 use Rattle.tpm_bytes.specs.Reading.{◌>>=◌}
 use Rattle.tpm_policy.specs.Assertion.{Assertion, AuthValue}
 use Rattle.tpm_session.specs.declared.session.Session.{Session}
-use Rattle.tpm_auth.specs.declared.refused.Refused.{Refused}
+use Rattle.tpm_types.specs.declared.refused.Refused.{Refused}
 use Rattle.tpm_actions.specs.Rows.{all_read}
 
 -- an HMAC with the entity's authorization value is demanded; no parameters

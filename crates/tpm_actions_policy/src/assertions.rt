@@ -7,16 +7,10 @@ ghost use Rattle.tpm_actions_policy.specs.Assertions.{policy_session, with_asser
 
 use crate::policy_pcr::ComparedPcrs;
 use crate::policy_secret::ShownSecret;
-use tpm_auth::check::Check;
-use tpm_auth::refused::Refused;
-use tpm_policy::fault::PolicyFault;
-use tpm_policy::state::PolicyState;
-use tpm_record::keep::Keep;
-use tpm_session::session::Session;
-use tpm_types::digest_list::DigestList;
-use tpm_types::handle::Handle;
-use tpm_types::rc::ResponseCode;
-use tpm_types::session_type::SessionType;
+use tpm_policy::{PolicyFault, PolicyState};
+use tpm_record::Keep;
+use tpm_session::Session;
+use tpm_types::{Check, DigestList, Handle, Refused, ResponseCode, SessionType};
 
 /// What a command asks to be asserted.
 #[derive(Clone, Copy)]

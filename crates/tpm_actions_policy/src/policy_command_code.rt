@@ -1,5 +1,5 @@
 ghost use Rattle.std.specs.Prelude.{◌≡◌};
-ghost use Rattle.tpm_types.specs.declared.command_code.CommandCode.TheVariants as command;
+ghost use Rattle.tpm_types_command.specs.declared.command_code.CommandCode.TheVariants as command;
 ghost use Rattle.tpm_actions.specs.Answer.{IsEmpty};
 ghost use Rattle.tpm_actions.specs.Request.{request_of};
 ghost use Rattle.tpm_actions.specs.Rows.{Acts};
@@ -9,9 +9,9 @@ use crate::assertions::{Asked, make_assertion};
 use tpm_actions::answer::Answer;
 use tpm_actions::call::Call;
 use tpm_actions::reading::{end, number};
-use tpm_auth::refused::Refused;
-use tpm_bytes::cursor::Cursor;
-use tpm_record::keep::Keep;
+use tpm_bytes::Cursor;
+use tpm_record::Keep;
+use tpm_types::Refused;
 
 /// TPM2_PolicyCommandCode: allows one command alone.
 #[tactic(auto, unfolding(crate::specs::Assertions::assertion_row))]

@@ -8,9 +8,9 @@ use crate::assertions::policy_session;
 use tpm_actions::answer::Answer;
 use tpm_actions::call::Call;
 use tpm_actions::reading::end;
-use tpm_auth::refused::Refused;
-use tpm_bytes::cursor::Cursor;
-use tpm_record::keep::Keep;
+use tpm_bytes::Cursor;
+use tpm_record::Keep;
+use tpm_types::Refused;
 
 /// TPM2_PolicyGetDigest: the policy digest of a session.
 #[tactic(auto, unfolding(crate::specs::PolicyGetDigest::policy_get_digest_row))]

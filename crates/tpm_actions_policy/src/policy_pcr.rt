@@ -1,5 +1,5 @@
 ghost use Rattle.std.specs.Prelude.{◌≡◌};
-ghost use Rattle.tpm_types.specs.declared.command_code.CommandCode.TheVariants as command;
+ghost use Rattle.tpm_types_command.specs.declared.command_code.CommandCode.TheVariants as command;
 ghost use Rattle.tpm_actions.specs.Answer.{IsEmpty};
 ghost use Rattle.tpm_actions.specs.Request.{request_of};
 ghost use Rattle.tpm_actions.specs.Rows.{Acts};
@@ -14,15 +14,11 @@ use crate::assertions::{Asked, is_trial, make_assertion};
 use tpm_actions::answer::Answer;
 use tpm_actions::call::Call;
 use tpm_actions::reading::{end, parameter};
-use tpm_auth::refused::Refused;
-use tpm_bytes::cursor::Cursor;
-use tpm_policy::fault::PolicyFault;
-use tpm_policy::pcr::PcrAssertion;
-use tpm_policy::state::PolicyState;
-use tpm_record::keep::Keep;
-use tpm_session::session::Session;
-use tpm_types::buffer::read_buffer;
-use tpm_types::pcr_selection::PcrSelection;
+use tpm_bytes::Cursor;
+use tpm_policy::{PcrAssertion, PolicyFault, PolicyState};
+use tpm_record::Keep;
+use tpm_session::Session;
+use tpm_types::{PcrSelection, Refused, read_buffer};
 
 /// The most bytes of pcrDigest.
 const MOST_BYTES: usize = 32;

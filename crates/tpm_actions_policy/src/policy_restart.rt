@@ -8,10 +8,10 @@ use crate::assertions::policy_session;
 use tpm_actions::answer::Answer;
 use tpm_actions::call::Call;
 use tpm_actions::reading::end;
-use tpm_auth::refused::Refused;
-use tpm_bytes::cursor::Cursor;
-use tpm_policy::state::PolicyState;
-use tpm_record::keep::Keep;
+use tpm_bytes::Cursor;
+use tpm_policy::PolicyState;
+use tpm_record::Keep;
+use tpm_types::Refused;
 
 /// TPM2_PolicyRestart: returns the policy of a session to its start.
 #[tactic(auto, unfolding(crate::specs::PolicyRestart::policy_restart_row))]

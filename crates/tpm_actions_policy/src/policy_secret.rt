@@ -1,5 +1,5 @@
 ghost use Rattle.std.specs.Prelude.{◌≡◌};
-ghost use Rattle.tpm_types.specs.declared.command_code.CommandCode.TheVariants as command;
+ghost use Rattle.tpm_types_command.specs.declared.command_code.CommandCode.TheVariants as command;
 ghost use Rattle.tpm_actions.specs.Answer.{IsEmpty};
 ghost use Rattle.tpm_actions.specs.Request.{request_of};
 ghost use Rattle.tpm_actions.specs.Rows.{Acts};
@@ -15,16 +15,11 @@ use crate::assertions::{Asked, is_trial, make_assertion};
 use tpm_actions::answer::Answer;
 use tpm_actions::call::Call;
 use tpm_actions::reading::{end, number, parameter};
-use tpm_auth::refused::Refused;
-use tpm_bytes::cursor::Cursor;
-use tpm_policy::fault::PolicyFault;
-use tpm_policy::secret::SecretAssertion;
-use tpm_policy::state::PolicyState;
-use tpm_record::entity::name_of;
-use tpm_record::keep::Keep;
-use tpm_session::session::Session;
-use tpm_types::buffer::read_buffer;
-use tpm_types::handle::Handle;
+use tpm_bytes::Cursor;
+use tpm_policy::{PolicyFault, PolicyState, SecretAssertion};
+use tpm_record::{Keep, name_of};
+use tpm_session::Session;
+use tpm_types::{Handle, Refused, read_buffer};
 
 /// The most bytes of nonceTPM, cpHashA and policyRef.
 const MOST_BYTES: usize = 32;

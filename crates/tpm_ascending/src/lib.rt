@@ -15,3 +15,7 @@ pub mod fixed_ascending;
 pub mod laws;
 pub mod list_ascending;
 mod lookup;
+
+pub use ascending::{Ascending, KeyFault};
+pub use fixed_ascending::FixedAscending;
+pub use list_ascending::ListAscending;

@@ -11,8 +11,8 @@ use Rattle.tpm_mac.specs.declared.algorithm.HashAlg.{HashAlg}
 use Rattle.tpm_mac.specs.declared.algorithm.HashAlg.TheVariants.{Sha1, Sha256}
 use Rattle.tpm_session.specs.EntryText.{EntryParts, command_mac_of, command_text, entry_key}
 use Rattle.tpm_session.specs.declared.session.Session.{Session}
-use Rattle.tpm_types.specs.AuthEntry.{Entry}
-use Rattle.tpm_types.specs.Command.{Whole}
+use Rattle.tpm_types_command.specs.AuthEntry.{Entry}
+use Rattle.tpm_types_command.specs.Command.{Whole}
 use Rattle.tpm_record.specs.Record.{Record}
 use Rattle.tpm_auth.specs.Comparison.{check_of, failure, is_password_of}
 use Rattle.tpm_auth.specs.EmptyHmac.{EmptyHmacHasNoKey}

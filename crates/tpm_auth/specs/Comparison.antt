@@ -7,11 +7,11 @@ use Rattle.tpm_session.specs.declared.session.Protection.TheVariants as protecti
 use Rattle.tpm_types.specs.AuthValue.{trimmed}
 use Rattle.tpm_types.specs.declared.rc.ResponseCode.TheVariants as code
 use Rattle.tpm_auth.specs.Entries.{entry_fault}
-use Rattle.tpm_auth.specs.Refused.{refusal}
-use Rattle.tpm_auth.specs.declared.check.Check.{Check}
-use Rattle.tpm_auth.specs.declared.check.Check.TheVariants as check
-use Rattle.tpm_auth.specs.declared.refused.Counted.TheVariants as counted
-use Rattle.tpm_auth.specs.declared.refused.Refused.{Refused}
+use Rattle.tpm_types.specs.Refused.{refusal}
+use Rattle.tpm_types.specs.declared.check.Check.{Check}
+use Rattle.tpm_types.specs.declared.check.Check.TheVariants as check
+use Rattle.tpm_types.specs.declared.refused.Counted.TheVariants as counted
+use Rattle.tpm_types.specs.declared.refused.Refused.{Refused}
 use Rattle.tpm_auth.specs.declared.session_grant.Grant.{Grant}
 
 -- a password is an authorization value where they are the same without their trailing zeros

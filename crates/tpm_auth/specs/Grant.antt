@@ -12,9 +12,9 @@ use Rattle.tpm_types.specs.declared.handle.SessionKind.{SessionKind}
 use Rattle.tpm_types.specs.declared.handle.SessionKind.TheVariants as kind
 use Rattle.tpm_types.specs.declared.rc.ResponseCode.TheVariants as code
 use Rattle.tpm_types.specs.declared.rc.Place.TheVariants as place
-use Rattle.tpm_types.specs.AuthEntry.{Entry}
-use Rattle.tpm_types.specs.Command.{Whole}
-use Rattle.tpm_types.specs.CommandCode.{authorized_handles}
+use Rattle.tpm_types_command.specs.AuthEntry.{Entry}
+use Rattle.tpm_types_command.specs.Command.{Whole}
+use Rattle.tpm_types_command.specs.CommandCode.{authorized_handles}
 use Rattle.tpm_types.specs.Handle.{session_kind}
 use Rattle.tpm_types.specs.Rc.{at, plain}
 use Rattle.tpm_record.specs.declared.entity.Means.TheVariants as means
@@ -22,11 +22,11 @@ use Rattle.tpm_record.specs.Entity.{is_available, protection_of}
 use Rattle.tpm_record.specs.Record.{Record}
 use Rattle.tpm_auth.specs.Comparison.{check_of, failure, is_password_of}
 use Rattle.tpm_auth.specs.Entries.{decrypts, entries_pass, entry_fault, reference_of, session_of}
-use Rattle.tpm_auth.specs.Refused.{checked, refusal}
+use Rattle.tpm_types.specs.Refused.{checked, refusal}
 use Rattle.tpm_auth.specs.SessionGrant.{granted_value, session_grant}
-use Rattle.tpm_auth.specs.declared.check.Check.TheVariants as check
+use Rattle.tpm_types.specs.declared.check.Check.TheVariants as check
 use Rattle.tpm_auth.specs.declared.grant.Grants.{Grants}
-use Rattle.tpm_auth.specs.declared.refused.Refused.{Refused}
+use Rattle.tpm_types.specs.declared.refused.Refused.{Refused}
 use Rattle.tpm_auth.specs.declared.session_grant.Grant.{Grant}
 
 -- a handle that no policy authorizes

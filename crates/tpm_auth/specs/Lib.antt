@@ -1,5 +1,3 @@
-pub mod Check
-pub mod Refused
 pub mod Entries
 pub mod Hashes
 pub mod Comparison

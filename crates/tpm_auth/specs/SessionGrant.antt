@@ -18,9 +18,9 @@ use Rattle.tpm_types.specs.declared.handle.Handle.{Handle}
 use Rattle.tpm_types.specs.declared.rc.ResponseCode.TheVariants as code
 use Rattle.tpm_types.specs.declared.session_type.SessionType.{SessionType}
 use Rattle.tpm_types.specs.declared.session_type.SessionType.TheVariants as type
-use Rattle.tpm_types.specs.AuthEntry.{Entry}
-use Rattle.tpm_types.specs.Command.{Whole}
-use Rattle.tpm_types.specs.CommandCode.{authorized_handles, code_number, role_at}
+use Rattle.tpm_types_command.specs.AuthEntry.{Entry}
+use Rattle.tpm_types_command.specs.Command.{Whole}
+use Rattle.tpm_types_command.specs.CommandCode.{authorized_handles, code_number, role_at}
 use Rattle.tpm_types.specs.Rc.{plain}
 use Rattle.tpm_record.specs.declared.entity.Means.TheVariants as means
 use Rattle.tpm_record.specs.Entity.{auth_value_of, is_available, name_of, policy_of, protection_of}
@@ -28,9 +28,9 @@ use Rattle.tpm_record.specs.Record.{Record}
 use Rattle.tpm_auth.specs.Comparison.{check_of, failure, is_password_of}
 use Rattle.tpm_auth.specs.Entries.{decrypts, encrypts, session_of}
 use Rattle.tpm_auth.specs.Hashes.{HashedCommand}
-use Rattle.tpm_auth.specs.Refused.{checked, refusal}
-use Rattle.tpm_auth.specs.declared.check.Check.TheVariants as check
-use Rattle.tpm_auth.specs.declared.refused.Refused.{Refused}
+use Rattle.tpm_types.specs.Refused.{checked, refusal}
+use Rattle.tpm_types.specs.declared.check.Check.TheVariants as check
+use Rattle.tpm_types.specs.declared.refused.Refused.{Refused}
 use Rattle.tpm_auth.specs.declared.session_grant.Grant.{Grant}
 
 -- a session is bound to an entity as long as that has the Name and the authorization value of the

@@ -1,23 +1,9 @@
 ghost use Rattle.std.specs.Prelude.{◌≡◌};
-ghost use Rattle.tpm_types.specs.AuthValue.{trimmed};
 ghost use Rattle.tpm_auth.specs.Comparison.{check_of, failure, is_password_of};
 
-use crate::check::Check;
-use crate::refused::{Counted, Refused};
 use crate::session_grant::Grant;
-use tpm_session::session::Protection;
-use tpm_types::rc::ResponseCode;
-
-/// The bytes without the zeros at their end.
-fn trimmed(bytes: &[u8]) -> &[u8]
-    ensures { result.now ≡ trimmed bytes.now }
-{
-    let mut size = bytes.len();
-    while size > 0 && bytes[size - 1] == 0 {
-        size -= 1;
-    }
-    &bytes[..size]
-}
+use tpm_session::Protection;
+use tpm_types::{Check, Counted, Refused, ResponseCode, trimmed};
 
 /// Whether a password is an authorization value: neither counts with the zeros at its end (TPM 2.0
 /// Library, Part 1, section 19.4).

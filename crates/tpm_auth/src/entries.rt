@@ -1,15 +1,12 @@
 ghost use Rattle.std.specs.Prelude.{◌≡◌, ◌+◌, ◌≤◌, ◌==◌, [], length, map};
 ghost use Rattle.std.specs.List.{list_any};
-ghost use Rattle.tpm_types.specs.AuthEntry.{entry_of};
+ghost use Rattle.tpm_types_command.specs.AuthEntry.{entry_of};
 ghost use Rattle.tpm_types.specs.Handle.{session_kind};
 ghost use Rattle.tpm_auth.specs.Entries.{decrypts, encrypts, entries_pass, entry_passes, has_wrong_attributes, is_misplaced, kind_passes, lacks_cipher, reference_of};
 
-use tpm_record::keep::Keep;
-use tpm_types::auth_entry::AuthEntry;
-use tpm_types::command_code::CommandCode;
-use tpm_types::handle::{Handle, SessionKind};
-use tpm_types::rc::{Rc, ResponseCode};
-use tpm_types::symmetric::SymmetricDefinition;
+use tpm_record::Keep;
+use tpm_types::{Handle, Rc, ResponseCode, SessionKind, SymmetricDefinition};
+use tpm_types_command::{AuthEntry, CommandCode};
 
 /// The most bytes that an entry's nonce or HMAC may have.
 const MOST_DIGEST: usize = 32;

@@ -1,30 +1,24 @@
 ghost use Rattle.std.specs.Prelude.{◌≡◌, ◌+◌, ◌≤◌, [], length, map};
 ghost use Rattle.tpm_bytes.specs.Reading.{sized_at};
-ghost use Rattle.tpm_types.specs.AuthEntry.{entry_of};
-ghost use Rattle.tpm_types.specs.Command.{whole_of};
+ghost use Rattle.tpm_types_command.specs.AuthEntry.{entry_of};
+ghost use Rattle.tpm_types_command.specs.Command.{whole_of};
 ghost use Rattle.tpm_types.specs.Locality.{locality_number};
 ghost use Rattle.tpm_record.specs.Entity.{name_of};
 ghost use Rattle.tpm_auth.specs.Grant.{AreGranted, IsGranted, authorize, authorized, grant, grants_pass, is_cut, is_unavailable, password_grant};
 ghost use Rattle.tpm_auth.specs.SessionGrant.{hashed_command};
 
-use crate::check::Check;
 use crate::comparison::{check_of, failure, is_password_of};
 use crate::entries::{any_decrypts, check_entries, reference_of};
 use crate::hashes::CommandHashes;
-use crate::refused::Refused;
 use crate::session_grant::{Grant, Sent, check_session};
 use arrayvec::ArrayVec;
-use tpm_bytes::cursor::Cursor;
+use tpm_bytes::Cursor;
 use tpm_name::Name;
-use tpm_policy::state::Demand;
-use tpm_record::entity::{Means, auth_value_of, is_available, name_of, protection_of};
-use tpm_record::keep::Keep;
-use tpm_session::session::Protection;
-use tpm_types::auth_entry::AuthEntry;
-use tpm_types::handle::{Handle, SessionKind};
-use tpm_types::locality::Locality;
-use tpm_types::rc::ResponseCode;
-use tpm_types::whole_command::Command;
+use tpm_policy::Demand;
+use tpm_record::{Keep, Means, auth_value_of, is_available, name_of, protection_of};
+use tpm_session::Protection;
+use tpm_types::{Check, Handle, Locality, Refused, ResponseCode, SessionKind};
+use tpm_types_command::{AuthEntry, Command};
 
 /// What the entries of a command authorize, each a handle or nothing.
 #[derive(Drop)]

@@ -6,7 +6,7 @@ ghost use Rattle.tpm_session.specs.ParameterHash.{command_hash_of};
 use std::marker::Model;
 use tpm_mac::{Digest, HashAlg};
 use tpm_name::Name;
-use tpm_session::parameter_hash::command_hash;
+use tpm_session::command_hash;
 
 /// The hashes of a command's parameters (cpHash), each computed once, when it is first asked for.
 /// Contracts see it as what is hashed.

@@ -9,10 +9,12 @@
 //! counts. It stands on tpm_record, and promises the definitions of `specs/` for each way of
 //! keeping the record.
 
-pub mod check;
 pub mod comparison;
 pub mod entries;
 pub mod grant;
 mod hashes;
-pub mod refused;
 pub mod session_grant;
+
+pub use entries::{any_decrypts, decrypts, encrypts};
+pub use grant::{Grants, authorize};
+pub use session_grant::{Grant, used_auth_value};

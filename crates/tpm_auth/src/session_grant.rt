@@ -1,7 +1,7 @@
 ghost use Rattle.std.specs.Prelude.{◌≡◌, ◌≤◌, length, map};
 ghost use Rattle.std.specs.Str.{bytes_eq};
-ghost use Rattle.tpm_types.specs.AuthEntry.{entry_of};
-ghost use Rattle.tpm_types.specs.Command.{whole_of};
+ghost use Rattle.tpm_types_command.specs.AuthEntry.{entry_of};
+ghost use Rattle.tpm_types_command.specs.Command.{whole_of};
 ghost use Rattle.tpm_auth.specs.Entries.{decrypts};
 ghost use Rattle.tpm_types.specs.Locality.{locality_number};
 ghost use Rattle.tpm_policy.specs.Use.{parts_of};
@@ -9,23 +9,14 @@ ghost use Rattle.tpm_session.specs.ParameterHash.{command_hash_of};
 ghost use Rattle.tpm_auth.specs.EmptyHmac.{EmptyHmacHasNoKey};
 ghost use Rattle.tpm_auth.specs.SessionGrant.{binding_protection, by_policy, comparison_holds, demanded, entry_nonce, hashed_command, is_authentic, is_bound_to, nonce_where, only_encrypts, or_protection, other_entries, session_grant, takes_value, touched, use_of, used_auth_value};
 
-use crate::check::Check;
 use crate::comparison::{check_of, failure, is_password_of};
 use crate::entries::{decrypts, encrypts};
 use crate::hashes::CommandHashes;
-use crate::refused::Refused;
-use tpm_policy::policy_use::Use;
-use tpm_policy::state::Demand;
-use tpm_record::entity::{Means, auth_value_of, is_available, name_of, policy_of, protection_of};
-use tpm_record::keep::Keep;
-use tpm_session::entry::CommandText;
-use tpm_session::session::{Protection, Session};
-use tpm_types::auth_entry::AuthEntry;
-use tpm_types::handle::Handle;
-use tpm_types::locality::Locality;
-use tpm_types::rc::ResponseCode;
-use tpm_types::session_type::SessionType;
-use tpm_types::whole_command::Command;
+use tpm_policy::{Demand, Use};
+use tpm_record::{Keep, Means, auth_value_of, is_available, name_of, policy_of, protection_of};
+use tpm_session::{CommandText, Protection, Session};
+use tpm_types::{Check, Handle, Locality, Refused, ResponseCode, SessionType};
+use tpm_types_command::{AuthEntry, Command};
 
 /// What an entry authorizes: a handle, and what the policy demanded by which it does so.
 #[derive(Clone, Copy, Debug, PartialEq, Eq)]
@@ -227,7 +218,7 @@ fn use_of<'a, K: Keep>(
         hash: session.hash,
         available: is_available(keep, handle, Means::Policy),
         update_count: keep.fixed().banks.update_count(),
-        code,
+        command: code.number(),
         role: code.role_at(usize::from(number) - 1),
         cp_hash,
         locality: sent.locality,

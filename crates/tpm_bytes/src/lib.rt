@@ -11,3 +11,8 @@ pub mod cursor;
 pub mod many;
 pub mod sink;
 pub mod tap;
+
+pub use cursor::{Cursor, Short, SizedFault};
+pub use many::{Readable, ReadableBy, read_each, read_many};
+pub use sink::{Full, Sink};
+pub use tap::Tap;

@@ -3,21 +3,21 @@ use Rattle.std.proofs.Common.{◌≡◌, ◌≤◌, ℕ, List, length, Bool, tru
 use Rattle.std.specs.Prelude.{◌&&◌}
 use Rattle.std.proofs.lemmas.Bool.{false≢true}
 use Rattle.tpm_bytes.specs.Reading.{◌>>=◌}
-use Rattle.tpm_types.specs.Command.{Whole}
-use Rattle.tpm_types.specs.CommandCode.{code_number, shape_of}
+use Rattle.tpm_types_command.specs.Command.{Whole}
+use Rattle.tpm_types_command.specs.CommandCode.{code_number, shape_of}
 use Rattle.tpm_record.specs.Record.{Record}
 use Rattle.tpm_auth.specs.Grant.{authorize}
 use Rattle.tpm_auth.specs.declared.session_grant.Grant.{Grant}
-use Rattle.tpm_auth.specs.declared.refused.Refused.{Refused}
+use Rattle.tpm_types.specs.declared.refused.Refused.{Refused}
 use Rattle.tpm_actions.specs.Request.{Request}
 use Rattle.tpm_actions.specs.Rows.{ActsIfRoom, Success}
 use Rattle.tpm_actions.specs.declared.answer.Answer.{Answer}
-use Rattle.tpm_machine.specs.Entries.{DrawsFew}
-use Rattle.tpm_machine.specs.Answer.{Written, answer_to, text_of, written_of}
-use Rattle.tpm_machine.specs.General.{general, in_command}
-use Rattle.tpm_machine.specs.Safe.{IsModest}
-use Rattle.tpm_machine.specs.Step.{Accepted, Accepts, Answers, RefusesOrStarves, Stepped, Succeeds, acceptance, accepted, refusal_step, request_in}
-use Rattle.tpm_machine.specs.Table.{row_of}
+use Rattle.tpm_machine_step.specs.Entries.{DrawsFew}
+use Rattle.tpm_machine_step.specs.Answer.{Written, answer_to, text_of, written_of}
+use Rattle.tpm_machine_step.specs.General.{general, in_command}
+use Rattle.tpm_machine_step.specs.Safe.{IsModest}
+use Rattle.tpm_machine_step.specs.Step.{Accepted, Accepts, Answers, RefusesOrStarves, Stepped, Succeeds, acceptance, accepted, refusal_step, request_in}
+use Rattle.tpm_machine_step.specs.Table.{row_of}
 use Rattle.tpm_machine.proofs.Refusals.{answers_exactly, refused_answers}
 
 first_of_both : (a b : Bool) → (a && b) ≡ true → a ≡ true

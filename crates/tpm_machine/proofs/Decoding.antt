@@ -5,37 +5,38 @@ use Rattle.std.specs.Prelude.{◌||◌}
 use Rattle.std.specs.List.{find, list_any, zip}
 use Rattle.std.specs.Int.{w32}
 use Rattle.tpm_bytes.proofs.Fields.{AreBytes}
-use Rattle.tpm_types.proofs.CommandLaws.{command_size-is, command_takes, length-body}
+use Rattle.tpm_types_command.proofs.CommandLaws.{command_size-is, command_takes, length-body}
 use Rattle.tpm_auth.specs.Entries.{decrypts}
-use Rattle.tpm_machine.specs.Parameters.{plain_parameters}
+use Rattle.tpm_machine_step.specs.Parameters.{plain_parameters}
 use Rattle.tpm_bytes.specs.Many.{each_at}
 use Rattle.tpm_bytes.specs.Reading.{◌>>=◌, number_at, or_fault, refused_if}
 use Rattle.tpm_bytes.proofs.Fields.{bind_ok, ok_is}
-use Rattle.tpm_types.specs.declared.command.Header.{Header}
-use Rattle.tpm_types.specs.declared.command.HeaderFault.{HeaderFault}
-use Rattle.tpm_types.specs.declared.command_code.CommandCode.{CommandCode}
+use Rattle.tpm_types_command.specs.declared.command.Header.{Header}
+use Rattle.tpm_types_command.specs.declared.command.HeaderFault.{HeaderFault}
+use Rattle.tpm_types_command.specs.declared.command_code.CommandCode.{CommandCode}
 use Rattle.tpm_types.specs.declared.handle.Handle.{Handle}
 use Rattle.tpm_types.specs.declared.rc.Rc.{Rc}
 use Rattle.tpm_types.specs.declared.rc.ResponseCode.TheVariants as code
 use Rattle.tpm_types.specs.declared.rc.Place.TheVariants as place
-use Rattle.tpm_types.specs.declared.shape.HandleRule.{HandleRule}
-use Rattle.tpm_types.specs.AuthEntry.{Entry}
-use Rattle.tpm_types.specs.declared.whole_command.Command.{Command}
-use Rattle.tpm_types.specs.Command.{Whole, body_text, command_at, command_size, handles_at, sessions_at, sessions_text, whole_of}
-use Rattle.tpm_types.specs.HandleArea.{allowed_handle_at, handle_fault, numbered}
-use Rattle.tpm_types.specs.Header.{header_at}
+use Rattle.tpm_types_command.specs.declared.shape.HandleRule.{HandleRule}
+use Rattle.tpm_types_command.specs.AuthEntry.{Entry}
+use Rattle.tpm_types_command.specs.declared.whole_command.Command.{Command}
+use Rattle.tpm_types_command.specs.Command.{Whole, body_text, command_at, command_size, handles_at, sessions_at, sessions_text, whole_of}
+use Rattle.tpm_types_command.specs.HandleArea.{allowed_handle_at, handle_fault}
+use Rattle.tpm_types.specs.Handle.{numbered}
+use Rattle.tpm_types_command.specs.Header.{header_at}
 use Rattle.tpm_types.specs.Rc.{at, plain}
-use Rattle.tpm_types.specs.CommandCode.{shape_of}
-use Rattle.tpm_types.specs.Shape.{is_of_kind}
+use Rattle.tpm_types_command.specs.CommandCode.{shape_of}
+use Rattle.tpm_types_command.specs.Shape.{is_of_kind}
 use Rattle.tpm_record.specs.Entity.{absence_rc, is_present}
 use Rattle.tpm_record.specs.Record.{Record}
 use Rattle.tpm_auth.specs.declared.session_grant.Grant.{Grant}
-use Rattle.tpm_auth.specs.Refused.{checked, refusal}
-use Rattle.tpm_auth.specs.declared.check.Check.{Check}
-use Rattle.tpm_auth.specs.declared.check.Check.TheVariants as check
-use Rattle.tpm_auth.specs.declared.refused.Refused.{Refused}
-use Rattle.tpm_machine.specs.General.{Decodes, present_handle_at, present_handles_at, body_of, both_or_neither, general, in_command, in_header, is_startup, sessions_pass}
-use Rattle.tpm_machine.specs.declared.general.Refusal.{Refusal}
+use Rattle.tpm_types.specs.Refused.{checked, refusal}
+use Rattle.tpm_types.specs.declared.check.Check.{Check}
+use Rattle.tpm_types.specs.declared.check.Check.TheVariants as check
+use Rattle.tpm_types.specs.declared.refused.Refused.{Refused}
+use Rattle.tpm_machine_step.specs.General.{Decodes, present_handle_at, present_handles_at, body_of, both_or_neither, general, in_command, in_header, is_startup, sessions_pass}
+use Rattle.tpm_machine_step.specs.declared.refusal.Refusal.{Refusal}
 
 checked_ok : {X : Type 0} (check : Check) (x : Result X Rc) (y : X) → checked check x ≡ Ok y → x ≡ Ok y
 checked_ok {X} check (Ok x) y e = ap (λ (z : X). let r : Result X Rc = Ok z in r) (ok_is {E = Refused} x y e)

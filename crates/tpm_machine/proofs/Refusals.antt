@@ -1,19 +1,19 @@
 -- A refusal is its text, and changes nothing but the time.
 use Rattle.std.proofs.Common.{◌≡◌, ◌≢◌, ℕ, List, length, Bool, true, false, cond, Result, Ok, Err, refl, ap, sym, ◌∙◌}
 use Rattle.std.proofs.lemmas.Bool.{false≢true}
-use Rattle.tpm_types.specs.Command.{Whole}
-use Rattle.tpm_types.specs.CommandCode.{code_number, shape_of}
+use Rattle.tpm_types_command.specs.Command.{Whole}
+use Rattle.tpm_types_command.specs.CommandCode.{code_number, shape_of}
 use Rattle.tpm_record.specs.Record.{Record}
 use Rattle.tpm_record.specs.Tick.{ticked}
-use Rattle.tpm_auth.specs.declared.refused.Refused.{Refused}
-use Rattle.tpm_auth.specs.Check.{check_number}
+use Rattle.tpm_types.specs.declared.refused.Refused.{Refused}
+use Rattle.tpm_types.specs.Check.{check_number}
 use Rattle.tpm_actions.specs.Rows.{memory_refused}
-use Rattle.tpm_machine.specs.Answer.{refusal_text}
-use Rattle.tpm_machine.specs.Events.{Happening, Given, Cycled}
-use Rattle.tpm_machine.specs.General.{in_command}
-use Rattle.tpm_machine.specs.Safe.{IsHarmless}
-use Rattle.tpm_machine.specs.Step.{Accepted, Answers, RefusesOrStarves, Stepped, Steps, refusal_step, accepted, answer_of, counted_in, starved, starved_answer, step, step_where, success_step}
-use Rattle.tpm_machine.specs.declared.general.Refusal.{Refusal}
+use Rattle.tpm_machine_step.specs.Answer.{refusal_text}
+use Rattle.tpm_machine_step.specs.Events.{Happening, Given, Cycled}
+use Rattle.tpm_machine_step.specs.General.{in_command}
+use Rattle.tpm_machine_step.specs.Safe.{IsHarmless}
+use Rattle.tpm_machine_step.specs.Step.{Accepted, Answers, RefusesOrStarves, Stepped, Steps, refusal_step, accepted, answer_of, counted_in, starved, starved_answer, step, step_where, success_step}
+use Rattle.tpm_machine_step.specs.declared.refusal.Refusal.{Refusal}
 
 -- the same of a record whose time has passed
 abbrev LeavesRecord : Record → Stepped → Type 0

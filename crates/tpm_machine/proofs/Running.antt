@@ -5,11 +5,11 @@ use Rattle.std.proofs.lemmas.List.{drop_more}
 use Rattle.std.specs.Fn.{Mut, CalledAt}
 use Rattle.tpm_record.specs.IsRecord.{IsRecord}
 use Rattle.tpm_record.specs.Record.{Record}
-use Rattle.tpm_machine.specs.Events.{Happening, IsEvent, happening}
-use Rattle.tpm_machine.specs.Run.{Runs, after_all}
-use Rattle.tpm_machine.specs.Step.{Stepped, Steps, seen, step}
-use Rattle.tpm_machine.specs.declared.event.Event.{Event}
-use Rattle.tpm_machine.specs.declared.event.Outcome.{Outcome}
+use Rattle.tpm_machine_step.specs.Events.{Happening, IsEvent, happening}
+use Rattle.tpm_machine_step.specs.Run.{Runs, after_all}
+use Rattle.tpm_machine_step.specs.Step.{Stepped, Steps, seen, step}
+use Rattle.tpm_machine_step.specs.declared.event.Event.{Event}
+use Rattle.tpm_machine_step.specs.declared.event.Outcome.{Outcome}
 
 -- a run of what is left after the event at i is a run from that event on
 pub run_more : {F : Type 0} {g : Mut F (Bor Outcome × Unit {0}) (Unit {0})} (can : Bool) (old mid new : Record) {p next : F} (q : F) (events : List Event) (i : ℕ) (event : Event) (outcome : Outcome) → i < length events → event ≡ get_or events i event → IsEvent (happening event) → Steps can old (happening event) (seen mid outcome) → IsRecord mid → CalledAt g p outcome tt next → Runs g can mid next (map happening (drop (i + 1) events)) new q → Runs g can old p (map happening (drop i events)) new q

@@ -1,7 +1,7 @@
 ghost use Rattle.std.specs.Prelude.{◌≡◌, ◌≤◌, ℕ, List, length, take, drop};
 
 use std::marker::Model;
-use tpm_session::nonce::Nonce;
+use tpm_session::Nonce;
 
 /// The random bytes of an event that are left. Contracts see them as a list.
 #[derive(Drop)]

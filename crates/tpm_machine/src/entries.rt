@@ -1,21 +1,20 @@
 ghost use Rattle.std.specs.Prelude.{◌≡◌, ◌+◌, ◌*◌, ◌≤◌, ◌++◌, length, map};
 ghost use Rattle.std.specs.List.{zip};
-ghost use Rattle.tpm_types.specs.AuthEntry.{entry_of};
-ghost use Rattle.tpm_types.specs.CommandCode.{code_number};
+ghost use Rattle.tpm_types_command.specs.AuthEntry.{entry_of};
+ghost use Rattle.tpm_types_command.specs.CommandCode.{code_number};
 ghost use Rattle.tpm_auth.specs.SessionGrant.{demands_password};
-ghost use Rattle.tpm_machine.specs.Entries.{answer_mac, draw_of, entries_answer, entries_ended, entries_rolled, entry_answer, entry_ended, entry_restarted, entry_rolled, session_answer};
+ghost use Rattle.tpm_machine_step.specs.Entries.{answer_mac, draw_of, entries_answer, entries_ended, entries_rolled, entry_answer, entry_ended, entry_restarted, entry_rolled, session_answer};
 
 use crate::draws::Draws;
 use crate::response_hashes::ResponseHashes;
-use tpm_auth::session_grant::{Grant, used_auth_value};
-use tpm_bytes::sink::Sink;
+use tpm_auth::{Grant, used_auth_value};
+use tpm_bytes::Sink;
 use tpm_mac::Digest;
-use tpm_policy::state::{Demand, PolicyState};
-use tpm_record::keep::Keep;
-use tpm_session::session::Session;
-use tpm_types::auth_entry::AuthEntry;
-use tpm_types::command_code::CommandCode;
-use tpm_types::session_type::SessionType;
+use tpm_policy::{Demand, PolicyState};
+use tpm_record::Keep;
+use tpm_session::Session;
+use tpm_types::SessionType;
+use tpm_types_command::{AuthEntry, CommandCode};
 
 /// The answer to a password entry: no nonce, continueSession, no HMAC (TPMS_AUTH_RESPONSE, TPM 2.0
 /// Library, Part 2, section 10.13.3).
@@ -28,7 +27,7 @@ const CONTINUE_SESSION: u8 = 0x01;
 pub const AREA_LIMIT: usize = 207;
 
 /// How many bytes the next nonce of an entry's session has.
-#[tactic(auto, unfolding(crate::specs::Entries::draw_of))]
+#[tactic(auto, unfolding(tpm_machine_step::specs::Entries::draw_of))]
 fn draw_of<K: Keep>(keep: &K, entry: &AuthEntry) -> usize
     ensures value { result ≡ draw_of (K.record_of keep.now) (entry_of entry.now) }
     ensures small { result ≤ 32 }
@@ -39,7 +38,7 @@ fn draw_of<K: Keep>(keep: &K, entry: &AuthEntry) -> usize
     }
 }
 
-#[tactic(auto, unfolding(crate::specs::Entries::entry_rolled))]
+#[tactic(auto, unfolding(tpm_machine_step::specs::Entries::entry_rolled))]
 fn roll_entry<K: Keep>(keep: &mut K, entry: &AuthEntry, draws: &mut Draws)
     requires { 32 ≤ length draws.old }
     ensures rolled { entry_rolled (K.record_of keep.old) (entry_of entry.now) draws.old
@@ -73,7 +72,7 @@ fn demands_password(grant: Option<Grant>) -> bool
 }
 
 /// The HMAC of the answer to an entry.
-#[tactic(auto, unfolding(crate::specs::Entries::answer_mac))]
+#[tactic(auto, unfolding(tpm_machine_step::specs::Entries::answer_mac))]
 fn answer_mac<K: Keep>(
     keep: &K,
     code: CommandCode,
@@ -95,7 +94,7 @@ fn answer_mac<K: Keep>(
     session.response_mac(value, hash.as_slice(), entry.nonce, entry.attributes)
 }
 
-#[tactic(auto, unfolding(crate::specs::Entries::session_answer))]
+#[tactic(auto, unfolding(tpm_machine_step::specs::Entries::session_answer))]
 fn answer_session<K: Keep>(
     keep: &K,
     code: CommandCode,
@@ -118,7 +117,7 @@ fn answer_session<K: Keep>(
     let _ = area.put_sized(mac.as_slice());
 }
 
-#[tactic(auto, unfolding(crate::specs::Entries::entry_answer))]
+#[tactic(auto, unfolding(tpm_machine_step::specs::Entries::entry_answer))]
 fn answer_entry<K: Keep>(
     keep: &K,
     code: CommandCode,
@@ -167,7 +166,7 @@ pub fn answer_entries<K: Keep>(
 }
 
 /// Returns the policy of an entry's session to its start, if it is a policy session.
-#[tactic(auto, unfolding(crate::specs::Entries::entry_restarted))]
+#[tactic(auto, unfolding(tpm_machine_step::specs::Entries::entry_restarted))]
 fn restart_entry<K: Keep>(keep: &mut K, entry: &AuthEntry)
     ensures { K.record_of keep.new ≡ entry_restarted (K.record_of keep.old) (entry_of entry.now) }
 {
@@ -178,7 +177,7 @@ fn restart_entry<K: Keep>(keep: &mut K, entry: &AuthEntry)
     keep.sessions_mut().set_policy(entry.session, policy);
 }
 
-#[tactic(auto, unfolding(crate::specs::Entries::entry_ended))]
+#[tactic(auto, unfolding(tpm_machine_step::specs::Entries::entry_ended))]
 fn end_entry<K: Keep>(keep: &mut K, entry: &AuthEntry, grant: Option<Grant>)
     ensures { K.record_of keep.new
         ≡ entry_ended (K.record_of keep.old) (entry_of entry.now) grant }

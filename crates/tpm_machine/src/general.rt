@@ -1,44 +1,17 @@
 ghost use Rattle.std.specs.Prelude.{◌≡◌, ◌≤◌, [], Ok, IfOk, length};
 ghost use Rattle.tpm_bytes.specs.Reading.{Reads};
-ghost use Rattle.tpm_types.specs.CommandCode.{code_number, handle_count};
-ghost use Rattle.tpm_types.specs.Command.{command_at, whole_of};
-ghost use Rattle.tpm_machine.specs.General.{Decodes, body_of, general, header_check, header_refusal, present_handle_at, present_handles_at, sessions_pass};
+ghost use Rattle.tpm_types_command.specs.CommandCode.{code_number, handle_count};
+ghost use Rattle.tpm_types_command.specs.Command.{command_at, whole_of};
+ghost use Rattle.tpm_machine_step.specs.General.{Decodes, body_of, general, header_check, header_refusal, present_handle_at, present_handles_at, sessions_pass};
 
 use arrayvec::ArrayVec;
-use tpm_auth::check::Check;
-use tpm_auth::refused::Refused;
-use tpm_bytes::cursor::Cursor;
-use tpm_bytes::many::ReadableBy;
-use tpm_record::entity::{absence_rc, is_present};
-use tpm_record::keep::Keep;
-use tpm_types::command::{Header, HeaderFault};
-use tpm_types::command_code::CommandCode;
-use tpm_types::grammar::bytes_fit;
-use tpm_types::handle::Handle;
-use tpm_types::rc::{Rc, ResponseCode};
-use tpm_types::shape::HandleRule;
-use tpm_types::tag::Tag;
-use tpm_types::whole_command::Command;
-use tpm_types::whole_command::reading::read_sessions;
-
-/// A refusal, and the code of the command that is refused; 0 where none was found.
-#[derive(Clone, Copy, Debug, PartialEq, Eq)]
-pub struct Refusal {
-    pub code: u32,
-    pub refused: Refused,
-}
-
-impl Refusal {
-    /// A refusal of a command.
-    pub fn of(code: CommandCode, refused: Refused) -> Refusal
-        ensures { result ≡ record { code = code_number code; refused = refused } }
-    {
-        Refusal {
-            code: code.number(),
-            refused,
-        }
-    }
-}
+use tpm_bytes::{Cursor, ReadableBy};
+use tpm_machine_step::Refusal;
+use tpm_record::{Keep, absence_rc, is_present};
+use tpm_types::{Check, Handle, Rc, Refused, ResponseCode, bytes_fit};
+use tpm_types_command::{
+    Command, CommandCode, HandleRule, Header, HeaderFault, Tag, read_sessions,
+};
 
 fn header_check(fault: HeaderFault) -> Check
     ensures { result ≡ header_check fault }
@@ -61,7 +34,7 @@ fn header_refusal(fault: HeaderFault) -> Refusal
 }
 
 /// Refuses sessions where the command may have none, and none where it must have some.
-#[tactic(auto, unfolding(crate::specs::General::sessions_pass))]
+#[tactic(auto, unfolding(tpm_machine_step::specs::General::sessions_pass))]
 fn check_sessions(code: CommandCode, tag: Tag) -> Result<(), Refused>
     ensures { result ≡ sessions_pass code tag }
 {
@@ -78,7 +51,7 @@ fn check_sessions(code: CommandCode, tag: Tag) -> Result<(), Refused>
 }
 
 /// Reads the handle of this number as its rule wants it, if there is what it names.
-#[tactic(auto, unfolding(crate::specs::General::present_handle_at))]
+#[tactic(auto, unfolding(tpm_machine_step::specs::General::present_handle_at))]
 fn read_handle<K: Keep>(
     keep: &K,
     number: u8,
@@ -120,7 +93,7 @@ fn read_handles<K: Keep>(
 }
 
 /// Reads what stands behind a command's header, or gives the first check that refuses it.
-#[tactic(auto, unfolding(crate::specs::General::body_of))]
+#[tactic(auto, unfolding(tpm_machine_step::specs::General::body_of))]
 fn decode_body<'a, K: Keep>(
     keep: &K,
     header: Header,
@@ -152,7 +125,7 @@ fn decode_body<'a, K: Keep>(
 }
 
 #[inline(always)]
-#[tactic(auto, unfolding(crate::specs::General::general))]
+#[tactic(auto, unfolding(tpm_machine_step::specs::General::general))]
 fn decode_whole<'a, K: Keep>(keep: &K, buffer: &'a [u8]) -> Result<Command<'a>, Refusal>
     ensures { Decodes (general (K.record_of keep.now) buffer.now) result }
 {

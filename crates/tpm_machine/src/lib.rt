@@ -13,10 +13,11 @@
 
 mod draws;
 mod entries;
-pub mod event;
 mod general;
 pub mod machine;
 mod parameters;
 mod response;
 mod response_hashes;
 mod table;
+
+pub use machine::Machine;

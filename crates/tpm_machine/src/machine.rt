@@ -1,26 +1,23 @@
 ghost use Rattle.std.specs.Prelude.{◌≡◌, ◌≤◌, ◌<◌, ◌^◌, List, [], IfOk, OnErr, false, length, map, true};
 ghost use Rattle.tpm_record.specs.IsRecord.{IsRecord};
 ghost use Rattle.tpm_record.specs.Record.{manufactured};
-ghost use Rattle.tpm_machine.specs.Events.{IsEvent, happening};
-ghost use Rattle.tpm_machine.specs.Run.{Runs, after_all};
-ghost use Rattle.tpm_machine.specs.Safe.{AcceptsModestly, IsHarmless};
+ghost use Rattle.tpm_machine_step.specs.Events.{IsEvent, happening};
+ghost use Rattle.tpm_machine_step.specs.Run.{Runs, after_all};
+ghost use Rattle.tpm_machine_step.specs.Safe.{AcceptsModestly, IsHarmless};
 ghost use Rattle.tpm_machine.specs.State.{state_of};
-ghost use Rattle.tpm_machine.specs.Step.{Steps, seen, step};
+ghost use Rattle.tpm_machine_step.specs.Step.{Steps, seen, step};
 
-use crate::event::{Event, Outcome, Response, Row};
-use crate::general::{Refusal, decode};
+use crate::general::decode;
 use crate::response::{write_refusal, write_success};
 use crate::table::accept;
 use std::alloc::Global;
 use tpm_actions::answer::Answer;
-use tpm_auth::grant::{Grants, authorize};
-use tpm_record::cycle::power_cycle;
-use tpm_record::fixed::Fixed;
-use tpm_record::keep::{Keep, NoMemory};
-use tpm_record::record::read_widths;
+use tpm_auth::{Grants, authorize};
+use tpm_machine_step::{Event, Outcome, Refusal, Response, Row};
 use tpm_record::tick::tick;
-use tpm_types::locality::Locality;
-use tpm_types::whole_command::Command;
+use tpm_record::{Fixed, Keep, NoMemory, power_cycle, read_widths};
+use tpm_types::Locality;
+use tpm_types_command::Command;
 
 /// The device, by a way of keeping its state.
 #[derive(Drop)]
@@ -180,12 +177,12 @@ impl<K: Keep> Machine<K> {
     }
 
     ghost use Rattle.tpm_types.specs.Locality.{locality_number};
-    ghost use Rattle.tpm_machine.specs.Safe.{IsModest};
-    ghost use Rattle.tpm_machine.specs.Step.{Answers, accepted};
+    ghost use Rattle.tpm_machine_step.specs.Safe.{IsModest};
+    ghost use Rattle.tpm_machine_step.specs.Step.{Answers, accepted};
 
     /// Executes a command's buffer, after its time has passed: writes the response, and gives the
     /// row.
-    #[tactic(auto, unfolding(crate::specs::Step::accepted))]
+    #[tactic(auto, unfolding(tpm_machine_step::specs::Step::accepted))]
     fn command(
         &mut self,
         buffer: &[u8],
@@ -219,10 +216,10 @@ impl<K: Keep> Machine<K> {
     }
 
     ghost use Rattle.std.specs.Prelude.{Ok};
-    ghost use Rattle.tpm_types.specs.Command.{whole_of};
+    ghost use Rattle.tpm_types_command.specs.Command.{whole_of};
     ghost use Rattle.tpm_auth.specs.Grant.{authorize as authorization};
-    ghost use Rattle.tpm_machine.specs.General.{in_command};
-    ghost use Rattle.tpm_machine.specs.Step.{acceptance};
+    ghost use Rattle.tpm_machine_step.specs.General.{in_command};
+    ghost use Rattle.tpm_machine_step.specs.Step.{acceptance};
 
     /// Does what a command asks for that its entries authorize so.
     #[inline(always)]
@@ -266,8 +263,8 @@ impl<K: Keep> Machine<K> {
     }
 }
 
-ghost use Rattle.tpm_auth.specs.Check.{check_number};
-ghost use Rattle.tpm_machine.specs.Answer.{refusal_text};
+ghost use Rattle.tpm_types.specs.Check.{check_number};
+ghost use Rattle.tpm_machine_step.specs.Answer.{refusal_text};
 ghost use Rattle.tpm_types.specs.Locality.{locality_number};
 
 /// Does nothing. What holds of every command's event is what the types of its parts say of them.

@@ -1,15 +1,13 @@
 ghost use Rattle.std.specs.Prelude.{◌≡◌, ◌≤◌, length, map};
 ghost use Rattle.std.specs.List.{zip};
 ghost use Rattle.tpm_session.specs.Encryption.{encrypted_parameter, plain_parameter};
-ghost use Rattle.tpm_types.specs.AuthEntry.{entry_of};
-ghost use Rattle.tpm_machine.specs.Parameters.{FindsFirst, cipher_value, entry_decryption, encrypted_answer, entry_encryption, plain_parameters, with_first_buffer};
+ghost use Rattle.tpm_types_command.specs.AuthEntry.{entry_of};
+ghost use Rattle.tpm_machine_step.specs.Parameters.{FindsFirst, cipher_value, entry_decryption, encrypted_answer, entry_encryption, plain_parameters, with_first_buffer};
 
-use tpm_auth::entries::{decrypts, encrypts};
-use tpm_auth::session_grant::Grant;
-use tpm_record::entity::auth_value_of;
-use tpm_record::keep::Keep;
-use tpm_session::session::Session;
-use tpm_types::auth_entry::AuthEntry;
+use tpm_auth::{Grant, decrypts, encrypts};
+use tpm_record::{Keep, auth_value_of};
+use tpm_session::Session;
+use tpm_types_command::AuthEntry;
 
 /// How many bytes the sized buffer at the front of a text has, if it is all there.
 fn first_size(text: &[u8]) -> Option<usize>
@@ -27,7 +25,7 @@ fn first_size(text: &[u8]) -> Option<usize>
 }
 
 /// The authorization value in the key of encryption.
-#[tactic(auto, unfolding(crate::specs::Parameters::cipher_value))]
+#[tactic(auto, unfolding(tpm_machine_step::specs::Parameters::cipher_value))]
 fn cipher_value<'a, K: Keep>(keep: &'a K, grant: Option<Grant>) -> &'a [u8]
     ensures value { result.now ≡ cipher_value (K.record_of keep.now) grant }
     ensures fits { length result.now ≤ 32 }
@@ -39,7 +37,7 @@ fn cipher_value<'a, K: Keep>(keep: &'a K, grant: Option<Grant>) -> &'a [u8]
 }
 
 /// Decrypts the buffer at the front of a text.
-#[tactic(auto, unfolding(crate::specs::Parameters::with_first_buffer))]
+#[tactic(auto, unfolding(tpm_machine_step::specs::Parameters::with_first_buffer))]
 fn decrypt_first(session: &Session, value: &[u8], newer: &[u8], older: &[u8], text: &mut [u8])
     requires { length value.now ≤ 32 }
     ensures { text.new
@@ -51,7 +49,7 @@ fn decrypt_first(session: &Session, value: &[u8], newer: &[u8], older: &[u8], te
 }
 
 /// Encrypts the buffer at the front of a text.
-#[tactic(auto, unfolding(crate::specs::Parameters::with_first_buffer))]
+#[tactic(auto, unfolding(tpm_machine_step::specs::Parameters::with_first_buffer))]
 fn encrypt_first(session: &Session, value: &[u8], newer: &[u8], older: &[u8], text: &mut [u8])
     requires { length value.now ≤ 32 }
     ensures { text.new
@@ -62,7 +60,7 @@ fn encrypt_first(session: &Session, value: &[u8], newer: &[u8], older: &[u8], te
     }
 }
 
-#[tactic(auto, unfolding(crate::specs::Parameters::entry_decryption))]
+#[tactic(auto, unfolding(tpm_machine_step::specs::Parameters::entry_decryption))]
 fn decrypt_by<K: Keep>(keep: &K, grant: Option<Grant>, entry: &AuthEntry, text: &mut [u8])
     ensures { text.new ≡ entry_decryption (K.record_of keep.now) grant (entry_of entry.now) text.old }
 {
@@ -96,7 +94,7 @@ pub fn decrypt<K: Keep>(keep: &K, entries: &[AuthEntry], grants: &[Option<Grant>
     }
 }
 
-#[tactic(auto, unfolding(crate::specs::Parameters::entry_encryption))]
+#[tactic(auto, unfolding(tpm_machine_step::specs::Parameters::entry_encryption))]
 fn encrypt_by<K: Keep>(keep: &K, grant: Option<Grant>, entry: &AuthEntry, text: &mut [u8])
     ensures { text.new ≡ entry_encryption (K.record_of keep.now) grant (entry_of entry.now) text.old }
 {

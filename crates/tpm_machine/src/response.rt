@@ -1,30 +1,24 @@
 ghost use Rattle.std.specs.Prelude.{◌≡◌, ◌+◌, ◌≤◌, ◌++◌, [], length, map};
 ghost use Rattle.std.specs.Int.{w16, w32, to_be_bytes};
 ghost use Rattle.std.specs.List.{zip};
-ghost use Rattle.tpm_types.specs.AuthEntry.{entry_of};
-ghost use Rattle.tpm_types.specs.Command.{whole_of};
-ghost use Rattle.tpm_machine.specs.Answer.{answer_to, framed, handle_answer, refusal_tag, refusal_text, text_of};
-ghost use Rattle.tpm_machine.specs.Entries.{DrawsFew};
-ghost use Rattle.tpm_machine.specs.Parameters.{encrypted_answer};
+ghost use Rattle.tpm_types_command.specs.AuthEntry.{entry_of};
+ghost use Rattle.tpm_types_command.specs.Command.{whole_of};
+ghost use Rattle.tpm_machine_step.specs.Answer.{answer_to, framed, handle_answer, refusal_tag, refusal_text, text_of};
+ghost use Rattle.tpm_machine_step.specs.Entries.{DrawsFew};
+ghost use Rattle.tpm_machine_step.specs.Parameters.{encrypted_answer};
 
 use crate::draws::Draws;
 use crate::entries::{AREA_LIMIT, answer_entries, end_entries, roll_entries};
-use crate::event::{RESPONSE_LIMIT, Response};
 use crate::parameters::encrypt;
 use crate::response_hashes::ResponseHashes;
 use arrayvec::ArrayVec;
 use tpm_actions::answer::{ANSWER_LIMIT, Answer, Parameters};
-use tpm_auth::check::Check;
-use tpm_auth::grant::Grants;
-use tpm_auth::refused::Refused;
-use tpm_auth::session_grant::Grant;
-use tpm_bytes::sink::Sink;
-use tpm_record::keep::Keep;
-use tpm_types::auth_entry::AuthEntry;
-use tpm_types::command::HEADER_SIZE;
-use tpm_types::handle::Handle;
-use tpm_types::tag::Tag;
-use tpm_types::whole_command::Command;
+use tpm_auth::{Grant, Grants};
+use tpm_bytes::Sink;
+use tpm_machine_step::{RESPONSE_LIMIT, Response};
+use tpm_record::Keep;
+use tpm_types::{Check, Handle, Refused};
+use tpm_types_command::{AuthEntry, Command, HEADER_SIZE, Tag};
 
 /// The tag of a response to a command whose tag is unknown (TPM_ST_RSP_COMMAND, TPM 2.0 Library,
 /// Part 2, section 6.9).
@@ -168,7 +162,7 @@ fn write_with_sessions<K: Keep>(
 }
 
 /// Writes the response to a command that succeeded.
-#[tactic(auto, unfolding(crate::specs::Answer::success_text, crate::specs::Answer::answer_to))]
+#[tactic(auto, unfolding(tpm_machine_step::specs::Answer::success_text, tpm_machine_step::specs::Answer::answer_to))]
 pub fn write_success<K: Keep>(
     keep: &mut K,
     command: &Command,

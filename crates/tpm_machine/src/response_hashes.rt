@@ -5,7 +5,7 @@ ghost use Rattle.tpm_session.specs.ParameterHash.{response_hash_of};
 
 use std::marker::Model;
 use tpm_mac::{Digest, HashAlg};
-use tpm_session::parameter_hash::response_hash;
+use tpm_session::response_hash;
 
 /// The hashes of a success's parameters (rpHash), each computed once, when it is first asked for.
 /// Contracts see it as what is hashed.
@@ -20,7 +20,7 @@ pub struct ResponseHashes<'a> {
 }
 
 impl<'a> Model for ResponseHashes<'a> {
-    ghost use Rattle.tpm_machine.specs.Entries.{HashedResponse};
+    ghost use Rattle.tpm_machine_step.specs.Entries.{HashedResponse};
 
     ghost Value = { HashedResponse };
 

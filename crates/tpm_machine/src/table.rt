@@ -1,16 +1,16 @@
 ghost use Rattle.std.specs.Prelude.{◌≡◌, ◌≤◌, ◌&&◌, Ok, length, map};
 ghost use Rattle.std.specs.List.{zip};
-ghost use Rattle.tpm_types.specs.AuthEntry.{entry_of};
-ghost use Rattle.tpm_types.specs.Command.{whole_of};
-ghost use Rattle.tpm_types.specs.CommandCode.{shape_of};
+ghost use Rattle.tpm_types_command.specs.AuthEntry.{entry_of};
+ghost use Rattle.tpm_types_command.specs.Command.{whole_of};
+ghost use Rattle.tpm_types_command.specs.CommandCode.{shape_of};
 ghost use Rattle.tpm_types.specs.Locality.{locality_number};
 ghost use Rattle.tpm_auth.specs.Grant.{authorize};
 ghost use Rattle.tpm_actions.specs.Answer.{IsEmpty};
 ghost use Rattle.tpm_actions.specs.Request.{request_of};
 ghost use Rattle.tpm_actions.specs.Rows.{ActsIfRoom};
-ghost use Rattle.tpm_machine.specs.Step.{Accepts, acceptance};
-ghost use Rattle.tpm_machine.specs.Table.{row_of};
-ghost use Rattle.tpm_machine.specs.Parameters.{plain_parameters};
+ghost use Rattle.tpm_machine_step.specs.Step.{Accepts, acceptance};
+ghost use Rattle.tpm_machine_step.specs.Table.{row_of};
+ghost use Rattle.tpm_machine_step.specs.Parameters.{plain_parameters};
 
 use crate::parameters::decrypt;
 use arrayvec::ArrayVec;
@@ -40,22 +40,17 @@ use tpm_actions_policy::policy_password::policy_password;
 use tpm_actions_policy::policy_pcr::policy_pcr;
 use tpm_actions_policy::policy_restart::policy_restart;
 use tpm_actions_policy::policy_secret::policy_secret;
-use tpm_auth::entries::any_decrypts;
-use tpm_auth::grant::Grants;
-use tpm_auth::refused::Refused;
-use tpm_auth::session_grant::Grant;
-use tpm_record::keep::Keep;
-use tpm_types::auth_entry::AuthEntry;
-use tpm_types::command_code::CommandCode;
-use tpm_types::locality::Locality;
-use tpm_types::whole_command::Command;
+use tpm_auth::{Grant, Grants, any_decrypts};
+use tpm_record::Keep;
+use tpm_types::{Locality, Refused};
+use tpm_types_command::{AuthEntry, Command, CommandCode};
 
 /// The most bytes of a command's parameters.
 const MOST_PARAMETERS: usize = 4096;
 
 /// Does what the command's row says; only a command that grows something can be refused memory.
 #[inline(always)]
-#[tactic(auto, unfolding(crate::specs::Table::row_of, tpm_types::specs::CommandCode::shape_of))]
+#[tactic(auto, unfolding(tpm_machine_step::specs::Table::row_of, tpm_types_command::specs::CommandCode::shape_of))]
 fn act<K: Keep>(
     keep: &mut K,
     code: CommandCode,
@@ -142,7 +137,7 @@ fn act_decrypted<K: Keep>(
 }
 
 /// Does what the row of a command says that its entries authorize so; a refusal leaves the record.
-#[tactic(auto, using(crate::proofs::Decoding::plain_as_sent), unfolding(crate::specs::Step::acceptance))]
+#[tactic(auto, using(crate::proofs::Decoding::plain_as_sent), unfolding(tpm_machine_step::specs::Step::acceptance))]
 pub fn accept<K: Keep>(
     keep: &mut K,
     command: &Command,

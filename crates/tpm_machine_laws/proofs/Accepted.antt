@@ -1,19 +1,19 @@
 -- Behind a success the session of each entry is still there.
 use Rattle.std.proofs.Common.{◌≡◌, ℕ, false, List, [], Result, Ok, Err, IfOk, ap, subst}
 use Rattle.tpm_bytes.proofs.Fields.{bind_ok, ok_is}
-use Rattle.tpm_types.specs.Command.{Whole}
-use Rattle.tpm_types.specs.CommandCode.{shape_of}
+use Rattle.tpm_types_command.specs.Command.{Whole}
+use Rattle.tpm_types_command.specs.CommandCode.{shape_of}
 use Rattle.tpm_types.specs.declared.rc.Rc.{Rc}
 use Rattle.tpm_record.specs.Record.{Record}
 use Rattle.tpm_auth.specs.Entries.{entries_pass}
 use Rattle.tpm_auth.specs.Grant.{authorize}
-use Rattle.tpm_auth.specs.Refused.{checked}
-use Rattle.tpm_auth.specs.declared.check.Check.{Check}
-use Rattle.tpm_auth.specs.declared.check.Check.TheVariants as check
-use Rattle.tpm_auth.specs.declared.refused.Refused.{Refused}
+use Rattle.tpm_types.specs.Refused.{checked}
+use Rattle.tpm_types.specs.declared.check.Check.{Check}
+use Rattle.tpm_types.specs.declared.check.Check.TheVariants as check
+use Rattle.tpm_types.specs.declared.refused.Refused.{Refused}
 use Rattle.tpm_actions.specs.Rows.{Success}
-use Rattle.tpm_machine.specs.Step.{Accepted, acceptance, request_in}
-use Rattle.tpm_machine.specs.Table.{row_of}
+use Rattle.tpm_machine_step.specs.Step.{Accepted, acceptance, request_in}
+use Rattle.tpm_machine_step.specs.Table.{row_of}
 use Rattle.tpm_machine_laws.specs.Sessions.{HaveSessions, SessionsStay}
 use Rattle.tpm_machine_laws.proofs.Sessions.{entries_have, entries_keep, row_stays}
 

@@ -1,8 +1,8 @@
 -- A success answers what the shape of its command says.
 use Rattle.std.proofs.Common.{rules, IfOk}
-use Rattle.tpm_types.specs.CommandCode.{shape_of}
-use Rattle.tpm_types.specs.declared.command_code.CommandCode.{CommandCode}
-use Rattle.tpm_types.specs.declared.command_code.CommandCode.TheVariants as command
+use Rattle.tpm_types_command.specs.CommandCode.{shape_of}
+use Rattle.tpm_types_command.specs.declared.command_code.CommandCode.{CommandCode}
+use Rattle.tpm_types_command.specs.declared.command_code.CommandCode.TheVariants as command
 use Rattle.tpm_record.specs.Record.{Record}
 use Rattle.tpm_actions.specs.Request.{Request}
 use Rattle.tpm_actions.specs.Startup.{startup_row}
@@ -23,7 +23,7 @@ use Rattle.tpm_actions_object.specs.Unseal.{unseal_row}
 use Rattle.tpm_actions_policy.specs.Assertions.{assertion_row}
 use Rattle.tpm_actions_policy.specs.PolicyGetDigest.{policy_get_digest_row}
 use Rattle.tpm_actions_policy.specs.PolicyRestart.{policy_restart_row}
-use Rattle.tpm_machine.specs.Table.{row_of}
+use Rattle.tpm_machine_step.specs.Table.{row_of}
 use Rattle.tpm_machine_laws.proofs.Binding.{ok_bind}
 use Rattle.tpm_machine_laws.specs.Shapes.{AnswersItsShape}
 

@@ -1,8 +1,14 @@
 -- A success touches the part of its command.
-use Rattle.std.proofs.Common.{rules, IfOk}
-use Rattle.tpm_types.specs.declared.command_code.CommandCode.{CommandCode}
-use Rattle.tpm_types.specs.declared.command_code.CommandCode.TheVariants as command
+use Rattle.std.proofs.Common.{rules, IfOk, ℕ, List, Option, Some, None, refl}
+use Rattle.std.specs.Option.{option_map_or}
+use Rattle.tpm_types.specs.declared.handle.HierarchyAuth.{HierarchyAuth}
+use Rattle.tpm_types.specs.declared.handle.HierarchyAuth.TheVariants as auth
+use Rattle.tpm_types.specs.declared.handle.HierarchyHandle.TheVariants as hierarchy
+use Rattle.tpm_types_command.specs.declared.command_code.CommandCode.{CommandCode}
+use Rattle.tpm_types_command.specs.declared.command_code.CommandCode.TheVariants as command
+use Rattle.tpm_record.specs.Entity.{with_hierarchy_auth}
 use Rattle.tpm_record.specs.Record.{Record}
+use Rattle.tpm_record.specs.declared.hierarchy.Hierarchies.{Hierarchies}
 use Rattle.tpm_actions.specs.Request.{Request}
 use Rattle.tpm_actions.specs.Startup.{startup_row}
 use Rattle.tpm_actions.specs.GetRandom.{get_random_row}
@@ -22,11 +28,22 @@ use Rattle.tpm_actions_object.specs.Unseal.{unseal_row}
 use Rattle.tpm_actions_policy.specs.Assertions.{assertion_row}
 use Rattle.tpm_actions_policy.specs.PolicyGetDigest.{policy_get_digest_row}
 use Rattle.tpm_actions_policy.specs.PolicyRestart.{policy_restart_row}
-use Rattle.tpm_machine.specs.Table.{row_of}
+use Rattle.tpm_machine_step.specs.Table.{row_of}
 use Rattle.tpm_machine_laws.proofs.Binding.{ok_bind}
-use Rattle.tpm_machine_laws.specs.Footprint.{Touches, part_of}
+use Rattle.tpm_machine_laws.specs.Footprint.{KeepsSecrets, Touches, part_of}
+
+-- another authorization value changes no seed and no proof
+with_auth_keeps : (h : Hierarchies) (auth : HierarchyAuth) (value : List ℕ) → KeepsSecrets h (with_hierarchy_auth h auth value)
+unfolding with_hierarchy_auth
+with_auth_keeps h auth.Owner value hierarchy.Owner = refl
+with_auth_keeps h _ value _ = refl
+
+auth_keeps : (h : Hierarchies) (auth : Option HierarchyAuth) (value : List ℕ) → KeepsSecrets h (option_map_or (λ auth. with_hierarchy_auth h auth value) auth h)
+auth_keeps h (Some auth) value = with_auth_keeps h auth value
+auth_keeps h None value = λ which. refl
 
 pub row_touches : (r : Record) (c : CommandCode) (q : Request) → IfOk (row_of r c q) (λ s. Touches (part_of c) r s.after)
-unfolding row_of startup_row get_random_row pcr_read_row pcr_extend_row pcr_event_row pcr_reset_row flush_context_row hierarchy_change_auth_row start_auth_session_row create_row create_primary_row hmac_row load_row read_public_row unseal_row assertion_row policy_get_digest_row policy_restart_row
+unfolding row_of startup_row get_random_row pcr_read_row pcr_extend_row pcr_event_row pcr_reset_row flush_context_row hierarchy_change_auth_row start_auth_session_row create_row create_primary_row hmac_row load_row read_public_row unseal_row assertion_row policy_get_digest_row policy_restart_row with_hierarchy_auth
 row_touches r command.Startup q = search (rules, ok_bind)
+row_touches r command.HierarchyChangeAuth q = search (rules, ok_bind, auth_keeps)
 row_touches r _ q = search (rules, ok_bind)

@@ -1,9 +1,9 @@
 -- A success takes one place more where its command grows, and else no more.
 use Rattle.std.proofs.Common.{rules, arith, ◌≡◌, ◌+◌, ℕ, Bool, true, false, List, Option, Some, Ok, IfOk, slice_set, refl, ap}
-use Rattle.tpm_types.specs.declared.command_code.CommandCode.{CommandCode}
-use Rattle.tpm_types.specs.declared.command_code.CommandCode.TheVariants as command
+use Rattle.tpm_types_command.specs.declared.command_code.CommandCode.{CommandCode}
+use Rattle.tpm_types_command.specs.declared.command_code.CommandCode.TheVariants as command
 use Rattle.tpm_types.specs.declared.handle.Handle.{Handle}
-use Rattle.tpm_types.specs.CommandCode.{shape_of}
+use Rattle.tpm_types_command.specs.CommandCode.{shape_of}
 use Rattle.tpm_object.specs.Object.{transient_byte}
 use Rattle.tpm_object.specs.declared.object.Object.{Object}
 use Rattle.tpm_policy.specs.State.{Policy, starting}
@@ -21,7 +21,7 @@ use Rattle.tpm_actions_object.specs.Checks.{given_passes, public_passes}
 use Rattle.tpm_actions_object.specs.Loaded.{is_fixed, loaded_at, parent_passes, place_for}
 use Rattle.tpm_actions_policy.specs.Assertions.{assertion_in, assertion_row, policy_after, policy_session, session_handle, with_assertion}
 use Rattle.tpm_actions_policy.specs.PolicyRestart.{policy_restart_row}
-use Rattle.tpm_machine.specs.Table.{row_of}
+use Rattle.tpm_machine_step.specs.Table.{row_of}
 use Rattle.tpm_machine_laws.specs.Footprint.{Part, Nothing, Sessions, Objects, Loaded, Hierarchies, Banks, Beginning, Touches, part_of}
 use Rattle.tpm_machine_laws.proofs.Binding.{ok_bind, ok_bind_is, ok_then, ok_weaker, some_is}
 use Rattle.tpm_machine_laws.proofs.Footprint.{row_touches}
@@ -120,9 +120,9 @@ touched_grows Nothing old new fixed touches = let same = ap (λ (r : Record). ta
 touched_grows Sessions old new fixed touches = absurd cc
 touched_grows Objects old new fixed touches = absurd cc
 touched_grows Loaded old new fixed touches = absurd cc
-touched_grows Hierarchies old new fixed touches = let same = ap (λ (r : Record). taken_in r) touches in omega (arith, same)
+touched_grows Hierarchies old new fixed touches = let same = ap (λ (r : Record). taken_in r) touches.0 in omega (arith, same)
 touched_grows Banks old new fixed touches = let same = ap (λ (r : Record). taken_in r) touches in omega (arith, same)
-touched_grows Beginning old new fixed touches = let same = ap (λ (r : Record). taken_in r) touches.0 in omega (arith, same)
+touched_grows Beginning old new fixed touches = let same = ap (λ (r : Record). taken_in r) touches in omega (arith, same)
 
 fixed_grows : (r : Record) (c : CommandCode) (q : Request) → keeps_places (part_of c) ≡ true → IfOk (row_of r c q) (λ s. Grows false r s.after)
 fixed_grows r c q fixed = ok_weaker (λ s. Touches (part_of c) r s.after) _ (row_of r c q) (row_touches r c q) (λ s touches. touched_grows (part_of c) r s.after fixed touches)

@@ -6,25 +6,25 @@ use Rattle.tpm_bytes.specs.Reading.{◌>>=◌, number_at, or_fault, refused_if}
 use Rattle.tpm_pcr.specs.Values.{BankValues}
 use Rattle.tpm_pcr.specs.declared.changes.ChangeFault.{ChangeFault}
 use Rattle.tpm_pcr.specs.declared.changes.ChangeFault.TheVariants.{Locality, Failure}
-use Rattle.tpm_types.specs.declared.command_code.CommandCode.{CommandCode}
-use Rattle.tpm_types.specs.declared.command_code.CommandCode.TheVariants as command
+use Rattle.tpm_types_command.specs.declared.command_code.CommandCode.{CommandCode}
+use Rattle.tpm_types_command.specs.declared.command_code.CommandCode.TheVariants as command
 use Rattle.tpm_types.specs.declared.handle.Handle.{Handle}
-use Rattle.tpm_types.specs.declared.public.PublicParameters.{PublicParameters}
-use Rattle.tpm_types.specs.declared.public.PublicParameters.TheVariants.{KeyedHash, SymCipher}
+use Rattle.tpm_types_object.specs.declared.public.PublicParameters.{PublicParameters}
+use Rattle.tpm_types_object.specs.declared.public.PublicParameters.TheVariants.{KeyedHash, SymCipher}
 use Rattle.tpm_types.specs.declared.rc.Rc.{Rc}
 use Rattle.tpm_types.specs.declared.action_check.ActionCheck.TheVariants as action
-use Rattle.tpm_types.specs.declared.object_attributes.ObjectAttribute.TheVariants as attribute
+use Rattle.tpm_types_object.specs.declared.object_attributes.ObjectAttribute.TheVariants as attribute
 use Rattle.tpm_types.specs.declared.rc.Place.TheVariants as place
 use Rattle.tpm_types.specs.declared.rc.ResponseCode.TheVariants as code
-use Rattle.tpm_types.specs.declared.shape.ParameterKind.TheVariants as kind
+use Rattle.tpm_types_command.specs.declared.shape.ParameterKind.TheVariants as kind
 use Rattle.tpm_types.specs.AuthValue.{auth_value_at}
 use Rattle.tpm_types.specs.Buffer.{buffer_at}
-use Rattle.tpm_types.specs.CommandCode.{shape_of}
+use Rattle.tpm_types_command.specs.CommandCode.{shape_of}
 use Rattle.tpm_types.specs.DigestList.{digest_list_at}
 use Rattle.tpm_types.specs.DigestValues.{digest_values_at}
 use Rattle.tpm_types.specs.PcrSelection.{selection_at}
-use Rattle.tpm_types.specs.HandleArea.{numbered}
-use Rattle.tpm_types.specs.ObjectAttributes.{has}
+use Rattle.tpm_types.specs.Handle.{numbered}
+use Rattle.tpm_types_object.specs.ObjectAttributes.{has}
 use Rattle.tpm_types.specs.Rc.{at, plain}
 use Rattle.tpm_types.specs.StartupType.{startup_type_at}
 use Rattle.tpm_object.specs.declared.creation.CreationFault.{CreationFault}
@@ -44,9 +44,9 @@ use Rattle.tpm_object.specs.Object.{is_keyed_hash}
 use Rattle.tpm_pcr.specs.Changes.{event_digests, extend_of, reset_of}
 use Rattle.tpm_types.specs.Handle.{pcr_of}
 use Rattle.tpm_record.specs.Record.{Record}
-use Rattle.tpm_auth.specs.Refused.{refusal}
-use Rattle.tpm_auth.specs.declared.check.Check.TheVariants as check
-use Rattle.tpm_auth.specs.declared.refused.Refused.{Refused}
+use Rattle.tpm_types.specs.Refused.{refusal}
+use Rattle.tpm_types.specs.declared.check.Check.TheVariants as check
+use Rattle.tpm_types.specs.declared.refused.Refused.{Refused}
 use Rattle.tpm_actions.specs.FlushContext.{can_be_flushed, flush_context_row, flushed_handle, is_loaded}
 use Rattle.tpm_actions.specs.GetRandom.{get_random_row}
 use Rattle.tpm_actions.specs.HierarchyChangeAuth.{hierarchy_change_auth_row}
@@ -73,7 +73,7 @@ use Rattle.tpm_actions_policy.specs.PolicyGetDigest.{policy_get_digest_row}
 use Rattle.tpm_actions_policy.specs.PolicyPcr.{pcr_parameters}
 use Rattle.tpm_actions_policy.specs.PolicyRestart.{policy_restart_row}
 use Rattle.tpm_actions_policy.specs.PolicySecret.{Parameters as SecretParameters, secret_parameters}
-use Rattle.tpm_machine.specs.Table.{row_of}
+use Rattle.tpm_machine_step.specs.Table.{row_of}
 use Rattle.tpm_machine_laws.specs.Shapes.{ParametersPass, ReadsParameters, spelled}
 use Rattle.tpm_machine_laws.proofs.Readings.{creation_read, hmac_read, load_read, only_read, outcome, pcr_read, read_all, secret_read, start_read, trimmed_read}
 

@@ -3,20 +3,20 @@ use Rattle.std.proofs.Common.{◌≡◌, ℕ, List, [], ◌∷◌, Result, Ok, E
 use Rattle.std.specs.Int.{w32}
 use Rattle.tpm_bytes.specs.Reading.{◌>>=◌, number_at, or_fault}
 use Rattle.tpm_types.specs.declared.rc.Rc.{Rc}
-use Rattle.tpm_types.specs.declared.shape.ParameterKind.{ParameterKind}
-use Rattle.tpm_types.specs.declared.shape.ParameterKind.TheVariants as kind
+use Rattle.tpm_types_command.specs.declared.shape.ParameterKind.{ParameterKind}
+use Rattle.tpm_types_command.specs.declared.shape.ParameterKind.TheVariants as kind
 use Rattle.tpm_types.specs.declared.rc.ResponseCode.TheVariants as code
 use Rattle.tpm_types.specs.Algorithm.{hash_at, hash_or_null_at}
 use Rattle.tpm_types.specs.AuthValue.{auth_value_at, trimmed}
 use Rattle.tpm_types.specs.Buffer.{buffer_at}
-use Rattle.tpm_types.specs.Filled.{filled_by}
+use Rattle.tpm_types_object.specs.Filled.{filled_by}
 use Rattle.tpm_types.specs.PcrSelection.{selection_at}
-use Rattle.tpm_types.specs.Public.{public_at}
+use Rattle.tpm_types_object.specs.Public.{public_at}
 use Rattle.tpm_types.specs.Rc.{plain}
-use Rattle.tpm_types.specs.SensitiveCreate.{sensitive_create_at}
+use Rattle.tpm_types_object.specs.SensitiveCreate.{sensitive_create_at}
 use Rattle.tpm_types.specs.SessionType.{session_type_at}
 use Rattle.tpm_types.specs.Symmetric.{symmetric_at}
-use Rattle.tpm_auth.specs.declared.refused.Refused.{Refused}
+use Rattle.tpm_types.specs.declared.refused.Refused.{Refused}
 use Rattle.tpm_actions.specs.Rows.{all_read, only, parameter}
 use Rattle.tpm_actions.specs.StartAuthSession as start
 use Rattle.tpm_actions_object.specs.Creation as creation

@@ -4,10 +4,10 @@ use Rattle.std.specs.Prelude.{◌||◌, nat_lt, option_and_then}
 use Rattle.std.proofs.lemmas.Bool.{cases_eq, false≢true}
 use Rattle.tpm_bytes.specs.Reading.{refused_if}
 use Rattle.tpm_types.specs.declared.rc.ResponseCode.TheVariants as code
-use Rattle.tpm_types.specs.declared.command_code.CommandCode.{CommandCode}
-use Rattle.tpm_types.specs.declared.command_code.CommandCode.TheVariants as command
+use Rattle.tpm_types_command.specs.declared.command_code.CommandCode.{CommandCode}
+use Rattle.tpm_types_command.specs.declared.command_code.CommandCode.TheVariants as command
 use Rattle.tpm_types.specs.declared.handle.Handle.{Handle}
-use Rattle.tpm_types.specs.CommandCode.{shape_of}
+use Rattle.tpm_types_command.specs.CommandCode.{shape_of}
 use Rattle.tpm_policy.specs.State.{Policy, starting}
 use Rattle.tpm_session.specs.declared.session.Session.{Session}
 use Rattle.tpm_session.specs.Session.{with_policy}
@@ -17,7 +17,7 @@ use Rattle.tpm_actions.specs.Rows.{all_read}
 use Rattle.tpm_actions.specs.StartAuthSession.{parameters_in, parameters_pass, session_place, start_auth_session_row}
 use Rattle.tpm_actions_policy.specs.Assertions.{assertion_in, assertion_row, policy_after, policy_session, session_handle, with_assertion}
 use Rattle.tpm_actions_policy.specs.PolicyRestart.{policy_restart_row}
-use Rattle.tpm_machine.specs.Table.{row_of}
+use Rattle.tpm_machine_step.specs.Table.{row_of}
 use Rattle.tpm_machine_laws.specs.Footprint.{Part, Nothing, Sessions, Objects, Loaded, Hierarchies, Banks, Beginning, Touches, part_of}
 use Rattle.tpm_machine_laws.proofs.Binding.{ok_bind, ok_bind_is, ok_then, ok_weaker, some_is}
 use Rattle.tpm_machine_laws.proofs.Footprint.{row_touches}
@@ -29,7 +29,7 @@ use Rattle.tpm_places.proofs.PlaceLaws.{at_set-other, lowest_free-free}
 use Rattle.tpm_session.specs.Sessions.{session_at, session_byte, with_session_policy}
 use Rattle.tpm_types.specs.declared.handle.SessionKind.{SessionKind}
 use Rattle.tpm_types.specs.declared.handle.SessionKind.TheVariants as kind
-use Rattle.tpm_types.specs.AuthEntry.{Entry}
+use Rattle.tpm_types_command.specs.AuthEntry.{Entry}
 use Rattle.tpm_types.specs.Handle.{session_kind}
 use Rattle.tpm_auth.specs.Entries.{entries_pass, entry_fault, entry_passes, kind_passes, session_of}
 use Rattle.tpm_machine_laws.specs.Sessions.{HasSession, HaveSessions, SessionsStay}
@@ -107,9 +107,9 @@ touched_stays Nothing old new leaves touches = sessions_same old new (ap (λ (r 
 touched_stays Sessions old new leaves touches = absurd cc
 touched_stays Objects old new leaves touches = sessions_same old new (ap (λ (r : Record). r.sessions) touches)
 touched_stays Loaded old new leaves touches = absurd cc
-touched_stays Hierarchies old new leaves touches = sessions_same old new (ap (λ (r : Record). r.sessions) touches)
+touched_stays Hierarchies old new leaves touches = sessions_same old new (ap (λ (r : Record). r.sessions) touches.0)
 touched_stays Banks old new leaves touches = sessions_same old new (ap (λ (r : Record). r.sessions) touches)
-touched_stays Beginning old new leaves touches = sessions_same old new (ap (λ (r : Record). r.sessions) touches.0)
+touched_stays Beginning old new leaves touches = sessions_same old new (ap (λ (r : Record). r.sessions) touches)
 
 other_stays : (r : Record) (c : CommandCode) (q : Request) → leaves_sessions (part_of c) ≡ true → IfOk (row_of r c q) (λ s. SessionsStay r s.after)
 other_stays r c q leaves = ok_weaker (λ s. Touches (part_of c) r s.after) _ (row_of r c q) (row_touches r c q) (λ s touches. touched_stays (part_of c) r s.after leaves touches)

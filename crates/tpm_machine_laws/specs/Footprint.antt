@@ -1,11 +1,15 @@
 -- What of a record the success of each command may touch.
 use Rattle.std.specs.Prelude.{◌≡◌}
-use Rattle.tpm_types.specs.declared.command_code.CommandCode.{CommandCode}
-use Rattle.tpm_types.specs.declared.command_code.CommandCode.TheVariants as command
+use Rattle.tpm_types_command.specs.declared.command_code.CommandCode.{CommandCode}
+use Rattle.tpm_types_command.specs.declared.command_code.CommandCode.TheVariants as command
+use Rattle.tpm_types.specs.declared.handle.HierarchyHandle.{HierarchyHandle}
+use Rattle.tpm_record.specs.declared.fixed.Fixed.{Fixed}
+use Rattle.tpm_record.specs.declared.hierarchy.Hierarchies.{Hierarchies}
+use Rattle.tpm_record.specs.Hierarchy.{secrets_of}
 use Rattle.tpm_record.specs.Record.{Record}
 
--- the parts of a record: none of it; the sessions; the objects; both; the hierarchies; the banks; and
--- what a startup begins, which is all of the fixed part, and of the banks the update counter alone
+-- the parts of a record: none of it; the sessions; the objects; both; the authorization values of
+-- the hierarchies; the banks; and what a startup begins
 pub data Part : Type 0 where
   Nothing : Part
   Sessions : Part
@@ -41,6 +45,27 @@ part_of command.PcrExtend = Banks
 part_of command.PolicyGetDigest = Nothing
 part_of command.PolicyPassword = Sessions
 
+-- Every hierarchy has the seed and the proof that it had.
+abbrev pub KeepsSecrets : Hierarchies → Hierarchies → Type 0
+KeepsSecrets old new = (h : HierarchyHandle) → secrets_of new h ≡ secrets_of old h
+
+-- a fixed part with what a startup begins in another one: whether it is started, what is saved, the
+-- counts, platformAuth and the null hierarchy, and no changes of PCRs counted yet
+abbrev pub begun : Fixed → Fixed → Fixed
+begun f after = record f {
+  started = after.started;
+  saved = after.saved;
+  hierarchies = record f.hierarchies {
+    platform = record f.hierarchies.platform {
+      auth_value = after.hierarchies.platform.auth_value;
+    };
+    null = after.hierarchies.null;
+  };
+  banks = record f.banks { update_count = 0 };
+  reset_count = after.reset_count;
+  restart_count = after.restart_count;
+}
+
 -- A record differs from an older one in this part alone.
 abbrev pub Touches : Part → Record → Record → Type 0
 Touches Nothing old new = new ≡ old
@@ -48,8 +73,7 @@ Touches Sessions old new = new ≡ record old { sessions = new.sessions }
 Touches Objects old new = new ≡ record old { objects = new.objects }
 Touches Loaded old new = new ≡ record old { sessions = new.sessions; objects = new.objects }
 Touches Hierarchies old new =
-    new ≡ record old { fixed = record old.fixed { hierarchies = new.fixed.hierarchies } }
+    (new ≡ record old { fixed = record old.fixed { hierarchies = new.fixed.hierarchies } })
+    × KeepsSecrets old.fixed.hierarchies new.fixed.hierarchies
 Touches Banks old new = new ≡ record old { fixed = record old.fixed { banks = new.fixed.banks } }
-Touches Beginning old new =
-    (new ≡ record old { fixed = new.fixed })
-    × (new.fixed.banks ≡ record old.fixed.banks { update_count = 0 })
+Touches Beginning old new = new ≡ record old { fixed = begun old.fixed new.fixed }

@@ -4,7 +4,7 @@ use Rattle.tpm_session.specs.Sessions.{session_at}
 use Rattle.tpm_types.specs.declared.handle.Handle.{Handle}
 use Rattle.tpm_types.specs.declared.handle.SessionKind.{SessionKind}
 use Rattle.tpm_types.specs.declared.handle.SessionKind.TheVariants as kind
-use Rattle.tpm_types.specs.AuthEntry.{Entry}
+use Rattle.tpm_types_command.specs.AuthEntry.{Entry}
 use Rattle.tpm_types.specs.Handle.{session_kind}
 use Rattle.tpm_record.specs.Record.{Record}
 use Rattle.tpm_auth.specs.Entries.{session_of}

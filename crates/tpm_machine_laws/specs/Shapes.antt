@@ -3,27 +3,27 @@ use Rattle.std.specs.Prelude.{◌≡◌, ◌≢◌, ◌≤◌, ◌⊎◌, ℕ, �
 use Rattle.std.specs.Int.{w8, w16, w32}
 use Rattle.tpm_bytes.specs.Reading.{◌>>=◌, number_at, or_fault}
 use Rattle.tpm_places.specs.Places.{taken_count}
-use Rattle.tpm_types.specs.declared.command_code.CommandCode.{CommandCode}
+use Rattle.tpm_types_command.specs.declared.command_code.CommandCode.{CommandCode}
 use Rattle.tpm_types.specs.declared.rc.Rc.{Rc}
 use Rattle.tpm_types.specs.declared.rc.ResponseCode.TheVariants as code
-use Rattle.tpm_types.specs.declared.shape.ParameterKind.{ParameterKind}
-use Rattle.tpm_types.specs.declared.shape.ParameterKind.TheVariants as kind
+use Rattle.tpm_types_command.specs.declared.shape.ParameterKind.{ParameterKind}
+use Rattle.tpm_types_command.specs.declared.shape.ParameterKind.TheVariants as kind
 use Rattle.tpm_types.specs.Algorithm.{hash_at, hash_or_null_at}
 use Rattle.tpm_types.specs.Buffer.{buffer_at}
-use Rattle.tpm_types.specs.CommandCode.{shape_of}
+use Rattle.tpm_types_command.specs.CommandCode.{shape_of}
 use Rattle.tpm_types.specs.DigestList.{digest_list_at}
 use Rattle.tpm_types.specs.DigestValues.{digest_values_at}
-use Rattle.tpm_types.specs.Filled.{filled_by}
+use Rattle.tpm_types_object.specs.Filled.{filled_by}
 use Rattle.tpm_types.specs.PcrSelection.{selection_at}
-use Rattle.tpm_types.specs.Public.{public_at}
+use Rattle.tpm_types_object.specs.Public.{public_at}
 use Rattle.tpm_types.specs.Rc.{plain}
-use Rattle.tpm_types.specs.SensitiveCreate.{sensitive_create_at}
+use Rattle.tpm_types_object.specs.SensitiveCreate.{sensitive_create_at}
 use Rattle.tpm_types.specs.SessionType.{session_type_at}
 use Rattle.tpm_types.specs.StartupType.{startup_type_at}
 use Rattle.tpm_types.specs.Symmetric.{symmetric_at}
 use Rattle.tpm_record.specs.Record.{Record}
-use Rattle.tpm_auth.specs.declared.check.Check.TheVariants as check
-use Rattle.tpm_auth.specs.declared.refused.Refused.{Refused}
+use Rattle.tpm_types.specs.declared.check.Check.TheVariants as check
+use Rattle.tpm_types.specs.declared.refused.Refused.{Refused}
 use Rattle.tpm_actions.specs.Answer.{begins_sized}
 use Rattle.tpm_actions.specs.Rows.{Success, all_read, parameter}
 

@@ -8,13 +8,13 @@
 //! histories need not open any.
 
 ghost use Rattle.std.specs.Prelude.{◌≡◌, ℕ, IfOk, List, Ok, false};
-ghost use Rattle.tpm_types.specs.Command.{Whole};
-ghost use Rattle.tpm_types.specs.CommandCode.{shape_of};
-ghost use Rattle.tpm_types.specs.declared.command_code.CommandCode.{CommandCode};
+ghost use Rattle.tpm_types_command.specs.Command.{Whole};
+ghost use Rattle.tpm_types_command.specs.CommandCode.{shape_of};
+ghost use Rattle.tpm_types_command.specs.declared.command_code.CommandCode.{CommandCode};
 ghost use Rattle.tpm_record.specs.Record.{Record};
 ghost use Rattle.tpm_actions.specs.Request.{Request};
-ghost use Rattle.tpm_machine.specs.Step.{Accepted, acceptance};
-ghost use Rattle.tpm_machine.specs.Table.{row_of};
+ghost use Rattle.tpm_machine_step.specs.Step.{Accepted, acceptance};
+ghost use Rattle.tpm_machine_step.specs.Table.{row_of};
 ghost use Rattle.tpm_machine_laws.specs.Footprint.{Touches, part_of};
 ghost use Rattle.tpm_machine_laws.specs.Sessions.{HaveSessions, SessionsStay};
 ghost use Rattle.tpm_machine_laws.specs.Shapes.{AnswersItsShape, Grows, ReadsParameters, spelled};

@@ -5,9 +5,7 @@ use Rattle.std.specs.Int.{w16, w32, to_be_bytes}
 use Rattle.tpm_mac.specs.declared.algorithm.HashAlg.{HashAlg}
 use Rattle.tpm_mac.specs.Digest.{hash_of}
 use Rattle.tpm_types.specs.declared.handle.Handle.{Handle}
-use Rattle.tpm_types.specs.declared.public.Public.{Public}
 use Rattle.tpm_types.specs.Algorithm.{hash_number}
-use Rattle.tpm_types.specs.Public.{public_text}
 
 -- the Name of an entity that has no public area: its handle
 abbrev pub handle_name : Handle → List ℕ
@@ -16,10 +14,6 @@ handle_name handle = to_be_bytes w32 handle.number
 -- a hash algorithm, and the digest of a text by it
 abbrev pub hashed_name : HashAlg → List ℕ → List ℕ
 hashed_name alg text = to_be_bytes w16 (hash_number alg) ++ hash_of alg text
-
--- the Name of an object: by its own algorithm, the digest of its public area
-unfoldable pub object_name : Public → List ℕ
-object_name p = hashed_name p.name_alg (public_text p)
 
 -- the qualified Name of an object: the digest of its parent's qualified Name and its own Name; the
 -- qualified Name of a hierarchy is its handle

@@ -1,14 +1,12 @@
 ghost use Rattle.std.specs.Prelude.{◌≡◌, ◌≤◌, [], length};
 ghost use Rattle.std.specs.Str.{bytes_eq};
 ghost use Rattle.tpm_mac.specs.Digest.{joined_text};
-ghost use Rattle.tpm_name.specs.Name.{handle_name, hashed_name, object_name, qualified_name};
+ghost use Rattle.tpm_name.specs.Name.{handle_name, hashed_name, qualified_name};
 
 use arrayvec::ArrayVec;
 use std::marker::Model;
 use tpm_mac::{HashAlg, digest_parts};
-use tpm_types::algorithm::hash_number;
-use tpm_types::handle::Handle;
-use tpm_types::public::Public;
+use tpm_types::{Handle, hash_number};
 
 /// The Name of an entity: at most 34 bytes. Contracts see it as its bytes.
 #[derive(Drop)]
@@ -34,16 +32,6 @@ fn copied(bytes: &[u8]) -> ArrayVec<u8, 34>
     copy
 }
 
-/// A hash algorithm, and the digest of these parts as one text by it.
-fn hashed(alg: HashAlg, parts: &[&[u8]]) -> Name
-    ensures { result ≡ hashed_name alg (joined_text parts.now) }
-{
-    let mut bytes = ArrayVec::new();
-    let _ = bytes.try_extend_from_slice(&hash_number(alg).to_be_bytes());
-    let _ = bytes.try_extend_from_slice(digest_parts(alg, parts).as_slice());
-    Name { bytes }
-}
-
 impl Default for Name {
     /// No byte, the Name of nothing (TPM 2.0 Library, Part 1, section 16).
     fn default() -> Name
@@ -65,12 +53,15 @@ impl Name {
         }
     }
 
-    /// The Name of an object: the algorithm of its Name, and the digest of its public area by it.
-    #[tactic(auto, unfolding(crate::specs::Name::object_name))]
-    pub fn of_object(public: &Public) -> Name
-        ensures { result ≡ object_name public.now }
+    /// A hash algorithm, and the digest of these parts as one text by it: the Name of what has a
+    /// public area of that text.
+    pub fn hashed(alg: HashAlg, parts: &[&[u8]]) -> Name
+        ensures { result ≡ hashed_name alg (joined_text parts.now) }
     {
-        hashed(public.name_alg, &[public.text().as_slice()])
+        let mut bytes = ArrayVec::new();
+        let _ = bytes.try_extend_from_slice(&hash_number(alg).to_be_bytes());
+        let _ = bytes.try_extend_from_slice(digest_parts(alg, parts).as_slice());
+        Name { bytes }
     }
 
     /// The qualified Name of an object of this Name, under a parent of this qualified Name.
@@ -78,7 +69,7 @@ impl Name {
     pub fn qualified(alg: HashAlg, parent: &[u8], name: &[u8]) -> Name
         ensures { result ≡ qualified_name alg parent.now name.now }
     {
-        hashed(alg, &[parent, name])
+        Name::hashed(alg, &[parent, name])
     }
 
     /// Its bytes.

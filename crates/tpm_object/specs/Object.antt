@@ -1,14 +1,15 @@
 -- Objects. TPM 2.0 Library, Part 1, section 23 (the protected storage hierarchy).
 use Rattle.std.specs.Prelude.{ℕ, ◌&&◌, not, Bool, true, false, List}
-use Rattle.tpm_name.specs.Name.{object_name, qualified_name}
+use Rattle.tpm_name.specs.Name.{qualified_name}
+use Rattle.tpm_types_object.specs.ObjectName.{object_name}
 use Rattle.tpm_types.specs.AuthValue.{trimmed}
-use Rattle.tpm_types.specs.ObjectAttributes.{has}
-use Rattle.tpm_types.specs.declared.object_attributes.ObjectAttribute.TheVariants as attribute
-use Rattle.tpm_types.specs.declared.public.Public.{Public}
-use Rattle.tpm_types.specs.declared.public.PublicParameters.{PublicParameters}
-use Rattle.tpm_types.specs.declared.public.PublicParameters.TheVariants as parameters_of
+use Rattle.tpm_types_object.specs.ObjectAttributes.{has}
+use Rattle.tpm_types_object.specs.declared.object_attributes.ObjectAttribute.TheVariants as attribute
+use Rattle.tpm_types_object.specs.declared.public.Public.{Public}
+use Rattle.tpm_types_object.specs.declared.public.PublicParameters.{PublicParameters}
+use Rattle.tpm_types_object.specs.declared.public.PublicParameters.TheVariants as parameters_of
 use Rattle.tpm_types.specs.declared.handle.HierarchyHandle.{HierarchyHandle}
-use Rattle.tpm_types.specs.declared.sensitive.Sensitive.{Sensitive}
+use Rattle.tpm_types_object.specs.declared.sensitive.Sensitive.{Sensitive}
 use Rattle.tpm_object.specs.declared.object.Object.{Object}
 
 abbrev pub are_of_cipher : PublicParameters → Bool

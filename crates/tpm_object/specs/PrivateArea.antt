@@ -10,12 +10,12 @@ use Rattle.tpm_bytes.specs.Writing.{sized_text}
 use Rattle.tpm_mac.specs.Digest.{digest_size}
 use Rattle.tpm_mac.specs.Hmac.{hmac_of}
 use Rattle.tpm_mac.specs.Kdf.{kdfa_of}
-use Rattle.tpm_name.specs.Name.{object_name}
-use Rattle.tpm_types.specs.Filled.{filled_by}
-use Rattle.tpm_types.specs.Public.{object_type, object_type_number}
-use Rattle.tpm_types.specs.Sensitive.{IsSensitive, sensitive_at, sensitive_text}
-use Rattle.tpm_types.specs.declared.public.Public.{Public}
-use Rattle.tpm_types.specs.declared.sensitive.Sensitive.{Sensitive}
+use Rattle.tpm_types_object.specs.ObjectName.{object_name}
+use Rattle.tpm_types_object.specs.Filled.{filled_by}
+use Rattle.tpm_types_object.specs.Public.{object_type, object_type_number}
+use Rattle.tpm_types_object.specs.Sensitive.{IsSensitive, sensitive_at, sensitive_text}
+use Rattle.tpm_types_object.specs.declared.public.Public.{Public}
+use Rattle.tpm_types_object.specs.declared.sensitive.Sensitive.{Sensitive}
 use Rattle.tpm_object.specs.declared.object.Object.{Object}
 use Rattle.tpm_object.specs.declared.private_area.IntegrityFault.{IntegrityFault}
 

@@ -6,13 +6,13 @@ use Rattle.std.specs.Prelude.{◌==◌, ◌&&◌, ◌||◌, not, Bool, false, if
 use Rattle.std.specs.Prelude.{List, [], ◌∷◌, length, Result}
 use Rattle.std.specs.Bool.{beq}
 use Rattle.tpm_mac.specs.Digest.{digest_size}
-use Rattle.tpm_types.specs.ObjectAttributes.{has}
-use Rattle.tpm_types.specs.declared.object_attributes.ObjectAttribute.TheVariants as attribute
-use Rattle.tpm_types.specs.declared.object_attributes.ObjectAttributes.{ObjectAttributes}
-use Rattle.tpm_types.specs.declared.public.KeyedHashScheme.TheVariants.{Null, Hmac}
-use Rattle.tpm_types.specs.declared.public.Public.{Public}
-use Rattle.tpm_types.specs.declared.public.PublicParameters.{PublicParameters}
-use Rattle.tpm_types.specs.declared.public.PublicParameters.TheVariants as parameters_of
+use Rattle.tpm_types_object.specs.ObjectAttributes.{has}
+use Rattle.tpm_types_object.specs.declared.object_attributes.ObjectAttribute.TheVariants as attribute
+use Rattle.tpm_types_object.specs.declared.object_attributes.ObjectAttributes.{ObjectAttributes}
+use Rattle.tpm_types_object.specs.declared.public.KeyedHashScheme.TheVariants.{Null, Hmac}
+use Rattle.tpm_types_object.specs.declared.public.Public.{Public}
+use Rattle.tpm_types_object.specs.declared.public.PublicParameters.{PublicParameters}
+use Rattle.tpm_types_object.specs.declared.public.PublicParameters.TheVariants as parameters_of
 use Rattle.tpm_object.specs.Checks.{first_fault, one_of}
 use Rattle.tpm_object.specs.Object.{is_cipher, is_keyed_hash}
 use Rattle.tpm_object.specs.declared.template.TemplateFault.{TemplateFault}

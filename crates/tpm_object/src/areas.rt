@@ -1,13 +1,10 @@
 ghost use Rattle.std.specs.Prelude.{◌≡◌, ◌≤◌, length};
-ghost use Rattle.tpm_types.specs.SensitiveCreate.{sensitive_values_of};
+ghost use Rattle.tpm_types_object.specs.SensitiveCreate.{sensitive_values_of};
 
 use crate::creation::{drawn_by, generated_size, is_given};
 use tpm_mac::digest_parts;
-use tpm_types::auth_value::AuthValue;
-use tpm_types::octets::Octets;
-use tpm_types::public::Public;
-use tpm_types::sensitive::Sensitive;
-use tpm_types::sensitive_create::SensitiveCreate;
+use tpm_types::{AuthValue, Octets};
+use tpm_types_object::{Public, Sensitive, SensitiveCreate};
 
 /// The areas of a new object.
 #[derive(Drop)]

@@ -1,14 +1,14 @@
 ghost use Rattle.std.specs.Prelude.{◌≡◌, ◌≤◌};
-ghost use Rattle.tpm_types.specs.SensitiveCreate.{sensitive_values_of};
+ghost use Rattle.tpm_types_object.specs.SensitiveCreate.{sensitive_values_of};
 ghost use Rattle.tpm_object.specs.Checks.{one_of};
 ghost use Rattle.tpm_object.specs.Creation.{creation_passes, drawn_by, generated_size, is_given, is_long_auth, has_wrong_key_size, key_size, origin_conflicts, parameters_key_size};
 
 use crate::object::{is_cipher, is_keyed_hash};
 use tpm_mac::HashAlg;
-use tpm_types::auth_value::AuthValue;
-use tpm_types::object_attributes::ObjectAttribute;
-use tpm_types::public::{KeyedHashScheme, Public, PublicParameters};
-use tpm_types::sensitive_create::SensitiveCreate;
+use tpm_types::AuthValue;
+use tpm_types_object::{
+    KeyedHashScheme, ObjectAttribute, Public, PublicParameters, SensitiveCreate,
+};
 
 /// Why what the caller gives to a new object is refused.
 #[derive(Clone, Copy, Debug, PartialEq, Eq)]

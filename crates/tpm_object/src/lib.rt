@@ -14,3 +14,10 @@ pub mod object;
 pub mod primary;
 pub mod private_area;
 pub mod template;
+
+pub use areas::create;
+pub use creation::{CreationFault, check_creation, drawn_by};
+pub use object::{Object, is_keyed_hash, is_storage_parent};
+pub use primary::derive_primary;
+pub use private_area::{unwrap, wrap};
+pub use template::{TemplateFault, check_template};

@@ -1,15 +1,11 @@
 ghost use Rattle.std.specs.Prelude.{◌≡◌};
-ghost use Rattle.tpm_name.specs.Name.{object_name};
+ghost use Rattle.tpm_types_object.specs.ObjectName.{object_name};
 ghost use Rattle.tpm_object.specs.Object.{are_of_cipher, is_cipher, is_keyed_hash, is_storage_parent, loaded_object};
 
 use tpm_name::Name;
-use tpm_places::numbered::Kinded;
-use tpm_types::auth_value::AuthValue;
-use tpm_types::handle::HierarchyHandle;
-use tpm_types::object_attributes::ObjectAttribute;
-use tpm_types::octets::Octets;
-use tpm_types::public::{Public, PublicParameters};
-use tpm_types::sensitive::Sensitive;
+use tpm_places::Kinded;
+use tpm_types::{AuthValue, HierarchyHandle, Octets};
+use tpm_types_object::{ObjectAttribute, Public, PublicParameters, Sensitive};
 
 /// A loaded object.
 #[derive(Drop)]
@@ -85,7 +81,7 @@ impl Object {
         ensures { result ≡ loaded_object hierarchy public sensitive.now
             parent_qualified_name.now }
     {
-        let name = Name::of_object(&public);
+        let name = public.name();
         let qualified_name = Name::qualified(
             public.name_alg,
             parent_qualified_name,
@@ -119,6 +115,6 @@ impl Object {
     pub fn name(&self) -> Name
         ensures { result ≡ object_name self.now.public }
     {
-        Name::of_object(&self.public)
+        self.public.name()
     }
 }

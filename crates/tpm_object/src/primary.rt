@@ -1,6 +1,6 @@
 ghost use Rattle.std.specs.Prelude.{◌≡◌, ◌+◌, ◌≤◌, length};
 ghost use Rattle.tpm_mac.specs.Digest.{digest_size};
-ghost use Rattle.tpm_types.specs.SensitiveCreate.{sensitive_values_of};
+ghost use Rattle.tpm_types_object.specs.SensitiveCreate.{sensitive_values_of};
 ghost use Rattle.tpm_object.specs.Creation.{generated_size};
 ghost use Rattle.tpm_object.specs.Primary.{primary_areas, primary_bytes, primary_object, under_hierarchy};
 
@@ -9,9 +9,8 @@ use crate::creation::generated_size;
 use crate::object::Object;
 use tpm_mac::{digest_parts, kdfa};
 use tpm_name::Name;
-use tpm_types::handle::HierarchyHandle;
-use tpm_types::public::Public;
-use tpm_types::sensitive_create::SensitiveCreate;
+use tpm_types::HierarchyHandle;
+use tpm_types_object::{Public, SensitiveCreate};
 
 /// The label of the keys of primary objects.
 const PRIMARY_LABEL: &[u8] = b"PRIMARY";

@@ -1,21 +1,19 @@
 ghost use Rattle.std.specs.Prelude.{◌≡◌, ◌≤◌, length, Ok, IfOk};
 ghost use Rattle.tpm_aes.specs.Cfb.{cfb_decrypt_of, cfb_encrypt_of};
 ghost use Rattle.tpm_bytes.specs.Writing.{sized_text};
-ghost use Rattle.tpm_name.specs.Name.{object_name};
-ghost use Rattle.tpm_types.specs.Public.{object_type};
-ghost use Rattle.tpm_types.specs.Sensitive.{IsSensitive, sensitive_text};
-ghost use Rattle.tpm_types.specs.declared.sensitive.Sensitive.{Sensitive};
+ghost use Rattle.tpm_types_object.specs.ObjectName.{object_name};
+ghost use Rattle.tpm_types_object.specs.Public.{object_type};
+ghost use Rattle.tpm_types_object.specs.Sensitive.{IsSensitive, sensitive_text};
+ghost use Rattle.tpm_types_object.specs.declared.sensitive.Sensitive.{Sensitive};
 
 use crate::object::Object;
 use arrayvec::ArrayVec;
 use tpm_aes::Aes128;
-use tpm_bytes::cursor::Cursor;
-use tpm_bytes::sink::Sink;
+use tpm_bytes::{Cursor, Sink};
 use tpm_mac::{Digest, hmac_parts, kdfa};
 use tpm_name::Name;
-use tpm_types::grammar::bytes_fit;
-use tpm_types::public::Public;
-use tpm_types::sensitive::Sensitive;
+use tpm_types::bytes_fit;
+use tpm_types_object::{Public, Sensitive};
 
 /// The private area is not one that the parent wrapped for this public area.
 #[derive(Clone, Copy, Debug, PartialEq, Eq)]
@@ -126,7 +124,7 @@ pub fn wrap(parent: &Object, public: &Public, sensitive: &Sensitive, iv: &[u8; 1
         → unwrapped parent.now public.now result ≡ Ok sensitive.now }
 {
     buffers_fit(sensitive);
-    let name = Name::of_object(public);
+    let name = public.name();
     let protected = protected_text(parent, &name, sensitive, iv);
     let integrity = integrity(parent, &name, protected.as_slice());
     let mut text = Sink::new();
@@ -233,7 +231,7 @@ fn unwrapped(parent: &Object, public: &Public, private: &[u8]) -> Result<Sensiti
     ensures found { IfOk result (λ area. IsWrapped parent.now public.now private.now area) }
 {
     bytes_fit(private);
-    let name = Name::of_object(public);
+    let name = public.name();
     let protected = protected_in(parent, &name, private)?;
     let area = decrypted_area(parent, &name, protected)?;
     if area.object_type.number() != public.object_type().number() {

@@ -3,8 +3,9 @@ ghost use Rattle.tpm_object.specs.Checks.{one_of};
 ghost use Rattle.tpm_object.specs.Template.{attribute_conflicts, has_wrong_fixing, has_wrong_scheme, is_policy_size, template_passes};
 
 use crate::object::{is_cipher, is_keyed_hash};
-use tpm_types::object_attributes::{ObjectAttribute, ObjectAttributes};
-use tpm_types::public::{KeyedHashScheme, Public, PublicParameters};
+use tpm_types_object::{
+    KeyedHashScheme, ObjectAttribute, ObjectAttributes, Public, PublicParameters,
+};
 
 /// Why a template is refused.
 #[derive(Clone, Copy, Debug, PartialEq, Eq)]

@@ -15,9 +15,7 @@ ghost use Rattle.tpm_pcr.specs.Banks.{selected_values};
 use arrayvec::ArrayVec;
 use std::marker::Model;
 use tpm_mac::{Digest, HashAlg, Hasher};
-use tpm_types::digest_list::DigestList;
-use tpm_types::pcr::{PCR_COUNT, PcrIndex, PcrSelect};
-use tpm_types::pcr_selection::{BankSelection, PcrSelection};
+use tpm_types::{BankSelection, DigestList, PCR_COUNT, PcrIndex, PcrSelect, PcrSelection};
 
 /// The values of all PCRs, bank by bank, and how often a value was written.
 #[derive(Drop)]

@@ -11,9 +11,7 @@ ghost use Rattle.tpm_pcr.specs.Changes.{with_extension, with_value};
 use crate::banks::Banks;
 use arrayvec::ArrayVec;
 use tpm_mac::{Digest, HashAlg, digest_parts};
-use tpm_types::digest_values::{DigestValue, DigestValues};
-use tpm_types::locality::Locality;
-use tpm_types::pcr::PcrIndex;
+use tpm_types::{DigestValue, DigestValues, Locality, PcrIndex};
 
 /// Why no PCR was changed.
 #[derive(Clone, Copy, Debug, PartialEq, Eq)]

@@ -7,3 +7,6 @@
 
 pub mod banks;
 pub mod changes;
+
+pub use banks::{Banks, PcrReading};
+pub use changes::{ChangeFault, event_digests};

@@ -15,3 +15,8 @@ pub mod fixed_places;
 pub mod list_places;
 pub mod numbered;
 pub mod places;
+
+pub use fixed_places::FixedPlaces;
+pub use list_places::ListPlaces;
+pub use numbered::{Kinded, numbered_laws};
+pub use places::{PlaceFault, Places};

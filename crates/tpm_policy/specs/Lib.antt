@@ -2,7 +2,6 @@ pub mod State
 pub mod Assertion
 pub mod Use
 pub use Rattle.tpm_name.specs.Name
-pub use Rattle.tpm_types.specs.CommandCode
 pub use Rattle.tpm_types.specs.CommandNumber
 pub use Rattle.tpm_types.specs.DigestList
 pub use Rattle.tpm_types.specs.Locality

@@ -7,7 +7,6 @@ use Rattle.std.specs.Str.{bytes_eq}
 use Rattle.tpm_bytes.specs.Reading.{◌>>=◌, refused_if}
 use Rattle.tpm_mac.specs.declared.algorithm.HashAlg.{HashAlg}
 use Rattle.tpm_types.specs.Algorithm.{hash_number}
-use Rattle.tpm_types.specs.CommandCode.{code_number}
 use Rattle.tpm_types.specs.Locality.{locality_number}
 use Rattle.tpm_types.specs.Rc.{at, plain}
 use Rattle.tpm_types.specs.declared.rc.Place.TheVariants as place
@@ -16,8 +15,8 @@ use Rattle.tpm_types.specs.declared.rc.ResponseCode.{ResponseCode}
 use Rattle.tpm_types.specs.declared.rc.ResponseCode.TheVariants as code
 use Rattle.tpm_types.specs.declared.session_type.SessionType.{SessionType}
 use Rattle.tpm_types.specs.declared.session_type.SessionType.TheVariants as type
-use Rattle.tpm_types.specs.declared.shape.Role.{Role}
-use Rattle.tpm_types.specs.declared.shape.Role.TheVariants as role
+use Rattle.tpm_types.specs.declared.role.Role.{Role}
+use Rattle.tpm_types.specs.declared.role.Role.TheVariants as role
 use Rattle.tpm_policy.specs.Assertion.{is_other, is_other_hash}
 use Rattle.tpm_policy.specs.State.{Policy}
 use Rattle.tpm_policy.specs.declared.policy_use.EntityPolicy.{EntityPolicy}
@@ -55,7 +54,7 @@ parts_of u = record {
   hash = u.hash;
   available = u.available;
   update_count = u.update_count;
-  command = code_number u.code;
+  command = u.command;
   role = u.role;
   cp_hash = u.cp_hash.now;
   locality = locality_number u.locality;

@@ -10,10 +10,7 @@ use crate::fault::PolicyFault;
 use crate::state::{Demand, PolicyState};
 use arrayvec::ArrayVec;
 use tpm_mac::{Digest, HashAlg, digest_parts};
-use tpm_types::action_check::ActionCheck;
-use tpm_types::command_number::is_command_number;
-use tpm_types::digest_list::DigestList;
-use tpm_types::rc::ResponseCode;
+use tpm_types::{ActionCheck, DigestList, ResponseCode, is_command_number};
 
 /// TPM_CC_PolicyAuthValue, which TPM2_PolicyPassword hashes too.
 const AUTH_VALUE: u32 = 0x16b;

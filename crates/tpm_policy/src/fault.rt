@@ -1,7 +1,6 @@
 ghost use Rattle.std.specs.Prelude.{◌≡◌};
 
-use tpm_types::action_check::ActionCheck;
-use tpm_types::rc::{Rc, ResponseCode};
+use tpm_types::{ActionCheck, Rc, ResponseCode};
 
 /// Why an assertion was refused: by which check of its command, and with which response code.
 #[derive(Clone, Copy, Debug, PartialEq, Eq)]

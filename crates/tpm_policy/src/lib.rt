@@ -14,3 +14,9 @@ pub mod pcr;
 pub mod policy_use;
 pub mod secret;
 pub mod state;
+
+pub use fault::PolicyFault;
+pub use pcr::PcrAssertion;
+pub use policy_use::{EntityPolicy, Use};
+pub use secret::SecretAssertion;
+pub use state::{Demand, PolicyState};

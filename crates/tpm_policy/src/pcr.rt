@@ -8,11 +8,9 @@ ghost use Rattle.tpm_policy.specs.Assertion.{Asserts, asserted, is_other, pcr_pa
 use crate::assertions::is_equal;
 use crate::fault::PolicyFault;
 use crate::state::PolicyState;
-use tpm_bytes::sink::Sink;
+use tpm_bytes::Sink;
 use tpm_mac::{Digest, HashAlg, digest_parts};
-use tpm_types::action_check::ActionCheck;
-use tpm_types::pcr_selection::PcrSelection;
-use tpm_types::rc::ResponseCode;
+use tpm_types::{ActionCheck, PcrSelection, ResponseCode};
 
 /// TPM_CC_PolicyPCR.
 const PCR: u32 = 0x17f;

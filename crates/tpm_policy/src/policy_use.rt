@@ -6,12 +6,7 @@ ghost use Rattle.tpm_policy.specs.Use.{entity_parts, is_policy_of, is_trial, lac
 use crate::assertions::is_equal;
 use crate::state::{Demand, PolicyState};
 use tpm_mac::HashAlg;
-use tpm_types::algorithm::hash_number;
-use tpm_types::command_code::CommandCode;
-use tpm_types::locality::Locality;
-use tpm_types::rc::{Rc, ResponseCode};
-use tpm_types::session_type::SessionType;
-use tpm_types::shape::Role;
+use tpm_types::{Locality, Rc, ResponseCode, Role, SessionType, hash_number};
 
 /// The policy of an entity.
 #[derive(Clone, Copy)]
@@ -35,7 +30,8 @@ pub struct Use<'a> {
     pub available: bool,
     /// How often PCRs have been changed.
     pub update_count: u64,
-    pub code: CommandCode,
+    /// The number of the command.
+    pub command: u32,
     /// In which role the entity is authorized.
     pub role: Role,
     /// The hash of the command.
@@ -111,7 +107,7 @@ impl PolicyState {
         if self.records_other_count(asked.update_count) {
             return Err(ResponseCode::PcrChanged.anywhere());
         }
-        if self.records_other_code(asked.code.number()) {
+        if self.records_other_code(asked.command) {
             return Err(session_fault(ResponseCode::PolicyCc, number));
         }
         if self.lacks_command(asked.role) || self.records_other_hash(asked.cp_hash) {

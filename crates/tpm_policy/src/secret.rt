@@ -7,8 +7,7 @@ use crate::fault::PolicyFault;
 use crate::state::{PolicyState, copied};
 use tpm_mac::{Digest, HashAlg, digest_parts};
 use tpm_name::Name;
-use tpm_types::action_check::ActionCheck;
-use tpm_types::rc::ResponseCode;
+use tpm_types::{ActionCheck, ResponseCode};
 
 /// TPM_CC_PolicySecret.
 const SECRET: u32 = 0x151;

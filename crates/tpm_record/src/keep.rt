@@ -13,10 +13,9 @@ ghost use Rattle.tpm_session.specs.declared.sessions.Sessions.{Sessions as Sessi
 use crate::fixed::Fixed;
 use crate::objects::Objects;
 use std::alloc::Global;
-use tpm_object::object::Object;
-use tpm_places::places::Places;
-use tpm_session::session::Session;
-use tpm_session::sessions::Sessions;
+use tpm_object::Object;
+use tpm_places::Places;
+use tpm_session::{Session, Sessions};
 
 /// Memory was refused.
 #[derive(Clone, Copy, Debug, PartialEq, Eq)]

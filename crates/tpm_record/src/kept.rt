@@ -4,12 +4,9 @@ use crate::fixed::Fixed;
 use crate::keep::{Keep, NoMemory};
 use crate::objects::Objects;
 use std::alloc::Global;
-use tpm_object::object::Object;
-use tpm_places::fixed_places::FixedPlaces;
-use tpm_places::list_places::ListPlaces;
-use tpm_places::places::Places;
-use tpm_session::session::Session;
-use tpm_session::sessions::Sessions;
+use tpm_object::Object;
+use tpm_places::{FixedPlaces, ListPlaces, Places};
+use tpm_session::{Session, Sessions};
 
 /// The record, with its sessions and its objects in containers of any kind.
 #[derive(Drop)]

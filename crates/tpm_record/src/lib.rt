@@ -19,3 +19,14 @@ pub mod kept;
 pub mod objects;
 pub mod record;
 pub mod tick;
+
+pub use cycle::power_cycle;
+pub use entity::{
+    Means, absence_rc, auth_value_of, copied_auth_value, is_available, is_present, name_of,
+    policy_of, protection_of,
+};
+pub use fixed::{Fixed, Saved};
+pub use hierarchy::{Hierarchies, Secrets};
+pub use keep::{Keep, NoMemory};
+pub use kept::{ListKeep, SlotKeep};
+pub use record::read_widths;

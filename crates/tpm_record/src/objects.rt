@@ -5,10 +5,9 @@ ghost use Rattle.tpm_record.specs.Objects.{Adds, next_handle, object_at, object_
 ghost use Rattle.tpm_record.specs.Record.{no_objects};
 
 use std::alloc::Global;
-use tpm_object::object::Object;
-use tpm_places::numbered;
-use tpm_places::places::{PlaceFault, Places};
-use tpm_types::handle::Handle;
+use tpm_object::Object;
+use tpm_places::{PlaceFault, Places, numbered};
+use tpm_types::Handle;
 
 /// The highest byte of a transient object's handle.
 const TRANSIENT_BYTE: u32 = 0x80;

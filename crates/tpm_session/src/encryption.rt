@@ -5,7 +5,7 @@ ghost use Rattle.tpm_session.specs.Encryption.{cipher_bytes, cipher_iv, cipher_k
 use crate::session::Session;
 use tpm_aes::Aes128;
 use tpm_mac::kdfa;
-use tpm_types::symmetric::SymmetricDefinition;
+use tpm_types::SymmetricDefinition;
 
 /// The session has no symmetric algorithm.
 #[derive(Clone, Copy, Debug, PartialEq, Eq)]

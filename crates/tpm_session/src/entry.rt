@@ -6,9 +6,9 @@ ghost use Rattle.tpm_mac.specs.Hmac.{hmac_of};
 use crate::session::Session;
 use arrayvec::ArrayVec;
 use std::marker::Model;
-use tpm_bytes::sink::{Full, Sink};
+use tpm_bytes::{Full, Sink};
 use tpm_mac::{Digest, HashAlg, hmac_parts};
-use tpm_types::auth_entry::SessionAttributes;
+use tpm_types::SessionAttributes;
 
 /// What the HMAC of a command's entry is about besides its session (TPM 2.0 Library, Part 1,
 /// section 19.6.5).

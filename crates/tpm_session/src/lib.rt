@@ -16,3 +16,11 @@ pub mod nonce;
 pub mod parameter_hash;
 pub mod session;
 pub mod sessions;
+
+pub use encryption::SymmetricFault;
+pub use entry::CommandText;
+pub use key::{SessionKey, is_nonce_size};
+pub use nonce::Nonce;
+pub use parameter_hash::{command_hash, response_hash};
+pub use session::{Binding, Protection, Session};
+pub use sessions::{Sessions, Start, StartFault};

@@ -7,12 +7,9 @@ use crate::nonce::Nonce;
 use crate::session::{Binding, Session};
 use std::alloc::Global;
 use tpm_mac::HashAlg;
-use tpm_places::numbered;
-use tpm_places::places::{PlaceFault, Places};
-use tpm_policy::state::PolicyState;
-use tpm_types::handle::Handle;
-use tpm_types::session_type::SessionType;
-use tpm_types::symmetric::SymmetricDefinition;
+use tpm_places::{PlaceFault, Places, numbered};
+use tpm_policy::PolicyState;
+use tpm_types::{Handle, SessionType, SymmetricDefinition};
 
 /// With what a session starts (TPM 2.0 Library, Part 3, section 11.1).
 #[derive(Drop)]

@@ -1,15 +1,9 @@
 pub mod BanksLemmas
-pub mod EntriesLemmas
 pub mod DigestLemmas
 pub mod Named
-pub mod Codes
 pub mod HashLaws
 pub mod SelectionLaws
-pub mod EntryLaws
 pub mod Laws
-pub mod HandleLemmas
-pub mod HeaderLaws
-pub mod CommandLaws
 pub mod CountedLaws
 pub mod ValuesLemmas
 pub mod ValuesLaws
@@ -19,7 +13,3 @@ pub mod Buffers
 pub mod DigestListLaws
 pub mod Spelled
 pub mod FieldLaws
-pub mod FilledLaws
-pub mod PublicLaws
-pub mod SensitiveLaws
-pub mod CreationLaws

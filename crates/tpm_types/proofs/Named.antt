@@ -7,27 +7,21 @@ use Rattle.tpm_bytes.specs.Reading.{◌>>=◌, number_at, or_fault}
 use Rattle.tpm_bytes.proofs.Fields.{Takes, bind_ok, ok_is, ok_or_ok, number_or_again, number_or_takes, wide16}
 use Rattle.tpm_mac.specs.declared.algorithm.HashAlg.{HashAlg}
 use Rattle.tpm_mac.specs.declared.algorithm.HashAlg.TheVariants.{Sha1, Sha256}
-use Rattle.tpm_types.specs.declared.public.ObjectType.{ObjectType}
-use Rattle.tpm_types.specs.declared.public.ObjectType.TheVariants as object
 use Rattle.tpm_types.specs.declared.rc.ResponseCode.{ResponseCode}
 use Rattle.tpm_types.specs.declared.rc.ResponseCode.TheVariants as code
-use Rattle.tpm_types.specs.declared.tag.Tag.{Tag}
-use Rattle.tpm_types.specs.declared.tag.Tag.TheVariants.{NoSessions, Sessions}
 use Rattle.tpm_types.specs.Algorithm.{hash_named, hash_number, hash_or_null_named, hash_or_null_number}
-use Rattle.tpm_types.specs.Public.{object_type_named, object_type_number}
 use Rattle.tpm_types.specs.Rc.{plain}
-use Rattle.tpm_types.specs.Tag.{tag_named, tag_number}
 use Rattle.tpm_types.proofs.Spelled.{Spelled}
 
 -- one link of a chain of tests: it names the first, whose number it is, or the links after it name one
-link : {A : Type 0} (number_of : A → ℕ) (number : ℕ) (first : A) (others : Option A) (x : A) → ((o : A) → others ≡ Some o → number ≡ number_of o) → cond (number == number_of first) (Some first) others ≡ Some x → number ≡ number_of x
+pub link : {A : Type 0} (number_of : A → ℕ) (number : ℕ) (first : A) (others : Option A) (x : A) → ((o : A) → others ≡ Some o → number ≡ number_of o) → cond (number == number_of first) (Some first) others ≡ Some x → number ≡ number_of x
 link number_of number first others x after = chosen (number == number_of first) refl
   where
     chosen : (b : Bool) → (number == number_of first) ≡ b → cond b (Some first) others ≡ Some x → number ≡ number_of x
     chosen true is e = eqb-true _ _ is ∙ ap number_of cc
     chosen false is e = after x e
 
-none : {A : Type 0} (number_of : A → ℕ) (number : ℕ) (o : A) → None ≡ Some o → number ≡ number_of o
+pub none : {A : Type 0} (number_of : A → ℕ) (number : ℕ) (o : A) → None ≡ Some o → number ≡ number_of o
 none number_of number o e = absurd cc
 
 pub hash_named-is : (number : ℕ) (hash : HashAlg) → hash_named number ≡ Some hash → number ≡ hash_number hash
@@ -41,17 +35,6 @@ pub hash_number-small : (hash : HashAlg) → hash_number hash < 2 ^ 16
 hash_number-small Sha1 = omega arith
 hash_number-small Sha256 = omega arith
 
-pub tag_named-is : (number : ℕ) (tag : Tag) → tag_named number ≡ Some tag → number ≡ tag_number tag
-tag_named-is number tag = link tag_number number NoSessions _ tag λ o. link tag_number number Sessions None o (none tag_number number)
-
-pub tag_named-again : (tag : Tag) → tag_named (tag_number tag) ≡ Some tag
-tag_named-again NoSessions = refl
-tag_named-again Sessions = refl
-
-pub tag_number-small : (tag : Tag) → tag_number tag < 2 ^ 16
-tag_number-small NoSessions = omega arith
-tag_number-small Sessions = omega arith
-
 pub hash_or_null_named-is : (number : ℕ) (hash : Option HashAlg) → hash_or_null_named number ≡ Some hash → number ≡ hash_or_null_number hash
 hash_or_null_named-is number hash = link hash_or_null_number number (Some Sha1) _ hash λ o. link hash_or_null_number number (Some Sha256) _ o λ p. link hash_or_null_number number None None p (none hash_or_null_number number)
 
@@ -63,17 +46,6 @@ hash_or_null_named-again None = refl
 pub hash_or_null_number-small : (hash : Option HashAlg) → hash_or_null_number hash < 2 ^ 16
 hash_or_null_number-small (Some hash) = hash_number-small hash
 hash_or_null_number-small None = omega arith
-
-pub object_type_named-is : (number : ℕ) (type : ObjectType) → object_type_named number ≡ Some type → number ≡ object_type_number type
-object_type_named-is number type = link object_type_number number object.KeyedHash _ type λ o. link object_type_number number object.SymCipher None o (none object_type_number number)
-
-pub object_type_named-again : (type : ObjectType) → object_type_named (object_type_number type) ≡ Some type
-object_type_named-again object.KeyedHash = refl
-object_type_named-again object.SymCipher = refl
-
-pub object_type_number-small : (type : ObjectType) → object_type_number type < 2 ^ 16
-object_type_number-small object.KeyedHash = omega arith
-object_type_number-small object.SymCipher = omega arith
 
 -- ---- a number of two bytes that names something
 

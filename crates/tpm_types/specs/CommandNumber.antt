@@ -1,9 +1,7 @@
 -- The commands that a policy can name: those of TPM 2.0 Library, Part 2, section 6.5.2 (TPM_CC),
 -- that this device serves or is to serve, which is its own choice.
-use Rattle.std.specs.Prelude.{◌≡◌, ℕ, ◌==◌, Bool, true, List, [], ◌∷◌}
+use Rattle.std.specs.Prelude.{ℕ, ◌==◌, Bool, List, [], ◌∷◌}
 use Rattle.std.specs.List.{list_any}
-use Rattle.tpm_types.specs.declared.command_code.CommandCode.{CommandCode}
-use Rattle.tpm_types.specs.CommandCode.{code_number}
 
 -- their numbers, ascending
 abbrev pub command_numbers : List ℕ
@@ -17,7 +15,3 @@ command_numbers =
 -- whether a number is that of such a command, served or not
 unfoldable pub is_command_number : ℕ → Bool
 is_command_number number = list_any (λ other. other == number) command_numbers
-
--- each command that this device serves is one of them
-abbrev pub ServedAreNumbered : Type 0
-ServedAreNumbered = (code : CommandCode) → is_command_number (code_number code) ≡ true

@@ -10,6 +10,10 @@ use Rattle.tpm_types.specs.declared.pcr.PcrIndex.{PcrIndex}
 use Rattle.tpm_types.specs.declared.handle.SessionKind.{SessionKind}
 use Rattle.tpm_types.specs.declared.handle.SessionKind.TheVariants.{Password, Session, Other}
 
+-- the handle of a number
+abbrev pub numbered : ℕ → Handle
+numbered number = record { number = number }
+
 -- what the highest byte says that a handle names
 abbrev pub handle_type : Handle → ℕ
 handle_type handle = handle.number / 2 ^ 24

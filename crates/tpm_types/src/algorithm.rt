@@ -4,7 +4,7 @@ ghost use Rattle.tpm_types.specs.Algorithm.{hash_at, hash_named, hash_number};
 ghost use Rattle.tpm_types.specs.Algorithm.{hash_or_null_at, hash_or_null_named, hash_or_null_number};
 
 use crate::rc::{Rc, ResponseCode};
-use tpm_bytes::cursor::Cursor;
+use tpm_bytes::Cursor;
 use tpm_mac::HashAlg;
 
 /// The number of a hash algorithm on the wire: TPM_ALG_ID of TPM 2.0 Library, Part 2, section 6.3.

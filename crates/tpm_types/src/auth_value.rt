@@ -1,4 +1,4 @@
-ghost use Rattle.std.specs.Prelude.{◌≡◌, ◌≤◌, [], length, take};
+ghost use Rattle.std.specs.Prelude.{◌≡◌, ◌≤◌, [], length};
 ghost use Rattle.std.specs.Str.{bytes_eq};
 ghost use Rattle.tpm_bytes.specs.Reading.{Reads};
 ghost use Rattle.tpm_types.specs.AuthValue.{auth_value_at, trimmed};
@@ -7,7 +7,7 @@ use crate::buffer::read_buffer;
 use crate::rc::Rc;
 use arrayvec::ArrayVec;
 use std::marker::Model;
-use tpm_bytes::cursor::Cursor;
+use tpm_bytes::Cursor;
 
 /// An authorization value: at most 32 bytes, without the zeros at its end (TPM2B_AUTH of TPM 2.0
 /// Library, Part 2, section 10.4.5, and Part 1, section 19.6.4.3). Contracts see it as its bytes.
@@ -27,16 +27,16 @@ impl Model for AuthValue {
     ghost invariant = { λ a. trimmed a.bytes.items ≡ a.bytes.items };
 }
 
-/// How many bytes are left without the zeros at the end.
-fn trimmed_size(bytes: &[u8]) -> usize
-    ensures within { result ≤ length bytes.now }
-    ensures value { take result bytes.now ≡ trimmed bytes.now }
+/// The bytes without the zeros at their end.
+pub fn trimmed(bytes: &[u8]) -> &[u8]
+    ensures value { result.now ≡ trimmed bytes.now }
+    ensures within { length result.now ≤ length bytes.now }
 {
     let mut size = bytes.len();
     while size > 0 && bytes[size - 1] == 0 {
         size -= 1;
     }
-    size
+    &bytes[..size]
 }
 
 /// The bytes, copied.
@@ -65,9 +65,8 @@ impl AuthValue {
         requires { length bytes.now ≤ 32 }
         ensures { result ≡ trimmed bytes.now }
     {
-        let size = trimmed_size(bytes);
         AuthValue {
-            bytes: copied(&bytes[..size]),
+            bytes: copied(trimmed(bytes)),
         }
     }
 

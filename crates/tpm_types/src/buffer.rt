@@ -3,7 +3,7 @@ ghost use Rattle.tpm_bytes.specs.Reading.{Reads};
 ghost use Rattle.tpm_types.specs.Buffer.{buffer_at};
 
 use crate::rc::{Rc, ResponseCode};
-use tpm_bytes::cursor::{Cursor, SizedFault};
+use tpm_bytes::{Cursor, SizedFault};
 
 /// Reads a sized buffer of at most `limit` bytes (TPM2B of TPM 2.0 Library, Part 2, section 10.4):
 /// SIZE where it says that it has more, else INSUFFICIENT where it is cut.

@@ -1,5 +1,5 @@
 ghost use Rattle.std.specs.Prelude.{◌≡◌};
-ghost use Rattle.tpm_types.specs.CommandNumber.{ServedAreNumbered, is_command_number};
+ghost use Rattle.tpm_types.specs.CommandNumber.{is_command_number};
 
 /// The numbers of the commands that a policy can name, ascending: TPM_CC of TPM 2.0 Library, Part
 /// 2, section 6.5.2.
@@ -17,9 +17,3 @@ pub fn is_command_number(number: u32) -> bool
 {
     COMMAND_NUMBERS.contains(&number)
 }
-
-/// A policy can name each command that is served. It does nothing.
-#[inline(always)]
-pub fn command_number_laws()
-    ensures { ServedAreNumbered }
-{}

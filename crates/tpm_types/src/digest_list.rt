@@ -7,9 +7,7 @@ use crate::buffer::read_buffer;
 use crate::grammar::bytes_fit;
 use crate::rc::{Rc, ResponseCode};
 use arrayvec::ArrayVec;
-use tpm_bytes::cursor::Cursor;
-use tpm_bytes::many::{Readable, read_many};
-use tpm_bytes::sink::{Full, Sink};
+use tpm_bytes::{Cursor, Full, Readable, Sink, read_many};
 use tpm_mac::Digest;
 
 /// How many digests a list that is read has at least.

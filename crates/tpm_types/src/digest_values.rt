@@ -9,9 +9,7 @@ use crate::algorithm::{hash_number, read_hash};
 use crate::grammar::bytes_fit;
 use crate::rc::{Rc, ResponseCode};
 use arrayvec::ArrayVec;
-use tpm_bytes::cursor::Cursor;
-use tpm_bytes::many::{Readable, read_many};
-use tpm_bytes::sink::{Full, Sink};
+use tpm_bytes::{Cursor, Full, Readable, Sink, read_many};
 use tpm_mac::HashAlg;
 
 /// How many digests a list may have: one for each hash algorithm.

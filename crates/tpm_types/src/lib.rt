@@ -1,46 +1,57 @@
 #![tactic(auto)]
 
-//! The structures of TPM 2.0 Library, Part 2, that commands and responses are made of, and whole
-//! commands (Part 1, section 18): each is a type of its own, which is read from a
+//! The structures of TPM 2.0 Library, Part 2, that every part of the device speaks of: response
+//! codes, handles, algorithms, PCR selections, digests, authorization values, types of sessions;
+//! and refusals, of every part of the device. Commands stand in `tpm_types_command`, the areas of
+//! objects in `tpm_types_object`. Each structure is a type of its own, which is read from a
 //! [`tpm_bytes::cursor::Cursor`] and written to a [`tpm_bytes::sink::Sink`].
-//!
-//! Every fact of a command but its number and what it does stands in its [`shape::Shape`].
 //!
 //! It stands on `tpm_bytes` for the bytes and on `tpm_mac` for digests and hash algorithms. A read
 //! gives the value or the first fault, as the response code that the standard has for it, and a
 //! refused read or write changes nothing. Selections of PCRs, digests with their algorithms, lists
-//! of digests, symmetric definitions, public and sensitive areas of objects, creation data,
-//! authorization entries and commands have one text a value: what is read was spelled so, and what
-//! is spelled so is read. No call here takes memory.
+//! of digests and symmetric definitions have one text a value: what is read was spelled so, and
+//! what is spelled so is read. No call here takes memory.
 
 pub mod action_check;
 pub mod algorithm;
-pub mod auth_area;
-pub mod auth_entry;
 pub mod auth_value;
 pub mod buffer;
-pub mod command;
-pub mod command_code;
+pub mod check;
 pub mod command_number;
-pub mod creation_data;
 pub mod digest_list;
 pub mod digest_values;
-pub mod filled;
 pub mod grammar;
 pub mod handle;
-pub mod handle_area;
 pub mod locality;
-pub mod object_attributes;
 pub mod octets;
 pub mod pcr;
 pub mod pcr_selection;
-pub mod public;
 pub mod rc;
-pub mod sensitive;
-pub mod sensitive_create;
+pub mod refused;
+pub mod role;
+pub mod session_attributes;
 pub mod session_type;
-pub mod shape;
 pub mod startup_type;
 pub mod symmetric;
-pub mod tag;
-pub mod whole_command;
+
+pub use action_check::ActionCheck;
+pub use algorithm::{hash_number, hash_or_null_number, read_hash, read_hash_or_null};
+pub use auth_value::{AuthValue, trimmed};
+pub use buffer::read_buffer;
+pub use check::Check;
+pub use command_number::is_command_number;
+pub use digest_list::DigestList;
+pub use digest_values::{DigestValue, DigestValues};
+pub use grammar::bytes_fit;
+pub use handle::{Handle, HierarchyAuth, HierarchyHandle, SessionKind};
+pub use locality::Locality;
+pub use octets::Octets;
+pub use pcr::{PCR_COUNT, PcrIndex, PcrSelect};
+pub use pcr_selection::{BankSelection, PcrSelection};
+pub use rc::{Rc, ResponseCode};
+pub use refused::{Counted, Refused};
+pub use role::Role;
+pub use session_attributes::SessionAttributes;
+pub use session_type::SessionType;
+pub use startup_type::StartupType;
+pub use symmetric::SymmetricDefinition;

@@ -7,7 +7,7 @@ use crate::buffer::read_buffer;
 use crate::rc::Rc;
 use arrayvec::ArrayVec;
 use std::marker::Model;
-use tpm_bytes::cursor::Cursor;
+use tpm_bytes::Cursor;
 
 /// The bytes of a sized buffer, at most `N` of them (TPM2B of TPM 2.0 Library, Part 2, section
 /// 10.4). Contracts see them as a list.

@@ -8,9 +8,7 @@ use crate::grammar::bytes_fit;
 use crate::pcr::{PcrSelect, SELECT_SIZE};
 use crate::rc::{Rc, ResponseCode};
 use arrayvec::ArrayVec;
-use tpm_bytes::cursor::Cursor;
-use tpm_bytes::many::{Readable, read_many};
-use tpm_bytes::sink::{Full, Sink};
+use tpm_bytes::{Cursor, Full, Readable, Sink, read_many};
 use tpm_mac::HashAlg;
 
 /// How many banks a selection may name.

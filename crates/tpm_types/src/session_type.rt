@@ -2,7 +2,7 @@ ghost use Rattle.std.specs.Prelude.{◌≡◌};
 ghost use Rattle.tpm_bytes.specs.Reading.{Reads};
 
 use crate::rc::{Rc, ResponseCode};
-use tpm_bytes::cursor::Cursor;
+use tpm_bytes::Cursor;
 
 /// The type of a session: TPM_SE of TPM 2.0 Library, Part 2, section 6.11.
 #[derive(Clone, Copy, Debug, PartialEq, Eq)]

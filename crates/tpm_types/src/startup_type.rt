@@ -1,7 +1,7 @@
 ghost use Rattle.tpm_bytes.specs.Reading.{Reads};
 
 use crate::rc::{Rc, ResponseCode};
-use tpm_bytes::cursor::Cursor;
+use tpm_bytes::Cursor;
 
 /// With which state the device starts: TPM_SU of TPM 2.0 Library, Part 2, section 6.10.
 #[derive(Clone, Copy, Debug, PartialEq, Eq)]

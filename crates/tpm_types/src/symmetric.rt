@@ -4,8 +4,7 @@ ghost use Rattle.tpm_bytes.specs.Writing.{Puts};
 
 use crate::grammar::bytes_fit;
 use crate::rc::{Rc, ResponseCode};
-use tpm_bytes::cursor::Cursor;
-use tpm_bytes::sink::{Full, Sink};
+use tpm_bytes::{Cursor, Full, Sink};
 
 /// How a session encrypts parameters: TPMT_SYM_DEF of TPM 2.0 Library, Part 2, section 11.1.6.
 #[derive(Clone, Copy, Debug, PartialEq, Eq)]

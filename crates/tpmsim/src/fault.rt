@@ -3,7 +3,7 @@ ghost use Rattle.std.specs.Prelude.{◌≡◌};
 use std::alloc::AllocError;
 use std::io::ErrorKind;
 use std::{fmt, io};
-use tpmsim_script::fault::ScriptFault;
+use tpmsim_script::ScriptFault;
 
 /// Why the program failed. It prints as the line on standard error says it.
 #[derive(Clone, Copy, Debug, PartialEq, Eq)]

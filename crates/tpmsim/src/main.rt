@@ -7,15 +7,13 @@
 
 mod arguments;
 mod fault;
-#[cfg(test)]
-mod tests;
 
 use arguments::Arguments;
 use fault::Fault;
 use std::process::ExitCode;
 use std::{env, fs};
-use tpm_record::kept::SlotKeep;
-use tpmsim_script::run::run_script;
+use tpm_record::SlotKeep;
+use tpmsim_script::run_script;
 
 fn main(rt: HostRuntime) -> ExitCode {
     match try_main(&rt) {

@@ -4,8 +4,8 @@
 //! that grow, and not in fixed slots. What the two print is compared by `tools/scripts.sh`.
 
 use std::process::ExitCode;
-use tpm_record::kept::ListKeep;
-use tpmsim_script::run::run_script;
+use tpm_record::ListKeep;
+use tpmsim_script::run_script;
 
 /// Ends with status 1 on a fault.
 fn main(rt: HostRuntime) -> ExitCode {

@@ -4,8 +4,8 @@ use Rattle.std.specs.Prelude.{nat_le, option_and_then}
 use Rattle.std.proofs.lemmas.Bool.{false≢true, le-leb, lt-leb}
 use Rattle.std.specs.Io.KnownBytes.{Appends}
 use Rattle.std.specs.Prelude.{OnOk, OnErr}
-use Rattle.tpm_machine.specs.Events.{Given}
-use Rattle.tpm_machine.specs.Step.{Stepped, step}
+use Rattle.tpm_machine_step.specs.Events.{Given}
+use Rattle.tpm_machine_step.specs.Step.{Stepped, step}
 use Rattle.tpmsim_script.specs.Line.{Meaning, line_meaning}
 use Rattle.tpmsim_script.specs.Player.{Did}
 use Rattle.tpmsim_script.specs.declared.line_fault.LineFault.{LineFault}

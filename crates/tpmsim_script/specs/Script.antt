@@ -8,8 +8,8 @@ use Rattle.std.specs.Io.KnownBytes.{Appends}
 use Rattle.hex.specs.Hex.{encode_lower}
 use Rattle.tpm_types.specs.Locality.{locality_number}
 use Rattle.tpm_record.specs.Record.{Record, manufactured}
-use Rattle.tpm_machine.specs.Events.{Given, Cycled}
-use Rattle.tpm_machine.specs.Step.{Stepped, step}
+use Rattle.tpm_machine_step.specs.Events.{Given, Cycled}
+use Rattle.tpm_machine_step.specs.Step.{Stepped, step}
 use Rattle.tpmsim_script.specs.Line.{Meaning, Executes, SetsLocality, Waits, SetsEntropy}
 use Rattle.tpmsim_script.specs.Line.{CyclesPower, DoesNothing, bytes_of, line_meaning, lines_of}
 use Rattle.tpmsim_script.specs.declared.script.Script.{Script}

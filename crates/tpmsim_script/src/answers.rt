@@ -1,12 +1,12 @@
 ghost use Rattle.std.specs.Prelude.{◌≡◌, ◌+◌, ◌*◌, ◌≤◌, length, vec_len};
 ghost use Rattle.tpmsim_script.specs.Script.{printed_response};
-ghost use Rattle.tpm_machine.specs.declared.event.TheConstants.{RESPONSE_LIMIT};
+ghost use Rattle.tpm_machine_step.specs.declared.event.TheConstants.{RESPONSE_LIMIT};
 ghost use Rattle.tpmsim_script.specs.declared.answers.TheConstants.{CAPACITY};
 
 use std::alloc::{AllocError, Global};
 use std::io;
 use std::io::Write;
-use tpm_machine::event::RESPONSE_LIMIT;
+use tpm_machine_step::RESPONSE_LIMIT;
 
 /// How many bytes of text are held before they are written.
 const CAPACITY: usize = 65_536;

@@ -1,7 +1,7 @@
 ghost use Rattle.std.specs.Prelude.{◌≡◌};
 
 use std::alloc::AllocError;
-use tpm_record::keep::NoMemory;
+use tpm_record::NoMemory;
 
 /// Why a script did not run to its end. The lines before the fault were run, and their responses
 /// written, but for those that a `Write` fault cut off.

@@ -14,3 +14,6 @@ mod lines;
 mod player;
 pub mod run;
 mod script;
+
+pub use fault::ScriptFault;
+pub use run::run_script;

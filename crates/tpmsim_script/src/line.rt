@@ -7,7 +7,7 @@ ghost use Rattle.tpmsim_script.specs.Line.{line_meaning, locality_of, meaning_of
 ghost use Rattle.tpmsim_script.specs.Line.{meaning_alone, meaning_by, meaning_with};
 
 use std::str;
-use tpm_types::locality::Locality;
+use tpm_types::Locality;
 
 /// A line of a script.
 #[derive(Clone, Copy, Debug, PartialEq, Eq)]

@@ -14,9 +14,9 @@ use crate::script::Script;
 use std::alloc::Global;
 use std::array;
 use std::io::Write;
-use tpm_machine::event::{Event, Outcome};
-use tpm_machine::machine::Machine;
-use tpm_record::keep::Keep;
+use tpm_machine::Machine;
+use tpm_machine_step::{Event, Outcome};
+use tpm_record::Keep;
 
 /// A device, by a way of keeping its state, and what the lines of a script so far say of its next
 /// command.

@@ -13,7 +13,7 @@ use crate::lines::{Lines, Next};
 use crate::player::Player;
 use std::alloc::{AllocError, Global};
 use std::io::{Read, Write};
-use tpm_record::keep::Keep;
+use tpm_record::Keep;
 
 /// How many lines a script may have.
 pub const SCRIPT_LINES: u32 = 1_048_576;

@@ -5,8 +5,8 @@ ghost use Rattle.tpmsim_script.specs.Script.{repeated};
 
 use crate::line::BadLine;
 use std::mem;
-use tpm_machine::event::Event;
-use tpm_types::locality::Locality;
+use tpm_machine_step::Event;
+use tpm_types::Locality;
 
 /// How many random bytes each command gets.
 pub const RANDOM_BYTES: usize = 256;

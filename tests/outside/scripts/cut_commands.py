@@ -15,7 +15,7 @@ HEAD = """\
 # Each command that succeeds, cut to every shorter length: first as it is, and then with its
 # commandSize corrected. At last it comes whole. So do TPM2_PolicySecret by a wrong password and
 # TPM2_GetRandom with a password, which are refused whole too. Written by
-# tests/outside/cut_commands.py.
+# tests/outside/scripts/cut_commands.py.
 """
 
 # A session that is bound to nothing, and so has neither a key nor an hmac.

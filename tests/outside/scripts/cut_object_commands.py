@@ -13,7 +13,7 @@ from object_caller import hmac_key, sealed, storage_key
 
 HEAD = """\
 # The commands of objects, each cut to every shorter length: first as it is, and then with its
-# commandSize corrected. At last it comes whole. Written by tests/outside/cut_object_commands.py.
+# commandSize corrected. At last it comes whole. Written by tests/outside/scripts/cut_object_commands.py.
 """
 
 # A storage key, and what is sealed under it, with random bytes that are zeros.

@@ -13,7 +13,7 @@ SCRIPT = paths.TESTS / "localities.tpm"
 
 HEAD = """\
 # Each of the 24 PCRs is extended and reset from each of the five localities, and then all are read.
-# Written by tests/outside/localities.py.
+# Written by tests/outside/scripts/localities.py.
 
 # TPM2_Startup(CLEAR): SUCCESS.
 """

@@ -28,7 +28,7 @@ ABSENT = Entry(0x0200_0009, b"", 0xFF, b"")
 script = Script(
     "tests/order_of_policy_refusals.tpm",
     "The order of refusals of the policy commands: of many faults one after the other is repaired. "
-    "What is answered is the first that is left, in the order of docs/TABLE.md.",
+    "What is answered is the first that is left, in the order of docs/table/order_of_refusals.md.",
 )
 caller = PolicyCaller(script)
 

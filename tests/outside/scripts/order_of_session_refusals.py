@@ -28,7 +28,7 @@ NULLS = [RH_NULL, RH_NULL]
 script = Script(
     "tests/order_of_session_refusals.tpm",
     "The order of refusals of commands with sessions: of many faults one after the other is "
-    "repaired. What is answered is the first that is left, in the order of docs/TABLE.md.",
+    "repaired. What is answered is the first that is left, in the order of docs/table/order_of_refusals.md.",
 )
 caller = Caller(script)
 

@@ -22,7 +22,7 @@ class Script:
         self.path, self.lines, self.answers = paths.TOP / path, [], []
         self.device, self.locality, self.random = Device(), 0, bytes(RANDOM_BYTES)
         self.seeds = 0
-        self.write_comment(f"{head} Written by tests/outside/{self.path.stem}.py.")
+        self.write_comment(f"{head} Written by tests/outside/scripts/{self.path.stem}.py.")
 
     def write_comment(self, text):
         self.lines += textwrap.wrap(

@@ -1,5 +1,5 @@
 use Rattle.std.proofs.Common.{◌≡◌, drop, take, map, []}
-use Rattle.tpm_types.specs.AuthEntry.{entry_of}
+use Rattle.tpm_types_command.specs.AuthEntry.{entry_of}
 use Rattle.tpm_auth.specs.Entries.{entries_pass}
 use Rattle.tpm_auth.proofs.entries.check_entries.Given as goal
 

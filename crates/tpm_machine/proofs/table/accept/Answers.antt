@@ -1,5 +1,5 @@
 use Rattle.std.proofs.Common.{rules}
-use Rattle.tpm_types.specs.Command.{whole_of}
+use Rattle.tpm_types_command.specs.Command.{whole_of}
 use Rattle.tpm_machine.proofs.Accepting.{accepts}
 use Rattle.tpm_machine.proofs.Decoding.{plain_as_sent}
 use Rattle.tpm_machine.proofs.table.accept.Goals as goal

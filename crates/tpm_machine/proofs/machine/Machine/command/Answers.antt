@@ -1,5 +1,5 @@
 use Rattle.std.proofs.Common.{rules}
-use Rattle.tpm_types.specs.Command.{whole_of}
+use Rattle.tpm_types_command.specs.Command.{whole_of}
 use Rattle.tpm_machine.proofs.Accepting.{command_refused, not_authorized}
 use Rattle.tpm_machine.proofs.machine.Machine.command.Goals as goal
 

@@ -1,6 +1,6 @@
-use Rattle.tpm_machine.specs.Events.{happening}
+use Rattle.tpm_machine_step.specs.Events.{happening}
 use Rattle.tpm_machine.specs.State.{state_of}
-use Rattle.tpm_machine.specs.Step.{seen}
+use Rattle.tpm_machine_step.specs.Step.{seen}
 use Rattle.tpm_machine.proofs.Refusals.{steps_harmless}
 use Rattle.tpm_machine.proofs.machine.Machine.execute_into.Goals as goal
 

@@ -1,6 +1,6 @@
 use Rattle.std.proofs.Common.{rules, ap}
 use Rattle.tpm_machine.specs.State.{state_of}
-use Rattle.tpm_machine.specs.Step.{seen}
+use Rattle.tpm_machine_step.specs.Step.{seen}
 use Rattle.tpmsim_script.specs.Script.{playing}
 use Rattle.tpmsim_script.specs.Player.{playing_of}
 use Rattle.tpmsim_script.proofs.Doing.{executed}

@@ -1,7 +1,7 @@
 use Rattle.std.proofs.Common.{rules, refl, ap}
-use Rattle.tpm_machine.specs.Events.{Cycled}
+use Rattle.tpm_machine_step.specs.Events.{Cycled}
 use Rattle.tpm_machine.specs.State.{state_of}
-use Rattle.tpm_machine.specs.Step.{Stepped, step}
+use Rattle.tpm_machine_step.specs.Step.{Stepped, step}
 use Rattle.tpmsim_script.specs.Player.{playing_of}
 use Rattle.tpmsim_script.specs.Script.{Playing, playing, silence}
 use Rattle.tpmsim_script.proofs.Doing.{nothing_printed}

@@ -1,0 +1,14 @@
+pub mod Events
+pub mod General
+pub mod Table
+pub mod Granted
+pub mod Parameters
+pub mod Entries
+pub mod Answer
+pub mod Step
+pub mod Run
+pub mod Safe
+pub use Rattle.tpm_record.specs.Record
+pub use Rattle.tpm_record.specs.IsRecord
+pub use Rattle.tpm_record.specs.Tick
+pub use Rattle.tpm_record.specs.Cycle

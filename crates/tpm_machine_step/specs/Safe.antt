@@ -1,0 +1,37 @@
+-- What a refusal leaves, and what a success may take, said of a step and apart from it.
+use Rattle.std.specs.Prelude.{◌≡◌, ◌≢◌, ℕ, ◌≤◌, List, length, IfOk}
+use Rattle.tpm_record.specs.Record.{Record}
+use Rattle.tpm_record.specs.Tick.{ticked}
+use Rattle.tpm_types.specs.Check.{check_number}
+use Rattle.tpm_types.specs.declared.refused.Refused.{Refused}
+use Rattle.tpm_actions.specs.Answer.{body_text}
+use Rattle.tpm_machine_step.specs.Answer.{refusal_text}
+use Rattle.tpm_machine_step.specs.Entries.{DrawsFew}
+use Rattle.tpm_machine_step.specs.Events.{Happening, Given, Cycled}
+use Rattle.tpm_machine_step.specs.Step.{Accepted, Stepped, accepted, counted_in}
+
+-- the record after Time and Clock have gone on by a command's elapsed time, and nothing else
+abbrev pub only_ticked : Record → Happening → Record
+only_ticked r (Given buffer locality elapsed random) = ticked r elapsed
+only_ticked r Cycled = r
+
+-- A refusal is the ten bytes of its text, reports its check, and changes nothing but Time and Clock
+-- and what it counts.
+abbrev pub IsHarmless : Record → Happening → Stepped → Type 0
+IsHarmless r event x = x.row.check ≢ 0
+    → (length x.response ≡ 10)
+    × (refused : Refused) × (x.response ≡ refusal_text refused)
+    × (x.row.check ≡ check_number refused.check)
+    × (x.after ≡ counted_in refused.counted (only_ticked r event))
+
+-- A row draws at most 96 of the event's 256 random bytes, so that three nonces are left, and
+-- answers at most 2,048 bytes of parameters; row and nonces together draw at most 192.
+abbrev pub IsModest : List ℕ → Accepted → Type 0
+IsModest random a =
+    (a.success.answer.drawn ≤ 96) × (length (body_text a.success.answer.body) ≤ 2048)
+    × DrawsFew random a.success.after a.command.entries a.success.answer.drawn
+
+abbrev pub AcceptsModestly : Record → Happening → Type 0
+AcceptsModestly r (Given buffer locality elapsed random) =
+    let t = ticked r elapsed in IfOk (accepted t buffer locality random) (IsModest random)
+AcceptsModestly r Cycled = Unit {0}

@@ -1,0 +1,53 @@
+-- The table: the row of each command.
+use Rattle.std.specs.Prelude.{Result}
+use Rattle.tpm_types_command.specs.declared.command_code.CommandCode.{CommandCode}
+use Rattle.tpm_types_command.specs.declared.command_code.CommandCode.TheVariants as command
+use Rattle.tpm_record.specs.Record.{Record}
+use Rattle.tpm_types.specs.declared.refused.Refused.{Refused}
+use Rattle.tpm_actions.specs.Request.{Request}
+use Rattle.tpm_actions.specs.Rows.{Success}
+use Rattle.tpm_actions.specs.Startup.{startup_row}
+use Rattle.tpm_actions.specs.GetRandom.{get_random_row}
+use Rattle.tpm_actions.specs.PcrRead.{pcr_read_row}
+use Rattle.tpm_actions.specs.PcrExtend.{pcr_extend_row}
+use Rattle.tpm_actions.specs.PcrEvent.{pcr_event_row}
+use Rattle.tpm_actions.specs.PcrReset.{pcr_reset_row}
+use Rattle.tpm_actions.specs.FlushContext.{flush_context_row}
+use Rattle.tpm_actions.specs.HierarchyChangeAuth.{hierarchy_change_auth_row}
+use Rattle.tpm_actions.specs.StartAuthSession.{start_auth_session_row}
+use Rattle.tpm_actions_object.specs.Create.{create_row}
+use Rattle.tpm_actions_object.specs.CreatePrimary.{create_primary_row}
+use Rattle.tpm_actions_object.specs.Hmac.{hmac_row}
+use Rattle.tpm_actions_object.specs.Load.{load_row}
+use Rattle.tpm_actions_object.specs.ReadPublic.{read_public_row}
+use Rattle.tpm_actions_object.specs.Unseal.{unseal_row}
+use Rattle.tpm_actions_policy.specs.Assertions.{assertion_row}
+use Rattle.tpm_actions_policy.specs.PolicyGetDigest.{policy_get_digest_row}
+use Rattle.tpm_actions_policy.specs.PolicyRestart.{policy_restart_row}
+
+-- what a command does to a record
+unfoldable pub row_of : Record → CommandCode → Request → Result Success Refused
+row_of r command.HierarchyChangeAuth q = hierarchy_change_auth_row r q
+row_of r command.CreatePrimary q = create_primary_row r q
+row_of r command.PcrEvent q = pcr_event_row r q
+row_of r command.PcrReset q = pcr_reset_row r q
+row_of r command.Startup q = startup_row r q
+row_of r command.PolicySecret q = assertion_row command.PolicySecret r q
+row_of r command.Create q = create_row r q
+row_of r command.Hmac q = hmac_row r q
+row_of r command.Load q = load_row r q
+row_of r command.Unseal q = unseal_row r q
+row_of r command.FlushContext q = flush_context_row r q
+row_of r command.PolicyAuthValue q = assertion_row command.PolicyAuthValue r q
+row_of r command.PolicyCommandCode q = assertion_row command.PolicyCommandCode r q
+row_of r command.PolicyLocality q = assertion_row command.PolicyLocality r q
+row_of r command.PolicyOr q = assertion_row command.PolicyOr r q
+row_of r command.ReadPublic q = read_public_row r q
+row_of r command.StartAuthSession q = start_auth_session_row r q
+row_of r command.GetRandom q = get_random_row r q
+row_of r command.PcrRead q = pcr_read_row r q
+row_of r command.PolicyPcr q = assertion_row command.PolicyPcr r q
+row_of r command.PolicyRestart q = policy_restart_row r q
+row_of r command.PcrExtend q = pcr_extend_row r q
+row_of r command.PolicyGetDigest q = policy_get_digest_row r q
+row_of r command.PolicyPassword q = assertion_row command.PolicyPassword r q

@@ -1,0 +1,38 @@
+//! The digest of a selection of PCRs, by numbers of Python's `hashlib`.
+
+use arrayvec::ArrayVec;
+use tpm_mac::HashAlg;
+use tpm_pcr::Banks;
+use tpm_types::{BankSelection, PcrSelect, PcrSelection};
+
+/// The digests of the selection below on a new device.
+const DIGESTS: [(HashAlg, &[u8]); 2] = [
+    (
+        HashAlg::Sha256,
+        b"\x67\x70\x9a\xfe\xb0\x9b\x5b\xdf\x38\xfa\x63\x1e\x42\xdd\xa4\x67\
+          \xc6\xd4\x7c\x34\x18\x58\x26\x3c\x8b\x82\xdb\xe2\x03\x5c\x3f\x77",
+    ),
+    (
+        HashAlg::Sha1,
+        b"\xe0\x7d\x6e\x6e\x0a\xd3\x6a\xe2\x26\xe2\x82\x2a\xab\x61\xe3\x2f\
+          \x5b\x8d\xd9\xb8",
+    ),
+];
+
+fn bank(hash: HashAlg, octets: [u8; 3]) -> BankSelection {
+    let select = PcrSelect::from_octets(octets);
+    BankSelection { hash, select }
+}
+
+// PCRs 0 to 7 and 16 to 18 by SHA-256, and behind them 5, 17, 22 and 23 by SHA-1.
+#[test]
+fn a_digest_is_over_all_selected_values(rt: HostRuntime) {
+    let mut banks = ArrayVec::new();
+    banks.push(bank(HashAlg::Sha256, [0xff, 0, 0x07]));
+    banks.push(bank(HashAlg::Sha1, [0x20, 0, 0xc2]));
+    let selection = PcrSelection { banks };
+    for (hash, digest) in DIGESTS {
+        let found = Banks::new().select_digest(hash, &selection);
+        assert_eq!(rt; found.as_slice(), digest);
+    }
+}

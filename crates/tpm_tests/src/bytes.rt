@@ -1,0 +1,182 @@
+//! Each reader and writer of bytes once, and what a tap tells of its device.
+
+use std::io;
+use std::io::{ErrorKind, Read, Write};
+use tpm_bytes::{Cursor, Full, Short, Sink, SizedFault, Tap};
+
+/// Sixteen bytes, no two alike: as numbers of one byte, of two, of four and of eight, and one byte
+/// more.
+const TEXT: &[u8] = b"\x10\x21\x32\x43\x54\x65\x76\x87\x98\xa9\xba\xcb\xdc\xed\xfe\x0f";
+
+/// The same bytes, of which the prover then knows nothing, so that it computes nothing of them.
+fn unknown(bytes: &[u8]) -> &[u8] {
+    bytes
+}
+
+#[test]
+fn numbers_are_big_endian(rt: HostRuntime) {
+    let mut cursor = Cursor::new(unknown(TEXT));
+    assert_eq!(rt; cursor.u8(), Ok(0x10));
+    assert_eq!(rt; cursor.u16(), Ok(0x2132));
+    assert_eq!(rt; cursor.u32(), Ok(0x4354_6576));
+    assert_eq!(rt; cursor.u64(), Ok(0x8798_a9ba_cbdc_edfe));
+    assert_eq!(rt; cursor.u16(), Err(Short));
+    assert_eq!(rt; cursor.len(), 1);
+    assert_eq!(rt; cursor.take(1), Ok([0x0f].as_slice()));
+    assert!(rt; cursor.is_empty());
+}
+
+#[test]
+fn a_sized_buffer_has_a_limit(rt: HostRuntime) {
+    let text = b"\x00\x03abc";
+    let mut cursor = Cursor::new(unknown(text));
+    assert_eq!(rt; cursor.sized(2), Err(SizedFault::TooLong));
+    assert_eq!(rt; cursor.rest(), text.as_slice());
+    assert_eq!(rt; cursor.sized(3), Ok(b"abc".as_slice()));
+    assert_eq!(rt; cursor.sized(3), Err(SizedFault::Short));
+}
+
+/// Puts fifteen bytes by numbers of each width, and three sized and two bare ones.
+fn fill(sink: &mut Sink<20>) -> Result<(), Full> {
+    sink.put_u8(0x10)?;
+    sink.put_u16(0x2132)?;
+    sink.put_u32(0x4354_6576)?;
+    sink.put_u64(0x8798_a9ba_cbdc_edfe)?;
+    sink.put_sized(b"a")?;
+    sink.put(b"bc")
+}
+
+#[test]
+fn a_sink_takes_what_fits(rt: HostRuntime) {
+    let mut sink = Sink::new();
+    assert_eq!(rt; fill(&mut sink), Ok(()));
+    assert_eq!(rt; sink.put(b"d"), Err(Full));
+    assert_eq!(rt; sink.len(), 20);
+    assert_eq!(rt; sink.as_slice().get(..15), TEXT.get(..15));
+    assert_eq!(rt;
+        sink.into_bytes().as_slice().get(15..),
+        Some(b"\0\x01abc".as_slice())
+    );
+}
+
+/// What a device does at each call.
+#[derive(Clone, Copy)]
+enum Conduct {
+    /// It gives or takes one byte, where there is room for one.
+    OneByte,
+    /// It gives or takes nothing.
+    Nothing,
+    Fails,
+}
+
+impl Conduct {
+    fn count(self, room: usize) -> io::Result<usize> {
+        match self {
+            Conduct::OneByte => Ok(room.min(1)),
+            Conduct::Nothing => Ok(0),
+            Conduct::Fails => Err(ErrorKind::ConnectionReset.into()),
+        }
+    }
+}
+
+/// A reader and a writer that does one thing after the other, and then nothing.
+#[derive(Drop)]
+struct Device {
+    conducts: &'static [Conduct],
+}
+
+impl Device {
+    fn next(&mut self) -> Conduct {
+        match self.conducts.split_first() {
+            Some((first, others)) => {
+                self.conducts = others;
+                *first
+            }
+            None => Conduct::Nothing,
+        }
+    }
+}
+
+impl Read for Device {
+    fn read(&mut self, buffer: &mut [u8]) -> io::Result<usize> {
+        let count = self.next().count(buffer.len())?.min(buffer.len());
+        buffer[..count].fill(7);
+        Ok(count)
+    }
+}
+
+impl Write for Device {
+    fn write(&mut self, piece: &[u8]) -> io::Result<usize> {
+        let count = self.next().count(piece.len())?;
+        Ok(count.min(piece.len()))
+    }
+
+    fn flush(&mut self) -> io::Result<()> {
+        Ok(())
+    }
+}
+
+/// What a call gave or took, or the kind of its error.
+fn outcome_of(given: io::Result<usize>) -> Result<usize, ErrorKind> {
+    match given {
+        Ok(count) => Ok(count),
+        Err(error) => Err(error.kind()),
+    }
+}
+
+#[test]
+fn a_tap_tells_what_a_reader_did(rt: HostRuntime) {
+    let conducts = &[
+        Conduct::OneByte,
+        Conduct::OneByte,
+        Conduct::Fails,
+        Conduct::OneByte,
+        Conduct::Nothing,
+        Conduct::Nothing,
+        Conduct::OneByte,
+    ];
+    let mut tap = Tap::new(Device { conducts });
+    let mut buffer = [0u8; 2];
+    assert!(rt; !tap.failed() && !tap.ended() && tap.reads() == 0);
+    for (room, outcome, failed, ended, reads) in [
+        (2, Ok(1), false, false, 1),
+        (0, Ok(0), false, false, 1),
+        (2, Err(ErrorKind::ConnectionReset), true, false, 1),
+        (1, Ok(1), true, false, 2),
+        (0, Ok(0), true, false, 2),
+        (1, Ok(0), true, true, 2),
+        (2, Ok(1), true, true, 3),
+    ] {
+        let room: usize = room;
+        let got = outcome_of(tap.read(&mut buffer[..room.min(2)]));
+        assert_eq!(rt; got, outcome);
+        assert_eq!(rt; tap.failed(), failed);
+        assert_eq!(rt; tap.ended(), ended);
+        assert_eq!(rt; tap.reads(), reads);
+    }
+    assert_eq!(rt; buffer, [7, 0]);
+    assert!(rt; tap.into_inner().conducts.is_empty());
+}
+
+#[test]
+fn a_tap_tells_what_a_writer_did(rt: HostRuntime) {
+    let cases: [(&'static [Conduct], &[u8], Result<usize, ErrorKind>, bool); 5] = [
+        (&[Conduct::OneByte], b"ab", Ok(1), false),
+        (&[Conduct::OneByte], b"", Ok(0), false),
+        (&[Conduct::Nothing], b"ab", Ok(0), true),
+        (&[Conduct::Nothing], b"", Ok(0), false),
+        (
+            &[Conduct::Fails],
+            b"ab",
+            Err(ErrorKind::ConnectionReset),
+            true,
+        ),
+    ];
+    for (conducts, piece, outcome, failed) in cases {
+        let mut tap = Tap::new(Device { conducts });
+        let got = outcome_of(tap.write(piece));
+        assert_eq!(rt; got, outcome, "at {piece:?}");
+        assert_eq!(rt; tap.failed(), failed, "at {piece:?}");
+        assert!(rt; !tap.ended() && tap.reads() == 0);
+    }
+}

@@ -1,0 +1,24 @@
+#![tactic(auto)]
+
+//! What no clause says and no script under `tests/` shows of the crates below the device: published
+//! vectors and numbers that were computed outside, each public call once, and what a tap tells of
+//! its device. A crate with tests is proved twice, so these stand in a crate of their own.
+
+#[cfg(test)]
+mod ascending;
+#[cfg(test)]
+mod banks;
+#[cfg(test)]
+mod bytes;
+#[cfg(test)]
+mod ciphers;
+#[cfg(test)]
+mod digests;
+#[cfg(test)]
+mod objects;
+#[cfg(test)]
+mod policies;
+#[cfg(test)]
+mod session_parts;
+#[cfg(test)]
+mod types;

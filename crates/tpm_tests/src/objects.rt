@@ -1,0 +1,139 @@
+//! The areas of objects, and what is made of them: each public call once, with a Name that was
+//! computed outside, by Python's `hashlib` and `hmac`.
+
+use arrayvec::ArrayVec;
+use tpm_bytes::{Cursor, Sink};
+use tpm_mac::HashAlg;
+use tpm_name::Name;
+use tpm_object::{
+    CreationFault, Object, TemplateFault, check_creation, check_template, create, derive_primary,
+    drawn_by, is_storage_parent, unwrap, wrap,
+};
+use tpm_types::HierarchyHandle;
+use tpm_types_object::{CreationData, Public, Sensitive, SensitiveCreate};
+
+/// The owner's seed of a device that is manufactured with the bytes 00 to ff.
+const SEED: &[u8; 32] = b"\x00\x01\x02\x03\x04\x05\x06\x07\x08\x09\x0a\x0b\x0c\x0d\x0e\x0f\
+    \x10\x11\x12\x13\x14\x15\x16\x17\x18\x19\x1a\x1b\x1c\x1d\x1e\x1f";
+
+/// A key of HMACs by SHA-256, in a sized buffer.
+const KEY: &[u8] = b"\0\x10\0\x08\0\x0b\0\x04\x04\x40\0\0\0\x05\0\x0b\0\0";
+
+/// A storage key, in a sized buffer.
+const STORAGE: &[u8] = b"\0\x12\0\x25\0\x0b\0\x03\0\x72\0\0\0\x06\0\x80\0\x43\0\0";
+
+/// No authorization value, and the key "Jefe", in a sized buffer.
+const JEFE: &[u8] = b"\0\x08\0\0\0\x04Jefe";
+
+/// Neither of them.
+const NOTHING: &[u8] = b"\0\x04\0\0\0\0";
+
+/// The Name of that key, derived from that seed.
+const NAME: &[u8] = b"\x00\x0b\x42\xa3\x3b\x43\xc0\xf6\x6b\x39\x4f\x97\x10\x5e\x96\x92\x5d\x1f\
+    \xa1\xd9\xf0\x3f\x3a\xa8\xf2\xaf\x35\xa5\xfe\x87\x06\x03\x1f\x5e";
+
+fn public_of(text: &[u8]) -> Option<Public> {
+    Public::read_sized(&mut Cursor::new(text)).ok()
+}
+
+fn given_of(text: &[u8]) -> Option<SensitiveCreate> {
+    SensitiveCreate::read_sized(&mut Cursor::new(text)).ok()
+}
+
+/// The primary object of a template and what is given beside it.
+fn primary_of(template: &[u8], given: &[u8]) -> Option<Object> {
+    let (template, given) = (public_of(template)?, given_of(given)?);
+    Some(derive_primary(HierarchyHandle::Owner, SEED, &template, &given))
+}
+
+/// The public area that a text spells, written again, without its size.
+fn rewritten_public(text: &[u8]) -> Option<ArrayVec<u8, 82>> {
+    let mut sink = Sink::new();
+    public_of(text)?.copy().write(&mut sink).ok()?;
+    Some(sink.into_bytes())
+}
+
+/// The sensitive area that a text spells, written again, without its size.
+fn rewritten_sensitive(text: &[u8]) -> Option<ArrayVec<u8, 200>> {
+    let area = Sensitive::read_sized(&mut Cursor::new(text)).ok()?;
+    let mut sink = Sink::new();
+    area.copy().write(&mut sink).ok()?;
+    Some(sink.into_bytes())
+}
+
+/// The creation data that a text spells, written again, without their size.
+fn rewritten_creation(text: &[u8]) -> Option<ArrayVec<u8, 245>> {
+    let creation = CreationData::read_sized(&mut Cursor::new(text)).ok()?;
+    let mut sink = Sink::new();
+    creation.write(&mut sink).ok()?;
+    Some(sink.into_bytes())
+}
+
+fn is_rest<const N: usize>(bytes: Option<ArrayVec<u8, N>>, text: &[u8]) -> bool {
+    match bytes {
+        Some(bytes) => text.len() > 2 && bytes.as_slice() == &text[2..],
+        None => false,
+    }
+}
+
+#[test]
+fn structures_are_written_as_they_were_read(rt: HostRuntime) {
+    assert!(rt; is_rest(rewritten_public(KEY), KEY));
+    assert!(rt; is_rest(rewritten_public(STORAGE), STORAGE));
+    let area = b"\0\x0b\0\x08\0\x01a\0\0\0\x02bc";
+    assert!(rt; is_rest(rewritten_sensitive(area), area));
+    let creation = b"\0\x13\0\0\0\0\0\0\x01\0\x10\0\x01n\0\x01q\0\x02oi";
+    assert!(rt; is_rest(rewritten_creation(creation), creation));
+}
+
+/// Whether the object has this Name, and its copy too.
+fn is_named(object: Option<Object>, name: &[u8]) -> bool {
+    match object {
+        Some(object) => {
+            object.name().as_slice() == name && object.copy().name().as_slice() == name
+        }
+        None => false,
+    }
+}
+
+#[test]
+fn a_primary_object_has_the_name_that_was_computed_outside(rt: HostRuntime) {
+    assert!(rt; is_named(primary_of(KEY, JEFE), NAME));
+    assert!(rt; !is_named(primary_of(STORAGE, NOTHING), NAME));
+}
+
+/// What refuses a template and what is given beside it, if anything does.
+fn faults_of(template: &[u8], given: &[u8]) -> Option<(bool, bool)> {
+    let (template, given) = (public_of(template)?, given_of(given)?);
+    let is_fixed_wrongly = check_template(&template, false) == Err(TemplateFault::Attributes);
+    let has_no_key = check_creation(&given, &template) == Err(CreationFault::Attributes);
+    Some((is_fixed_wrongly, has_no_key))
+}
+
+#[test]
+fn templates_are_checked(rt: HostRuntime) {
+    assert_eq!(rt; faults_of(KEY, JEFE), Some((false, false)));
+    assert_eq!(rt; faults_of(STORAGE, JEFE), Some((true, true)));
+    assert_eq!(rt; faults_of(KEY, NOTHING), Some((false, true)));
+}
+
+/// Whether what is created under a storage key and wrapped is unwrapped, for the public area that it
+/// was wrapped for and no other.
+fn is_unwrapped() -> Option<bool> {
+    let parent = primary_of(STORAGE, NOTHING)?;
+    let (template, given) = (public_of(KEY)?, given_of(JEFE)?);
+    let created = create(&template, &given, &[7; 256]);
+    let private = wrap(&parent, &created.public, &created.sensitive, &[9; 16]);
+    let area = unwrap(&parent, &created.public, private.as_slice()).ok()?;
+    let is_same = area.sensitive.is_same(b"Jefe");
+    let is_refused = unwrap(&parent, &template, private.as_slice()).is_err();
+    let drawn = drawn_by(&template, &given);
+    Some(is_same && is_refused && drawn == 32 && is_storage_parent(&parent.public))
+}
+
+#[test]
+fn what_is_wrapped_is_unwrapped(rt: HostRuntime) {
+    assert_eq!(rt; is_unwrapped(), Some(true));
+    let name = Name::qualified(HashAlg::Sha1, b"\x40\0\0\x01", NAME);
+    assert_eq!(rt; name.as_slice().len(), 22);
+}

@@ -1,0 +1,245 @@
+//! Sessions by their handles, in both kinds of places, and numbers that were computed outside: HMACs
+//! and hashes by Python's `hmac` and `hashlib`, the encrypted parameter by OpenSSL.
+
+ghost use Rattle.std.specs.Prelude.{◌≤◌, length};
+
+use std::alloc::Global;
+use std::process::Abort;
+use tpm_bytes::Sink;
+use tpm_mac::HashAlg;
+use tpm_name::Name;
+use tpm_places::{FixedPlaces, ListPlaces, Places};
+use tpm_policy::PolicyState;
+use tpm_session::{
+    Binding, CommandText, Nonce, Protection, Session, SessionKey, Sessions, Start, StartFault,
+    SymmetricFault, command_hash, is_nonce_size, response_hash,
+};
+use tpm_types::{AuthValue, Handle, SessionAttributes, SessionType, SymmetricDefinition};
+
+type InList = ListPlaces<Session, 16>;
+
+type InSlots = FixedPlaces<Session, 16>;
+
+const NONCE_CALLER: &[u8] = &[0xaa; 16];
+
+const NONCE_TPM: &[u8] = &[0xbb; 16];
+
+/// TPM2_PCR_Event.
+const CODE: u32 = 0x13c;
+
+/// By `command_hash`.
+const COMMAND_HASH: &[u8] = b"\x3c\x31\x76\x2c\x00\x6e\x41\xf9\x21\xdc\x4a\xd8\xac\x22\xff\x90\
+    \x93\xac\x6b\xdd\xe5\xf6\xed\x09\xd4\xcc\x24\xef\xf7\x08\x8e\xcb";
+
+/// By `response_hash`.
+const RESPONSE_HASH: &[u8] = b"\xf1\x3a\x65\xc8\x44\x28\xe6\x4a\x87\x2d\x9d\x4d\xe4\x53\xb9\x3f\
+    \x44\x0a\x92\x38\x60\x94\x71\x3e\x28\xd1\xa5\x87\x7e\x2d\x7d\x46";
+
+const COMMAND_MAC: &[u8] = b"\xea\x31\xad\x5c\x72\x53\x58\x27\x25\xbb\x9d\x3b\x24\xfd\x7b\x8c\
+    \xd1\x6e\xca\xe2\xa9\x96\xa8\x40\x27\x99\xa9\x39\xcd\xd2\x90\xa8";
+
+const RESPONSE_MAC: &[u8] = b"\x71\x5d\x77\x87\x81\x6b\xb5\xff\x1b\x4a\x59\xf4\x30\x93\xab\xcf\
+    \x92\xb7\x0a\x94\xfa\x36\x81\x12\x92\xb8\xc6\x57\xa8\x9d\x78\xd6";
+
+const PLAIN: &[u8] = b"a parameter of 25 bytes..";
+
+const ENCRYPTED: &[u8] = b"\xa2\x50\xc0\xbe\x24\xaf\x83\xc1\xd4\x33\x10\xe8\x13\x7b\x2c\x2f\
+    \xe5\x90\xfe\x91\xcb\x85\x69\xf0\x12";
+
+/// The same bytes, of which the prover then knows their number alone, and so computes nothing of
+/// them.
+fn short(bytes: &[u8]) -> &[u8]
+    requires { length bytes.now ≤ 32 }
+    ensures { length result.now ≤ 32 }
+{
+    bytes
+}
+
+/// The owner, with the authorization value "owner".
+fn owner() -> Binding {
+    Binding {
+        name: Name::of_handle(Handle::OWNER),
+        auth_value: AuthValue::of(short(b"owner")),
+        protection: Protection::None,
+    }
+}
+
+fn start(kind: SessionType, binding: Option<Binding>) -> Start<'static> {
+    Start {
+        kind,
+        hash: HashAlg::Sha256,
+        symmetric: SymmetricDefinition::Aes128Cfb,
+        nonce_caller: NONCE_CALLER,
+        nonce_tpm: Nonce::of(short(NONCE_TPM)),
+        binding,
+    }
+}
+
+/// The number of the handle of a session that starts.
+fn started<S: Places<Session, 16>>(
+    sessions: &mut Sessions<S>,
+    kind: SessionType,
+) -> Result<u32, StartFault> {
+    sessions
+        .start(start(kind, None))
+        .map(|handle| handle.number)
+}
+
+/// The TPM's nonce of a session.
+fn nonce_of<S: Places<Session, 16>>(sessions: &Sessions<S>, number: u32) -> Option<&[u8]> {
+    let session = sessions.get(Handle { number })?;
+    Some(session.nonce_tpm.as_slice())
+}
+
+#[test]
+fn sessions_are_found_by_their_handles(rt: HostRuntime) {
+    find_sessions::<InList, HostRuntime>(&rt, rt.alloc());
+    find_sessions::<InSlots, HostRuntime>(&rt, rt.alloc());
+}
+
+fn find_sessions<S: Places<Session, 16>, R: Abort>(rt: &R, alloc: Global) {
+    let mut sessions: Sessions<S> = Sessions::new(alloc);
+    assert_eq!(rt; started(&mut sessions, SessionType::Hmac), Ok(0x0200_0000));
+    assert_eq!(rt;
+        started(&mut sessions, SessionType::Policy),
+        Ok(0x0300_0001)
+    );
+    assert_eq!(rt; started(&mut sessions, SessionType::Trial), Ok(0x0300_0002));
+    for (number, there) in [
+        (0x0200_0000, true),
+        (0x0300_0000, false),
+        (0x0300_0001, true),
+        (0x0200_0003, false),
+        (1, false),
+    ] {
+        assert_eq!(rt;
+            sessions.get(Handle { number }).is_some(),
+            there,
+            "{number:x}"
+        );
+    }
+    let policy = Handle {
+        number: 0x0300_0001,
+    };
+    assert!(rt; sessions.roll(policy, Nonce::of(b"new")));
+    assert_eq!(rt; nonce_of(&sessions, 0x0300_0001), Some(b"new".as_slice()));
+    assert_eq!(rt; nonce_of(&sessions, 0x0300_0002), Some(NONCE_TPM));
+    assert!(rt; sessions.flush(policy));
+    assert!(rt; !sessions.flush(policy) && !sessions.roll(policy, Nonce::of(b"")));
+    assert_eq!(rt; started(&mut sessions, SessionType::Hmac), Ok(0x0200_0001));
+}
+
+#[test]
+fn sixteen_sessions_start(rt: HostRuntime) {
+    fill_sessions::<InList, HostRuntime>(&rt, rt.alloc());
+    fill_sessions::<InSlots, HostRuntime>(&rt, rt.alloc());
+}
+
+fn fill_sessions<S: Places<Session, 16>, R: Abort>(rt: &R, alloc: Global) {
+    let mut sessions: Sessions<S> = Sessions::new(alloc);
+    for number in 0x0300_0000..0x0300_0010u32 {
+        assert_eq!(rt; started(&mut sessions, SessionType::Policy), Ok(number));
+    }
+    let full = started(&mut sessions, SessionType::Policy);
+    assert_eq!(rt; full, Err(StartFault::SessionMemory));
+    let mut short = start(SessionType::Policy, None);
+    short.nonce_caller = b"fifteen bytes..";
+    assert_eq!(rt; sessions.start(short).err(), Some(StartFault::Size));
+    for (size, fits) in [(15, false), (16, true), (20, true), (21, false)] {
+        assert_eq!(rt; is_nonce_size(HashAlg::Sha1, size), fits, "{size}");
+    }
+}
+
+#[test]
+fn session_types_have_numbers(rt: HostRuntime) {
+    for (kind, number) in [
+        (SessionType::Hmac, 0),
+        (SessionType::Policy, 1),
+        (SessionType::Trial, 3),
+    ] {
+        assert_eq!(rt; kind.number(), number);
+        assert_eq!(rt; SessionType::named(number), Some(kind));
+    }
+    assert_eq!(rt; SessionType::named(2), None);
+}
+
+#[test]
+fn hashes_are_those_of_the_standard(rt: HostRuntime) {
+    let names = [
+        Name::of_handle(Handle::OWNER),
+        Name::of_handle(Handle { number: 3 }),
+    ];
+    let command = command_hash(HashAlg::Sha256, CODE, &names, b"parameters");
+    assert_eq!(rt; command.as_slice(), COMMAND_HASH);
+    let response = response_hash(HashAlg::Sha256, CODE, b"answer");
+    assert_eq!(rt; response.as_slice(), RESPONSE_HASH);
+}
+
+/// A session that is bound to the owner.
+fn bound_session(symmetric: SymmetricDefinition) -> Session {
+    let binding = Some(owner());
+    Session {
+        kind: SessionType::Hmac,
+        hash: HashAlg::Sha256,
+        symmetric,
+        nonce_tpm: Nonce::of(short(NONCE_TPM)),
+        key: SessionKey::derived(HashAlg::Sha256, &binding, NONCE_TPM, NONCE_CALLER),
+        binding,
+        policy: PolicyState::new(HashAlg::Sha256),
+    }
+}
+
+const ATTRIBUTES: SessionAttributes = SessionAttributes { octet: 0x21 };
+
+/// What a command's entry is about, with nonces of two other sessions.
+fn command_text() -> CommandText<'static> {
+    CommandText {
+        hash: COMMAND_HASH,
+        nonce_caller: NONCE_CALLER,
+        decrypt_nonce: b"dec",
+        encrypt_nonce: b"en",
+        attributes: ATTRIBUTES,
+    }
+}
+
+#[test]
+fn an_entry_has_an_hmac(rt: HostRuntime) {
+    let session = bound_session(SymmetricDefinition::Null);
+    let command = session.command_mac(b"entity", &command_text());
+    assert_eq!(rt; command.as_slice(), COMMAND_MAC);
+    let response = session.response_mac(b"entity", RESPONSE_HASH, NONCE_CALLER, ATTRIBUTES);
+    assert_eq!(rt; response.as_slice(), RESPONSE_MAC);
+}
+
+#[test]
+fn an_entry_s_text_is_written(rt: HostRuntime) {
+    let session = bound_session(SymmetricDefinition::Null);
+    let mut bytes: Sink<161> = Sink::new();
+    let written = session.command_text(&command_text()).write(&mut bytes);
+    assert!(rt; written.is_ok());
+    assert_eq!(rt; bytes.len(), 70);
+    assert!(rt; bytes.as_slice().ends_with(b"\xbbdecen\x21"));
+    let mut short: Sink<64> = Sink::new();
+    let text = session.response_text(RESPONSE_HASH, NONCE_CALLER, ATTRIBUTES);
+    assert!(rt; text.write(&mut short).is_err());
+    assert_eq!(rt; short.len(), 0);
+}
+
+#[test]
+fn a_parameter_is_encrypted(rt: HostRuntime) {
+    let session = bound_session(SymmetricDefinition::Aes128Cfb);
+    let mut parameter = [0; 25];
+    parameter.copy_from_slice(PLAIN);
+    let closed = session.close_parameter(b"entity", NONCE_CALLER, NONCE_TPM, &mut parameter);
+    assert_eq!(rt; closed, Ok(()));
+    assert_eq!(rt; parameter.as_slice(), ENCRYPTED);
+    let opened = session.open_parameter(b"entity", NONCE_CALLER, NONCE_TPM, &mut parameter);
+    assert_eq!(rt; opened, Ok(()));
+    assert_eq!(rt; parameter.as_slice(), PLAIN);
+    let bare = bound_session(SymmetricDefinition::Null);
+    let refused = bare.close_parameter(b"", b"", b"", &mut parameter);
+    assert_eq!(rt; refused, Err(SymmetricFault));
+    let refused = bare.open_parameter(b"", b"", b"", &mut parameter);
+    assert_eq!(rt; refused, Err(SymmetricFault));
+    assert_eq!(rt; parameter.as_slice(), PLAIN);
+}

@@ -1,0 +1,15 @@
+-- Refusals, of every part of the device.
+use Rattle.std.specs.Prelude.{Result, Ok, Err}
+use Rattle.tpm_types.specs.declared.rc.Rc.{Rc}
+use Rattle.tpm_types.specs.declared.check.Check.{Check}
+use Rattle.tpm_types.specs.declared.refused.Counted.TheVariants as counted
+use Rattle.tpm_types.specs.declared.refused.Refused.{Refused}
+
+-- a refusal by a check with a response code, which counts nothing
+abbrev pub refusal : Check → Rc → Refused
+refusal check rc = record { rc = rc; check = check; counted = counted.None }
+
+-- a check that refuses with the fault of a reading or of an entry
+abbrev pub checked : {X : Type 0} → Check → Result X Rc → Result X Refused
+checked check (Ok x) = Ok x
+checked check (Err rc) = Err (refusal check rc)

@@ -1,0 +1,37 @@
+ghost use Rattle.std.specs.Prelude.{◌≡◌};
+
+use crate::check::Check;
+use crate::rc::Rc;
+
+/// What a refusal counts against dictionary attacks. Nothing is counted yet.
+#[derive(Clone, Copy, Debug, PartialEq, Eq)]
+pub enum Counted {
+    None,
+    /// A failed try at a protected entity.
+    Try,
+    /// A failed try at lockoutAuth.
+    Lockout,
+}
+
+/// A refusal: the response code, the check that found it, and what it counts.
+#[derive(Clone, Copy, Debug, PartialEq, Eq)]
+pub struct Refused {
+    pub rc: Rc,
+    pub check: Check,
+    pub counted: Counted,
+}
+
+impl Refused {
+    ghost use Rattle.tpm_types.specs.Refused.{refusal};
+
+    /// A refusal that counts nothing.
+    pub fn by(check: Check, rc: Rc) -> Refused
+        ensures { result ≡ refusal check rc }
+    {
+        Refused {
+            rc,
+            check,
+            counted: Counted::None,
+        }
+    }
+}

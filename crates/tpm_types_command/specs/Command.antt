@@ -1,0 +1,124 @@
+-- Whole commands. TPM 2.0 Library, Part 1, sections 18.2 to 18.6: the header, the handles, with
+-- sessions the authorization area, and the parameters.
+use Rattle.std.specs.Prelude.{◌≡◌, ℕ, zero, suc, ◌+◌, ◌<◌, ◌≤◌, ◌^◌, ◌↔◌}
+use Rattle.std.specs.Prelude.{List, [], ◌∷◌, ◌++◌, length, map}
+use Rattle.std.specs.Prelude.{Result, Ok, Err, IsOk, OnOk, OnErr}
+use Rattle.std.specs.List.{flat_map, AllByRecursion}
+use Rattle.std.specs.Int.{w32, to_be_bytes}
+use Rattle.tpm_bytes.specs.Reading.{◌>>=◌, number_at, or_fault}
+use Rattle.tpm_types_command.specs.declared.command.HeaderFault.{HeaderFault}
+use Rattle.tpm_types_command.specs.declared.command_code.CommandCode.{CommandCode}
+use Rattle.tpm_types.specs.declared.handle.Handle.{Handle}
+use Rattle.tpm_types.specs.declared.rc.Rc.{Rc}
+use Rattle.tpm_types.specs.declared.rc.ResponseCode.TheVariants as code
+use Rattle.tpm_types.specs.declared.rc.Place.TheVariants as place
+use Rattle.tpm_types_command.specs.declared.tag.Tag.{Tag}
+use Rattle.tpm_types_command.specs.declared.tag.Tag.TheVariants.{NoSessions, Sessions}
+use Rattle.tpm_types_command.specs.declared.whole_command.Command.{Command}
+use Rattle.tpm_types_command.specs.AuthArea.{area_at, area_text}
+use Rattle.tpm_types_command.specs.AuthEntry.{Entry, HasSizes, IsEntry, entry_of}
+use Rattle.tpm_types_command.specs.Header.{header_at, header_fault_rc, header_text}
+use Rattle.tpm_types.specs.Rc.{at, plain}
+use Rattle.tpm_types_command.specs.CommandCode.{handle_count}
+
+-- a command, wherever its bytes lie in memory
+pub record Whole : Type 0 where
+  pub code : CommandCode
+  pub handles : List Handle
+  pub entries : List Entry
+  pub parameters : List ℕ
+
+abbrev pub whole_of : Command → Whole
+whole_of c = record {
+  code = c.code;
+  handles = c.handles.items;
+  entries = map entry_of c.entries.items;
+  parameters = c.parameters.now;
+}
+
+-- with entries it has sessions
+abbrev pub tag_for : List Entry → Tag
+tag_for [] = NoSessions
+tag_for (entry ∷ entries) = Sessions
+
+abbrev pub handle_text : Handle → List ℕ
+handle_text handle = to_be_bytes w32 handle.number
+
+unfoldable pub handles_text : List Handle → List ℕ
+handles_text handles = flat_map handle_text handles
+
+-- the authorization area, which is there only with sessions
+abbrev pub sessions_text : List Entry → List ℕ
+sessions_text [] = []
+sessions_text (entry ∷ entries) = area_text (entry ∷ entries)
+
+-- what stands behind the header
+unfoldable pub body_text : Whole → List ℕ
+body_text c = handles_text c.handles ++ sessions_text c.entries ++ c.parameters
+
+-- commandSize: the whole length
+unfoldable pub command_size : Whole → ℕ
+command_size c = 10 + length (body_text c)
+
+unfoldable pub command_text : Whole → List ℕ
+command_text c = header_text (tag_for c.entries) (command_size c) c.code ++ body_text c
+
+-- what has a text: a length that each size can say
+pub record HasText (c : Whole) : Type 0 where
+  pub entries : AllByRecursion HasSizes c.entries
+  pub whole : command_size c < 2 ^ 32
+
+abbrev pub IsHandle : Handle → Type 0
+IsHandle handle = handle.number < 2 ^ 32
+
+-- what has a text that is read: as many handles as its code has, at most three entries, at most
+-- 4,096 bytes
+pub record IsCommand (c : Whole) : Type 0 where
+  pub handle_count : length c.handles ≡ handle_count c.code
+  pub handles : AllByRecursion IsHandle c.handles
+  pub entry_count : length c.entries ≤ 3
+  pub entries : AllByRecursion IsEntry c.entries
+  pub size : command_size c ≤ 4096
+
+-- reading, with the first fault
+
+-- so many handles, of which the first has this number among the handles of the command
+abbrev pub handles_at : ℕ → ℕ → List ℕ → Result (List Handle × List ℕ) Rc
+handles_at number zero text = Ok ([], text)
+handles_at number (suc count) text = do
+  first ← or_fault (number_at w32 text) (at (place.Handle number) (plain code.Insufficient))
+  others ← handles_at (number + 1) count first.1
+  Ok (record { number = first.0 } ∷ others.0, others.1)
+
+abbrev pub sessions_at : Tag → List ℕ → Result (List Entry × List ℕ) Rc
+sessions_at NoSessions text = Ok ([], text)
+sessions_at Sessions text = area_at text
+
+-- the header, or its fault as a response code
+abbrev pub header_or_rc : {A : Type 0} → Result A HeaderFault → Result A Rc
+header_or_rc (Ok x) = Ok x
+header_or_rc (Err fault) = Err (header_fault_rc fault)
+
+-- a command is a whole text, of which its parameters are the end
+unfoldable pub command_at : List ℕ → Result (Whole × List ℕ) Rc
+command_at text = do
+  header ← header_or_rc (header_at text)
+  handles ← handles_at 1 (handle_count header.0.code) header.1
+  entries ← sessions_at header.0.tag handles.1
+  Ok (
+    record {
+      code = header.0.code;
+      handles = handles.0;
+      entries = entries.0;
+      parameters = entries.1;
+    },
+    [],
+  )
+
+-- A write of a command: all of its text at the end exactly where it has one that fits, else
+-- nothing.
+abbrev pub PutsCommand : {E : Type 0} → ℕ → Whole → List ℕ → Result (Unit {0}) E → List ℕ → Type 0
+PutsCommand capacity c old result new =
+    (IsOk result ↔ (HasText c × (length old + command_size c ≤ capacity)))
+    × OnOk result (new ≡ old ++ command_text c)
+    × OnErr result (new ≡ old)

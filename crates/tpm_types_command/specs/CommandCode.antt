@@ -1,0 +1,165 @@
+-- The commands that are served. TPM 2.0 Library, Part 2, section 6.5.2 (TPM_CC).
+use Rattle.std.specs.Prelude.{ℕ, ◌==◌, is_some, count_by, Bool, true, false, List, [], ◌∷◌, length, Option, slice_get}
+use Rattle.std.specs.List.{find}
+use Rattle.std.specs.Option.{option_map_or, unwrap_or}
+use Rattle.tpm_types_command.specs.declared.command_code.CommandCode.{CommandCode}
+use Rattle.tpm_types_command.specs.declared.command_code.CommandCode.TheVariants as code
+use Rattle.tpm_types_command.specs.declared.shape.HandleKind.TheVariants as kind
+use Rattle.tpm_types_command.specs.declared.shape.HandleRule.{HandleRule}
+use Rattle.tpm_types_command.specs.declared.shape.ParameterKind.{ParameterKind}
+use Rattle.tpm_types_command.specs.declared.shape.ParameterKind.TheVariants as parameter
+use Rattle.tpm_types.specs.declared.role.Role.{Role}
+use Rattle.tpm_types.specs.declared.role.Role.TheVariants as role
+use Rattle.tpm_types_command.specs.Shape.{Facts, is_sized, shape_with, unauthorized, user}
+
+abbrev pub code_number : CommandCode → ℕ
+code_number code.HierarchyChangeAuth = 0x129
+code_number code.CreatePrimary = 0x131
+code_number code.PcrEvent = 0x13c
+code_number code.PcrReset = 0x13d
+code_number code.Startup = 0x144
+code_number code.PolicySecret = 0x151
+code_number code.Create = 0x153
+code_number code.Hmac = 0x155
+code_number code.Load = 0x157
+code_number code.Unseal = 0x15e
+code_number code.FlushContext = 0x165
+code_number code.PolicyAuthValue = 0x16b
+code_number code.PolicyCommandCode = 0x16c
+code_number code.PolicyLocality = 0x16f
+code_number code.PolicyOr = 0x171
+code_number code.ReadPublic = 0x173
+code_number code.StartAuthSession = 0x176
+code_number code.GetRandom = 0x17b
+code_number code.PcrRead = 0x17e
+code_number code.PolicyPcr = 0x17f
+code_number code.PolicyRestart = 0x180
+code_number code.PcrExtend = 0x182
+code_number code.PolicyGetDigest = 0x189
+code_number code.PolicyPassword = 0x18c
+
+-- all of them
+abbrev pub all_codes : List CommandCode
+all_codes =
+    code.HierarchyChangeAuth
+    ∷ code.CreatePrimary
+    ∷ code.PcrEvent
+    ∷ code.PcrReset
+    ∷ code.Startup
+    ∷ code.PolicySecret
+    ∷ code.Create
+    ∷ code.Hmac
+    ∷ code.Load
+    ∷ code.Unseal
+    ∷ code.FlushContext
+    ∷ code.PolicyAuthValue
+    ∷ code.PolicyCommandCode
+    ∷ code.PolicyLocality
+    ∷ code.PolicyOr
+    ∷ code.ReadPublic
+    ∷ code.StartAuthSession
+    ∷ code.GetRandom
+    ∷ code.PcrRead
+    ∷ code.PolicyPcr
+    ∷ code.PolicyRestart
+    ∷ code.PcrExtend
+    ∷ code.PolicyGetDigest
+    ∷ code.PolicyPassword
+    ∷ []
+
+-- the command of a number, if it is served
+unfoldable pub code_named : ℕ → Option CommandCode
+code_named number = find (λ code. code_number code == number) all_codes
+
+-- nonceCaller, encryptedSalt (of at most 32 bytes, as no key can decrypt one), sessionType,
+-- symmetric, authHash
+abbrev pub start_parameters : List ParameterKind
+start_parameters =
+    parameter.Buffer 32 ∷ parameter.Buffer 32 ∷ parameter.SessionType
+    ∷ parameter.Symmetric ∷ parameter.Hash ∷ []
+
+-- inSensitive, inPublic, outsideInfo, creationPCR
+abbrev pub create_parameters : List ParameterKind
+create_parameters =
+    parameter.SensitiveCreate ∷ parameter.Public ∷ parameter.Buffer 34 ∷ parameter.Selection ∷ []
+
+-- the shape of a command whose only handle is an object, authorized in the role of the user
+abbrev pub on_object : List ParameterKind → Facts
+on_object parameters =
+    record (shape_with (user kind.Object ∷ []) parameters) { sized_answer = true }
+
+-- authHandle, policySession; nonceTPM, cpHashA, policyRef, expiration
+abbrev pub secret_handles : List HandleRule
+secret_handles = user kind.EntityNotNull ∷ unauthorized kind.PolicySession ∷ []
+
+abbrev pub secret_parameters : List ParameterKind
+secret_parameters =
+    parameter.Buffer 32 ∷ parameter.Buffer 32 ∷ parameter.Buffer 32 ∷ parameter.U32 ∷ []
+
+-- the shape of a command that names a policy session alone
+abbrev pub on_policy : List ParameterKind → Facts
+on_policy parameters = shape_with (unauthorized kind.PolicySession ∷ []) parameters
+
+-- every other fact of a command
+unfoldable pub shape_of : CommandCode → Facts
+shape_of code.HierarchyChangeAuth = shape_with (user kind.HierarchyAuth ∷ []) (parameter.Buffer 32 ∷ [])
+shape_of code.CreatePrimary =
+    record (shape_with (user kind.Hierarchy ∷ []) create_parameters) {
+      sized_answer = true;
+      answers_handle = true;
+      grows = true;
+    }
+shape_of code.PcrEvent = shape_with (user kind.PcrOrNull ∷ []) (parameter.Buffer 1024 ∷ [])
+shape_of code.PcrReset = shape_with (user kind.Pcr ∷ []) []
+shape_of code.Startup = record (shape_with [] (parameter.StartupType ∷ [])) { forbids_sessions = true }
+shape_of code.PolicySecret =
+    record (shape_with secret_handles secret_parameters) { sized_answer = true }
+shape_of code.Create = on_object create_parameters
+shape_of code.Hmac = on_object (parameter.Buffer 1024 ∷ parameter.HashOrNull ∷ [])
+shape_of code.Load =
+    record (on_object (parameter.Buffer 256 ∷ parameter.Public ∷ [])) {
+      answers_handle = true;
+      grows = true;
+    }
+shape_of code.Unseal = on_object []
+shape_of code.FlushContext = record (shape_with [] (parameter.U32 ∷ [])) { forbids_sessions = true }
+shape_of code.PolicyAuthValue = on_policy []
+shape_of code.PolicyCommandCode = on_policy (parameter.U32 ∷ [])
+shape_of code.PolicyLocality = on_policy (parameter.U8 ∷ [])
+shape_of code.PolicyOr = on_policy (parameter.DigestList ∷ [])
+shape_of code.ReadPublic =
+    record (shape_with (unauthorized kind.Object ∷ []) []) { sized_answer = true }
+shape_of code.StartAuthSession =
+    record (shape_with (unauthorized kind.Null ∷ unauthorized kind.Entity ∷ []) start_parameters) {
+      sized_answer = true;
+      answers_handle = true;
+      grows = true;
+    }
+shape_of code.GetRandom = record (shape_with [] (parameter.U16 ∷ [])) { sized_answer = true }
+shape_of code.PcrRead = shape_with [] (parameter.Selection ∷ [])
+shape_of code.PolicyPcr = on_policy (parameter.Buffer 32 ∷ parameter.Selection ∷ [])
+shape_of code.PolicyRestart = on_policy []
+shape_of code.PcrExtend = shape_with (user kind.PcrOrNull ∷ []) (parameter.Digests ∷ [])
+shape_of code.PolicyGetDigest = record (on_policy []) { sized_answer = true }
+shape_of code.PolicyPassword = on_policy []
+
+-- how many handles a command has, and how many of these need authorization
+abbrev pub handle_count : CommandCode → ℕ
+handle_count code = length (shape_of code).handles
+
+abbrev pub authorized_handles : CommandCode → ℕ
+authorized_handles code = count_by (λ rule. is_some rule.role) (shape_of code).handles
+
+-- the role in which the handle of a place, from 0, is authorized; the user's where it is in none
+abbrev pub role_at : CommandCode → ℕ → Role
+role_at code place =
+    option_map_or (λ (rule : HandleRule). unwrap_or rule.role role.User)
+    (slice_get (shape_of code).handles place) role.User
+
+-- whether its first parameter is a sized buffer, which a session can encrypt
+abbrev first_is_sized : List ParameterKind → Bool
+first_is_sized [] = false
+first_is_sized (first ∷ others) = is_sized first
+
+abbrev pub has_sized_parameter : CommandCode → Bool
+has_sized_parameter code = first_is_sized (shape_of code).parameters

@@ -1,0 +1,45 @@
+-- A command's header: tag, commandSize, commandCode. TPM 2.0 Library, Part 1, section 18.2.
+use Rattle.std.specs.Prelude.{ℕ, ◌==◌, ◌||◌, not, nat_lt}
+use Rattle.std.specs.Prelude.{List, ◌++◌, length, drop, take, Result, Ok, ok_or}
+use Rattle.std.specs.Int.{w16, w32, from_be_bytes, to_be_bytes}
+use Rattle.tpm_bytes.specs.Reading.{◌>>=◌, refused_if}
+use Rattle.tpm_types_command.specs.declared.command.Header.{Header}
+use Rattle.tpm_types_command.specs.declared.command.HeaderFault.{HeaderFault}
+use Rattle.tpm_types_command.specs.declared.command.HeaderFault.TheVariants as fault
+use Rattle.tpm_types_command.specs.declared.command_code.CommandCode.{CommandCode}
+use Rattle.tpm_types.specs.declared.rc.Rc.{Rc}
+use Rattle.tpm_types.specs.declared.rc.ResponseCode.TheVariants as code
+use Rattle.tpm_types_command.specs.declared.tag.Tag.{Tag}
+use Rattle.tpm_types.specs.Rc.{plain}
+use Rattle.tpm_types_command.specs.Tag.{tag_named, tag_number}
+use Rattle.tpm_types_command.specs.CommandCode.{code_named, code_number}
+
+abbrev pub header_fault_rc : HeaderFault → Rc
+header_fault_rc fault.Length = plain code.CommandSize
+header_fault_rc fault.Tag = plain code.BadTag
+header_fault_rc fault.Size = plain code.CommandSize
+header_fault_rc fault.Code = plain code.CommandCode
+
+-- the header of a command of this length
+unfoldable pub header_text : Tag → ℕ → CommandCode → List ℕ
+header_text tag size code =
+    to_be_bytes w16 (tag_number tag) ++ to_be_bytes w32 size ++ to_be_bytes w32 (code_number code)
+
+-- the three fields of a buffer of ten bytes or more
+abbrev pub tag_field : List ℕ → ℕ
+tag_field buffer = from_be_bytes w16 (take 2 buffer)
+
+abbrev pub size_field : List ℕ → ℕ
+size_field buffer = from_be_bytes w32 (take 4 (drop 2 buffer))
+
+abbrev pub code_field : List ℕ → ℕ
+code_field buffer = from_be_bytes w32 (take 4 (drop 6 buffer))
+
+-- the header of a whole buffer and what is after it, or its first fault
+unfoldable pub header_at : List ℕ → Result (Header × List ℕ) HeaderFault
+header_at buffer = do
+  length_fits ← refused_if (nat_lt (length buffer) 10 || nat_lt 4096 (length buffer)) fault.Length
+  tag ← ok_or (tag_named (tag_field buffer)) fault.Tag
+  size_is_length ← refused_if (not (size_field buffer == length buffer)) fault.Size
+  code ← ok_or (code_named (code_field buffer)) fault.Code
+  Ok (record { tag = tag; code = code }, drop 10 buffer)

@@ -1,0 +1,13 @@
+pub mod Tag
+pub mod Shape
+pub mod CommandCode
+pub mod HandleArea
+pub mod AuthEntry
+pub mod AuthArea
+pub mod Header
+pub mod Command
+pub use Rattle.tpm_bytes.specs.Reading
+pub use Rattle.tpm_bytes.specs.Writing
+pub use Rattle.tpm_types.specs.CommandNumber
+pub use Rattle.tpm_types.specs.Handle
+pub use Rattle.tpm_types.specs.SessionAttributes

@@ -1,0 +1,95 @@
+-- Every fact of a command but its number and what it does. TPM 2.0 Library, Part 3, the tables of
+-- each command's own section: its handles and who authorizes them, its parameters, and whether it
+-- may have sessions.
+use Rattle.std.specs.Prelude.{◌==◌, ◌||◌, ◌&&◌, not, is_some, Bool, true, false, List, Some, None}
+use Rattle.tpm_types.specs.declared.handle.Handle.{Handle}
+use Rattle.tpm_types_command.specs.declared.shape.HandleKind.{HandleKind}
+use Rattle.tpm_types_command.specs.declared.shape.HandleKind.TheVariants as kind
+use Rattle.tpm_types_command.specs.declared.shape.HandleRule.{HandleRule}
+use Rattle.tpm_types_command.specs.declared.shape.ParameterKind.{ParameterKind}
+use Rattle.tpm_types_command.specs.declared.shape.ParameterKind.TheVariants as parameter
+use Rattle.tpm_types.specs.declared.role.Role.TheVariants as role
+use Rattle.tpm_types_command.specs.declared.shape.Shape.{Shape}
+use Rattle.tpm_types.specs.Handle.{handle_type, hierarchy_auth_of, hierarchy_of, null_handle, pcr_of}
+
+-- whether a handle is one of what has an authorization value, there or not: a hierarchy or lockout,
+-- a PCR, an NV index (01), a transient object (80) or a persistent one (81); or TPM_RH_NULL
+-- (TPMI_DH_ENTITY)
+abbrev pub is_entity : Handle → Bool
+is_entity handle =
+    handle.number == null_handle.number || is_some (hierarchy_auth_of handle) || is_some (pcr_of handle)
+    || handle_type handle == 0x01 || handle_type handle == 0x80 || handle_type handle == 0x81
+
+-- whether a handle is of a kind, after Part 2, section 9: a PCR (TPMI_DH_PCR), or that or
+-- TPM_RH_NULL; TPM_RH_NULL alone, where the standard has a key too; a hierarchy or lockout
+-- (TPMI_RH_HIERARCHY_AUTH); a hierarchy or TPM_RH_NULL (TPMI_RH_HIERARCHY+); an entity as above,
+-- with TPM_RH_NULL or without; a transient object or a persistent one, there or not
+-- (TPMI_DH_OBJECT); a policy session, which a trial session is too (03: TPMI_SH_POLICY)
+abbrev pub is_of_kind : HandleKind → Handle → Bool
+is_of_kind kind.Pcr handle = is_some (pcr_of handle)
+is_of_kind kind.PcrOrNull handle = is_some (pcr_of handle) || handle.number == null_handle.number
+is_of_kind kind.Null handle = handle.number == null_handle.number
+is_of_kind kind.HierarchyAuth handle = is_some (hierarchy_auth_of handle)
+is_of_kind kind.Hierarchy handle = is_some (hierarchy_of handle)
+is_of_kind kind.Entity handle = is_entity handle
+is_of_kind kind.EntityNotNull handle =
+    is_entity handle && not (handle.number == null_handle.number)
+is_of_kind kind.Object handle = handle_type handle == 0x80 || handle_type handle == 0x81
+is_of_kind kind.PolicySession handle = handle_type handle == 0x03
+
+-- whether a parameter is a sized buffer (TPM2B of Part 2, section 10.4)
+abbrev pub is_sized : ParameterKind → Bool
+is_sized (parameter.Buffer most) = true
+is_sized parameter.SensitiveCreate = true
+is_sized parameter.Public = true
+is_sized parameter.StartupType = false
+is_sized parameter.SessionType = false
+is_sized parameter.U8 = false
+is_sized parameter.U16 = false
+is_sized parameter.U32 = false
+is_sized parameter.Hash = false
+is_sized parameter.HashOrNull = false
+is_sized parameter.Symmetric = false
+is_sized parameter.Selection = false
+is_sized parameter.Digests = false
+is_sized parameter.DigestList = false
+
+-- a shape, wherever its lists lie in memory: its handles and who authorizes each, its parameters,
+-- whether the first parameter of its answer is a sized buffer, whether a handle stands before
+-- these, whether it may have no sessions, and whether it may want memory
+pub record Facts : Type 0 where
+  pub handles : List HandleRule
+  pub parameters : List ParameterKind
+  pub sized_answer : Bool
+  pub answers_handle : Bool
+  pub forbids_sessions : Bool
+  pub grows : Bool
+
+abbrev pub facts_of : Shape → Facts
+facts_of s = record {
+  handles = s.handles.now;
+  parameters = s.parameters.now;
+  sized_answer = s.sized_answer;
+  answers_handle = s.answers_handle;
+  forbids_sessions = s.forbids_sessions;
+  grows = s.grows;
+}
+
+-- a handle that is authorized in the role of the user
+abbrev pub user : HandleKind → HandleRule
+user kind = record { kind = kind; role = Some role.User }
+
+-- one that needs no authorization
+abbrev pub unauthorized : HandleKind → HandleRule
+unauthorized kind = record { kind = kind; role = None }
+
+-- a shape with these handles and parameters, of which none of the other facts holds
+abbrev pub shape_with : List HandleRule → List ParameterKind → Facts
+shape_with handles parameters = record {
+  handles = handles;
+  parameters = parameters;
+  sized_answer = false;
+  answers_handle = false;
+  forbids_sessions = false;
+  grows = false;
+}

@@ -1,0 +1,66 @@
+ghost use Rattle.std.specs.Prelude.{map};
+ghost use Rattle.tpm_bytes.specs.Reading.{Reads};
+
+use crate::auth_entry::AuthEntry;
+use arrayvec::ArrayVec;
+use tpm_bytes::Cursor;
+use tpm_types::{Rc, ResponseCode};
+
+/// How many entries an authorization area may have, and how many bytes the smallest has.
+pub const MOST_ENTRIES: usize = 3;
+
+pub const LEAST_AREA: usize = 9;
+
+/// The authorization area of a command with sessions: authorizationSize, and one to three entries
+/// (TPM 2.0 Library, Part 1, section 18.6).
+#[derive(Drop)]
+pub struct AuthArea<'a> {
+    pub entries: ArrayVec<AuthEntry<'a>, 3>,
+}
+
+impl<'a> AuthArea<'a> {
+    ghost use Rattle.tpm_types_command.specs.AuthEntry.{entry_of};
+    ghost use Rattle.tpm_types_command.specs.AuthArea.{area_at};
+
+    /// Reads an area: AUTHSIZE where its size is cut, under nine or beyond the text, and where an
+    /// entry is cut or a fourth one.
+    #[tactic(auto, unfolding(crate::specs::AuthArea::area_at))]
+    pub fn read(text: &mut Cursor<'a>) -> Result<AuthArea<'a>, Rc>
+        ensures { Reads (λ area. map entry_of area.entries.items) (area_at text.old)
+            text.old result text.new }
+    {
+        let mut ahead = Cursor::new(text.rest());
+        let Ok(size) = ahead.u32() else {
+            return Err(ResponseCode::Authsize.anywhere());
+        };
+        let size = size as usize;
+        if size < LEAST_AREA {
+            return Err(ResponseCode::Authsize.anywhere());
+        }
+        let Ok(bytes) = ahead.take(size) else {
+            return Err(ResponseCode::Authsize.anywhere());
+        };
+        let entries = read_entries(bytes)?;
+        *text = ahead;
+        Ok(AuthArea { entries })
+    }
+}
+
+ghost use Rattle.tpm_types_command.specs.AuthArea.{AreEntries};
+
+fn read_entries<'a>(bytes: &'a [u8]) -> Result<ArrayVec<AuthEntry<'a>, 3>, Rc>
+    ensures { AreEntries bytes.now result }
+{
+    let mut left = Cursor::new(bytes);
+    let mut entries = ArrayVec::new();
+    for _ in 0..MOST_ENTRIES {
+        if !left.is_empty() {
+            entries.push(AuthEntry::read(&mut left)?);
+        }
+    }
+    if left.is_empty() {
+        Ok(entries)
+    } else {
+        Err(ResponseCode::Authsize.anywhere())
+    }
+}

@@ -1,0 +1,95 @@
+ghost use Rattle.std.specs.Prelude.{◌≡◌, ℕ, ◌<◌, List, ◌++◌, length, Ok, IfOk};
+ghost use Rattle.std.specs.Option.{SomeIff};
+ghost use Rattle.tpm_bytes.specs.Reading.{Reads};
+
+use tpm_bytes::{Cursor, Full, Sink};
+use tpm_types::{Handle, Rc, ResponseCode, SessionAttributes, bytes_fit};
+
+/// One entry of a command's authorization area: TPMS_AUTH_COMMAND (Part 2, section 10.13.2). The
+/// nonce and the HMAC (or password) have any length that their sizes can say.
+#[derive(Clone, Copy, Default)]
+pub struct AuthEntry<'a> {
+    pub session: Handle,
+    pub nonce: &'a [u8],
+    pub attributes: SessionAttributes,
+    pub hmac: &'a [u8],
+}
+
+impl<'a> AuthEntry<'a> {
+    ghost use Rattle.tpm_types_command.specs.AuthEntry.{Entry, HasSizes, IsEntry, PutsEntry};
+    ghost use Rattle.tpm_types_command.specs.AuthEntry.{entry_at, entry_of, auth_entry_text};
+
+    /// Reads an entry: AUTHSIZE where it is cut.
+    pub fn read(text: &mut Cursor<'a>) -> Result<AuthEntry<'a>, Rc>
+        // Which value it is, or the fault.
+        ensures exact { Reads entry_of (entry_at text.old) text.old result text.new }
+        // What is read was spelled so.
+        ensures found { IfOk result (λ entry. IsEntry (entry_of entry)
+            × (text.old ≡ auth_entry_text (entry_of entry) ++ text.new)) }
+        // What is spelled so is read.
+        ensures only { (entry : Entry) (rest : List ℕ) → IsEntry entry
+            → text.old ≡ auth_entry_text entry ++ rest
+            → Reads entry_of (Ok (entry, rest)) text.old result text.new }
+    {
+        bytes_fit(text.rest());
+        AuthEntry::read_fields(text)
+    }
+
+    #[tactic(auto, unfolding(crate::specs::AuthEntry::entry_at))]
+    fn read_fields(text: &mut Cursor<'a>) -> Result<AuthEntry<'a>, Rc>
+        ensures { Reads entry_of (entry_at text.old) text.old result text.new }
+    {
+        let mut ahead = Cursor::new(text.rest());
+        let Ok(number) = ahead.u32() else {
+            return Err(ResponseCode::Authsize.anywhere());
+        };
+        let Ok(nonce) = ahead.sized(0xffff) else {
+            return Err(ResponseCode::Authsize.anywhere());
+        };
+        let Ok(octet) = ahead.u8() else {
+            return Err(ResponseCode::Authsize.anywhere());
+        };
+        let Ok(hmac) = ahead.sized(0xffff) else {
+            return Err(ResponseCode::Authsize.anywhere());
+        };
+        *text = ahead;
+        Ok(AuthEntry {
+            session: Handle { number },
+            nonce,
+            attributes: SessionAttributes { octet },
+            hmac,
+        })
+    }
+
+    /// How many bytes the entry's text has, where it has one.
+    #[tactic(auto, using(crate::proofs::EntryLaws::entry_sizes))]
+    pub fn text_len(&self) -> Option<usize>
+        ensures { SomeIff result (HasSizes (entry_of self.now))
+            (length (auth_entry_text (entry_of self.now))) }
+    {
+        let (nonce, hmac) = (self.nonce.len(), self.hmac.len());
+        if nonce > 0xffff || hmac > 0xffff {
+            return None;
+        }
+        Some(9 + nonce + hmac)
+    }
+
+    /// Writes the entry at the end, or nothing where it does not fit or a size does not fit its two
+    /// bytes.
+    pub fn write<const N: usize>(&self, sink: &mut Sink<N>) -> Result<(), Full>
+        ensures { PutsEntry N (entry_of self.now) sink.old result sink.new }
+    {
+        let (nonce, hmac) = (self.nonce, self.hmac);
+        if nonce.len() > 0xffff || hmac.len() > 0xffff {
+            return Err(Full);
+        }
+        if N - sink.len() < 9 + nonce.len() + hmac.len() {
+            return Err(Full);
+        }
+        let _ = sink.put_u32(self.session.number);
+        let _ = sink.put_sized(nonce);
+        let _ = sink.put_u8(self.attributes.octet);
+        let _ = sink.put_sized(hmac);
+        Ok(())
+    }
+}

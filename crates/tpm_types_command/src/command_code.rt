@@ -1,0 +1,265 @@
+ghost use Rattle.std.specs.Prelude.{◌≡◌, ◌≤◌, ◌==◌, IfSome, length, true};
+ghost use Rattle.tpm_types.specs.CommandNumber.{is_command_number};
+
+use crate::shape::ParameterKind::{
+    Buffer, DigestList, Digests, Hash, HashOrNull, Public, Selection, SensitiveCreate, SessionType,
+    StartupType, Symmetric, U8, U16, U32,
+};
+use crate::shape::{HandleKind, HandleRule, ParameterKind, Shape};
+use tpm_types::Role;
+
+/// The commands that are served, ascending by number: TPM_CC of TPM 2.0 Library, Part 2, section
+/// 6.5.2.
+#[derive(Clone, Copy, Debug, PartialEq, Eq)]
+pub enum CommandCode {
+    HierarchyChangeAuth = 0x129,
+    CreatePrimary = 0x131,
+    PcrEvent = 0x13c,
+    PcrReset = 0x13d,
+    Startup = 0x144,
+    PolicySecret = 0x151,
+    Create = 0x153,
+    Hmac = 0x155,
+    Load = 0x157,
+    Unseal = 0x15e,
+    FlushContext = 0x165,
+    PolicyAuthValue = 0x16b,
+    PolicyCommandCode = 0x16c,
+    PolicyLocality = 0x16f,
+    PolicyOr = 0x171,
+    ReadPublic = 0x173,
+    StartAuthSession = 0x176,
+    GetRandom = 0x17b,
+    PcrRead = 0x17e,
+    PolicyPcr = 0x17f,
+    PolicyRestart = 0x180,
+    PcrExtend = 0x182,
+    PolicyGetDigest = 0x189,
+    PolicyPassword = 0x18c,
+}
+
+const USER_PCR: HandleRule = HandleRule {
+    kind: HandleKind::Pcr,
+    role: Some(Role::User),
+};
+
+const USER_PCR_OR_NULL: HandleRule = HandleRule {
+    kind: HandleKind::PcrOrNull,
+    role: Some(Role::User),
+};
+
+const USER_HIERARCHY_AUTH: HandleRule = HandleRule {
+    kind: HandleKind::HierarchyAuth,
+    role: Some(Role::User),
+};
+
+const NULL: HandleRule = HandleRule {
+    kind: HandleKind::Null,
+    role: None,
+};
+
+const ENTITY: HandleRule = HandleRule {
+    kind: HandleKind::Entity,
+    role: None,
+};
+
+const USER_ENTITY: HandleRule = HandleRule {
+    kind: HandleKind::EntityNotNull,
+    role: Some(Role::User),
+};
+
+const USER_HIERARCHY: HandleRule = HandleRule {
+    kind: HandleKind::Hierarchy,
+    role: Some(Role::User),
+};
+
+const USER_OBJECT: HandleRule = HandleRule {
+    kind: HandleKind::Object,
+    role: Some(Role::User),
+};
+
+const OBJECT: HandleRule = HandleRule {
+    kind: HandleKind::Object,
+    role: None,
+};
+
+const POLICY_SESSION: HandleRule = HandleRule {
+    kind: HandleKind::PolicySession,
+    role: None,
+};
+
+/// inSensitive, inPublic, outsideInfo, creationPCR.
+const CREATE: &[ParameterKind] = &[SensitiveCreate, Public, Buffer(34), Selection];
+
+/// inPrivate, inPublic.
+const LOAD: &[ParameterKind] = &[Buffer(256), Public];
+
+/// nonceTPM, cpHashA, policyRef, expiration.
+const SECRET: &[ParameterKind] = &[Buffer(32), Buffer(32), Buffer(32), U32];
+
+/// nonceCaller, encryptedSalt, sessionType, symmetric, authHash.
+const START: &[ParameterKind] = &[Buffer(32), Buffer(32), SessionType, Symmetric, Hash];
+
+/// A shape with these handles and parameters, of which the named facts hold and no others.
+macro_rules! shape {
+    ([$($handle:expr),*], $parameters:expr $(, $fact:ident)*) => {{
+        let mut shape = Shape {
+            handles: &[$($handle),*],
+            parameters: $parameters,
+            sized_answer: false,
+            answers_handle: false,
+            forbids_sessions: false,
+            grows: false,
+        };
+        $(shape.$fact = true;)*
+        shape
+    }};
+}
+
+impl CommandCode {
+    ghost use Rattle.tpm_types_command.specs.CommandCode.{authorized_handles, code_named, code_number, handle_count, has_sized_parameter, role_at, shape_of};
+    ghost use Rattle.tpm_types_command.specs.Shape.{facts_of};
+
+    /// All of them, ascending by number.
+    pub const ALL: [CommandCode; 24] = [
+        CommandCode::HierarchyChangeAuth,
+        CommandCode::CreatePrimary,
+        CommandCode::PcrEvent,
+        CommandCode::PcrReset,
+        CommandCode::Startup,
+        CommandCode::PolicySecret,
+        CommandCode::Create,
+        CommandCode::Hmac,
+        CommandCode::Load,
+        CommandCode::Unseal,
+        CommandCode::FlushContext,
+        CommandCode::PolicyAuthValue,
+        CommandCode::PolicyCommandCode,
+        CommandCode::PolicyLocality,
+        CommandCode::PolicyOr,
+        CommandCode::ReadPublic,
+        CommandCode::StartAuthSession,
+        CommandCode::GetRandom,
+        CommandCode::PcrRead,
+        CommandCode::PolicyPcr,
+        CommandCode::PolicyRestart,
+        CommandCode::PcrExtend,
+        CommandCode::PolicyGetDigest,
+        CommandCode::PolicyPassword,
+    ];
+
+    /// The number on the wire.
+    #[tactic(auto, unfolding(crate::specs::CommandCode::code_named, tpm_types::specs::CommandNumber::is_command_number))]
+    pub fn number(self) -> u32
+        ensures value { result ≡ code_number self }
+        // The number names the command.
+        ensures again { code_named result ≡ Some self }
+        // A policy can name each command that is served.
+        ensures named { is_command_number result ≡ true }
+    {
+        self as u32
+    }
+
+    /// The command of this number, if it is served.
+    #[tactic(auto, using(crate::proofs::Codes::codes), unfolding(crate::specs::CommandCode::code_named))]
+    pub fn named(number: u32) -> Option<CommandCode>
+        ensures value { result ≡ code_named number }
+        // It has this number.
+        ensures found { IfSome result (λ code. code_number code ≡ number) }
+    {
+        CommandCode::ALL
+            .iter()
+            .copied()
+            .find(|code| code.number() == number)
+    }
+
+    /// Every other fact of the command.
+    #[tactic(auto, unfolding(crate::specs::CommandCode::shape_of))]
+    pub fn shape(self) -> Shape
+        ensures value { facts_of result ≡ shape_of self }
+        ensures few { length result.handles.now ≤ 3 }
+    {
+        match self {
+            CommandCode::HierarchyChangeAuth => shape!([USER_HIERARCHY_AUTH], &[Buffer(32)]),
+            CommandCode::CreatePrimary => shape!(
+                [USER_HIERARCHY],
+                CREATE,
+                sized_answer,
+                answers_handle,
+                grows
+            ),
+            CommandCode::PcrEvent => shape!([USER_PCR_OR_NULL], &[Buffer(1024)]),
+            CommandCode::PcrReset => shape!([USER_PCR], &[]),
+            CommandCode::Startup => shape!([], &[StartupType], forbids_sessions),
+            CommandCode::PolicySecret => shape!(
+                [USER_ENTITY, POLICY_SESSION],
+                SECRET,
+                sized_answer
+            ),
+            CommandCode::Create => shape!([USER_OBJECT], CREATE, sized_answer),
+            CommandCode::Hmac => shape!([USER_OBJECT], &[Buffer(1024), HashOrNull], sized_answer),
+            CommandCode::Load => shape!([USER_OBJECT], LOAD, sized_answer, answers_handle, grows),
+            CommandCode::Unseal => shape!([USER_OBJECT], &[], sized_answer),
+            CommandCode::FlushContext => shape!([], &[U32], forbids_sessions),
+            CommandCode::PolicyAuthValue => shape!([POLICY_SESSION], &[]),
+            CommandCode::PolicyCommandCode => shape!([POLICY_SESSION], &[U32]),
+            CommandCode::PolicyLocality => shape!([POLICY_SESSION], &[U8]),
+            CommandCode::PolicyOr => shape!([POLICY_SESSION], &[DigestList]),
+            CommandCode::ReadPublic => shape!([OBJECT], &[], sized_answer),
+            CommandCode::StartAuthSession => shape!(
+                [NULL, ENTITY],
+                START,
+                sized_answer,
+                answers_handle,
+                grows
+            ),
+            CommandCode::GetRandom => shape!([], &[U16], sized_answer),
+            CommandCode::PcrRead => shape!([], &[Selection]),
+            CommandCode::PolicyPcr => shape!([POLICY_SESSION], &[Buffer(32), Selection]),
+            CommandCode::PolicyRestart => shape!([POLICY_SESSION], &[]),
+            CommandCode::PcrExtend => shape!([USER_PCR_OR_NULL], &[Digests]),
+            CommandCode::PolicyGetDigest => shape!([POLICY_SESSION], &[], sized_answer),
+            CommandCode::PolicyPassword => shape!([POLICY_SESSION], &[]),
+        }
+    }
+
+    /// How many handles stand behind the command's header.
+    pub fn handle_count(self) -> usize
+        ensures value { result ≡ handle_count self }
+        ensures few { result ≤ 3 }
+    {
+        self.shape().handles.len()
+    }
+
+    /// How many of them need authorization.
+    pub fn authorized_handles(self) -> usize
+        ensures value { result ≡ authorized_handles self }
+        ensures within { result ≤ handle_count self }
+    {
+        self.shape()
+            .handles
+            .iter()
+            .filter(|rule| rule.role.is_some())
+            .count()
+    }
+
+    /// The role in which the handle of this place, from 0, is authorized.
+    pub fn role_at(self, place: usize) -> Role
+        ensures { result ≡ role_at self place }
+    {
+        match self.shape().handles.get(place) {
+            Some(rule) => rule.role.unwrap_or(Role::User),
+            None => Role::User,
+        }
+    }
+
+    /// Whether its first parameter is a sized buffer, which a session can encrypt.
+    pub fn has_sized_parameter(self) -> bool
+        ensures { result ≡ has_sized_parameter self }
+    {
+        match self.shape().parameters {
+            [first, ..] => first.is_sized(),
+            [] => false,
+        }
+    }
+}

@@ -1,0 +1,29 @@
+#![tactic(auto)]
+
+//! Whole commands (TPM 2.0 Library, Part 1, section 18): the commands that are served, their
+//! headers, handles, authorization areas and entries.
+//!
+//! Every fact of a command but its number and what it does stands in its [`shape::Shape`].
+//!
+//! It stands on `tpm_types` for handles and response codes. A read gives the value or the first
+//! fault, as the response code that the standard has for it, and a refused read or write changes
+//! nothing. Entries and commands have one text a value: what is read was spelled so, and what is
+//! spelled so is read. No call here takes memory.
+
+pub mod auth_area;
+pub mod auth_entry;
+pub mod command;
+pub mod command_code;
+pub mod handle_area;
+pub mod shape;
+pub mod tag;
+pub mod whole_command;
+
+pub use auth_entry::AuthEntry;
+pub use command::{HEADER_SIZE, Header, HeaderFault};
+pub use command_code::CommandCode;
+pub use handle_area::read_handles;
+pub use shape::{HandleKind, HandleRule, ParameterKind};
+pub use tag::Tag;
+pub use whole_command::Command;
+pub use whole_command::reading::read_sessions;

@@ -1,0 +1,138 @@
+ghost use Rattle.std.specs.Prelude.{◌≡◌};
+ghost use Rattle.tpm_types_command.specs.Shape.{is_entity};
+
+use tpm_types::{Handle, Role};
+
+/// What a handle of a command may be, after the types of TPM 2.0 Library, Part 2, section 9.
+#[derive(Clone, Copy, Debug, PartialEq, Eq)]
+pub enum HandleKind {
+    /// TPMI_DH_PCR: a PCR.
+    Pcr,
+    /// TPMI_DH_PCR+: a PCR, or TPM_RH_NULL.
+    PcrOrNull,
+    /// TPM_RH_NULL alone.
+    Null,
+    /// TPMI_RH_HIERARCHY_AUTH: a hierarchy, or TPM_RH_LOCKOUT.
+    HierarchyAuth,
+    /// TPMI_RH_HIERARCHY+: a hierarchy, or TPM_RH_NULL.
+    Hierarchy,
+    /// TPMI_DH_ENTITY+: whatever has an authorization value, or TPM_RH_NULL.
+    Entity,
+    /// TPMI_DH_ENTITY: the same without TPM_RH_NULL.
+    EntityNotNull,
+    /// TPMI_DH_OBJECT: a transient or a persistent object.
+    Object,
+    /// TPMI_SH_POLICY: a policy session, a trial one too.
+    PolicySession,
+}
+
+/// Whether the handle is one of an entity that has an authorization value, or TPM_RH_NULL.
+fn is_entity(handle: Handle) -> bool
+    ensures { result ≡ is_entity handle }
+{
+    let is_permanent = handle == Handle::NULL || handle.hierarchy_auth().is_some();
+    let kind = handle.type_byte();
+    is_permanent || handle.pcr().is_some() || kind == 0x01 || kind == 0x80 || kind == 0x81
+}
+
+impl HandleKind {
+    ghost use Rattle.tpm_types_command.specs.Shape.{is_of_kind};
+
+    /// Whether the handle is of this kind.
+    pub fn allows(self, handle: Handle) -> bool
+        ensures { result ≡ is_of_kind self handle }
+    {
+        match self {
+            HandleKind::Pcr => handle.pcr().is_some(),
+            HandleKind::PcrOrNull => handle.pcr().is_some() || handle == Handle::NULL,
+            HandleKind::Null => handle == Handle::NULL,
+            HandleKind::HierarchyAuth => handle.hierarchy_auth().is_some(),
+            HandleKind::Hierarchy => handle.hierarchy().is_some(),
+            HandleKind::Entity => is_entity(handle),
+            HandleKind::EntityNotNull => is_entity(handle) && handle != Handle::NULL,
+            HandleKind::Object => handle.type_byte() == 0x80 || handle.type_byte() == 0x81,
+            HandleKind::PolicySession => handle.type_byte() == 0x03,
+        }
+    }
+}
+
+/// What a handle of a command may be, and in which role it is authorized; none where it needs no
+/// authorization.
+#[derive(Clone, Copy, Debug, PartialEq, Eq)]
+pub struct HandleRule {
+    pub kind: HandleKind,
+    pub role: Option<Role>,
+}
+
+/// What a parameter of a command is.
+#[derive(Clone, Copy, Debug, PartialEq, Eq)]
+pub enum ParameterKind {
+    /// TPM_SU.
+    StartupType,
+    /// TPM_SE.
+    SessionType,
+    /// UINT8.
+    U8,
+    /// UINT16.
+    U16,
+    /// UINT32.
+    U32,
+    /// TPMI_ALG_HASH.
+    Hash,
+    /// TPMI_ALG_HASH+: that, or NULL.
+    HashOrNull,
+    /// TPMT_SYM_DEF.
+    Symmetric,
+    /// TPML_PCR_SELECTION.
+    Selection,
+    /// TPML_DIGEST_VALUES.
+    Digests,
+    /// TPML_DIGEST.
+    DigestList,
+    /// A TPM2B of at most so many bytes.
+    Buffer(u16),
+    /// TPM2B_SENSITIVE_CREATE.
+    SensitiveCreate,
+    /// TPM2B_PUBLIC.
+    Public,
+}
+
+impl ParameterKind {
+    ghost use Rattle.tpm_types_command.specs.Shape.{is_sized};
+
+    /// Whether it is a sized buffer, a TPM2B.
+    pub fn is_sized(self) -> bool
+        ensures { result ≡ is_sized self }
+    {
+        match self {
+            ParameterKind::Buffer(_) | ParameterKind::SensitiveCreate | ParameterKind::Public =>
+                true,
+            ParameterKind::StartupType
+            | ParameterKind::SessionType
+            | ParameterKind::U8
+            | ParameterKind::U16
+            | ParameterKind::U32
+            | ParameterKind::Hash
+            | ParameterKind::HashOrNull
+            | ParameterKind::Symmetric
+            | ParameterKind::Selection
+            | ParameterKind::Digests
+            | ParameterKind::DigestList => false,
+        }
+    }
+}
+
+/// Every fact of a command but its number and what it does.
+#[derive(Clone, Copy)]
+pub struct Shape {
+    pub handles: &'static [HandleRule],
+    pub parameters: &'static [ParameterKind],
+    /// Whether the first parameter of the answer is a sized buffer.
+    pub sized_answer: bool,
+    /// Whether a handle stands before the answer's parameters.
+    pub answers_handle: bool,
+    /// Whether it may have no authorization area.
+    pub forbids_sessions: bool,
+    /// Whether the command may want memory that is not there.
+    pub grows: bool,
+}

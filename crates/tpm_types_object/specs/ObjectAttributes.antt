@@ -1,0 +1,65 @@
+-- The attributes of objects. TPM 2.0 Library, Part 2, section 8.3 (TPMA_OBJECT).
+use Rattle.std.specs.Prelude.{◌≡◌, ℕ, ◌-◌, ◌<◌, ◌^◌, ◌==◌, not, bit_and, Bool}
+use Rattle.std.specs.Prelude.{List, [], ◌∷◌, Result, Ok}
+use Rattle.std.specs.List.{sum_by}
+use Rattle.std.specs.Int.{w32, bit_at, to_be_bytes}
+use Rattle.tpm_bytes.specs.Reading.{◌>>=◌, number_at, or_fault, refused_if}
+use Rattle.tpm_types_object.specs.declared.object_attributes.ObjectAttribute.{ObjectAttribute}
+use Rattle.tpm_types_object.specs.declared.object_attributes.ObjectAttribute.TheVariants as attribute
+use Rattle.tpm_types_object.specs.declared.object_attributes.ObjectAttributes.{ObjectAttributes}
+use Rattle.tpm_types.specs.declared.rc.Rc.{Rc}
+use Rattle.tpm_types.specs.declared.rc.ResponseCode.TheVariants as code
+use Rattle.tpm_types.specs.Rc.{plain}
+
+-- which bit an attribute is
+abbrev pub attribute_bit : ObjectAttribute → ℕ
+attribute_bit attribute.FixedTpm = 1
+attribute_bit attribute.StClear = 2
+attribute_bit attribute.FixedParent = 4
+attribute_bit attribute.SensitiveDataOrigin = 5
+attribute_bit attribute.UserWithAuth = 6
+attribute_bit attribute.AdminWithPolicy = 7
+attribute_bit attribute.NoDa = 10
+attribute_bit attribute.EncryptedDuplication = 11
+attribute_bit attribute.Restricted = 16
+attribute_bit attribute.Decrypt = 17
+attribute_bit attribute.Sign = 18
+
+-- whether an object has an attribute
+abbrev pub has : ObjectAttributes → ObjectAttribute → Bool
+has attributes attribute = bit_at attributes.bits (attribute_bit attribute) == 1
+
+-- all of them
+abbrev pub all_attributes : List ObjectAttribute
+all_attributes =
+    attribute.FixedTpm
+    ∷ attribute.StClear
+    ∷ attribute.FixedParent
+    ∷ attribute.SensitiveDataOrigin
+    ∷ attribute.UserWithAuth
+    ∷ attribute.AdminWithPolicy
+    ∷ attribute.NoDa
+    ∷ attribute.EncryptedDuplication
+    ∷ attribute.Restricted
+    ∷ attribute.Decrypt
+    ∷ attribute.Sign
+    ∷ []
+
+-- the bits of 32 that are no attribute
+abbrev pub reserved_bits : ℕ
+reserved_bits = 2 ^ 32 - 1 - sum_by (λ one. 2 ^ attribute_bit one) all_attributes
+
+abbrev pub attributes_text : ObjectAttributes → List ℕ
+attributes_text attributes = to_be_bytes w32 attributes.bits
+
+-- what has a text: no reserved bit is set
+pub record IsAttributes (attributes : ObjectAttributes) : Type 0 where
+  pub fits : attributes.bits < 2 ^ 32
+  pub named : bit_and attributes.bits reserved_bits ≡ 0
+
+-- attributes, and what is after them
+unfoldable pub attributes_at : List ℕ → Result (ObjectAttributes × List ℕ) Rc
+attributes_at text = do
+  bits ← or_fault (number_at w32 text) (plain code.Insufficient)
+  named ← refused_if (not (bit_and bits.0 reserved_bits == 0)) (plain code.ReservedBits)
+  Ok (record { bits = bits.0 }, bits.1)

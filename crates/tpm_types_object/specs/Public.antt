@@ -1,0 +1,135 @@
+-- The public areas of objects. TPM 2.0 Library, Part 2, section 12.2.4 (TPMT_PUBLIC), and for their
+-- parameters section 12.2.3.7 (TPMU_PUBLIC_PARMS), with sections 11.1.9 (TPMS_SYMCIPHER_PARMS) and
+-- 11.1.23 (TPMT_KEYEDHASH_SCHEME); section 6.3 (TPM_ALG_ID: KEYEDHASH 0008, SYMCIPHER 0025, NULL
+-- 0010, HMAC 0005). That another scheme is SCHEME is this device's own.
+use Rattle.std.specs.Prelude.{ℕ, ◌==◌, ◌≤◌, List, ◌++◌, length, if◌then◌else◌}
+use Rattle.std.specs.Prelude.{Option, Some, None, Result, Ok, Err, ok_or}
+use Rattle.std.specs.Int.{w16, to_be_bytes}
+use Rattle.tpm_bytes.specs.Reading.{◌>>=◌, number_at, or_fault, refused_if}
+use Rattle.tpm_bytes.specs.Writing.{sized_text}
+use Rattle.tpm_types_object.specs.declared.public.KeyedHashScheme.{KeyedHashScheme}
+use Rattle.tpm_types_object.specs.declared.public.KeyedHashScheme.TheVariants.{Null, Hmac}
+use Rattle.tpm_types_object.specs.declared.public.ObjectType.{ObjectType}
+use Rattle.tpm_types_object.specs.declared.public.ObjectType.TheVariants as object
+use Rattle.tpm_types_object.specs.declared.public.Public.{Public}
+use Rattle.tpm_types_object.specs.declared.public.PublicParameters.{PublicParameters}
+use Rattle.tpm_types_object.specs.declared.public.PublicParameters.TheVariants as parameters_of
+use Rattle.tpm_types.specs.declared.rc.Rc.{Rc}
+use Rattle.tpm_types.specs.declared.rc.ResponseCode.TheVariants as code
+use Rattle.tpm_types.specs.declared.symmetric.SymmetricDefinition.TheVariants as symmetric
+use Rattle.tpm_types.specs.Algorithm.{hash_at, hash_number}
+use Rattle.tpm_types.specs.Buffer.{buffer_at}
+use Rattle.tpm_types_object.specs.ObjectAttributes.{IsAttributes, attributes_at, attributes_text}
+use Rattle.tpm_types.specs.Rc.{plain}
+use Rattle.tpm_types.specs.Symmetric.{is_null, symmetric_at, symmetric_text}
+
+-- ---- the types of objects
+
+abbrev pub object_type_number : ObjectType → ℕ
+object_type_number object.KeyedHash = 0x0008
+object_type_number object.SymCipher = 0x0025
+
+-- the object type of a number
+abbrev pub object_type_named : ℕ → Option ObjectType
+object_type_named number =
+    if number == 0x0008 then Some object.KeyedHash
+    else (if number == 0x0025 then Some object.SymCipher else None)
+
+abbrev pub object_type_text : ObjectType → List ℕ
+object_type_text type = to_be_bytes w16 (object_type_number type)
+
+-- an object type, and what is after it
+unfoldable pub object_type_at : List ℕ → Result (ObjectType × List ℕ) Rc
+object_type_at text = do
+  number ← or_fault (number_at w16 text) (plain code.Insufficient)
+  type ← ok_or (object_type_named number.0) (plain code.Type)
+  Ok (type, number.1)
+
+-- ---- the parameters of each type
+
+-- NULL alone; or HMAC and its hash algorithm
+unfoldable pub scheme_text : KeyedHashScheme → List ℕ
+scheme_text Null = to_be_bytes w16 0x0010
+scheme_text (Hmac hash) = to_be_bytes w16 0x0005 ++ to_be_bytes w16 (hash_number hash)
+
+abbrev pub hmac_at : List ℕ → Result (KeyedHashScheme × List ℕ) Rc
+hmac_at text = do
+  hash ← hash_at text
+  Ok (Hmac hash.0, hash.1)
+
+-- what stands behind the number of a scheme
+abbrev pub behind_scheme_at : ℕ → List ℕ → Result (KeyedHashScheme × List ℕ) Rc
+behind_scheme_at number text =
+    if number == 0x0010 then Ok (Null, text)
+    else (if number == 0x0005 then hmac_at text else Err (plain code.Scheme))
+
+-- a scheme, and what is after it
+unfoldable pub scheme_at : List ℕ → Result (KeyedHashScheme × List ℕ) Rc
+scheme_at text = do
+  scheme ← or_fault (number_at w16 text) (plain code.Insufficient)
+  behind_scheme_at scheme.0 scheme.1
+
+-- the cipher of a SYMCIPHER, which is not NULL, and what is after it
+unfoldable pub cipher_at : List ℕ → Result (PublicParameters × List ℕ) Rc
+cipher_at text = do
+  definition ← symmetric_at text
+  cipher ← refused_if (is_null definition.0) (plain code.Symmetric)
+  Ok (parameters_of.SymCipher, definition.1)
+
+abbrev pub keyed_hash_at : List ℕ → Result (PublicParameters × List ℕ) Rc
+keyed_hash_at text = do
+  scheme ← scheme_at text
+  Ok (parameters_of.KeyedHash scheme.0, scheme.1)
+
+-- parameters of this type, and what is after them
+abbrev pub parameters_at : ObjectType → List ℕ → Result (PublicParameters × List ℕ) Rc
+parameters_at object.KeyedHash text = keyed_hash_at text
+parameters_at object.SymCipher text = cipher_at text
+
+-- the scheme of a KEYEDHASH; or AES with its key's bits and mode
+abbrev pub parameters_text : PublicParameters → List ℕ
+parameters_text (parameters_of.KeyedHash scheme) = scheme_text scheme
+parameters_text parameters_of.SymCipher = symmetric_text symmetric.Aes128Cfb
+
+abbrev pub type_of_parameters : PublicParameters → ObjectType
+type_of_parameters (parameters_of.KeyedHash scheme) = object.KeyedHash
+type_of_parameters parameters_of.SymCipher = object.SymCipher
+
+-- ---- public areas
+
+abbrev pub object_type : Public → ObjectType
+object_type p = type_of_parameters p.parameters
+
+-- the type, the algorithm of the Name, the attributes, the policy, the type's parameters, and what
+-- makes the object unique
+unfoldable pub public_text : Public → List ℕ
+public_text p =
+    object_type_text (object_type p) ++ to_be_bytes w16 (hash_number p.name_alg)
+    ++ attributes_text p.attributes ++ sized_text p.auth_policy
+    ++ parameters_text p.parameters ++ sized_text p.unique
+
+-- what has a text: buffers of at most 32 bytes, and no reserved bit
+pub record IsPublic (p : Public) : Type 0 where
+  pub attributes : IsAttributes p.attributes
+  pub auth_policy : length p.auth_policy ≤ 32
+  pub unique : length p.unique ≤ 32
+
+-- a public area, and what is after it
+unfoldable pub public_at : List ℕ → Result (Public × List ℕ) Rc
+public_at text = do
+  type ← object_type_at text
+  name_alg ← hash_at type.1
+  attributes ← attributes_at name_alg.1
+  auth_policy ← buffer_at 32 attributes.1
+  parameters ← parameters_at type.0 auth_policy.1
+  unique ← buffer_at 32 parameters.1
+  Ok (
+    record {
+      name_alg = name_alg.0;
+      attributes = attributes.0;
+      auth_policy = auth_policy.0;
+      parameters = parameters.0;
+      unique = unique.0;
+    },
+    unique.1,
+  )

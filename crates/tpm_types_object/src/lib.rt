@@ -1,0 +1,24 @@
+#![tactic(auto)]
+
+//! The areas of objects (TPM 2.0 Library, Part 2, section 12): public and sensitive areas, the
+//! attributes of objects, what a caller gives for a new object, and creation data; and the Name of
+//! an object.
+//!
+//! It stands on `tpm_types` for the structures that these have, and on `tpm_name` for Names. A read
+//! gives the value or the first fault, as the response code that the standard has for it, and a
+//! refused read or write changes nothing. Each structure has one text a value: what is read was
+//! spelled so, and what is spelled so is read. No call here takes memory.
+
+pub mod creation_data;
+pub mod filled;
+pub mod object_attributes;
+pub mod public;
+pub mod sensitive;
+pub mod sensitive_create;
+
+pub use creation_data::CreationData;
+pub use filled::read_filled;
+pub use object_attributes::{ObjectAttribute, ObjectAttributes};
+pub use public::{KeyedHashScheme, Public, PublicParameters};
+pub use sensitive::Sensitive;
+pub use sensitive_create::SensitiveCreate;

@@ -1,0 +1,72 @@
+ghost use Rattle.std.specs.Prelude.{◌≡◌, ◌<◌};
+ghost use Rattle.tpm_bytes.specs.Reading.{Reads};
+
+use tpm_bytes::Cursor;
+use tpm_types::{Rc, ResponseCode};
+
+/// The bits that are no attribute.
+const RESERVED_BITS: u32 = 0xfff8_f309;
+
+/// An attribute of an object, by its bit: TPMA_OBJECT of TPM 2.0 Library, Part 2, section 8.3.
+#[derive(Clone, Copy, Debug, PartialEq, Eq)]
+pub enum ObjectAttribute {
+    FixedTpm = 1,
+    StClear = 2,
+    FixedParent = 4,
+    SensitiveDataOrigin = 5,
+    UserWithAuth = 6,
+    AdminWithPolicy = 7,
+    NoDa = 10,
+    EncryptedDuplication = 11,
+    Restricted = 16,
+    Decrypt = 17,
+    Sign = 18,
+}
+
+impl ObjectAttribute {
+    ghost use Rattle.tpm_types_object.specs.ObjectAttributes.{attribute_bit};
+
+    /// Which bit it is.
+    pub fn bit(self) -> u32
+        ensures value { result ≡ attribute_bit self }
+        ensures small { result < 32 }
+    {
+        self as u32
+    }
+}
+
+/// The attributes of an object, a bit for each.
+#[derive(Clone, Copy, Debug, PartialEq, Eq)]
+pub struct ObjectAttributes {
+    pub bits: u32,
+}
+
+impl ObjectAttributes {
+    ghost use Rattle.tpm_types_object.specs.ObjectAttributes.{attributes_at, has};
+
+    /// Whether the object has this attribute.
+    #[tactic(auto, using(std::proofs::lemmas::Nat::Bits::shr_and_one))]
+    pub fn has(self, attribute: ObjectAttribute) -> bool
+        ensures { result ≡ has self attribute }
+    {
+        (self.bits >> attribute.bit()) & 1 == 1
+    }
+
+    /// Reads attributes: INSUFFICIENT where they are cut, RESERVED_BITS where a bit is set that is
+    /// no attribute.
+    #[tactic(auto, unfolding(crate::specs::ObjectAttributes::attributes_at))]
+    pub fn read(text: &mut Cursor) -> Result<ObjectAttributes, Rc>
+        ensures { Reads (λ attributes. attributes) (attributes_at text.old) text.old
+            result text.new }
+    {
+        let mut ahead = Cursor::new(text.rest());
+        let Ok(bits) = ahead.u32() else {
+            return Err(ResponseCode::Insufficient.anywhere());
+        };
+        if bits & RESERVED_BITS != 0 {
+            return Err(ResponseCode::ReservedBits.anywhere());
+        }
+        *text = ahead;
+        Ok(ObjectAttributes { bits })
+    }
+}

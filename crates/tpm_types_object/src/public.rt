@@ -1,0 +1,309 @@
+ghost use Rattle.std.specs.Prelude.{◌≡◌, ℕ, ◌≤◌, List, ◌++◌, length, Ok, IfOk};
+ghost use Rattle.tpm_bytes.specs.Reading.{Reads};
+ghost use Rattle.tpm_bytes.specs.Writing.{Puts, sized_text};
+
+use crate::filled::read_filled;
+use crate::object_attributes::ObjectAttributes;
+use tpm_bytes::{Cursor, Full, Readable, Sink};
+use tpm_mac::HashAlg;
+use tpm_name::Name;
+use tpm_types::{Octets, Rc, ResponseCode, SymmetricDefinition, bytes_fit, hash_number, read_hash};
+
+/// The type of an object: TPMI_ALG_PUBLIC of TPM 2.0 Library, Part 2, section 12.2.2.
+#[derive(Clone, Copy, Debug, PartialEq, Eq)]
+pub enum ObjectType {
+    /// TPM_ALG_KEYEDHASH: a key of HMACs, or sealed data.
+    KeyedHash,
+    /// TPM_ALG_SYMCIPHER: a key of a symmetric cipher.
+    SymCipher,
+}
+
+impl ObjectType {
+    ghost use Rattle.tpm_types_object.specs.Public.{object_type_at, object_type_named, object_type_number};
+
+    /// The number on the wire.
+    pub fn number(self) -> u16
+        ensures { result ≡ object_type_number self }
+    {
+        match self {
+            ObjectType::KeyedHash => 0x0008,
+            ObjectType::SymCipher => 0x0025,
+        }
+    }
+
+    /// The type of this number.
+    pub fn named(number: u16) -> Option<ObjectType>
+        ensures { result ≡ object_type_named number }
+    {
+        match number {
+            0x0008 => Some(ObjectType::KeyedHash),
+            0x0025 => Some(ObjectType::SymCipher),
+            _ => None,
+        }
+    }
+
+    /// Reads an object type: INSUFFICIENT where it is cut, TYPE where it is none.
+    #[tactic(auto, unfolding(crate::specs::Public::object_type_at))]
+    pub fn read(text: &mut Cursor) -> Result<ObjectType, Rc>
+        ensures { Reads (λ kind. kind) (object_type_at text.old) text.old result text.new }
+    {
+        let mut ahead = Cursor::new(text.rest());
+        let Ok(number) = ahead.u16() else {
+            return Err(ResponseCode::Insufficient.anywhere());
+        };
+        let Some(kind) = ObjectType::named(number) else {
+            return Err(ResponseCode::Type.anywhere());
+        };
+        *text = ahead;
+        Ok(kind)
+    }
+}
+
+/// What a KEYEDHASH object is used for: TPMT_KEYEDHASH_SCHEME (Part 2, section 11.1).
+#[derive(Clone, Copy, Debug, PartialEq, Eq)]
+pub enum KeyedHashScheme {
+    /// TPM_ALG_NULL: any use.
+    Null,
+    /// TPM_ALG_HMAC: HMACs by this hash algorithm.
+    Hmac(HashAlg),
+}
+
+impl KeyedHashScheme {
+    ghost use Rattle.tpm_types_object.specs.Public.{scheme_at, scheme_text};
+
+    /// Reads a scheme: INSUFFICIENT where it is cut, SCHEME where it is neither NULL nor HMAC, and
+    /// HASH where the algorithm of the latter is not served.
+    #[tactic(auto, unfolding(crate::specs::Public::scheme_at))]
+    pub fn read(text: &mut Cursor) -> Result<KeyedHashScheme, Rc>
+        ensures { Reads (λ scheme. scheme) (scheme_at text.old) text.old result text.new }
+    {
+        let mut ahead = Cursor::new(text.rest());
+        let Ok(number) = ahead.u16() else {
+            return Err(ResponseCode::Insufficient.anywhere());
+        };
+        let scheme = match number {
+            0x0010 => KeyedHashScheme::Null,
+            0x0005 => KeyedHashScheme::Hmac(read_hash(&mut ahead)?),
+            _ => return Err(ResponseCode::Scheme.anywhere()),
+        };
+        *text = ahead;
+        Ok(scheme)
+    }
+
+    /// Writes the scheme at the end, at most four bytes, or nothing where it does not fit.
+    #[tactic(auto, unfolding(crate::specs::Public::scheme_text))]
+    pub fn write<const N: usize>(self, sink: &mut Sink<N>) -> Result<(), Full>
+        ensures written { Puts N (scheme_text self) sink.old result sink.new }
+        ensures small { length (scheme_text self) ≤ 4 }
+    {
+        match self {
+            KeyedHashScheme::Null => sink.put_u16(0x0010),
+            KeyedHashScheme::Hmac(hash) => {
+                if N - sink.len() < 4 {
+                    return Err(Full);
+                }
+                let _ = sink.put_u16(0x0005);
+                let _ = sink.put_u16(hash_number(hash));
+                Ok(())
+            }
+        }
+    }
+}
+
+/// What the public area says of an object of its type: TPMU_PUBLIC_PARMS (Part 2, section 12.2.3).
+#[derive(Clone, Copy, Debug, PartialEq, Eq)]
+pub enum PublicParameters {
+    KeyedHash(KeyedHashScheme),
+    /// AES with a key of 128 bits, in cipher feedback mode.
+    SymCipher,
+}
+
+impl PublicParameters {
+    ghost use Rattle.tpm_types_object.specs.Public.{cipher_at, parameters_at, parameters_text, type_of_parameters};
+
+    /// The type whose parameters they are.
+    pub fn object_type(self) -> ObjectType
+        ensures { result ≡ type_of_parameters self }
+    {
+        match self {
+            PublicParameters::KeyedHash(_) => ObjectType::KeyedHash,
+            PublicParameters::SymCipher => ObjectType::SymCipher,
+        }
+    }
+
+    /// Reads the parameters of this type, with the first fault of a scheme or a cipher.
+    pub fn read(kind: ObjectType, text: &mut Cursor) -> Result<PublicParameters, Rc>
+        ensures { Reads (λ parameters. parameters) (parameters_at kind text.old) text.old
+            result text.new }
+    {
+        match kind {
+            ObjectType::KeyedHash => Ok(PublicParameters::KeyedHash(KeyedHashScheme::read(text)?)),
+            ObjectType::SymCipher => PublicParameters::read_cipher(text),
+        }
+    }
+
+    /// Reads a cipher: as a symmetric definition, but SYMMETRIC where it is NULL.
+    #[tactic(auto, unfolding(crate::specs::Public::cipher_at))]
+    fn read_cipher(text: &mut Cursor) -> Result<PublicParameters, Rc>
+        ensures { Reads (λ parameters. parameters) (cipher_at text.old) text.old result text.new }
+    {
+        let mut ahead = Cursor::new(text.rest());
+        match SymmetricDefinition::read(&mut ahead)? {
+            SymmetricDefinition::Null => Err(ResponseCode::Symmetric.anywhere()),
+            SymmetricDefinition::Aes128Cfb => {
+                *text = ahead;
+                Ok(PublicParameters::SymCipher)
+            }
+        }
+    }
+
+    /// Writes the parameters at the end, at most six bytes, or nothing where they do not fit.
+    #[tactic(auto, unfolding(tpm_types::specs::Symmetric::symmetric_text))]
+    pub fn write<const N: usize>(self, sink: &mut Sink<N>) -> Result<(), Full>
+        ensures written { Puts N (parameters_text self) sink.old result sink.new }
+        ensures small { length (parameters_text self) ≤ 6 }
+    {
+        match self {
+            PublicParameters::KeyedHash(scheme) => scheme.write(sink),
+            PublicParameters::SymCipher => SymmetricDefinition::Aes128Cfb.write(sink),
+        }
+    }
+}
+
+/// The public area of an object: TPMT_PUBLIC (Part 2, section 12.2.4).
+#[derive(Drop)]
+pub struct Public {
+    /// The hash algorithm of its Name and of its policy.
+    pub name_alg: HashAlg,
+    pub attributes: ObjectAttributes,
+    pub auth_policy: Octets<32>,
+    pub parameters: PublicParameters,
+    pub unique: Octets<32>,
+}
+
+impl Public {
+    ghost use Rattle.tpm_types_object.specs.Public.{IsPublic, object_type, public_at, public_text};
+    ghost use Rattle.tpm_types_object.specs.ObjectName.{object_name};
+    ghost use Rattle.tpm_types_object.specs.Filled.{filled_by};
+    ghost use Rattle.tpm_types_object.specs.declared.public.Public.{Public};
+
+    /// Reads a public area: INSUFFICIENT where it is cut, and else the first fault of a field.
+    pub fn read(text: &mut Cursor) -> Result<Public, Rc>
+        // Which value it is, or the first fault.
+        ensures exact { Reads (λ public. public) (public_at text.old) text.old result text.new }
+        // What is read was spelled so.
+        ensures found { IfOk result (λ public. IsPublic public
+            × (text.old ≡ public_text public ++ text.new)) }
+        // What is spelled so is read.
+        ensures only { (public : Public) (rest : List ℕ) → IsPublic public
+            → text.old ≡ public_text public ++ rest
+            → Reads (λ public. public) (Ok (public, rest)) text.old result text.new }
+    {
+        bytes_fit(text.rest());
+        Public::read_fields(text)
+    }
+
+    /// Reads a public area that fills a sized buffer (TPM2B): as [`read_filled`].
+    pub fn read_sized(text: &mut Cursor) -> Result<Public, Rc>
+        ensures exact { Reads (λ public. public) (filled_by public_at text.old) text.old
+            result text.new }
+        ensures found { IfOk result (λ public. IsPublic public
+            × (text.old ≡ sized_text (public_text public) ++ text.new)) }
+        ensures only { (public : Public) (rest : List ℕ) → IsPublic public
+            → text.old ≡ sized_text (public_text public) ++ rest
+            → Reads (λ public. public) (Ok (public, rest)) text.old result text.new }
+    {
+        bytes_fit(text.rest());
+        read_filled(text)
+    }
+
+    #[tactic(auto, unfolding(crate::specs::Public::public_at))]
+    fn read_fields(text: &mut Cursor) -> Result<Public, Rc>
+        ensures { Reads (λ public. public) (public_at text.old) text.old result text.new }
+    {
+        let mut ahead = Cursor::new(text.rest());
+        let kind = ObjectType::read(&mut ahead)?;
+        let name_alg = read_hash(&mut ahead)?;
+        let attributes = ObjectAttributes::read(&mut ahead)?;
+        let auth_policy = Octets::read(&mut ahead)?;
+        let parameters = PublicParameters::read(kind, &mut ahead)?;
+        let unique = Octets::read(&mut ahead)?;
+        *text = ahead;
+        Ok(Public {
+            name_alg,
+            attributes,
+            auth_policy,
+            parameters,
+            unique,
+        })
+    }
+
+    /// The type of the object.
+    pub fn object_type(&self) -> ObjectType
+        ensures { result ≡ object_type self.now }
+    {
+        self.parameters.object_type()
+    }
+
+    /// The same public area.
+    pub fn copy(&self) -> Public
+        ensures { result ≡ self.now }
+    {
+        Public {
+            name_alg: self.name_alg,
+            attributes: self.attributes,
+            auth_policy: self.auth_policy.copy(),
+            parameters: self.parameters,
+            unique: self.unique.copy(),
+        }
+    }
+
+    /// The text of the public area, in the room for the longest.
+    #[tactic(auto, unfolding(crate::specs::Public::public_text))]
+    pub fn text(&self) -> Sink<82>
+        ensures { result ≡ public_text self.now }
+    {
+        let mut text = Sink::new();
+        let _ = text.put_u16(self.object_type().number());
+        let _ = text.put_u16(hash_number(self.name_alg));
+        let _ = text.put_u32(self.attributes.bits);
+        let _ = text.put_sized(self.auth_policy.as_slice());
+        let _ = self.parameters.write(&mut text);
+        let _ = text.put_sized(self.unique.as_slice());
+        text
+    }
+
+    /// The Name of its object: the algorithm of the Name, and the digest of this text by it.
+    #[tactic(auto, unfolding(crate::specs::ObjectName::object_name))]
+    pub fn name(&self) -> Name
+        ensures { result ≡ object_name self.now }
+    {
+        Name::hashed(self.name_alg, &[self.text().as_slice()])
+    }
+
+    /// Writes the public area at the end, at most 82 bytes, or nothing where it does not fit.
+    pub fn write<const N: usize>(&self, sink: &mut Sink<N>) -> Result<(), Full>
+        ensures written { Puts N (public_text self.now) sink.old result sink.new }
+        ensures small { length (public_text self.now) ≤ 82 }
+    {
+        let text = self.text();
+        sink.put(text.as_slice())
+    }
+}
+
+impl<'a> Readable<'a> for Public {
+    ghost use Rattle.tpm_types_object.specs.Public.{public_at};
+    ghost use Rattle.tpm_types_object.specs.declared.public.Public.{Public};
+
+    type Fault = Rc;
+
+    ghost Seen = { Public };
+
+    ghost seen = { λ public. public };
+
+    ghost at = { public_at };
+
+    fn read(text: &mut Cursor<'a>) -> Result<Public, Rc> {
+        Public::read(text)
+    }
+}

@@ -1,0 +1,126 @@
+ghost use Rattle.std.specs.Prelude.{◌≡◌, ℕ, ◌≤◌, List, ◌++◌, length, Ok, IfOk};
+ghost use Rattle.tpm_bytes.specs.Reading.{Reads};
+ghost use Rattle.tpm_bytes.specs.Writing.{Puts, sized_text};
+
+use crate::filled::read_filled;
+use crate::public::ObjectType;
+use tpm_bytes::{Cursor, Full, Readable, Sink};
+use tpm_types::{Octets, Rc, bytes_fit};
+
+/// The sensitive area of an object: TPMT_SENSITIVE of TPM 2.0 Library, Part 2, section 12.3.2.4.
+#[derive(Drop)]
+pub struct Sensitive {
+    pub object_type: ObjectType,
+    /// As it was written: zeros at its end stay.
+    pub auth_value: Octets<32>,
+    /// The seed of a storage key, else what hides `sensitive` in the public area.
+    pub seed_value: Octets<32>,
+    /// The key, or the sealed data.
+    pub sensitive: Octets<128>,
+}
+
+impl Sensitive {
+    ghost use Rattle.tpm_types_object.specs.Sensitive.{IsSensitive, sensitive_at, sensitive_text};
+    ghost use Rattle.tpm_types_object.specs.Filled.{filled_by};
+    ghost use Rattle.tpm_types_object.specs.declared.sensitive.Sensitive.{Sensitive};
+
+    /// Reads a sensitive area: INSUFFICIENT where it is cut, TYPE, and SIZE where a buffer is too
+    /// long.
+    pub fn read(text: &mut Cursor) -> Result<Sensitive, Rc>
+        // Which value it is, or the first fault.
+        ensures exact { Reads (λ area. area) (sensitive_at text.old) text.old result text.new }
+        // What is read was spelled so.
+        ensures found { IfOk result (λ area. IsSensitive area
+            × (text.old ≡ sensitive_text area ++ text.new)) }
+        // What is spelled so is read.
+        ensures only { (area : Sensitive) (rest : List ℕ) → IsSensitive area
+            → text.old ≡ sensitive_text area ++ rest
+            → Reads (λ area. area) (Ok (area, rest)) text.old result text.new }
+    {
+        bytes_fit(text.rest());
+        Sensitive::read_fields(text)
+    }
+
+    /// Reads a sensitive area that fills a sized buffer (TPM2B): as [`read_filled`].
+    pub fn read_sized(text: &mut Cursor) -> Result<Sensitive, Rc>
+        ensures exact { Reads (λ area. area) (filled_by sensitive_at text.old) text.old
+            result text.new }
+        ensures found { IfOk result (λ area. IsSensitive area
+            × (text.old ≡ sized_text (sensitive_text area) ++ text.new)) }
+        ensures only { (area : Sensitive) (rest : List ℕ) → IsSensitive area
+            → text.old ≡ sized_text (sensitive_text area) ++ rest
+            → Reads (λ area. area) (Ok (area, rest)) text.old result text.new }
+    {
+        bytes_fit(text.rest());
+        read_filled(text)
+    }
+
+    #[tactic(auto, unfolding(crate::specs::Sensitive::sensitive_at))]
+    fn read_fields(text: &mut Cursor) -> Result<Sensitive, Rc>
+        ensures { Reads (λ area. area) (sensitive_at text.old) text.old result text.new }
+    {
+        let mut ahead = Cursor::new(text.rest());
+        let object_type = ObjectType::read(&mut ahead)?;
+        let auth_value = Octets::read(&mut ahead)?;
+        let seed_value = Octets::read(&mut ahead)?;
+        let sensitive = Octets::read(&mut ahead)?;
+        *text = ahead;
+        Ok(Sensitive {
+            object_type,
+            auth_value,
+            seed_value,
+            sensitive,
+        })
+    }
+
+    /// The same sensitive area.
+    pub fn copy(&self) -> Sensitive
+        ensures { result ≡ self.now }
+    {
+        Sensitive {
+            object_type: self.object_type,
+            auth_value: self.auth_value.copy(),
+            seed_value: self.seed_value.copy(),
+            sensitive: self.sensitive.copy(),
+        }
+    }
+
+    /// The text of the sensitive area, in the room for the longest.
+    #[tactic(auto, unfolding(crate::specs::Sensitive::sensitive_text))]
+    pub fn text(&self) -> Sink<200>
+        ensures { result ≡ sensitive_text self.now }
+    {
+        let mut text = Sink::new();
+        let _ = text.put_u16(self.object_type.number());
+        let _ = text.put_sized(self.auth_value.as_slice());
+        let _ = text.put_sized(self.seed_value.as_slice());
+        let _ = text.put_sized(self.sensitive.as_slice());
+        text
+    }
+
+    /// Writes the sensitive area at the end, at most 200 bytes, or nothing where it does not fit.
+    pub fn write<const N: usize>(&self, sink: &mut Sink<N>) -> Result<(), Full>
+        ensures written { Puts N (sensitive_text self.now) sink.old result sink.new }
+        ensures small { length (sensitive_text self.now) ≤ 200 }
+    {
+        let text = self.text();
+        sink.put(text.as_slice())
+    }
+}
+
+impl<'a> Readable<'a> for Sensitive {
+    ghost use Rattle.tpm_types_object.specs.Sensitive.{sensitive_at};
+    ghost use Rattle.tpm_types_object.specs.declared.sensitive.Sensitive.{Sensitive};
+
+    type Fault = Rc;
+
+    ghost Seen = { Sensitive };
+
+    ghost seen = { λ area. area };
+
+    ghost at = { sensitive_at };
+
+    fn read(text: &mut Cursor<'a>) -> Result<Sensitive, Rc> {
+        Sensitive::read(text)
+    }
+}

@@ -1,0 +1,95 @@
+ghost use Rattle.std.specs.Prelude.{◌≡◌, ◌≤◌, ℕ, List, ◌++◌, length, Ok, IfOk};
+ghost use Rattle.tpm_bytes.specs.Reading.{Reads};
+ghost use Rattle.tpm_bytes.specs.Writing.{sized_text};
+ghost use Rattle.tpm_types_object.specs.Filled.{filled_by};
+
+use crate::filled::read_filled;
+use tpm_bytes::{Cursor, Readable, Sink};
+use tpm_types::{Rc, bytes_fit, read_buffer};
+
+/// What the caller gives to a new object's sensitive area: TPMS_SENSITIVE_CREATE of TPM 2.0
+/// Library, Part 2, section 11.1.15.
+#[derive(Clone, Copy)]
+pub struct SensitiveCreate<'a> {
+    pub user_auth: &'a [u8],
+    pub data: &'a [u8],
+    ghost few: { length user_auth.now ≤ 32 },
+    ghost short: { length «data».now ≤ 128 },
+}
+
+impl<'a> SensitiveCreate<'a> {
+    ghost use Rattle.tpm_types_object.specs.SensitiveCreate.{IsSensitiveCreate, SensitiveValues, sensitive_create_at};
+    ghost use Rattle.tpm_types_object.specs.SensitiveCreate.{sensitive_create_text, sensitive_values_of};
+
+    /// Reads the values: INSUFFICIENT where they are cut, SIZE where one is too long.
+    pub fn read(text: &mut Cursor<'a>) -> Result<SensitiveCreate<'a>, Rc>
+        // Which values they are, or the first fault.
+        ensures exact { Reads sensitive_values_of (sensitive_create_at text.old) text.old
+            result text.new }
+        ensures fits { IfOk result (λ given. IsSensitiveCreate (sensitive_values_of given)) }
+        // What is read was spelled so.
+        ensures found { IfOk result (λ given.
+            text.old ≡ sensitive_create_text (sensitive_values_of given) ++ text.new) }
+        // What is spelled so is read.
+        ensures only { (given : SensitiveValues) (rest : List ℕ) → IsSensitiveCreate given
+            → text.old ≡ sensitive_create_text given ++ rest
+            → Reads sensitive_values_of (Ok (given, rest)) text.old result text.new }
+    {
+        bytes_fit(text.rest());
+        SensitiveCreate::read_fields(text)
+    }
+
+    /// Reads values that fill a sized buffer (TPM2B): as [`read_filled`].
+    pub fn read_sized(text: &mut Cursor<'a>) -> Result<SensitiveCreate<'a>, Rc>
+        ensures exact { Reads sensitive_values_of (filled_by sensitive_create_at text.old) text.old
+            result text.new }
+        ensures fits { IfOk result (λ given. IsSensitiveCreate (sensitive_values_of given)) }
+        ensures found { IfOk result (λ given. text.old
+            ≡ sized_text (sensitive_create_text (sensitive_values_of given)) ++ text.new) }
+        ensures only { (given : SensitiveValues) (rest : List ℕ) → IsSensitiveCreate given
+            → text.old ≡ sized_text (sensitive_create_text given) ++ rest
+            → Reads sensitive_values_of (Ok (given, rest)) text.old result text.new }
+    {
+        bytes_fit(text.rest());
+        read_filled(text)
+    }
+
+    #[tactic(auto, unfolding(crate::specs::SensitiveCreate::sensitive_create_at))]
+    fn read_fields(text: &mut Cursor<'a>) -> Result<SensitiveCreate<'a>, Rc>
+        ensures { Reads sensitive_values_of (sensitive_create_at text.old) text.old
+            result text.new }
+    {
+        let mut ahead = Cursor::new(text.rest());
+        let user_auth = read_buffer(&mut ahead, 32)?;
+        let data = read_buffer(&mut ahead, 128)?;
+        *text = ahead;
+        Ok(SensitiveCreate { user_auth, data })
+    }
+
+    /// The text of the values, in the room for the longest.
+    pub fn text(&self) -> Sink<164>
+        ensures { result ≡ sensitive_create_text (sensitive_values_of self.now) }
+    {
+        let mut text = Sink::new();
+        let _ = text.put_sized(self.user_auth);
+        let _ = text.put_sized(self.data);
+        text
+    }
+}
+
+impl<'a> Readable<'a> for SensitiveCreate<'a> {
+    ghost use Rattle.tpm_types_object.specs.SensitiveCreate.{SensitiveValues};
+    ghost use Rattle.tpm_types_object.specs.SensitiveCreate.{sensitive_create_at, sensitive_values_of};
+
+    type Fault = Rc;
+
+    ghost Seen = { SensitiveValues };
+
+    ghost seen = { sensitive_values_of };
+
+    ghost at = { sensitive_create_at };
+
+    fn read(text: &mut Cursor<'a>) -> Result<SensitiveCreate<'a>, Rc> {
+        SensitiveCreate::read(text)
+    }
+}
