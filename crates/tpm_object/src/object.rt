@@ -3,7 +3,7 @@ ghost use Rattle.tpm_types_object.specs.ObjectName.{object_name};
 ghost use Rattle.tpm_object.specs.Object.{are_of_cipher, is_cipher, is_keyed_hash, is_storage_parent, loaded_object};
 
 use tpm_name::Name;
-use tpm_places::Kinded;
+use tpm_places::{Kinded, Sizes};
 use tpm_types::{AuthValue, HierarchyHandle, Octets};
 use tpm_types_object::{ObjectAttribute, Public, PublicParameters, Sensitive};
 
@@ -67,6 +67,23 @@ impl Kinded for Object {
 
     fn kind(&self) -> u32 {
         TRANSIENT_BYTE
+    }
+}
+
+impl Sizes for Object {
+    ghost use Rattle.tpm_object.specs.Object.{IsObject};
+
+    ghost IsOne = { IsObject };
+
+    #[inline(always)]
+    fn read_sizes(&self) {
+        let _attributes = self.public.attributes.bits;
+        let _auth_policy = self.public.auth_policy.as_slice();
+        let _unique = self.public.unique.as_slice();
+        let _auth_value = self.auth_value.as_slice();
+        let _seed_value = self.seed_value.as_slice();
+        let _sensitive = self.sensitive.as_slice();
+        let _qualified_name = self.qualified_name.as_slice();
     }
 }
 

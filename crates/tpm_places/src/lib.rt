@@ -18,5 +18,5 @@ pub mod places;
 
 pub use fixed_places::FixedPlaces;
 pub use list_places::ListPlaces;
-pub use numbered::{Kinded, numbered_laws};
+pub use numbered::{Kinded, Sizes, numbered_laws};
 pub use places::{PlaceFault, Places};

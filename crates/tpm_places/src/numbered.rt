@@ -2,6 +2,7 @@ ghost use Rattle.std.specs.Prelude.{◌≡◌, ◌<◌, ℕ, is_some, length, op
 ghost use Rattle.std.specs.Borrow.{LendsIf, sem};
 ghost use Rattle.std.specs.Option.{option_copied_mut};
 ghost use Rattle.tpm_places.specs.Numbered.{IsMap, at_number, number_of, place_of, without_number};
+ghost use Rattle.tpm_places.specs.Places.{AreAll};
 
 use crate::places::Places;
 
@@ -11,6 +12,16 @@ pub trait Kinded: Drop {
 
     fn kind(&self) -> u32
         ensures { result ≡ kind self.now };
+}
+
+/// A value of which something holds by the types of its parts.
+pub trait Sizes: Drop {
+    /// What holds of it.
+    ghost IsOne: { Self → Type 0 };
+
+    /// Says it. It only reads.
+    fn read_sizes(&self)
+        ensures { IsOne self.now };
 }
 
 /// How many numbers there are of a kind.
@@ -74,6 +85,18 @@ pub fn remove<T: Kinded, const N: usize, P: Places<T, N>>(places: &mut P, number
     }
     places.remove(place_of(number));
     true
+}
+
+/// Says of each value what holds of it by the types of its parts. It only reads.
+pub fn read_sizes<T: Sizes, const N: usize, P: Places<T, N>>(places: &P)
+    ensures { AreAll T.IsOne (P.places places.now) }
+{
+    let _ = places.get(N);
+    for place in 0..N {
+        if let Some(value) = places.get(place) {
+            value.read_sizes();
+        }
+    }
 }
 
 /// Places are a map from numbers, whatever is in them. It does nothing.

@@ -1,7 +1,7 @@
 -- The state of a policy session. TPM 2.0 Library, Part 1, section 19.7 (enhanced authorization):
 -- the policy digest, and beside it what assertions record, which is compared when the session
 -- authorizes.
-use Rattle.std.specs.Prelude.{ℕ, List, Option, None, replicate}
+use Rattle.std.specs.Prelude.{ℕ, ◌<◌, ◌≤◌, ◌^◌, IfSome, List, length, Option, None, replicate}
 use Rattle.tpm_mac.specs.Digest.{digest_size}
 use Rattle.tpm_mac.specs.declared.algorithm.HashAlg.{HashAlg}
 use Rattle.tpm_policy.specs.declared.state.Demand.{Demand}
@@ -18,6 +18,15 @@ pub record Policy : Type 0 where
   pub cp_hash : Option (List ℕ)
   pub localities : ℕ
   pub demand : Demand
+
+-- what holds of every state: digests of at most 32 bytes, numbers of their widths, and no locality
+-- beyond 4
+pub record IsPolicy (policy : Policy) : Type 0 where
+  pub digest : length policy.digest ≤ 32
+  pub update_count : IfSome policy.update_count (λ count. count < 2 ^ 64)
+  pub command : IfSome policy.command (λ number. number < 2 ^ 32)
+  pub cp_hash : IfSome policy.cp_hash (λ hash. length hash ≤ 32)
+  pub localities : policy.localities ≤ 31
 
 -- a session starts with a digest of zeros, and allows everything from localities 0 to 4
 abbrev pub starting : HashAlg → Policy

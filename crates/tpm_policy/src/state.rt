@@ -1,4 +1,4 @@
-ghost use Rattle.std.specs.Prelude.{◌≡◌, ◌≤◌, length, replicate};
+ghost use Rattle.std.specs.Prelude.{◌≡◌, ◌<◌, ◌≤◌, ◌^◌, IfSome, length, replicate};
 ghost use Rattle.tpm_mac.specs.Digest.{digest_size};
 
 use arrayvec::ArrayVec;
@@ -33,7 +33,7 @@ pub struct PolicyState {
 }
 
 impl Model for PolicyState {
-    ghost use Rattle.std.specs.Prelude.{option_map};
+    ghost use Rattle.std.specs.Prelude.{◌≤◌, option_map};
     ghost use Rattle.tpm_policy.specs.State.{Policy};
 
     ghost Value = { Policy };
@@ -46,6 +46,8 @@ impl Model for PolicyState {
       localities = s.localities;
       demand = s.demand;
     } };
+
+    ghost invariant = { λ s. s.localities ≤ 31 };
 }
 
 /// The localities 0 to 4.
@@ -74,7 +76,7 @@ pub(crate) fn copied(bytes: &[u8]) -> Digest
 }
 
 impl PolicyState {
-    ghost use Rattle.tpm_policy.specs.State.{starting};
+    ghost use Rattle.tpm_policy.specs.State.{IsPolicy, starting};
 
     /// The state in which a session starts.
     pub fn new(hash: HashAlg) -> PolicyState
@@ -124,5 +126,46 @@ impl PolicyState {
             localities: self.localities,
             demand: self.demand,
         }
+    }
+
+    /// The hash of the one command that is allowed has at most 32 bytes.
+    #[inline(always)]
+    fn read_cp_hash(&self)
+        ensures { IfSome self.now.cp_hash (λ hash. length hash ≤ 32) }
+    {
+        if let Some(hash) = &self.cp_hash {
+            let _hash = hash.as_slice();
+        }
+    }
+
+    /// The numbers are of their widths.
+    #[inline(always)]
+    fn read_update_count(&self)
+        ensures { IfSome self.now.update_count (λ count. count < 2 ^ 64) }
+    {
+        if let Some(count) = self.update_count {
+            let _count = count;
+        }
+    }
+
+    #[inline(always)]
+    fn read_command(&self)
+        ensures { IfSome self.now.command (λ number. number < 2 ^ 32) }
+    {
+        if let Some(number) = self.command {
+            let _number = number;
+        }
+    }
+
+    /// Says what the types of its fields say. It only reads.
+    #[inline(always)]
+    pub fn read_sizes(&self)
+        ensures { IsPolicy self.now }
+    {
+        self.read_update_count();
+        self.read_command();
+        self.read_cp_hash();
+        let _digest = self.digest.as_slice();
+        let _localities = self.localities;
     }
 }

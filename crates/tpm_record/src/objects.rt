@@ -1,6 +1,7 @@
 ghost use Rattle.std.specs.Prelude.{◌≡◌, ◌<◌, is_some, length, option_copied};
-ghost use Rattle.tpm_object.specs.Object.{transient_byte};
+ghost use Rattle.tpm_object.specs.Object.{IsObject, transient_byte};
 ghost use Rattle.tpm_places.specs.Numbered.{IsMap};
+ghost use Rattle.tpm_places.specs.Places.{AreAll};
 ghost use Rattle.tpm_record.specs.Objects.{Adds, next_handle, object_at, object_handle, objects_of, without_object};
 ghost use Rattle.tpm_record.specs.Record.{no_objects};
 
@@ -54,6 +55,14 @@ impl<O: Places<Object, 8>> Objects<O> {
         ensures { result ≡ next_handle (objects_of O.places self.now) }
     {
         Some(handle_of(self.places.free()?))
+    }
+
+    /// Says of each object what the types of its fields say. It only reads.
+    #[inline(always)]
+    pub fn read_sizes(&self)
+        ensures { AreAll IsObject (objects_of O.places self.now) }
+    {
+        numbered::read_sizes(&self.places);
     }
 
     /// Puts an object into the lowest free place, and gives its handle.

@@ -1,7 +1,7 @@
-ghost use Rattle.std.specs.Prelude.{◌≡◌, ◌≤◌, ◌++◌, [], length};
+ghost use Rattle.std.specs.Prelude.{◌≡◌, ◌≤◌, ◌++◌, [], length, true};
 ghost use Rattle.tpm_mac.specs.Digest.{digest_size};
 ghost use Rattle.tpm_mac.specs.Kdf.{kdfa_of};
-ghost use Rattle.tpm_session.specs.Key.{is_nonce_size, key_label, session_key};
+ghost use Rattle.tpm_session.specs.Key.{is_key_size, is_nonce_size, key_label, session_key};
 
 use crate::session::Binding;
 use arrayvec::ArrayVec;
@@ -18,11 +18,14 @@ pub struct SessionKey {
 }
 
 impl Model for SessionKey {
-    ghost use Rattle.std.specs.Prelude.{ℕ, List};
+    ghost use Rattle.std.specs.Prelude.{◌≡◌, ℕ, List, length, true};
+    ghost use Rattle.tpm_session.specs.Key.{is_key_size};
 
     ghost Value = { List ℕ };
 
     ghost view = { λ k. k.bytes.items };
+
+    ghost invariant = { λ k. is_key_size (length k.bytes.items) ≡ true };
 }
 
 /// Whether a caller's first nonce may have so many bytes: at least 16, and no more than a digest
@@ -31,6 +34,17 @@ pub fn is_nonce_size(hash: HashAlg, size: usize) -> bool
     ensures { result ≡ is_nonce_size hash size }
 {
     16 <= size && size <= hash.size()
+}
+
+/// The bytes, copied.
+fn copied(bytes: &[u8]) -> ArrayVec<u8, 32>
+    requires { length bytes.now ≤ 32 }
+    ensures value { result.items ≡ bytes.now }
+    ensures size { length result.items ≡ length bytes.now }
+{
+    let mut copy = ArrayVec::new();
+    let _ = copy.try_extend_from_slice(bytes);
+    copy
 }
 
 impl SessionKey {
@@ -63,6 +77,18 @@ impl SessionKey {
         }
     }
 
+    /// The key of these bytes, which are as many as a digest by this hash algorithm has.
+    fn of(hash: HashAlg, bytes: &[u8]) -> SessionKey
+        requires size { length bytes.now ≡ digest_size hash }
+        requires fits { length bytes.now ≤ 32 }
+        ensures { result ≡ bytes.now }
+    {
+        let _ = hash;
+        SessionKey {
+            bytes: copied(bytes),
+        }
+    }
+
     fn bound(hash: HashAlg, auth_value: &[u8], nonce_tpm: &[u8], nonce_caller: &[u8]) -> SessionKey
         ensures { result ≡ kdfa_of hash auth_value.now key_label nonce_tpm.now nonce_caller.now
             (digest_size hash) }
@@ -70,9 +96,7 @@ impl SessionKey {
         let mut key = [0; 32];
         let out = &mut key[..hash.size()];
         kdfa(hash, auth_value, KEY_LABEL, nonce_tpm, nonce_caller, out);
-        let mut bytes = ArrayVec::new();
-        let _ = bytes.try_extend_from_slice(&key[..hash.size()]);
-        SessionKey { bytes }
+        SessionKey::of(hash, &key[..hash.size()])
     }
 
     /// Its bytes.
@@ -81,5 +105,12 @@ impl SessionKey {
         ensures fits { length result.now ≤ 32 }
     {
         self.bytes.as_slice()
+    }
+    /// It is empty, or as long as a digest. It only reads.
+    #[inline(always)]
+    pub(crate) fn read_size(&self)
+        ensures { is_key_size (length self.now) ≡ true }
+    {
+        let _bytes = &self.bytes;
     }
 }

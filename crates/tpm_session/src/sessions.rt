@@ -1,5 +1,6 @@
 ghost use Rattle.std.specs.Prelude.{◌≡◌, ◌<◌, is_some, length, option_copied};
-ghost use Rattle.tpm_places.specs.Places.{free};
+ghost use Rattle.tpm_places.specs.Places.{AreAll, free};
+ghost use Rattle.tpm_session.specs.Session.{IsSession};
 ghost use Rattle.tpm_session.specs.Sessions.{Starts, flushed, handle_of, places_of, rolled, session_at, started_session, with_session_policy};
 
 use crate::key::{SessionKey, is_nonce_size};
@@ -152,5 +153,12 @@ impl<S: Places<Session, 16>> Sessions<S> {
             }
             None => false,
         }
+    }
+    /// Says of each session what the types of its fields say. It only reads.
+    #[inline(always)]
+    pub fn read_sizes(&self)
+        ensures { AreAll IsSession (places_of S.places self.now) }
+    {
+        numbered::read_sizes(&self.slots);
     }
 }

@@ -1,6 +1,6 @@
 -- Authorization values. TPM 2.0 Library, Part 2, section 10.4.5 (TPM2B_AUTH), and Part 1, section
 -- 19.6.4.3: a value is kept and compared without the zeros at its end.
-use Rattle.std.specs.Prelude.{ℕ, zero, suc, List, [], ◌∷◌, reverse, Result, Ok}
+use Rattle.std.specs.Prelude.{◌≡◌, ℕ, zero, suc, ◌≤◌, List, [], ◌∷◌, length, reverse, Result, Ok}
 use Rattle.tpm_bytes.specs.Reading.{◌>>=◌}
 use Rattle.tpm_types.specs.declared.rc.Rc.{Rc}
 use Rattle.tpm_types.specs.Buffer.{buffer_at}
@@ -14,6 +14,10 @@ without_first_zeros (suc byte ∷ bytes) = suc byte ∷ bytes
 -- without the zeros at the end
 unfoldable pub trimmed : List ℕ → List ℕ
 trimmed bytes = reverse (without_first_zeros (reverse bytes))
+
+-- a value as it is kept: at most 32 bytes, and no zero at their end
+abbrev pub IsAuthValue : List ℕ → Type 0
+IsAuthValue value = (length value ≤ 32) × (trimmed value ≡ value)
 
 -- a sized buffer of at most 32 bytes, trimmed, and what is after it
 unfoldable pub auth_value_at : List ℕ → Result (List ℕ × List ℕ) Rc
