@@ -22,7 +22,7 @@ use Rattle.tpm_actions_object.specs.Loaded.{is_fixed, loaded_at, parent_passes, 
 use Rattle.tpm_actions_policy.specs.Assertions.{assertion_in, assertion_row, policy_after, policy_session, session_handle, with_assertion}
 use Rattle.tpm_actions_policy.specs.PolicyRestart.{policy_restart_row}
 use Rattle.tpm_machine_step.specs.Table.{row_of}
-use Rattle.tpm_machine_laws.specs.Footprint.{Part, Nothing, Sessions, Objects, Loaded, Hierarchies, Banks, Beginning, Touches, part_of}
+use Rattle.tpm_machine_laws.specs.Footprint.{Part, Nothing, Sessions, Objects, SessionsAndObjects, AuthValues, Banks, Beginning, Touches, part_of}
 use Rattle.tpm_machine_laws.proofs.Binding.{ok_bind, ok_bind_is, ok_then, ok_weaker, some_is}
 use Rattle.tpm_machine_laws.proofs.Footprint.{row_touches}
 use Rattle.tpm_places.specs.Places.{taken_count}
@@ -112,15 +112,15 @@ restart_grows r q =
 abbrev keeps_places : Part → Bool
 keeps_places Sessions = false
 keeps_places Objects = false
-keeps_places Loaded = false
+keeps_places SessionsAndObjects = false
 keeps_places _ = true
 
 touched_grows : (p : Part) (old new : Record) → keeps_places p ≡ true → Touches p old new → Grows false old new
 touched_grows Nothing old new fixed touches = let same = ap (λ (r : Record). taken_in r) touches in omega (arith, same)
 touched_grows Sessions old new fixed touches = absurd cc
 touched_grows Objects old new fixed touches = absurd cc
-touched_grows Loaded old new fixed touches = absurd cc
-touched_grows Hierarchies old new fixed touches = let same = ap (λ (r : Record). taken_in r) touches.0 in omega (arith, same)
+touched_grows SessionsAndObjects old new fixed touches = absurd cc
+touched_grows AuthValues old new fixed touches = let same = ap (λ (r : Record). taken_in r) touches.0 in omega (arith, same)
 touched_grows Banks old new fixed touches = let same = ap (λ (r : Record). taken_in r) touches in omega (arith, same)
 touched_grows Beginning old new fixed touches = let same = ap (λ (r : Record). taken_in r) touches in omega (arith, same)
 

@@ -18,7 +18,7 @@ use Rattle.tpm_actions.specs.StartAuthSession.{parameters_in, parameters_pass, s
 use Rattle.tpm_actions_policy.specs.Assertions.{assertion_in, assertion_row, policy_after, policy_session, session_handle, with_assertion}
 use Rattle.tpm_actions_policy.specs.PolicyRestart.{policy_restart_row}
 use Rattle.tpm_machine_step.specs.Table.{row_of}
-use Rattle.tpm_machine_laws.specs.Footprint.{Part, Nothing, Sessions, Objects, Loaded, Hierarchies, Banks, Beginning, Touches, part_of}
+use Rattle.tpm_machine_laws.specs.Footprint.{Part, Nothing, Sessions, Objects, SessionsAndObjects, AuthValues, Banks, Beginning, Touches, part_of}
 use Rattle.tpm_machine_laws.proofs.Binding.{ok_bind, ok_bind_is, ok_then, ok_weaker, some_is}
 use Rattle.tpm_machine_laws.proofs.Footprint.{row_touches}
 use Rattle.tpm_bytes.proofs.Fields.{bind_ok, passed}
@@ -96,7 +96,7 @@ restart_stays r q =
 -- whether a part leaves the sessions alone
 abbrev leaves_sessions : Part → Bool
 leaves_sessions Sessions = false
-leaves_sessions Loaded = false
+leaves_sessions SessionsAndObjects = false
 leaves_sessions _ = true
 
 sessions_same : (old new : Record) → new.sessions ≡ old.sessions → SessionsStay old new
@@ -106,8 +106,8 @@ touched_stays : (p : Part) (old new : Record) → leaves_sessions p ≡ true →
 touched_stays Nothing old new leaves touches = sessions_same old new (ap (λ (r : Record). r.sessions) touches)
 touched_stays Sessions old new leaves touches = absurd cc
 touched_stays Objects old new leaves touches = sessions_same old new (ap (λ (r : Record). r.sessions) touches)
-touched_stays Loaded old new leaves touches = absurd cc
-touched_stays Hierarchies old new leaves touches = sessions_same old new (ap (λ (r : Record). r.sessions) touches.0)
+touched_stays SessionsAndObjects old new leaves touches = absurd cc
+touched_stays AuthValues old new leaves touches = sessions_same old new (ap (λ (r : Record). r.sessions) touches.0)
 touched_stays Banks old new leaves touches = sessions_same old new (ap (λ (r : Record). r.sessions) touches)
 touched_stays Beginning old new leaves touches = sessions_same old new (ap (λ (r : Record). r.sessions) touches)
 

@@ -9,18 +9,18 @@ use Rattle.tpm_record.specs.Hierarchy.{secrets_of}
 use Rattle.tpm_record.specs.Record.{Record}
 
 -- the parts of a record: none of it; the sessions; the objects; both; the authorization values of
--- the hierarchies; the banks; and what a startup begins
+-- the hierarchies and of lockout; the banks; and what a startup begins
 pub data Part : Type 0 where
   Nothing : Part
   Sessions : Part
   Objects : Part
-  Loaded : Part
-  Hierarchies : Part
+  SessionsAndObjects : Part
+  AuthValues : Part
   Banks : Part
   Beginning : Part
 
 abbrev pub part_of : CommandCode → Part
-part_of command.HierarchyChangeAuth = Hierarchies
+part_of command.HierarchyChangeAuth = AuthValues
 part_of command.CreatePrimary = Objects
 part_of command.PcrEvent = Banks
 part_of command.PcrReset = Banks
@@ -30,7 +30,7 @@ part_of command.Create = Nothing
 part_of command.Hmac = Nothing
 part_of command.Load = Objects
 part_of command.Unseal = Nothing
-part_of command.FlushContext = Loaded
+part_of command.FlushContext = SessionsAndObjects
 part_of command.PolicyAuthValue = Sessions
 part_of command.PolicyCommandCode = Sessions
 part_of command.PolicyLocality = Sessions
@@ -49,8 +49,8 @@ part_of command.PolicyPassword = Sessions
 abbrev pub KeepsSecrets : Hierarchies → Hierarchies → Type 0
 KeepsSecrets old new = (h : HierarchyHandle) → secrets_of new h ≡ secrets_of old h
 
--- a fixed part with what a startup begins in another one: whether it is started, what is saved, the
--- counts, platformAuth and the null hierarchy, and no changes of PCRs counted yet
+-- f with the fields that a startup sets, as they are after it: whether it is started, what is saved,
+-- the counts, platformAuth and the null hierarchy; and no changes of PCRs are counted yet
 abbrev pub begun : Fixed → Fixed → Fixed
 begun f after = record f {
   started = after.started;
@@ -71,8 +71,8 @@ abbrev pub Touches : Part → Record → Record → Type 0
 Touches Nothing old new = new ≡ old
 Touches Sessions old new = new ≡ record old { sessions = new.sessions }
 Touches Objects old new = new ≡ record old { objects = new.objects }
-Touches Loaded old new = new ≡ record old { sessions = new.sessions; objects = new.objects }
-Touches Hierarchies old new =
+Touches SessionsAndObjects old new = new ≡ record old { sessions = new.sessions; objects = new.objects }
+Touches AuthValues old new =
     (new ≡ record old { fixed = record old.fixed { hierarchies = new.fixed.hierarchies } })
     × KeepsSecrets old.fixed.hierarchies new.fixed.hierarchies
 Touches Banks old new = new ≡ record old { fixed = record old.fixed { banks = new.fixed.banks } }

@@ -4,7 +4,7 @@
 //! of the record a row's success touches, what a command's shape says of it, and that sessions in
 //! use stay. Behind a row, sessions are rolled and end, which is the step's and no row's.
 //!
-//! It stands on the definitions of tpm_machine. A row is opened here, so that theorems over
+//! It stands on the definitions of tpm_machine_step. A row is opened here, so that theorems over
 //! histories need not open any.
 
 ghost use Rattle.std.specs.Prelude.{◌≡◌, ℕ, IfOk, List, Ok, false};

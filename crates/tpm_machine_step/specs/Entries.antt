@@ -46,8 +46,8 @@ entries_rolled r (e ∷ es) left =
     let first = entry_rolled r e left in
     entries_rolled first.after es first.left
 
--- At most 192 of the random bytes are drawn by a row that draws so many, and by the entries behind
--- it.
+-- A row that draws so many of 256 random bytes, and the nonces of the entries behind it, leave all
+-- but at most 192 of them.
 abbrev pub DrawsFew : List ℕ → Record → List Entry → (drawn : ℕ) → Type 0
 DrawsFew random r entries drawn =
     length random ≤ length (entries_rolled r entries (drop drawn random)).left + 192

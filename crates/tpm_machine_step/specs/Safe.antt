@@ -16,7 +16,8 @@ only_ticked r (Given buffer locality elapsed random) = ticked r elapsed
 only_ticked r Cycled = r
 
 -- A refusal is the ten bytes of its text, reports its check, and changes nothing but Time and Clock
--- and what it counts.
+-- and what it counts; which command the row names is not said here, and no refusal counts anything
+-- yet.
 abbrev pub IsHarmless : Record → Happening → Stepped → Type 0
 IsHarmless r event x = x.row.check ≢ 0
     → (length x.response ≡ 10)
@@ -24,8 +25,8 @@ IsHarmless r event x = x.row.check ≢ 0
     × (x.row.check ≡ check_number refused.check)
     × (x.after ≡ counted_in refused.counted (only_ticked r event))
 
--- A row draws at most 96 of the event's 256 random bytes, so that three nonces are left, and
--- answers at most 2,048 bytes of parameters; row and nonces together draw at most 192.
+-- A row draws at most 96 of the event's 256 random bytes, and with three nonces of 32 bytes behind
+-- them at most 192 are drawn; and it answers at most 2,048 bytes of parameters.
 abbrev pub IsModest : List ℕ → Accepted → Type 0
 IsModest random a =
     (a.success.answer.drawn ≤ 96) × (length (body_text a.success.answer.body) ≤ 2048)

@@ -29,9 +29,8 @@ abbrev pub OnNoMemory : {X : Type 0} → Result X ScriptFault → Type 0 → Typ
 OnNoMemory (Err fault.NoMemory) fact = fact
 OnNoMemory other fact = Unit {0}
 
--- Lines of the text were played from p on, the first of them under this number and none of them
--- bad, and what they print was written behind what the writer held (old): those before the line of
--- the number next, which are all but the rest.
+-- The lines before the number next were played from p on, the first of them under this number; none
+-- is bad; what they print was written behind what the writer held (old); the rest are the others.
 abbrev pub PlaysUpTo : Option (List ℕ) → Option (List ℕ) → Option (List ℕ)
     → Playing → ℕ → ℕ → List (List ℕ) → Type 0
 PlaysUpTo None old new p number next rest = Unit {0}
@@ -65,7 +64,7 @@ NextFound number old (Err fault.Read) line new = Unit {0}
 NextFound number old (Err fault.Write) line new = Unit {0}
 NextFound number old (Err other) line new = ⊥
 
--- the fact, unless writing or memory failed
+-- the fact, where it ended well, at a bad line, or where the reader failed
 abbrev pub UnlessFailed : {X : Type 0} → Result X ScriptFault → Type 0 → Type 0
 UnlessFailed (Ok x) fact = fact
 UnlessFailed (Err (fault.Line number)) fact = fact

@@ -22,7 +22,7 @@ pub const SCRIPT_LINES: u32 = 1_048_576;
 const DECODED_LIMIT: usize = 32_768;
 
 /// Runs the script that `reader` gives on a new device, whose state is kept by `K`, and writes the
-/// response to each command to `writer`. But for the keep it takes memory once, at the start.
+/// response to each command to `writer`. But for the keep it takes memory at the start alone.
 /// Whatever the fault, the lines before it were run, and their responses written, but for those
 /// that a `Write` fault cut off. Of a script of more than [`SCRIPT_LINES`] lines so many are run.
 pub fn run_script<K: Keep, R: Read, W: Write>(
@@ -47,8 +47,8 @@ pub fn run_script<K: Keep, R: Read, W: Write>(
         (R.remaining reader.old) (W.contents writer.old) (W.contents writer.new) at_first) }
 
     // Where there is no memory, nothing was read or written.
-    ensures no_memory { OnNoMemory result ((R.remaining reader.new ≡ R.remaining reader.old)
-        × (W.contents writer.new ≡ W.contents writer.old)) }
+    ensures no_memory { OnNoMemory result
+        ((reader.new ≡ reader.old) × (writer.new ≡ writer.old)) }
 {
     let mut run = Run::<K>::new(alloc)?;
     let mut room = room(alloc)?;
