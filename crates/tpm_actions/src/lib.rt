@@ -5,7 +5,7 @@
 //!
 //! A call takes the command's [`call::Call`] and gives its [`answer::Answer`] or the first refusal,
 //! which leaves the record. `specs/` has a row a command under the same name; each call is proved
-//! to be its row, for each way of keeping the record. It stands on tpm_record and tpm_auth.
+//! to be its row, for each way of keeping the record. It stands on tpm_record.
 
 pub mod answer;
 pub mod call;

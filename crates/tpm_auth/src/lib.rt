@@ -4,10 +4,8 @@
 //! section 19, and Part 3, sections 5.5 and 5.6).
 //!
 //! [`grant::authorize`] first checks each entry for itself ([`entries`]), then each handle that
-//! needs authorization by the entry of its place. A refusal, of every room of the device, is
-//! [`refused::Refused`]: the response code, the check that found it ([`check`]), and what it
-//! counts. It stands on tpm_record, and promises the definitions of `specs/` for each way of
-//! keeping the record.
+//! needs authorization by the entry of its place. It stands on tpm_record, and promises the
+//! definitions of `specs/` for each way of keeping the record.
 
 pub mod comparison;
 pub mod entries;

@@ -6,8 +6,9 @@
 //! A command takes one way through the house: its bytes are read and pass the general checks
 //! ([`general`]), its entries authorize its handles (tpm_auth), its row acts (tpm_actions, chosen
 //! in [`table`]; where a session decrypts, by [`parameters`]), and [`response`] writes the answer:
-//! new nonces, the entries' answers and session ends are [`entries`]. `specs/` says the same:
-//! General, Table, Answer, the step of an event (Step) and runs of events (Run).
+//! new nonces, the entries' answers and session ends are [`entries`]. The definitions of
+//! tpm_machine_step say the same: General, Table, Answer, the step of an event (Step) and runs of
+//! events (Run).
 //! [`machine::Machine::execute`] and [`machine::Machine::run`] are proved to be these, for each way
 //! of keeping the record.
 

@@ -1,10 +1,11 @@
 #![tactic(auto)]
 
 //! The structures of TPM 2.0 Library, Part 2, that every part of the device speaks of: response
-//! codes, handles, algorithms, PCR selections, digests, authorization values, types of sessions;
-//! and refusals, of every part of the device. Commands stand in `tpm_types_command`, the areas of
-//! objects in `tpm_types_object`. Each structure is a type of its own, which is read from a
-//! [`tpm_bytes::cursor::Cursor`] and written to a [`tpm_bytes::sink::Sink`].
+//! codes, handles, algorithms, PCR selections, digests, authorization values, types of sessions.
+//! Commands stand in `tpm_types_command`, the areas of objects in `tpm_types_object`. Each
+//! structure is a type of its own, which is read from a [`tpm_bytes::cursor::Cursor`] and written
+//! to a [`tpm_bytes::sink::Sink`]. A refusal, of every part of the device, is
+//! [`refused::Refused`]: the response code, the check that found it ([`check`]), and what it counts.
 //!
 //! It stands on `tpm_bytes` for the bytes and on `tpm_mac` for digests and hash algorithms. A read
 //! gives the value or the first fault, as the response code that the standard has for it, and a
