@@ -11,8 +11,8 @@ use Rattle.tpm_record.specs.Record.{Record}
 use Rattle.tpm_auth.specs.SessionGrant.{demands_password, session_grant, used_auth_value}
 use Rattle.tpm_auth.specs.declared.session_grant.Grant.{Grant}
 
--- a session's entry that is accepted with an empty HMAC has an empty key, session key and
--- authorization value, or it authorizes by a policy that demands a password
+-- a session's entry that is accepted with an empty HMAC has an empty key, neither a session key nor
+-- an authorization value in it, or it authorizes by a policy that demands a password
 abbrev pub EmptyHmacHasNoKey : Type 0
 EmptyHmacHasNoKey =
     (r : Record) (c : Whole) (locality n : ℕ) (used : Option Handle) (e : Entry) (s : Session)
