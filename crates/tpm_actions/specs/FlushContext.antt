@@ -5,19 +5,16 @@ use Rattle.tpm_bytes.specs.Reading.{◌>>=◌, number_at, or_fault, refused_if}
 use Rattle.tpm_session.specs.Sessions.{flushed, session_at}
 use Rattle.tpm_types.specs.declared.handle.Handle.{Handle}
 use Rattle.tpm_types.specs.declared.rc.ResponseCode.TheVariants as code
-use Rattle.tpm_types.specs.declared.rc.Place.TheVariants as place
 use Rattle.tpm_types.specs.Handle.{handle_type}
 use Rattle.tpm_types.specs.Handle.{numbered}
-use Rattle.tpm_types.specs.Rc.{at, plain}
+use Rattle.tpm_types.specs.Rc.{plain}
 use Rattle.tpm_record.specs.Entity.{names_session}
 use Rattle.tpm_record.specs.Objects.{object_at, without_object}
 use Rattle.tpm_record.specs.Record.{Record}
-use Rattle.tpm_types.specs.Refused.{refusal}
-use Rattle.tpm_types.specs.declared.action_check.ActionCheck.TheVariants as action
-use Rattle.tpm_types.specs.declared.check.Check.TheVariants as check
 use Rattle.tpm_types.specs.declared.refused.Refused.{Refused}
 use Rattle.tpm_actions.specs.Request.{Request}
 use Rattle.tpm_actions.specs.Answer.{nothing}
+use Rattle.tpm_actions.specs.Refusals.{parameter_fault}
 use Rattle.tpm_actions.specs.Rows.{Success, only}
 
 -- whether a handle is of what can be flushed: a session (02, 03) or a transient object (80)
@@ -40,9 +37,9 @@ unfoldable pub flush_context_row : Record → Request → Result Success Refused
 flush_context_row r q = do
   handle ← flushed_handle q.parameters
   a1 ← refused_if (not (can_be_flushed handle))
-      (refusal (check.Action action.First) (at (place.Parameter 1) (plain code.Value)))
+      (parameter_fault 1 1 code.Value)
   a2 ← refused_if (not (is_loaded r handle))
-      (refusal (check.Action action.Second) (at (place.Parameter 1) (plain code.Handle)))
+      (parameter_fault 2 1 code.Handle)
   Ok (record {
     answer = nothing;
     after = record r {

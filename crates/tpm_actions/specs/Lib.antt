@@ -1,5 +1,6 @@
 pub mod Request
 pub mod Answer
+pub mod Refusals
 pub mod Rows
 pub mod PcrChange
 pub mod Startup

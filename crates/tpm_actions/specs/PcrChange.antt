@@ -7,15 +7,13 @@ use Rattle.tpm_pcr.specs.declared.changes.ChangeFault.TheVariants.{Locality, Fai
 use Rattle.tpm_types.specs.declared.rc.ResponseCode.TheVariants as code
 use Rattle.tpm_types.specs.Rc.{plain}
 use Rattle.tpm_record.specs.Record.{Record}
-use Rattle.tpm_types.specs.Refused.{refusal}
-use Rattle.tpm_types.specs.declared.action_check.ActionCheck.TheVariants as action
-use Rattle.tpm_types.specs.declared.check.Check.TheVariants as check
 use Rattle.tpm_types.specs.declared.refused.Refused.{Refused}
+use Rattle.tpm_actions.specs.Refusals.{action_refusal}
 
 -- A1: the PCR may not be changed so from this locality; A2: the updates could not be counted
 abbrev pub change_refusal : ChangeFault → Refused
-change_refusal Locality = refusal (check.Action action.First) (plain code.Locality)
-change_refusal Failure = refusal (check.Action action.Second) (plain code.Failure)
+change_refusal Locality = action_refusal 1 (plain code.Locality)
+change_refusal Failure = action_refusal 2 (plain code.Failure)
 
 abbrev pub change_row : {X : Type 0} → Result X ChangeFault → Result X Refused
 change_row (Ok banks) = Ok banks

@@ -1,12 +1,9 @@
 -- What a command asks for, wherever its bytes lie in memory.
 use Rattle.std.specs.Prelude.{ℕ, List, [], ◌∷◌, Result, Ok, Err}
 use Rattle.tpm_types.specs.declared.handle.Handle.{Handle}
-use Rattle.tpm_types.specs.declared.rc.ResponseCode.TheVariants as code
 use Rattle.tpm_types.specs.Locality.{locality_number}
-use Rattle.tpm_types.specs.Rc.{plain}
-use Rattle.tpm_types.specs.Refused.{refusal}
-use Rattle.tpm_types.specs.declared.check.Check.TheVariants as check
 use Rattle.tpm_types.specs.declared.refused.Refused.{Refused}
+use Rattle.tpm_actions.specs.Refusals.{handle_refusal}
 use Rattle.tpm_actions.specs.declared.call.Call.{Call}
 
 -- its handles, as many as its shape has, the number of its locality, its plain parameters, and the
@@ -25,13 +22,12 @@ request_of call = record {
   random = call.random.now;
 }
 
--- the first handle of a command that has one; without one no row acts. That does not occur: a
--- request has as many handles as its command's shape
+-- the first handle of a command that has one; a request has as many as its command's shape
 abbrev pub first_handle : List Handle → Result Handle Refused
-first_handle [] = Err (refusal check.Handles (plain code.Failure))
+first_handle [] = Err handle_refusal
 first_handle (handle ∷ handles) = Ok handle
 
 -- and the second of a command that has two
 abbrev pub second_handle : List Handle → Result Handle Refused
 second_handle (first ∷ handle ∷ handles) = Ok handle
-second_handle handles = Err (refusal check.Handles (plain code.Failure))
+second_handle handles = Err handle_refusal

@@ -10,6 +10,7 @@ use Rattle.tpm_types.specs.Refused.{refusal}
 use Rattle.tpm_types.specs.declared.check.Check.TheVariants as check
 use Rattle.tpm_types.specs.declared.refused.Refused.{Refused}
 use Rattle.tpm_actions.specs.Answer.{AnswerParts, IsAnswer}
+use Rattle.tpm_actions.specs.Refusals.{memory_refusal}
 use Rattle.tpm_actions.specs.declared.answer.Answer.{Answer}
 
 -- the refusal of a parameter, G11: its fault is placed at the parameter of this number
@@ -41,10 +42,6 @@ pub record Success : Type 0 where
 abbrev pub unchanged : Record → AnswerParts → Success
 unchanged r answer = record { answer = answer; after = r }
 
--- want of memory, M
-abbrev pub memory_refused : Refused
-memory_refused = refusal check.Memory (plain code.Memory)
-
 -- A command that grows something did what its row says, and its answer is the row's; or it was
 -- refused memory, where it can be, in place of a success. A refusal changes nothing, and of the
 -- answer nothing is said then.
@@ -52,7 +49,7 @@ abbrev pub ActsIfRoom : Bool → Result Success Refused
     → Record → Result (Unit {0}) Refused → Answer → Record → Type 0
 ActsIfRoom can (Ok s) old (Ok done) answer new = IsAnswer s.answer answer × (new ≡ s.after)
 ActsIfRoom can (Ok s) old (Err e) answer new =
-    (can ≡ true) × (e ≡ memory_refused) × (new ≡ old)
+    (can ≡ true) × (e ≡ memory_refusal) × (new ≡ old)
 ActsIfRoom can (Err refused) old (Ok done) answer new = ⊥
 ActsIfRoom can (Err refused) old (Err e) answer new = (e ≡ refused) × (new ≡ old)
 

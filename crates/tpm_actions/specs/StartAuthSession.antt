@@ -10,23 +10,20 @@ use Rattle.tpm_session.specs.Key.{is_nonce_size}
 use Rattle.tpm_session.specs.Sessions.{handle_of, new_session}
 use Rattle.tpm_types.specs.declared.handle.Handle.{Handle}
 use Rattle.tpm_types.specs.declared.rc.ResponseCode.TheVariants as code
-use Rattle.tpm_types.specs.declared.rc.Place.TheVariants as place
 use Rattle.tpm_types.specs.declared.symmetric.SymmetricDefinition.{SymmetricDefinition}
 use Rattle.tpm_types.specs.Algorithm.{hash_at}
 use Rattle.tpm_types.specs.Buffer.{buffer_at}
 use Rattle.tpm_types.specs.Handle.{null_handle}
-use Rattle.tpm_types.specs.Rc.{at, plain}
+use Rattle.tpm_types.specs.Rc.{plain}
 use Rattle.tpm_types.specs.SessionType.{session_type_at}
 use Rattle.tpm_types.specs.Symmetric.{symmetric_at}
 use Rattle.tpm_record.specs.Entity.{auth_value_of, name_of, protection_of}
 use Rattle.tpm_record.specs.Record.{Record}
-use Rattle.tpm_types.specs.Refused.{refusal}
-use Rattle.tpm_types.specs.declared.action_check.ActionCheck.TheVariants as action
-use Rattle.tpm_types.specs.declared.check.Check.TheVariants as check
 use Rattle.tpm_types.specs.declared.refused.Refused.{Refused}
 use Rattle.tpm_actions.specs.declared.start_auth_session.Asked.{Asked}
 use Rattle.tpm_actions.specs.Request.{Request, second_handle}
 use Rattle.tpm_actions.specs.Answer.{AnswerParts, Sized}
+use Rattle.tpm_actions.specs.Refusals.{action_refusal, parameter_fault}
 use Rattle.tpm_actions.specs.Rows.{Success, all_read, parameter}
 
 -- nonceCaller, encryptedSalt, sessionType, symmetric, authHash
@@ -72,9 +69,8 @@ Asks read (Err e) = read ≡ Err e
 unfoldable pub parameters_pass : Parameters → Result (Unit {0}) Refused
 parameters_pass p = do
   a1 ← refused_if (not (is_nonce_size p.hash (length p.nonce_caller)))
-      (refusal (check.Action action.First) (at (place.Parameter 1) (plain code.Size)))
-  refused_if (not (length p.salt == 0))
-      (refusal (check.Action action.Second) (at (place.Parameter 2) (plain code.Value)))
+      (parameter_fault 1 1 code.Size)
+  refused_if (not (length p.salt == 0)) (parameter_fault 2 2 code.Value)
 
 -- what a session is bound to: the entity as it is now, and none for TPM_RH_NULL
 unfoldable pub binding_of : Record → Handle → Option Binding
@@ -93,7 +89,7 @@ session_with p binding nonce = new_session p.kind p.hash p.symmetric binding non
 -- the place that a session takes, or A3: there is none
 abbrev pub session_place : List (Option Session) → Result ℕ Refused
 session_place sessions =
-    ok_or (lowest_free sessions) (refusal (check.Action action.Third) (plain code.SessionMemory))
+    ok_or (lowest_free sessions) (action_refusal 3 (plain code.SessionMemory))
 
 -- the handle of a session in its place, and its nonce, which was drawn
 abbrev pub start_answer : Parameters → Session → ℕ → AnswerParts

@@ -2,10 +2,8 @@
 use Rattle.std.specs.Prelude.{ℕ, ◌+◌, ◌-◌, ◌^◌, min, true, Bool, false, List, [], take, drop, Result, Ok}
 use Rattle.tpm_bytes.specs.Reading.{◌>>=◌, refused_if}
 use Rattle.tpm_types.specs.declared.rc.ResponseCode.TheVariants as code
-use Rattle.tpm_types.specs.declared.rc.Place.TheVariants as place
 use Rattle.tpm_types.specs.declared.startup_type.StartupType.{StartupType}
 use Rattle.tpm_types.specs.declared.startup_type.StartupType.TheVariants.{Clear, State}
-use Rattle.tpm_types.specs.Rc.{at, plain}
 use Rattle.tpm_types.specs.StartupType.{startup_type_at}
 use Rattle.tpm_types.specs.declared.handle.HierarchyAuth.TheVariants as auth
 use Rattle.tpm_record.specs.declared.hierarchy.Hierarchies.{Hierarchies}
@@ -16,10 +14,8 @@ use Rattle.tpm_actions.specs.Request.{Request}
 use Rattle.tpm_record.specs.declared.fixed.Fixed.{Fixed}
 use Rattle.tpm_record.specs.declared.fixed.Saved.{Saved}
 use Rattle.tpm_record.specs.declared.fixed.Saved.TheVariants.{Nothing}
-use Rattle.tpm_types.specs.Refused.{refusal}
-use Rattle.tpm_types.specs.declared.action_check.ActionCheck.TheVariants as action
-use Rattle.tpm_types.specs.declared.check.Check.TheVariants as check
 use Rattle.tpm_actions.specs.Answer.{nothing}
+use Rattle.tpm_actions.specs.Refusals.{parameter_fault}
 use Rattle.tpm_actions.specs.Rows.{Success, only}
 
 -- whether a startup asks for a saved state that is not there; nothing is ever saved yet
@@ -52,7 +48,7 @@ unfoldable pub startup_row : Record → Request → Result Success Refused
 startup_row r q = do
   type ← only (startup_type_at q.parameters)
   a1 ← refused_if (lacks_state type r.fixed.saved)
-      (refusal (check.Action action.First) (at (place.Parameter 1) (plain code.Value)))
+      (parameter_fault 1 1 code.Value)
   Ok (record {
     answer = record nothing { drawn = 64 };
     after = record r { fixed = reset_fixed r.fixed q.random };

@@ -1,6 +1,7 @@
 ghost use Rattle.std.specs.Prelude.{◌≡◌};
 
-use tpm_types::{Check, Handle, Locality, Refused, ResponseCode};
+use crate::refusals::handle_refusal;
+use tpm_types::{Handle, Locality, Refused};
 
 /// What a command is called with, once the general checks and the authorization have passed.
 #[derive(Clone, Copy)]
@@ -22,7 +23,7 @@ impl Call<'_> {
         ensures { result ≡ first_handle self.now.handles.now }
     {
         match self.handles {
-            [] => Err(Refused::by(Check::Handles, ResponseCode::Failure.anywhere())),
+            [] => Err(handle_refusal()),
             [first, ..] => Ok(*first),
         }
     }
@@ -33,7 +34,7 @@ impl Call<'_> {
     {
         match self.handles {
             [_, second, ..] => Ok(*second),
-            _ => Err(Refused::by(Check::Handles, ResponseCode::Failure.anywhere())),
+            _ => Err(handle_refusal()),
         }
     }
 }

@@ -7,9 +7,10 @@ ghost use Rattle.tpm_actions.specs.Rows.{Acts};
 use crate::answer::Answer;
 use crate::call::Call;
 use crate::reading::{end, number};
+use crate::refusals::parameter_fault;
 use tpm_bytes::Cursor;
 use tpm_record::Keep;
-use tpm_types::{ActionCheck, Check, Handle, Refused, ResponseCode};
+use tpm_types::{Handle, Refused, ResponseCode};
 
 fn can_be_flushed(handle: Handle) -> bool
     ensures { result ≡ can_be_flushed handle }
@@ -39,12 +40,10 @@ pub fn flush_context<K: Keep>(
     end(&parameters)?;
     let handle = Handle { number };
     if !can_be_flushed(handle) {
-        let rc = ResponseCode::Value.anywhere().at_parameter(1);
-        return Err(Refused::by(Check::Action(ActionCheck::First), rc));
+        return Err(parameter_fault(1, 1, ResponseCode::Value));
     }
     if !is_loaded(keep, handle) {
-        let rc = ResponseCode::Handle.anywhere().at_parameter(1);
-        return Err(Refused::by(Check::Action(ActionCheck::Second), rc));
+        return Err(parameter_fault(2, 1, ResponseCode::Handle));
     }
     keep.sessions_mut().flush(handle);
     keep.objects_mut().remove(handle);

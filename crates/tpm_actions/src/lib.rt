@@ -18,5 +18,6 @@ pub mod pcr_extend;
 pub mod pcr_read;
 pub mod pcr_reset;
 pub mod reading;
+pub mod refusals;
 pub mod start_auth_session;
 pub mod startup;

@@ -2,7 +2,7 @@ ghost use Rattle.std.specs.Prelude.{◌≡◌};
 ghost use Rattle.tpm_bytes.specs.Reading.{or_fault};
 ghost use Rattle.tpm_types.specs.Rc.{plain};
 ghost use Rattle.tpm_types.specs.declared.rc.ResponseCode.TheVariants as code;
-ghost use Rattle.tpm_actions.specs.Rows.{all_read, memory_refused, parameter, parameter_refusal};
+ghost use Rattle.tpm_actions.specs.Rows.{all_read, parameter, parameter_refusal};
 
 use tpm_bytes::{Cursor, Short};
 use tpm_types::{Check, Rc, Refused, ResponseCode};
@@ -43,11 +43,4 @@ pub fn end(parameters: &Cursor) -> Result<(), Refused>
     } else {
         Err(Refused::by(Check::Parameters, ResponseCode::Size.anywhere()))
     }
-}
-
-/// The refusal where memory was refused.
-pub fn memory_refused() -> Refused
-    ensures { result ≡ memory_refused }
-{
-    Refused::by(Check::Memory, ResponseCode::Memory.anywhere())
 }

@@ -7,18 +7,16 @@ ghost use Rattle.tpm_actions.specs.StartAuthSession.{Asks, binding_of, parameter
 
 use crate::answer::Answer;
 use crate::call::Call;
-use crate::reading::{end, memory_refused, parameter};
+use crate::reading::{end, parameter};
+use crate::refusals::{action_refusal, memory_refusal, parameter_fault};
 use tpm_bytes::Cursor;
 use tpm_mac::HashAlg;
 use tpm_record::{Keep, copied_auth_value, name_of, protection_of};
 use tpm_session::{Binding, Nonce, Start, StartFault, is_nonce_size};
 use tpm_types::{
-    ActionCheck, Check, Handle, Rc, Refused, ResponseCode, SessionType, SymmetricDefinition,
-    read_buffer, read_hash,
+    Handle, MOST_DIGEST, Rc, Refused, ResponseCode, SessionType, SymmetricDefinition, read_buffer,
+    read_hash,
 };
-
-/// The most bytes of nonceCaller and encryptedSalt.
-const MOST_BYTES: usize = 32;
 
 /// What is asked for.
 #[derive(Clone, Copy)]
@@ -36,8 +34,8 @@ fn read_parameters(parameters: &[u8]) -> Result<Asked, Refused>
     ensures few { IfOk result (λ asked. length asked.nonce_caller.now ≤ 32) }
 {
     let mut text = Cursor::new(parameters);
-    let nonce_caller = parameter(1, read_buffer(&mut text, MOST_BYTES))?;
-    let salt = parameter(2, read_buffer(&mut text, MOST_BYTES))?;
+    let nonce_caller = parameter(1, read_buffer(&mut text, MOST_DIGEST))?;
+    let salt = parameter(2, read_buffer(&mut text, MOST_DIGEST))?;
     let kind = parameter(3, SessionType::read(&mut text))?;
     let symmetric = parameter(4, SymmetricDefinition::read(&mut text))?;
     let hash = parameter(5, read_hash(&mut text))?;
@@ -58,12 +56,10 @@ fn check_parameters(asked: &Asked) -> Result<(), Refused>
         (is_nonce_size asked.now.hash (length asked.now.nonce_caller.now) ≡ true) }
 {
     if !is_nonce_size(asked.hash, asked.nonce_caller.len()) {
-        let rc = ResponseCode::Size.anywhere().at_parameter(1);
-        return Err(Refused::by(Check::Action(ActionCheck::First), rc));
+        return Err(parameter_fault(1, 1, ResponseCode::Size));
     }
     if !asked.salt.is_empty() {
-        let rc = ResponseCode::Value.anywhere().at_parameter(2);
-        return Err(Refused::by(Check::Action(ActionCheck::Second), rc));
+        return Err(parameter_fault(2, 2, ResponseCode::Value));
     }
     Ok(())
 }
@@ -114,10 +110,7 @@ pub fn start_auth_session<K: Keep>(
             answer.handle = Some(handle);
             Ok(())
         }
-        Err(StartFault::Memory) => Err(memory_refused()),
-        Err(_) => {
-            let rc = ResponseCode::SessionMemory.anywhere();
-            Err(Refused::by(Check::Action(ActionCheck::Third), rc))
-        }
+        Err(StartFault::Memory) => Err(memory_refusal()),
+        Err(_) => Err(action_refusal(3, ResponseCode::SessionMemory.anywhere())),
     }
 }

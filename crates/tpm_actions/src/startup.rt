@@ -7,9 +7,10 @@ ghost use Rattle.tpm_actions.specs.Startup.{lacks_state, reset_hierarchies, star
 use crate::answer::Answer;
 use crate::call::Call;
 use crate::reading::{end, parameter};
+use crate::refusals::parameter_fault;
 use tpm_bytes::Cursor;
 use tpm_record::{Hierarchies, Keep, Saved, Secrets};
-use tpm_types::{ActionCheck, AuthValue, Check, HierarchyAuth, Refused, ResponseCode, StartupType};
+use tpm_types::{AuthValue, HierarchyAuth, Refused, ResponseCode, StartupType};
 
 /// How many random bytes a TPM Reset draws: a seed and a proof.
 const RESET_DRAWS: usize = 64;
@@ -46,8 +47,7 @@ pub fn startup<K: Keep>(keep: &mut K, call: &Call, answer: &mut Answer) -> Resul
     end(&parameters)?;
     let fixed = keep.fixed_mut();
     if lacks_state(kind, fixed.saved) {
-        let rc = ResponseCode::Value.anywhere().at_parameter(1);
-        return Err(Refused::by(Check::Action(ActionCheck::First), rc));
+        return Err(parameter_fault(1, 1, ResponseCode::Value));
     }
     fixed.started = true;
     fixed.saved = Saved::Nothing;

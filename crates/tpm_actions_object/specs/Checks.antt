@@ -9,23 +9,9 @@ use Rattle.tpm_object.specs.Creation.{creation_passes}
 use Rattle.tpm_object.specs.Template.{template_passes}
 use Rattle.tpm_types_object.specs.declared.public.Public.{Public}
 use Rattle.tpm_types_object.specs.SensitiveCreate.{SensitiveValues}
-use Rattle.tpm_types.specs.ActionCheck.{action_named}
-use Rattle.tpm_types.specs.declared.rc.Place.TheVariants as place
-use Rattle.tpm_types.specs.declared.rc.Rc.{Rc}
-use Rattle.tpm_types.specs.declared.rc.ResponseCode.{ResponseCode}
 use Rattle.tpm_types.specs.declared.rc.ResponseCode.TheVariants as code
-use Rattle.tpm_types.specs.Rc.{at, plain}
-use Rattle.tpm_types.specs.declared.check.Check.TheVariants as check
 use Rattle.tpm_types.specs.declared.refused.Refused.{Refused}
-use Rattle.tpm_types.specs.Refused.{refusal}
-
--- the refusal by a command's check of this number
-abbrev pub action_refusal : ℕ → Rc → Refused
-action_refusal n rc = refusal (check.Action (action_named n)) rc
-
--- and by this code of a parameter
-abbrev pub parameter_fault : (n parameter : ℕ) → ResponseCode → Refused
-parameter_fault n parameter fault = action_refusal n (at (place.Parameter parameter) (plain fault))
+use Rattle.tpm_actions.specs.Refusals.{parameter_fault}
 
 -- the refusal of a template, or of a public area to be loaded, by its checks; so many of the
 -- command's checks come before them. It is the second parameter

@@ -7,16 +7,13 @@ use Rattle.tpm_object.specs.declared.object.Object.{Object}
 use Rattle.tpm_object.specs.Primary.{primary_object}
 use Rattle.tpm_types.specs.declared.handle.Handle.{Handle}
 use Rattle.tpm_types.specs.declared.handle.HierarchyHandle.{HierarchyHandle}
-use Rattle.tpm_types.specs.declared.rc.ResponseCode.TheVariants as code
 use Rattle.tpm_types.specs.Handle.{hierarchy_of}
 use Rattle.tpm_types_object.specs.Public.{public_text}
-use Rattle.tpm_types.specs.Rc.{plain}
 use Rattle.tpm_record.specs.Hierarchy.{secrets_of}
 use Rattle.tpm_record.specs.Objects.{object_handle, with_object}
 use Rattle.tpm_record.specs.Record.{Record}
-use Rattle.tpm_types.specs.declared.check.Check.TheVariants as check
 use Rattle.tpm_types.specs.declared.refused.Refused.{Refused}
-use Rattle.tpm_types.specs.Refused.{refusal}
+use Rattle.tpm_actions.specs.Refusals.{handle_refusal}
 use Rattle.tpm_actions.specs.Request.{Request, first_handle}
 use Rattle.tpm_actions.specs.Answer.{AnswerParts, SizedFirst}
 use Rattle.tpm_actions.specs.Rows.{Success}
@@ -24,10 +21,9 @@ use Rattle.tpm_actions_object.specs.Checks.{given_passes, public_passes}
 use Rattle.tpm_actions_object.specs.Creation.{Parameters, creation_rest, hierarchy_parent, parameters_in}
 use Rattle.tpm_actions_object.specs.Loaded.{place_for}
 
--- the hierarchy of a handle; for another handle no row acts. That does not occur: the general
--- checks have seen that it names one
+-- the hierarchy of a handle, which the general checks have seen to name one
 abbrev pub named_hierarchy : Handle → Result HierarchyHandle Refused
-named_hierarchy handle = ok_or (hierarchy_of handle) (refusal check.Handles (plain code.Failure))
+named_hierarchy handle = ok_or (hierarchy_of handle) handle_refusal
 
 -- the object that is derived from the hierarchy's seed
 abbrev pub derived : Record → HierarchyHandle → Parameters → Object

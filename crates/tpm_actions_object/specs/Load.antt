@@ -17,7 +17,8 @@ use Rattle.tpm_types.specs.declared.refused.Refused.{Refused}
 use Rattle.tpm_actions.specs.Request.{Request, first_handle}
 use Rattle.tpm_actions.specs.Answer.{AnswerParts, Sized}
 use Rattle.tpm_actions.specs.Rows.{Success, all_read, parameter}
-use Rattle.tpm_actions_object.specs.Checks.{parameter_fault, public_passes}
+use Rattle.tpm_actions.specs.Refusals.{parameter_fault}
+use Rattle.tpm_actions_object.specs.Checks.{public_passes}
 use Rattle.tpm_actions_object.specs.Loaded.{is_fixed, parent_passes, loaded_at, place_for}
 
 -- the sensitive area that a private area wraps, or A5: it is none of the parent's for this public

@@ -13,15 +13,12 @@ use Rattle.tpm_types_object.specs.ObjectAttributes.{has}
 use Rattle.tpm_types.specs.Rc.{at, plain}
 use Rattle.tpm_record.specs.Entity.{object_of}
 use Rattle.tpm_record.specs.Record.{Record}
-use Rattle.tpm_types.specs.declared.check.Check.TheVariants as check
 use Rattle.tpm_types.specs.declared.refused.Refused.{Refused}
-use Rattle.tpm_types.specs.Refused.{refusal}
-use Rattle.tpm_actions_object.specs.Checks.{action_refusal}
+use Rattle.tpm_actions.specs.Refusals.{action_refusal, handle_refusal}
 
--- the object of a handle; without one no row acts. That does not occur: the general checks have
--- found it
+-- the object of a handle, which the general checks have found
 abbrev pub loaded_at : Record → Handle → Result Object Refused
-loaded_at r handle = ok_or (object_of r handle) (refusal check.Handles (plain code.Failure))
+loaded_at r handle = ok_or (object_of r handle) handle_refusal
 
 -- The code's search for an object stands for the definition's.
 abbrev pub IsLoaded : Result Object Refused → Result (Bor Object) Refused → Type 0

@@ -12,7 +12,7 @@ use Rattle.tpm_types.specs.declared.refused.Refused.{Refused}
 use Rattle.tpm_actions.specs.Request.{Request, first_handle}
 use Rattle.tpm_actions.specs.Answer.{Sized, answer_of}
 use Rattle.tpm_actions.specs.Rows.{Success, all_read, unchanged}
-use Rattle.tpm_actions_object.specs.Checks.{action_refusal}
+use Rattle.tpm_actions.specs.Refusals.{action_refusal}
 use Rattle.tpm_actions_object.specs.Loaded.{loaded_at}
 
 -- answered: the sealed data; no parameters. A1: the object is no KEYEDHASH; A2: it is a key that

@@ -1,24 +1,11 @@
 ghost use Rattle.std.specs.Prelude.{◌≡◌, ◌≤◌};
 ghost use Rattle.tpm_types_object.specs.SensitiveCreate.{sensitive_values_of};
-ghost use Rattle.tpm_actions_object.specs.Checks.{action_refusal, creation_refusal, given_passes, parameter_fault, public_passes, template_refusal};
+ghost use Rattle.tpm_actions_object.specs.Checks.{creation_refusal, given_passes, public_passes, template_refusal};
 
+use tpm_actions::refusals::parameter_fault;
 use tpm_object::{CreationFault, TemplateFault, check_creation, check_template};
-use tpm_types::{ActionCheck, Check, Rc, Refused, ResponseCode};
+use tpm_types::{Refused, ResponseCode};
 use tpm_types_object::{Public, SensitiveCreate};
-
-/// The refusal by a command's check of this number.
-pub fn action_refusal(number: u8, rc: Rc) -> Refused
-    ensures { result ≡ action_refusal number rc }
-{
-    Refused::by(Check::Action(ActionCheck::named(number)), rc)
-}
-
-/// And by this code of a parameter.
-pub fn parameter_fault(number: u8, parameter: u8, code: ResponseCode) -> Refused
-    ensures { result ≡ parameter_fault number parameter code }
-{
-    action_refusal(number, code.anywhere().at_parameter(parameter))
-}
 
 /// The refusal of a template by its checks; so many of the command's checks come before them.
 fn template_refusal(before: u8, fault: TemplateFault) -> Refused

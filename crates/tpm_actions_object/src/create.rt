@@ -10,8 +10,7 @@ use crate::loaded::{check_parent, is_fixed, loaded};
 use tpm_actions::answer::Answer;
 use tpm_actions::call::Call;
 use tpm_name::Name;
-use tpm_object::areas::create as create_areas;
-use tpm_object::{drawn_by, wrap};
+use tpm_object::{create as create_areas, drawn_by, wrap};
 use tpm_record::Keep;
 use tpm_types::Refused;
 

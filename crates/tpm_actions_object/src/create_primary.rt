@@ -9,18 +9,18 @@ use crate::creation::{Parent, put_creation, read_asked};
 use crate::loaded::no_place;
 use tpm_actions::answer::Answer;
 use tpm_actions::call::Call;
-use tpm_actions::reading::memory_refused;
+use tpm_actions::refusals::{handle_refusal, memory_refusal};
 use tpm_object::derive_primary;
 use tpm_places::PlaceFault;
 use tpm_record::Keep;
-use tpm_types::{Check, Handle, HierarchyHandle, Refused, ResponseCode};
+use tpm_types::{Handle, HierarchyHandle, Refused};
 
 fn named_hierarchy(handle: Handle) -> Result<HierarchyHandle, Refused>
     ensures { result ≡ named_hierarchy handle }
 {
     match handle.hierarchy() {
         Some(hierarchy) => Ok(hierarchy),
-        None => Err(Refused::by(Check::Handles, ResponseCode::Failure.anywhere())),
+        None => Err(handle_refusal()),
     }
 }
 
@@ -64,6 +64,6 @@ pub fn create_primary<K: Keep>(
             Ok(())
         }
         Err(PlaceFault::Full) => Err(no_place(7)),
-        Err(PlaceFault::NoMemory) => Err(memory_refused()),
+        Err(PlaceFault::NoMemory) => Err(memory_refusal()),
     }
 }

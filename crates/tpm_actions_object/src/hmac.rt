@@ -4,11 +4,11 @@ ghost use Rattle.tpm_actions.specs.Request.{request_of};
 ghost use Rattle.tpm_actions.specs.Rows.{Acts};
 ghost use Rattle.tpm_actions_object.specs.Hmac.{chosen_hash, hmac_row, own_hash, scheme_of};
 
-use crate::checks::action_refusal;
 use crate::loaded::loaded;
 use tpm_actions::answer::Answer;
 use tpm_actions::call::Call;
 use tpm_actions::reading::{end, parameter};
+use tpm_actions::refusals::action_refusal;
 use tpm_bytes::Cursor;
 use tpm_mac::{HashAlg, hmac_parts};
 use tpm_record::Keep;

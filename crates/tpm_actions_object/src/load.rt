@@ -4,11 +4,12 @@ ghost use Rattle.tpm_actions.specs.Request.{request_of};
 ghost use Rattle.tpm_actions.specs.Rows.{ActsIfRoom};
 ghost use Rattle.tpm_actions_object.specs.Load.{load_row, sensitive_of};
 
-use crate::checks::{parameter_fault, public_passes};
+use crate::checks::public_passes;
 use crate::loaded::{check_parent, is_fixed, loaded, no_place};
 use tpm_actions::answer::Answer;
 use tpm_actions::call::Call;
-use tpm_actions::reading::{end, memory_refused, parameter};
+use tpm_actions::reading::{end, parameter};
+use tpm_actions::refusals::{memory_refusal, parameter_fault};
 use tpm_bytes::Cursor;
 use tpm_object::{Object, unwrap};
 use tpm_places::PlaceFault;
@@ -53,6 +54,6 @@ pub fn load<K: Keep>(keep: &mut K, call: &Call, answer: &mut Answer) -> Result<(
             Ok(())
         }
         Err(PlaceFault::Full) => Err(no_place(6)),
-        Err(PlaceFault::NoMemory) => Err(memory_refused()),
+        Err(PlaceFault::NoMemory) => Err(memory_refusal()),
     }
 }

@@ -1,10 +1,10 @@
 ghost use Rattle.std.specs.Prelude.{◌≡◌};
 ghost use Rattle.tpm_actions_object.specs.Loaded.{IsLoaded, is_fixed, loaded_at, no_place, parent_passes};
 
-use crate::checks::action_refusal;
+use tpm_actions::refusals::{action_refusal, handle_refusal};
 use tpm_object::{Object, is_storage_parent};
 use tpm_record::Keep;
-use tpm_types::{Check, Handle, Refused, ResponseCode};
+use tpm_types::{Handle, Refused, ResponseCode};
 use tpm_types_object::ObjectAttribute;
 
 /// The object of a handle.
@@ -13,7 +13,7 @@ pub fn loaded<K: Keep>(keep: &K, handle: Handle) -> Result<&Object, Refused>
 {
     match keep.objects().get(handle) {
         Some(object) => Ok(object),
-        None => Err(Refused::by(Check::Handles, ResponseCode::Failure.anywhere())),
+        None => Err(handle_refusal()),
     }
 }
 

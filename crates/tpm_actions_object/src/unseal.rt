@@ -4,11 +4,11 @@ ghost use Rattle.tpm_actions.specs.Request.{request_of};
 ghost use Rattle.tpm_actions.specs.Rows.{Acts};
 ghost use Rattle.tpm_actions_object.specs.Unseal.{unseal_row};
 
-use crate::checks::action_refusal;
 use crate::loaded::loaded;
 use tpm_actions::answer::Answer;
 use tpm_actions::call::Call;
 use tpm_actions::reading::end;
+use tpm_actions::refusals::action_refusal;
 use tpm_bytes::Cursor;
 use tpm_object::is_keyed_hash;
 use tpm_record::Keep;

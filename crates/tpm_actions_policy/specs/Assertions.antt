@@ -6,19 +6,18 @@ use Rattle.tpm_bytes.specs.Reading.{◌>>=◌}
 use Rattle.tpm_policy.specs.declared.fault.PolicyFault.{PolicyFault}
 use Rattle.tpm_policy.specs.Assertion.{Assertion, asserted}
 use Rattle.tpm_policy.specs.State.{Policy}
-use Rattle.tpm_policy.specs.Use.{is_trial}
+use Rattle.tpm_types.specs.SessionType.{is_trial}
 use Rattle.tpm_session.specs.declared.session.Session.{Session}
 use Rattle.tpm_session.specs.Sessions.{session_at, with_session_policy}
 use Rattle.tpm_types_command.specs.declared.command_code.CommandCode.{CommandCode}
 use Rattle.tpm_types_command.specs.declared.command_code.CommandCode.TheVariants as command
 use Rattle.tpm_types.specs.declared.handle.Handle.{Handle}
-use Rattle.tpm_types.specs.declared.rc.ResponseCode.TheVariants as code
-use Rattle.tpm_types.specs.Rc.{plain}
 use Rattle.tpm_record.specs.Record.{Record}
 use Rattle.tpm_types.specs.declared.check.Check.TheVariants as check
 use Rattle.tpm_types.specs.declared.refused.Refused.{Refused}
 use Rattle.tpm_types.specs.Refused.{refusal}
 use Rattle.tpm_actions.specs.Answer.{Body, Plain, answer_of}
+use Rattle.tpm_actions.specs.Refusals.{handle_refusal}
 use Rattle.tpm_actions.specs.Request.{Request, first_handle, second_handle}
 use Rattle.tpm_actions.specs.Rows.{Success}
 use Rattle.tpm_actions_policy.specs.PolicyAuthValue.{auth_value_assertion}
@@ -45,10 +44,6 @@ abbrev pub session_handle : CommandCode → List Handle → Result Handle Refuse
 session_handle command.PolicySecret handles = second_handle handles
 session_handle _ handles = first_handle handles
 
--- where there is not what the general checks have found no row acts. That does not occur
-abbrev pub no_row : Refused
-no_row = refusal check.Handles (plain code.Failure)
-
 -- what is asserted; every other command has another row
 abbrev pub assertion_in : CommandCode
     → Record → Request → Result (Session → Assertion) Refused
@@ -59,7 +54,7 @@ assertion_in command.PolicyPassword r q = password_assertion q.parameters
 assertion_in command.PolicyCommandCode r q = command_code_assertion q.parameters
 assertion_in command.PolicyLocality r q = locality_assertion q.parameters
 assertion_in command.PolicySecret r q = secret_assertion r q
-assertion_in _ r q = Err no_row
+assertion_in _ r q = Err handle_refusal
 
 -- what is answered
 abbrev pub body_of : CommandCode → Body
@@ -68,7 +63,7 @@ body_of _ = Plain []
 
 -- the session of a handle, which the general checks let be a policy or trial session alone
 abbrev pub policy_session : List (Option Session) → Handle → Result Session Refused
-policy_session sessions handle = ok_or (session_at sessions handle) no_row
+policy_session sessions handle = ok_or (session_at sessions handle) handle_refusal
 
 -- an assertion that is refused refuses its command, by the same check
 abbrev pub by_its_check : Result Policy PolicyFault → Result Policy Refused

@@ -5,6 +5,7 @@ use Rattle.std.specs.Int.{w16, w32, to_be_bytes}
 use Rattle.tpm_bytes.specs.Reading.{◌>>=◌, number_at, or_fault}
 use Rattle.tpm_policy.specs.Assertion.{Assertion, Secret, SecretParts}
 use Rattle.tpm_session.specs.declared.session.Session.{Session}
+use Rattle.tpm_types.specs.Handle.{null_handle}
 use Rattle.tpm_types.specs.declared.rc.ResponseCode.TheVariants as code
 use Rattle.tpm_types.specs.Buffer.{buffer_at}
 use Rattle.tpm_types.specs.Rc.{plain}
@@ -56,7 +57,7 @@ secret_assertion r q = do
 
 -- a ticket that is none: TPM_ST_AUTH_SECRET, TPM_RH_NULL, an empty digest
 abbrev pub null_ticket : List ℕ
-null_ticket = to_be_bytes w16 0x8023 ++ to_be_bytes w32 0x4000_0007 ++ to_be_bytes w16 0
+null_ticket = to_be_bytes w16 0x8023 ++ to_be_bytes w32 null_handle.number ++ to_be_bytes w16 0
 
 -- answered: an empty timeout, and no ticket
 abbrev pub no_ticket : Body

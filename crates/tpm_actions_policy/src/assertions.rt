@@ -1,16 +1,17 @@
 ghost use Rattle.std.specs.Prelude.{◌≡◌, Err};
 ghost use Rattle.tpm_policy.specs.Assertion.{Asserts, asserted};
-ghost use Rattle.tpm_policy.specs.Use.{is_trial};
+ghost use Rattle.tpm_types.specs.SessionType.{is_trial};
 ghost use Rattle.tpm_actions_policy.specs.Asked.{assertion_of};
 ghost use Rattle.tpm_actions_policy.specs.Assertions.{IsMade, IsSession, by_its_check};
 ghost use Rattle.tpm_actions_policy.specs.Assertions.{policy_session, with_assertion};
 
 use crate::policy_pcr::ComparedPcrs;
 use crate::policy_secret::ShownSecret;
+use tpm_actions::refusals::handle_refusal;
 use tpm_policy::{PolicyFault, PolicyState};
 use tpm_record::Keep;
 use tpm_session::Session;
-use tpm_types::{Check, DigestList, Handle, Refused, ResponseCode, SessionType};
+use tpm_types::{Check, DigestList, Handle, Refused};
 
 /// What a command asks to be asserted.
 #[derive(Clone, Copy)]
@@ -40,7 +41,7 @@ impl Asked<'_> {
         let hash = session.hash;
         match *self {
             Asked::Pcr(pcrs) => pcrs.assert_on(keep, session, policy),
-            Asked::Or(digests) => policy.or(hash, is_trial(session), digests),
+            Asked::Or(digests) => policy.or(hash, session.kind.is_trial(), digests),
             Asked::AuthValue => {
                 policy.auth_value(hash);
                 Ok(())
@@ -62,15 +63,8 @@ pub fn policy_session<K: Keep>(keep: &K, handle: Handle) -> Result<&Session, Ref
 {
     match keep.sessions().get(handle) {
         Some(session) => Ok(session),
-        None => Err(Refused::by(Check::Handles, ResponseCode::Failure.anywhere())),
+        None => Err(handle_refusal()),
     }
-}
-
-/// Whether it is a trial session.
-pub fn is_trial(session: &Session) -> bool
-    ensures { result ≡ is_trial session.now.kind }
-{
-    session.kind == SessionType::Trial
 }
 
 /// The refusal of a command by the check of its assertion.

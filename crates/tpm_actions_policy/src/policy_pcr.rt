@@ -5,12 +5,12 @@ ghost use Rattle.tpm_actions.specs.Request.{request_of};
 ghost use Rattle.tpm_actions.specs.Rows.{Acts};
 ghost use Rattle.tpm_policy.specs.Assertion as assertion;
 ghost use Rattle.tpm_policy.specs.Assertion.{Asserts, asserted};
-ghost use Rattle.tpm_policy.specs.Use.{is_trial};
+ghost use Rattle.tpm_types.specs.SessionType.{is_trial};
 ghost use Rattle.tpm_actions_policy.specs.Asked.{pcrs_of};
 ghost use Rattle.tpm_actions_policy.specs.Assertions.{assertion_row};
 ghost use Rattle.tpm_actions_policy.specs.PolicyPcr.{pcr_parts_of};
 
-use crate::assertions::{Asked, is_trial, make_assertion};
+use crate::assertions::{Asked, make_assertion};
 use tpm_actions::answer::Answer;
 use tpm_actions::call::Call;
 use tpm_actions::reading::{end, parameter};
@@ -18,10 +18,7 @@ use tpm_bytes::Cursor;
 use tpm_policy::{PcrAssertion, PolicyFault, PolicyState};
 use tpm_record::Keep;
 use tpm_session::Session;
-use tpm_types::{PcrSelection, Refused, read_buffer};
-
-/// The most bytes of pcrDigest.
-const MOST_BYTES: usize = 32;
+use tpm_types::{MOST_DIGEST, PcrSelection, Refused, read_buffer};
 
 /// The PCRs that are to be compared, with the given digest of their values.
 #[derive(Clone, Copy)]
@@ -52,7 +49,7 @@ impl ComparedPcrs<'_> {
             digest: digest.as_slice(),
             update_count: banks.update_count(),
         };
-        policy.pcr(session.hash, is_trial(session), &pcrs)
+        policy.pcr(session.hash, session.kind.is_trial(), &pcrs)
     }
 }
 
@@ -66,7 +63,7 @@ pub fn policy_pcr<K: Keep>(keep: &mut K, call: &Call, _answer: &mut Answer) -> R
 {
     let handle = call.first_handle()?;
     let mut parameters = Cursor::new(call.parameters);
-    let given = parameter(1, read_buffer(&mut parameters, MOST_BYTES))?;
+    let given = parameter(1, read_buffer(&mut parameters, MOST_DIGEST))?;
     let selection = parameter(2, PcrSelection::read(&mut parameters))?;
     end(&parameters)?;
     let pcrs = ComparedPcrs {

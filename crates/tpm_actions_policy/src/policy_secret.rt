@@ -5,13 +5,13 @@ ghost use Rattle.tpm_actions.specs.Request.{request_of};
 ghost use Rattle.tpm_actions.specs.Rows.{Acts};
 ghost use Rattle.tpm_policy.specs.Assertion as assertion;
 ghost use Rattle.tpm_policy.specs.Assertion.{Asserts, asserted};
-ghost use Rattle.tpm_policy.specs.Use.{is_trial};
+ghost use Rattle.tpm_types.specs.SessionType.{is_trial};
 ghost use Rattle.tpm_record.specs.Entity.{name_of};
 ghost use Rattle.tpm_actions_policy.specs.Asked.{Asks, secret_asked};
 ghost use Rattle.tpm_actions_policy.specs.Assertions.{assertion_row};
 ghost use Rattle.tpm_actions_policy.specs.PolicySecret.{secret_of, secret_parameters};
 
-use crate::assertions::{Asked, is_trial, make_assertion};
+use crate::assertions::{Asked, make_assertion};
 use tpm_actions::answer::Answer;
 use tpm_actions::call::Call;
 use tpm_actions::reading::{end, number, parameter};
@@ -19,10 +19,7 @@ use tpm_bytes::Cursor;
 use tpm_policy::{PolicyFault, PolicyState, SecretAssertion};
 use tpm_record::{Keep, name_of};
 use tpm_session::Session;
-use tpm_types::{Handle, Refused, read_buffer};
-
-/// The most bytes of nonceTPM, cpHashA and policyRef.
-const MOST_BYTES: usize = 32;
+use tpm_types::{Handle, MOST_DIGEST, Refused, read_buffer};
 
 /// An empty timeout, and the null ticket: TPM_ST_AUTH_SECRET, TPM_RH_NULL, an empty digest.
 const NO_TICKET: [u8; 10] = [0, 0, 0x80, 0x23, 0x40, 0, 0, 7, 0, 0];
@@ -60,7 +57,7 @@ impl ShownSecret<'_> {
             reference: self.reference,
             expiration: self.expiration,
         };
-        policy.secret(session.hash, is_trial(session), &secret)
+        policy.secret(session.hash, session.kind.is_trial(), &secret)
     }
 }
 
@@ -69,9 +66,9 @@ fn read_secret<'a>(entity: Handle, parameters: &'a [u8]) -> Result<ShownSecret<'
     ensures { Asks entity (secret_parameters parameters.now) result }
 {
     let mut text = Cursor::new(parameters);
-    let nonce = parameter(1, read_buffer(&mut text, MOST_BYTES))?;
-    let cp_hash = parameter(2, read_buffer(&mut text, MOST_BYTES))?;
-    let reference = parameter(3, read_buffer(&mut text, MOST_BYTES))?;
+    let nonce = parameter(1, read_buffer(&mut text, MOST_DIGEST))?;
+    let cp_hash = parameter(2, read_buffer(&mut text, MOST_DIGEST))?;
+    let reference = parameter(3, read_buffer(&mut text, MOST_DIGEST))?;
     let expiration = number(4, text.u32())?;
     end(&text)?;
     Ok(ShownSecret {

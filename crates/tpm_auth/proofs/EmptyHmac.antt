@@ -13,6 +13,7 @@ use Rattle.tpm_session.specs.EntryText.{EntryParts, command_mac_of, command_text
 use Rattle.tpm_session.specs.declared.session.Session.{Session}
 use Rattle.tpm_types_command.specs.AuthEntry.{Entry}
 use Rattle.tpm_types_command.specs.Command.{Whole}
+use Rattle.tpm_types.specs.AuthValue.{trimmed}
 use Rattle.tpm_record.specs.Record.{Record}
 use Rattle.tpm_auth.specs.Comparison.{check_of, failure, is_password_of}
 use Rattle.tpm_auth.specs.EmptyHmac.{EmptyHmacHasNoKey}
@@ -54,14 +55,19 @@ authentic r c n grant e s is empty =
 -- ---- what is accepted
 
 abbrev HasNoKey : Record → Session → Option Grant → Type 0
-HasNoKey r s accepted = (entry_key s (used_auth_value r s accepted) ≡ []) ⊎ (demands_password accepted ≡ true)
+HasNoKey r s accepted = (entry_key s (used_auth_value r s accepted) ≡ []) ⊎ ((demands_password accepted ≡ true) × (trimmed (granted_value r accepted) ≡ []))
+
+-- an empty password is that of an empty value alone
+no_value : (value password : List ℕ) → is_password_of value password ≡ true → password ≡ [] → trimmed value ≡ []
+unfolding trimmed
+no_value value password is empty = sym ((bytes_eq-Decides (trimmed password) (trimmed value)).0 is) ∙ ap trimmed empty
 
 compared : (r : Record) (c : Whole) (n : ℕ) (grant : Option Grant) (e : Entry) (s : Session) → comparison_holds r c n grant e s ≡ true → e.hmac ≡ [] → HasNoKey r s grant
 unfolding comparison_holds
 compared r c n grant e s is empty = by (demands_password grant) refl is
   where
     by : (b : Bool) → demands_password grant ≡ b → (if b then is_password_of (granted_value r grant) e.hmac else is_authentic r c n grant e s) ≡ true → HasNoKey r s grant
-    by true demands holds = inr demands
+    by true demands holds = inr (demands, no_value (granted_value r grant) e.hmac holds empty)
     by false demands holds = inl (authentic r c n grant e s holds empty)
 
 accepted_by : (r : Record) (c : Whole) (n : ℕ) (grant : Option Grant) (e : Entry) (s : Session) (accepted : Option Grant) → comparison r c n grant e s ≡ Ok accepted → e.hmac ≡ [] → HasNoKey r s accepted

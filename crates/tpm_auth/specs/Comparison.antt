@@ -6,7 +6,7 @@ use Rattle.tpm_session.specs.declared.session.Protection.{Protection}
 use Rattle.tpm_session.specs.declared.session.Protection.TheVariants as protection
 use Rattle.tpm_types.specs.AuthValue.{trimmed}
 use Rattle.tpm_types.specs.declared.rc.ResponseCode.TheVariants as code
-use Rattle.tpm_auth.specs.Entries.{entry_fault}
+use Rattle.tpm_types.specs.Rc.{entry_fault}
 use Rattle.tpm_types.specs.Refused.{refusal}
 use Rattle.tpm_types.specs.declared.check.Check.{Check}
 use Rattle.tpm_types.specs.declared.check.Check.TheVariants as check

@@ -8,13 +8,16 @@ use Rattle.tpm_types.specs.declared.handle.Handle.{Handle}
 use Rattle.tpm_types_command.specs.AuthEntry.{Entry}
 use Rattle.tpm_types_command.specs.Command.{Whole}
 use Rattle.tpm_record.specs.Record.{Record}
-use Rattle.tpm_auth.specs.SessionGrant.{demands_password, session_grant, used_auth_value}
+use Rattle.tpm_types.specs.AuthValue.{trimmed}
+use Rattle.tpm_auth.specs.SessionGrant.{demands_password, granted_value, session_grant, used_auth_value}
 use Rattle.tpm_auth.specs.declared.session_grant.Grant.{Grant}
 
 -- a session's entry that is accepted with an empty HMAC has an empty key, neither a session key nor
--- an authorization value in it, or it authorizes by a policy that demands a password
+-- an authorization value in it; or it authorizes by a policy that demands a password, what has no
+-- authorization value
 abbrev pub EmptyHmacHasNoKey : Type 0
 EmptyHmacHasNoKey =
     (r : Record) (c : Whole) (locality n : ℕ) (used : Option Handle) (e : Entry) (s : Session)
     (accepted : Option Grant) → session_grant r c locality n used e s ≡ Ok accepted → e.hmac ≡ []
-    → (entry_key s (used_auth_value r s accepted) ≡ []) ⊎ (demands_password accepted ≡ true)
+    → (entry_key s (used_auth_value r s accepted) ≡ [])
+    ⊎ ((demands_password accepted ≡ true) × (trimmed (granted_value r accepted) ≡ []))

@@ -10,27 +10,21 @@ use Rattle.tpm_types_command.specs.declared.command_code.CommandCode.{CommandCod
 use Rattle.tpm_types.specs.declared.handle.SessionKind.{SessionKind}
 use Rattle.tpm_types.specs.declared.handle.SessionKind.TheVariants as kind
 use Rattle.tpm_types.specs.declared.rc.Rc.{Rc}
-use Rattle.tpm_types.specs.declared.rc.ResponseCode.{ResponseCode}
 use Rattle.tpm_types.specs.declared.rc.ResponseCode.TheVariants as code
-use Rattle.tpm_types.specs.declared.rc.Place.TheVariants as place
 use Rattle.tpm_types.specs.Symmetric.{is_null}
 use Rattle.tpm_types_command.specs.AuthEntry.{Entry}
 use Rattle.tpm_types.specs.SessionAttributes.{has_bits}
 use Rattle.tpm_types_command.specs.CommandCode.{authorized_handles, has_sized_parameter, shape_of}
-use Rattle.tpm_types.specs.Handle.{session_kind}
-use Rattle.tpm_types.specs.Rc.{at, plain}
+use Rattle.tpm_types.specs.Handle.{password_handle, session_kind}
+use Rattle.tpm_types.specs.Rc.{entry_fault, plain}
 use Rattle.tpm_record.specs.Record.{Record}
-
--- a fault of entry n
-abbrev pub entry_fault : ℕ → ResponseCode → Rc
-entry_fault n fault = at (place.Session n) (plain fault)
 
 -- the session that an entry names
 abbrev pub session_of : Record → Entry → Option Session
 session_of r e = session_at r.sessions e.session
 
 abbrev pub is_password : Entry → Bool
-is_password e = e.session.number == 0x4000_0009
+is_password e = e.session.number == password_handle.number
 
 -- the attributes decrypt (bit 5) and encrypt (bit 6): the session decrypts the command's first
 -- parameter, or encrypts the response's

@@ -1,10 +1,11 @@
 -- What the entries of a command authorize. TPM 2.0 Library, Part 1, section 19 (authorizations),
 -- and Part 3, section 5.6 (authorization checks).
-use Rattle.std.specs.Prelude.{◌≡◌, ℕ, ◌+◌, ◌&&◌, not, nat_lt, Bool, true, false, List, [], ◌∷◌, ◌++◌, length, take, Option, Some, None, option_map, slice_get, Result, Ok, Err}
+use Rattle.std.specs.Prelude.{◌≡◌, ℕ, ◌+◌, ◌&&◌, not, nat_lt, Bool, false, List, [], ◌∷◌, ◌++◌, length, take, Option, Some, None, option_map, slice_get, Result, Ok, Err}
 use Rattle.std.specs.List.{list_any}
 use Rattle.std.specs.Option.{option_map_or}
-use Rattle.tpm_bytes.specs.Reading.{◌>>=◌, refused_if, sized_at}
+use Rattle.tpm_bytes.specs.Reading.{◌>>=◌, refused_if}
 use Rattle.tpm_policy.specs.declared.state.Demand.TheVariants as demand
+use Rattle.tpm_session.specs.FirstBuffer.{has_first_buffer}
 use Rattle.tpm_session.specs.declared.session.Protection.TheVariants as protection
 use Rattle.tpm_session.specs.declared.session.Session.{Session}
 use Rattle.tpm_types.specs.declared.handle.Handle.{Handle}
@@ -16,12 +17,12 @@ use Rattle.tpm_types_command.specs.AuthEntry.{Entry}
 use Rattle.tpm_types_command.specs.Command.{Whole}
 use Rattle.tpm_types_command.specs.CommandCode.{authorized_handles}
 use Rattle.tpm_types.specs.Handle.{session_kind}
-use Rattle.tpm_types.specs.Rc.{at, plain}
+use Rattle.tpm_types.specs.Rc.{at, entry_fault, plain}
 use Rattle.tpm_record.specs.declared.entity.Means.TheVariants as means
 use Rattle.tpm_record.specs.Entity.{is_available, protection_of}
 use Rattle.tpm_record.specs.Record.{Record}
 use Rattle.tpm_auth.specs.Comparison.{check_of, failure, is_password_of}
-use Rattle.tpm_auth.specs.Entries.{decrypts, entries_pass, entry_fault, reference_of, session_of}
+use Rattle.tpm_auth.specs.Entries.{decrypts, entries_pass, reference_of, session_of}
 use Rattle.tpm_types.specs.Refused.{checked, refusal}
 use Rattle.tpm_auth.specs.SessionGrant.{granted_value, session_grant}
 use Rattle.tpm_types.specs.declared.check.Check.TheVariants as check
@@ -78,11 +79,6 @@ grants_pass r c locality before (e ∷ es) = do
   this ← grant r c locality (length before + 1) (slice_get (authorized c) (length before)) e
   grants_pass r c locality (before ++ this ∷ []) es
 
--- whether the first parameter, a sized buffer, is not all there
-abbrev pub is_cut : {X E : Type 0} → Result X E → Bool
-is_cut (Ok x) = false
-is_cut (Err e) = true
-
 -- G8 behind the sizes of the area: each entry's own checks, then that there is an entry for each
 -- handle that needs authorization; then G9, each of these handles, and G10, the other entries, and
 -- that what a session decrypts is there. Given is what each entry authorizes
@@ -92,7 +88,7 @@ authorize r c locality = do
   enough ← refused_if (nat_lt (length c.entries) (authorized_handles c.code))
       (refusal check.Entries (plain code.AuthMissing))
   grants ← grants_pass r c locality [] c.entries
-  whole ← refused_if (list_any decrypts c.entries && is_cut (sized_at 0xffff c.parameters))
+  whole ← refused_if (list_any decrypts c.entries && not (has_first_buffer c.parameters))
       (refusal check.Others (at (place.Parameter 1) (plain code.Insufficient)))
   Ok grants
 

@@ -1,5 +1,4 @@
 pub mod Entries
-pub mod Hashes
 pub mod Comparison
 pub mod SessionGrant
 pub mod EmptyHmac

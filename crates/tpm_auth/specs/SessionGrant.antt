@@ -13,7 +13,7 @@ use Rattle.tpm_session.specs.declared.session.Protection.{Protection}
 use Rattle.tpm_session.specs.declared.session.Protection.TheVariants as protection
 use Rattle.tpm_session.specs.declared.session.Session.{Session}
 use Rattle.tpm_session.specs.EntryText.{EntryParts, command_mac_of, entry_key}
-use Rattle.tpm_session.specs.ParameterHash.{command_hash_of}
+use Rattle.tpm_session.specs.ParameterHash.{HashedParts, OfCommand, parameter_hash_of}
 use Rattle.tpm_types.specs.declared.handle.Handle.{Handle}
 use Rattle.tpm_types.specs.declared.rc.ResponseCode.TheVariants as code
 use Rattle.tpm_types.specs.declared.session_type.SessionType.{SessionType}
@@ -27,7 +27,6 @@ use Rattle.tpm_record.specs.Entity.{auth_value_of, is_available, name_of, policy
 use Rattle.tpm_record.specs.Record.{Record}
 use Rattle.tpm_auth.specs.Comparison.{check_of, failure, is_password_of}
 use Rattle.tpm_auth.specs.Entries.{decrypts, encrypts, session_of}
-use Rattle.tpm_auth.specs.Hashes.{HashedCommand}
 use Rattle.tpm_types.specs.Refused.{checked, refusal}
 use Rattle.tpm_types.specs.declared.check.Check.TheVariants as check
 use Rattle.tpm_types.specs.declared.refused.Refused.{Refused}
@@ -86,19 +85,14 @@ other_entries c n = if n == 1 && nat_lt 0 (authorized_handles c.code) then drop 
 abbrev pub only_encrypts : Entry → Bool
 only_encrypts e = encrypts e && not (decrypts e)
 
--- what a command's hash is about
-abbrev pub hashed_command : Record → Whole → HashedCommand
-hashed_command r c =
-    record {
-      code = code_number c.code;
-      names = map (name_of r) c.handles;
-      parameters = c.parameters;
-    }
+-- what a command's hash is of: its code, the Names of its handles, its parameters as it was sent
+abbrev pub hashed_command : Record → Whole → HashedParts
+hashed_command r c = OfCommand (code_number c.code) (map (name_of r) c.handles) c.parameters
 
 -- what entry n of a command authenticates by its session's hash: the command as it was sent
 unfoldable pub entry_parts : Record → Whole → ℕ → Entry → Session → EntryParts
 entry_parts r c n e s = record {
-  hash = command_hash_of s.hash (code_number c.code) (map (name_of r) c.handles) c.parameters;
+  hash = parameter_hash_of s.hash (hashed_command r c);
   nonce_caller = e.nonce;
   decrypt_nonce = nonce_where r decrypts (other_entries c n);
   encrypt_nonce = nonce_where r only_encrypts (other_entries c n);
@@ -118,7 +112,7 @@ abbrev pub demands_password : Option Grant → Bool
 demands_password None = false
 demands_password (Some grant) = is_password_demand grant.demand
 
--- the authorization value of what an entry authorizes
+-- the authorization value of the handle that an entry authorizes, if there is one
 abbrev pub granted_value : Record → Option Grant → List ℕ
 granted_value r None = []
 granted_value r (Some grant) = auth_value_of r grant.handle
@@ -159,7 +153,7 @@ use_of r c locality n handle s = record {
   update_count = r.fixed.banks.update_count;
   command = code_number c.code;
   role = role_at c.code (n - 1);
-  cp_hash = command_hash_of s.hash (code_number c.code) (map (name_of r) c.handles) c.parameters;
+  cp_hash = parameter_hash_of s.hash (hashed_command r c);
   locality = locality;
   entity = policy_of r handle;
 }

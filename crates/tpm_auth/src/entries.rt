@@ -5,11 +5,8 @@ ghost use Rattle.tpm_types.specs.Handle.{session_kind};
 ghost use Rattle.tpm_auth.specs.Entries.{decrypts, encrypts, entries_pass, entry_passes, has_wrong_attributes, is_misplaced, kind_passes, lacks_cipher, reference_of};
 
 use tpm_record::Keep;
-use tpm_types::{Handle, Rc, ResponseCode, SessionKind, SymmetricDefinition};
+use tpm_types::{Handle, MOST_DIGEST, Rc, ResponseCode, SessionKind, SymmetricDefinition};
 use tpm_types_command::{AuthEntry, CommandCode};
-
-/// The most bytes that an entry's nonce or HMAC may have.
-const MOST_DIGEST: usize = 32;
 
 /// The attribute by which a session decrypts the command's first parameter.
 const DECRYPT: u8 = 0x20;

@@ -1,22 +1,20 @@
-ghost use Rattle.std.specs.Prelude.{◌≡◌, ◌+◌, ◌≤◌, [], length, map};
-ghost use Rattle.tpm_bytes.specs.Reading.{sized_at};
+ghost use Rattle.std.specs.Prelude.{◌≡◌, ◌+◌, ◌≤◌, [], length, map, not};
+ghost use Rattle.tpm_session.specs.FirstBuffer.{has_first_buffer};
 ghost use Rattle.tpm_types_command.specs.AuthEntry.{entry_of};
 ghost use Rattle.tpm_types_command.specs.Command.{whole_of};
 ghost use Rattle.tpm_types.specs.Locality.{locality_number};
 ghost use Rattle.tpm_record.specs.Entity.{name_of};
-ghost use Rattle.tpm_auth.specs.Grant.{AreGranted, IsGranted, authorize, authorized, grant, grants_pass, is_cut, is_unavailable, password_grant};
+ghost use Rattle.tpm_auth.specs.Grant.{AreGranted, IsGranted, authorize, authorized, grant, grants_pass, is_unavailable, password_grant};
 ghost use Rattle.tpm_auth.specs.SessionGrant.{hashed_command};
 
 use crate::comparison::{check_of, failure, is_password_of};
 use crate::entries::{any_decrypts, check_entries, reference_of};
-use crate::hashes::CommandHashes;
 use crate::session_grant::{Grant, Sent, check_session};
 use arrayvec::ArrayVec;
-use tpm_bytes::Cursor;
 use tpm_name::Name;
 use tpm_policy::Demand;
 use tpm_record::{Keep, Means, auth_value_of, is_available, name_of, protection_of};
-use tpm_session::Protection;
+use tpm_session::{HashedParameters, ParameterHashes, Protection, first_size};
 use tpm_types::{Check, Handle, Locality, Refused, ResponseCode, SessionKind};
 use tpm_types_command::{AuthEntry, Command};
 
@@ -75,7 +73,7 @@ fn check_password<K: Keep>(
 fn check_grant<K: Keep>(
     keep: &K,
     sent: Sent,
-    hashes: &mut CommandHashes,
+    hashes: &mut ParameterHashes,
     number: u8,
     used: Option<Handle>,
     entry: &AuthEntry,
@@ -112,7 +110,7 @@ fn authorized<'a>(command: &'a Command) -> &'a [Handle]
 fn check_grants<K: Keep>(
     keep: &K,
     sent: Sent,
-    hashes: &mut CommandHashes,
+    hashes: &mut ParameterHashes,
     entries: &[AuthEntry],
     grants: &mut ArrayVec<Option<Grant>, 3>,
 ) -> Result<(), Refused>
@@ -135,9 +133,9 @@ fn check_grants<K: Keep>(
 
 /// Whether the first parameter, a sized buffer, is not all there.
 fn is_cut(parameters: &[u8]) -> bool
-    ensures { result ≡ is_cut (sized_at 0xffff parameters.now) }
+    ensures { result ≡ not (has_first_buffer parameters.now) }
 {
-    Cursor::new(parameters).sized(0xffff).is_err()
+    first_size(parameters).is_none()
 }
 
 /// The Names of a command's handles.
@@ -163,7 +161,8 @@ fn check_all<K: Keep>(keep: &K, sent: Sent) -> Result<Grants, Refused>
     if !command.entries.is_empty() {
         let names = names_of(keep, command.handles.as_slice());
         let code = command.code.number();
-        let mut hashes = CommandHashes::new(code, names.as_slice(), command.parameters);
+        let hashed = HashedParameters::Command(code, names.as_slice(), command.parameters);
+        let mut hashes = ParameterHashes::new(hashed);
         check_grants(
             keep,
             sent,

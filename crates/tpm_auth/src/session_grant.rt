@@ -5,16 +5,15 @@ ghost use Rattle.tpm_types_command.specs.Command.{whole_of};
 ghost use Rattle.tpm_auth.specs.Entries.{decrypts};
 ghost use Rattle.tpm_types.specs.Locality.{locality_number};
 ghost use Rattle.tpm_policy.specs.Use.{parts_of};
-ghost use Rattle.tpm_session.specs.ParameterHash.{command_hash_of};
+ghost use Rattle.tpm_session.specs.ParameterHash.{parameter_hash_of};
 ghost use Rattle.tpm_auth.specs.EmptyHmac.{EmptyHmacHasNoKey};
-ghost use Rattle.tpm_auth.specs.SessionGrant.{binding_protection, by_policy, comparison_holds, demanded, entry_nonce, hashed_command, is_authentic, is_bound_to, nonce_where, only_encrypts, or_protection, other_entries, session_grant, takes_value, touched, use_of, used_auth_value};
+ghost use Rattle.tpm_auth.specs.SessionGrant.{binding_protection, by_policy, comparison_holds, demanded, entry_nonce, granted_value, hashed_command, is_authentic, is_bound_to, nonce_where, only_encrypts, or_protection, other_entries, session_grant, takes_value, touched, use_of, used_auth_value};
 
 use crate::comparison::{check_of, failure, is_password_of};
 use crate::entries::{decrypts, encrypts};
-use crate::hashes::CommandHashes;
 use tpm_policy::{Demand, Use};
 use tpm_record::{Keep, Means, auth_value_of, is_available, name_of, policy_of, protection_of};
-use tpm_session::{CommandText, Protection, Session};
+use tpm_session::{CommandText, ParameterHashes, Protection, Session};
 use tpm_types::{Check, Handle, Locality, Refused, ResponseCode, SessionType};
 use tpm_types_command::{AuthEntry, Command};
 
@@ -133,7 +132,7 @@ fn is_equal(bytes: &[u8], others: &[u8]) -> bool
 fn is_authentic<K: Keep>(
     keep: &K,
     command: &Command,
-    hashes: &mut CommandHashes,
+    hashes: &mut ParameterHashes,
     number: u8,
     grant: Option<Grant>,
     entry: &AuthEntry,
@@ -204,16 +203,14 @@ fn use_of<'a, K: Keep>(
     session: &Session,
 ) -> Use<'a>
     requires number { 1 ≤ number }
-    requires hashed { cp_hash.now ≡ command_hash_of session.now.hash
-        (hashed_command (K.record_of keep.now) (whole_of sent.command.now)).code
-        (hashed_command (K.record_of keep.now) (whole_of sent.command.now)).names
-        (hashed_command (K.record_of keep.now) (whole_of sent.command.now)).parameters }
+    requires hashed { cp_hash.now ≡ parameter_hash_of session.now.hash
+        (hashed_command (K.record_of keep.now) (whole_of sent.command.now)) }
     ensures { parts_of result ≡ use_of (K.record_of keep.now) (whole_of sent.entry.command.now)
         (locality_number sent.entry.locality) number handle session.now }
 {
     let code = sent.command.code;
     Use {
-        number,
+        entry: number,
         kind: session.kind,
         hash: session.hash,
         available: is_available(keep, handle, Means::Policy),
@@ -230,7 +227,7 @@ fn use_of<'a, K: Keep>(
 fn policy_demand<K: Keep>(
     keep: &K,
     sent: Sent,
-    hashes: &mut CommandHashes,
+    hashes: &mut ParameterHashes,
     number: u8,
     handle: Handle,
     session: &Session,
@@ -255,7 +252,7 @@ fn policy_demand<K: Keep>(
 fn demand_of<K: Keep>(
     keep: &K,
     sent: Sent,
-    hashes: &mut CommandHashes,
+    hashes: &mut ParameterHashes,
     number: u8,
     handle: Handle,
     session: &Session,
@@ -279,13 +276,24 @@ fn demand_of<K: Keep>(
     }
 }
 
+/// The authorization value of what an entry authorizes, or no byte.
+pub fn granted_value<'a, K: Keep>(keep: &'a K, grant: Option<Grant>) -> &'a [u8]
+    ensures value { result.now ≡ granted_value (K.record_of keep.now) grant }
+    ensures fits { length result.now ≤ 32 }
+{
+    match grant {
+        Some(grant) => auth_value_of(keep, grant.handle),
+        None => &[],
+    }
+}
+
 /// Whether the comparison of an entry holds: of a password, where its policy demands one, else of
 /// an HMAC.
 #[tactic(auto, unfolding(crate::specs::SessionGrant::comparison_holds))]
 fn comparison_holds<K: Keep>(
     keep: &K,
     command: &Command,
-    hashes: &mut CommandHashes,
+    hashes: &mut ParameterHashes,
     number: u8,
     grant: Option<Grant>,
     entry: &AuthEntry,
@@ -310,7 +318,7 @@ fn comparison_holds<K: Keep>(
 pub fn check_session<K: Keep>(
     keep: &K,
     sent: Sent,
-    hashes: &mut CommandHashes,
+    hashes: &mut ParameterHashes,
     number: u8,
     used: Option<Handle>,
     entry: &AuthEntry,

@@ -58,11 +58,11 @@ accepted_answers can r random c grants (Ok a) answer effect response after (same
     answers_exactly can r random (Ok a) _ (λ i. record { response = (whole i).response; row = record { code = code_number (back i).code; check = 0 }; after = (whole i).after })
 
 -- and that it is modest, as the answer has room for so much alone, and nonces are short
-pub accepted_modest : (random : List ℕ) (c : Whole) (grants : List (Option Grant)) (a : Result Accepted Refused) (answer : Answer) (effect : Record) → answer.drawn ≤ 96 → length answer.parameters ≤ 2048 → DrawsFew random effect c.entries answer.drawn → Succeeds a c grants answer effect → IfOk a (IsModest random)
+pub accepted_modest : (random : List ℕ) (c : Whole) (grants : List (Option Grant)) (a : Result Accepted Refused) (answer : Answer) (effect : Record) → answer.drawn ≤ 96 → length answer.parameters ≤ 1026 → DrawsFew random effect c.entries answer.drawn → Succeeds a c grants answer effect → IfOk a (IsModest random)
 accepted_modest random c grants (Err e) answer effect few short drawn never = tt
 accepted_modest random c grants (Ok a) answer effect few short drawn (same, granted, written, left) = (
   subst (λ (n : ℕ). n ≤ 96) written.2 few,
-  subst (λ (l : List ℕ). length l ≤ 2048) written.1 short,
+  subst (λ (l : List ℕ). length l ≤ 1026) written.1 short,
   subst (λ (n : ℕ). DrawsFew random a.success.after a.command.entries n) written.2
       (subst (λ (x : Whole). DrawsFew random a.success.after x.entries answer.drawn) (sym same)
       (subst (λ (x : Record). DrawsFew random x c.entries answer.drawn) left drawn)),

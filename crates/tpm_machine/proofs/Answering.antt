@@ -2,7 +2,9 @@
 use Rattle.std.proofs.Common.{arith, length-drop, ◌+◌, ◌≡◌, ◌≤◌, ℕ, List, [], ◌∷◌, ◌++◌, drop, length, Option, ap, append-nil, refl, sym, ◌∙◌}
 use Rattle.std.specs.Int.{w16, w32, to_be_bytes}
 use Rattle.tpm_types.specs.declared.handle.Handle.{Handle}
+use Rattle.tpm_session.specs.ParameterHash.{OfResponse}
 use Rattle.tpm_types_command.specs.AuthEntry.{Entry}
+use Rattle.tpm_types_command.specs.CommandCode.{code_number}
 use Rattle.tpm_types_command.specs.Command.{Whole}
 use Rattle.tpm_record.specs.Record.{Record}
 use Rattle.tpm_auth.specs.declared.session_grant.Grant.{Grant}
@@ -24,7 +26,7 @@ success_some (entry ∷ entries) handle answer area some = refl
 answered_by : (c : Whole) (grants : List (Option Grant)) (a : Written) (effect : Record) (random : List ℕ) (mid after : Record) (left parameters area text : List ℕ) → 1 ≤ length c.entries
     → entries_rolled effect c.entries (drop a.drawn random) ≡ record { after = mid; left = left }
     → parameters ≡ encrypted_answer mid (granted_entries c grants) a.parameters
-    → area ≡ entries_answer mid c.code parameters (granted_entries c grants)
+    → area ≡ entries_answer mid (OfResponse (code_number c.code) parameters) (granted_entries c grants)
     → text ≡ framed 0x8002 0 (handle_answer a.handle ++ to_be_bytes w32 (length parameters) ++ parameters ++ area)
     → after ≡ entries_ended mid (granted_entries c grants)
     → record { response = text; after = after } ≡ answer_to c grants a effect random
@@ -38,7 +40,7 @@ pub answered_with : (c : Whole) (grants : List (Option Grant)) (a : Written) (ef
     → entries ≡ c.entries → granted ≡ granted_entries c grants → draws ≡ drop a.drawn random → sent ≡ parameters
     → entries_rolled effect entries draws ≡ record { after = mid; left = left }
     → parameters ≡ encrypted_answer mid granted a.parameters
-    → area ≡ entries_answer mid c.code sent granted
+    → area ≡ entries_answer mid (OfResponse (code_number c.code) sent) granted
     → text ≡ framed 0x8002 0 (handle_answer a.handle ++ to_be_bytes w32 (length sent) ++ sent ++ area)
     → after ≡ entries_ended mid granted
     → record { response = text; after = after } ≡ answer_to c grants a effect random

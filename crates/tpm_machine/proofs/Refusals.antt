@@ -7,7 +7,7 @@ use Rattle.tpm_record.specs.Record.{Record}
 use Rattle.tpm_record.specs.Tick.{ticked}
 use Rattle.tpm_types.specs.declared.refused.Refused.{Refused}
 use Rattle.tpm_types.specs.Check.{check_number}
-use Rattle.tpm_actions.specs.Rows.{memory_refused}
+use Rattle.tpm_actions.specs.Refusals.{memory_refusal}
 use Rattle.tpm_machine_step.specs.Answer.{refusal_text}
 use Rattle.tpm_machine_step.specs.Events.{Happening, Given, Cycled}
 use Rattle.tpm_machine_step.specs.General.{in_command}
@@ -25,7 +25,7 @@ answer_leaves r random (Err e) refused = (refl, e.refused, refl, refl, refl)
 
 -- MEMORY is such a refusal too
 starved_leaves : (grows : Bool) (r : Record) (random : List ℕ) (a : Accepted) → LeavesRecord r (cond grows (starved r a.command) (success_step a random))
-starved_leaves true r random a refused = (refl, memory_refused, refl, refl, refl)
+starved_leaves true r random a refused = (refl, memory_refusal, refl, refl, refl)
 starved_leaves false r random a refused = absurd (refused refl)
 
 starved_answer_leaves : (r : Record) (random : List ℕ) (a : Result Accepted Refusal) → LeavesRecord r (starved_answer r random a)

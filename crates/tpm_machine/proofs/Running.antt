@@ -3,17 +3,17 @@ use Rattle.std.proofs.Common.{◌≡◌, ◌+◌, ◌<◌, ℕ, List, [], ◌∷
 use Rattle.std.proofs.lemmas.Bool.{false≢true}
 use Rattle.std.proofs.lemmas.List.{drop_more}
 use Rattle.std.specs.Fn.{Mut, CalledAt}
-use Rattle.tpm_record.specs.IsRecord.{IsRecord}
 use Rattle.tpm_record.specs.Record.{Record}
-use Rattle.tpm_machine_step.specs.Events.{Happening, IsEvent, happening}
+use Rattle.tpm_machine_step.specs.Events.{Happening, happening}
+use Rattle.tpm_machine_step.specs.Execution.{Executes}
 use Rattle.tpm_machine_step.specs.Run.{Runs, after_all}
-use Rattle.tpm_machine_step.specs.Step.{Stepped, Steps, seen, step}
+use Rattle.tpm_machine_step.specs.Step.{Stepped, Steps, outcome_step, step}
 use Rattle.tpm_machine_step.specs.declared.event.Event.{Event}
 use Rattle.tpm_machine_step.specs.declared.event.Outcome.{Outcome}
 
 -- a run of what is left after the event at i is a run from that event on
-pub run_more : {F : Type 0} {g : Mut F (Bor Outcome × Unit {0}) (Unit {0})} (can : Bool) (old mid new : Record) {p next : F} (q : F) (events : List Event) (i : ℕ) (event : Event) (outcome : Outcome) → i < length events → event ≡ get_or events i event → IsEvent (happening event) → Steps can old (happening event) (seen mid outcome) → IsRecord mid → CalledAt g p outcome tt next → Runs g can mid next (map happening (drop (i + 1) events)) new q → Runs g can old p (map happening (drop i events)) new q
-run_more can old mid new q events i event outcome below is happens steps kept called rest = rw (drop_more events i event below, ← is) (outcome, _, _, happens, steps, kept, called, rest)
+pub run_more : {F : Type 0} {g : Mut F (Bor Outcome × Unit {0}) (Unit {0})} (can : Bool) (old mid new : Record) {p next : F} (q : F) (events : List Event) (i : ℕ) (event : Event) (outcome : Outcome) → i < length events → event ≡ get_or events i event → Executes can old (happening event) (outcome_step mid outcome) → CalledAt g p outcome tt next → Runs g can mid next (map happening (drop (i + 1) events)) new q → Runs g can old p (map happening (drop i events)) new q
+run_more can old mid new q events i event outcome below is executed called rest = rw (drop_more events i event below, ← is) (outcome, _, _, executed, called, rest)
 
 -- where no memory can be refused, an event is its step
 pub exactly : (can : Bool) (old : Record) (event : Happening) (x : Stepped) → can ≡ false → Steps can old event x → x ≡ step old event
@@ -24,5 +24,5 @@ exactly can old event x cannot (true, only, is) = absurd (false≢true (sym cann
 pub runs_lead : {F : Type 0} (g : Mut F (Bor Outcome × Unit {0}) (Unit {0})) (can : Bool) (old : Record) (p : F) (events : List Happening) (new : Record) (q : F) → Runs g can old p events new q → can ≡ false → new ≡ after_all old events
 runs_lead g can old p [] new q run cannot = run.0
 runs_lead g can old p (event ∷ events) new q run cannot =
-    runs_lead g can run.1 run.2 events new q run.7 cannot
-    ∙ ap (λ (x : Stepped). after_all x.after events) (exactly can old event (seen run.1 run.0) cannot run.4)
+    runs_lead g can run.1 run.2 events new q run.5 cannot
+    ∙ ap (λ (x : Stepped). after_all x.after events) (run.3.exactly cannot)

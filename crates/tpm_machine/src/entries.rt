@@ -1,20 +1,18 @@
 ghost use Rattle.std.specs.Prelude.{◌≡◌, ◌+◌, ◌*◌, ◌≤◌, ◌++◌, length, map};
 ghost use Rattle.std.specs.List.{zip};
 ghost use Rattle.tpm_types_command.specs.AuthEntry.{entry_of};
-ghost use Rattle.tpm_types_command.specs.CommandCode.{code_number};
 ghost use Rattle.tpm_auth.specs.SessionGrant.{demands_password};
 ghost use Rattle.tpm_machine_step.specs.Entries.{answer_mac, draw_of, entries_answer, entries_ended, entries_rolled, entry_answer, entry_ended, entry_restarted, entry_rolled, session_answer};
 
 use crate::draws::Draws;
-use crate::response_hashes::ResponseHashes;
 use tpm_auth::{Grant, used_auth_value};
 use tpm_bytes::Sink;
 use tpm_mac::Digest;
 use tpm_policy::{Demand, PolicyState};
 use tpm_record::Keep;
-use tpm_session::Session;
+use tpm_session::{ParameterHashes, Session};
 use tpm_types::SessionType;
-use tpm_types_command::{AuthEntry, CommandCode};
+use tpm_types_command::AuthEntry;
 
 /// The answer to a password entry: no nonce, continueSession, no HMAC (TPMS_AUTH_RESPONSE, TPM 2.0
 /// Library, Part 2, section 10.13.3).
@@ -75,15 +73,13 @@ fn demands_password(grant: Option<Grant>) -> bool
 #[tactic(auto, unfolding(tpm_machine_step::specs::Entries::answer_mac))]
 fn answer_mac<K: Keep>(
     keep: &K,
-    code: CommandCode,
-    hashes: &mut ResponseHashes,
+    hashes: &mut ParameterHashes,
     grant: Option<Grant>,
     entry: &AuthEntry,
     session: &Session,
 ) -> Digest
-    requires { hashes.old.code ≡ code_number code }
-    ensures value { result.items ≡ answer_mac (K.record_of keep.now) code hashes.old.parameters
-        grant (entry_of entry.now) session.now }
+    ensures value { result.items
+        ≡ answer_mac (K.record_of keep.now) hashes.old grant (entry_of entry.now) session.now }
     ensures same { hashes.new ≡ hashes.old }
 {
     if entry.hmac.is_empty() || demands_password(grant) {
@@ -97,21 +93,19 @@ fn answer_mac<K: Keep>(
 #[tactic(auto, unfolding(tpm_machine_step::specs::Entries::session_answer))]
 fn answer_session<K: Keep>(
     keep: &K,
-    code: CommandCode,
-    hashes: &mut ResponseHashes,
+    hashes: &mut ParameterHashes,
     grant: Option<Grant>,
     entry: &AuthEntry,
     session: &Session,
     area: &mut Sink<AREA_LIMIT>,
 )
-    requires code { hashes.old.code ≡ code_number code }
     requires room { length area.old + 69 ≤ AREA_LIMIT }
-    ensures text { area.new ≡ area.old ++ session_answer (K.record_of keep.now) code
-        hashes.old.parameters grant (entry_of entry.now) session.now }
+    ensures text { area.new ≡ area.old ++ session_answer (K.record_of keep.now) hashes.old grant
+        (entry_of entry.now) session.now }
     ensures grown { length area.new ≤ length area.old + 69 }
     ensures same { hashes.new ≡ hashes.old }
 {
-    let mac = answer_mac(keep, code, hashes, grant, entry, session);
+    let mac = answer_mac(keep, hashes, grant, entry, session);
     let _ = area.put_sized(session.nonce_tpm.as_slice());
     let _ = area.put_u8(entry.attributes.octet);
     let _ = area.put_sized(mac.as_slice());
@@ -120,21 +114,19 @@ fn answer_session<K: Keep>(
 #[tactic(auto, unfolding(tpm_machine_step::specs::Entries::entry_answer))]
 fn answer_entry<K: Keep>(
     keep: &K,
-    code: CommandCode,
-    hashes: &mut ResponseHashes,
+    hashes: &mut ParameterHashes,
     grant: Option<Grant>,
     entry: &AuthEntry,
     area: &mut Sink<AREA_LIMIT>,
 )
-    requires code { hashes.old.code ≡ code_number code }
     requires room { length area.old + 69 ≤ AREA_LIMIT }
-    ensures text { area.new ≡ area.old ++ entry_answer (K.record_of keep.now) code
-        hashes.old.parameters grant (entry_of entry.now) }
+    ensures text { area.new ≡ area.old ++ entry_answer (K.record_of keep.now) hashes.old grant
+        (entry_of entry.now) }
     ensures grown { length area.new ≤ length area.old + 69 }
     ensures same { hashes.new ≡ hashes.old }
 {
     match keep.sessions().get(entry.session) {
-        Some(session) => answer_session(keep, code, hashes, grant, entry, session, area),
+        Some(session) => answer_session(keep, hashes, grant, entry, session, area),
         None => {
             let _ = area.put(&PASSWORD_ANSWER);
         }
@@ -144,16 +136,14 @@ fn answer_entry<K: Keep>(
 /// Answers each entry, in order; each authorized this handle or none.
 pub fn answer_entries<K: Keep>(
     keep: &K,
-    code: CommandCode,
-    hashes: &mut ResponseHashes,
+    hashes: &mut ParameterHashes,
     entries: &[AuthEntry],
     grants: &[Option<Grant>],
     area: &mut Sink<AREA_LIMIT>,
 )
-    requires code { hashes.old.code ≡ code_number code }
     requires room { length area.old + 69 * length entries.now ≤ AREA_LIMIT }
-    ensures { area.new ≡ area.old ++ entries_answer (K.record_of keep.now) code
-        hashes.old.parameters (zip (map entry_of entries.now) grants.now) }
+    ensures { area.new ≡ area.old ++ entries_answer (K.record_of keep.now) hashes.old
+        (zip (map entry_of entries.now) grants.now) }
 {
     let [entry, entries @ ..] = entries else {
         return;
@@ -161,8 +151,8 @@ pub fn answer_entries<K: Keep>(
     let [grant, grants @ ..] = grants else {
         return;
     };
-    answer_entry(keep, code, hashes, *grant, entry, area);
-    answer_entries(keep, code, hashes, entries, grants, area);
+    answer_entry(keep, hashes, *grant, entry, area);
+    answer_entries(keep, hashes, entries, grants, area);
 }
 
 /// Returns the policy of an entry's session to its start, if it is a policy session.

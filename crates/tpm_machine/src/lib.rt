@@ -18,7 +18,6 @@ mod general;
 pub mod machine;
 mod parameters;
 mod response;
-mod response_hashes;
 mod table;
 
 pub use machine::Machine;

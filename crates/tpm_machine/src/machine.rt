@@ -3,9 +3,10 @@ ghost use Rattle.tpm_record.specs.IsRecord.{IsRecord};
 ghost use Rattle.tpm_record.specs.Record.{manufactured};
 ghost use Rattle.tpm_machine_step.specs.Events.{IsEvent, happening};
 ghost use Rattle.tpm_machine_step.specs.Run.{Runs, after_all};
-ghost use Rattle.tpm_machine_step.specs.Safe.{AcceptsModestly, IsHarmless};
+ghost use Rattle.tpm_machine_step.specs.Execution.{Executes};
+ghost use Rattle.tpm_machine_step.specs.Safe.{IsModestIfAccepted};
 ghost use Rattle.tpm_machine.specs.State.{state_of};
-ghost use Rattle.tpm_machine_step.specs.Step.{Steps, seen, step};
+ghost use Rattle.tpm_machine_step.specs.Step.{Steps, outcome_step};
 
 use crate::general::decode;
 use crate::response::{write_refusal, write_success};
@@ -63,33 +64,11 @@ impl<K: Keep> Machine<K> {
     }
 
     /// Executes one event: its response, its row and the state after it are those of the table, or
-    /// of refused memory in place of a success of a command that grows something.
+    /// of refused memory in place of a success of a command that grows something. `Executes` says
+    /// in addition what holds of every outcome and of every record.
     pub fn execute(&mut self, event: &Event) -> Outcome
-        ensures steps { Steps K.can_refuse (state_of K.record_of self.old) (happening event.now)
-            (seen (state_of K.record_of self.new) result) }
-
-        // Where no memory can be refused, they are those of the table's step, and no others.
-        ensures exactly { K.can_refuse ≡ false → seen (state_of K.record_of self.new) result
-            ≡ step (state_of K.record_of self.old) (happening event.now) }
-
-        // What holds of every record: values of their sizes, numbers of their widths.
-        ensures is_record { IsRecord (state_of K.record_of self.new) }
-
-        // A refusal is the ten bytes of its response code, and its row names its check; it changes
-        // nothing but the time.
-        ensures harmless { IsHarmless (state_of K.record_of self.old) (happening event.now)
-            (seen (state_of K.record_of self.new) result) }
-
-        // A row that is accepted draws at most 96 random bytes, and answers at most 2,048 bytes;
-        // with the new nonces of its entries it draws at most 192.
-        ensures modest { result.row.check ≡ 0
-            → AcceptsModestly (state_of K.record_of self.old) (happening event.now) }
-
-        // With what stands before and behind such an answer a response has at most so many bytes.
-        ensures fits { length result.response.items ≤ 2273 }
-
-        // It is such an event as can happen: locality 0 to 4, a time of 32 bits, 256 random bytes.
-        ensures event { IsEvent (happening event.now) }
+        ensures executes { Executes K.can_refuse (state_of K.record_of self.old)
+            (happening event.now) (outcome_step (state_of K.record_of self.new) result) }
     {
         let mut outcome = Outcome::empty();
         self.execute_into(event, &mut outcome);
@@ -98,19 +77,9 @@ impl<K: Keep> Machine<K> {
 
     /// Executes one event, and writes its outcome over that of an event before, so that one
     /// response serves for a whole run.
-    #[tactic(auto, using(crate::proofs::Refusals::steps_harmless, crate::proofs::Running::exactly))]
     pub fn execute_into(&mut self, event: &Event, outcome: &mut Outcome)
-        ensures steps { Steps K.can_refuse (state_of K.record_of self.old) (happening event.now)
-            (seen (state_of K.record_of self.new) outcome.new) }
-        ensures exactly { K.can_refuse ≡ false → seen (state_of K.record_of self.new) outcome.new
-            ≡ step (state_of K.record_of self.old) (happening event.now) }
-        ensures is_record { IsRecord (state_of K.record_of self.new) }
-        ensures harmless { IsHarmless (state_of K.record_of self.old) (happening event.now)
-            (seen (state_of K.record_of self.new) outcome.new) }
-        ensures modest { outcome.new.row.check ≡ 0
-            → AcceptsModestly (state_of K.record_of self.old) (happening event.now) }
-        ensures fits { length outcome.new.response.items ≤ 2273 }
-        ensures event { IsEvent (happening event.now) }
+        ensures executes { Executes K.can_refuse (state_of K.record_of self.old)
+            (happening event.now) (outcome_step (state_of K.record_of self.new) outcome.new) }
     {
         outcome.response.clear();
         outcome.row = self.advance(event, &mut outcome.response);
@@ -128,8 +97,8 @@ impl<K: Keep> Machine<K> {
               after = state_of K.record_of self.new;
             }) }
         ensures modest { result.check ≡ 0
-            → AcceptsModestly (state_of K.record_of self.old) (happening event.now) }
-        ensures fits { length text.new.items ≤ 2273 }
+            → IsModestIfAccepted (state_of K.record_of self.old) (happening event.now) }
+        ensures fits { length text.new.items ≤ 1251 }
         ensures event { IsEvent (happening event.now) }
     {
         match event {
@@ -203,7 +172,7 @@ impl<K: Keep> Machine<K> {
             (accepted (state_of K.record_of self.old) buffer.now
             (locality_number locality) random.now)
             (IsModest random.now) }
-        ensures fits { length text.new.items ≤ 2273 }
+        ensures fits { length text.new.items ≤ 1251 }
     {
         let command = match decode(&self.keep, buffer) {
             Ok(command) => command,
@@ -246,7 +215,7 @@ impl<K: Keep> Machine<K> {
             }) }
         ensures modest { result.check ≡ 0 → IfOk (acceptance (state_of K.record_of self.old)
             (whole_of command.now) (locality_number locality) random.now) (IsModest random.now) }
-        ensures fits { length text.new.items ≤ 2273 }
+        ensures fits { length text.new.items ≤ 1251 }
     {
         self.answer.clear();
         let (keep, answer) = (&mut self.keep, &mut self.answer);

@@ -9,14 +9,14 @@ ghost use Rattle.tpm_machine_step.specs.Parameters.{encrypted_answer};
 
 use crate::draws::Draws;
 use crate::entries::{AREA_LIMIT, answer_entries, end_entries, roll_entries};
-use crate::parameters::encrypt;
-use crate::response_hashes::ResponseHashes;
+use crate::parameters::pass_parameters;
 use arrayvec::ArrayVec;
 use tpm_actions::answer::{ANSWER_LIMIT, Answer, Parameters};
 use tpm_auth::{Grant, Grants};
 use tpm_bytes::Sink;
-use tpm_machine_step::{RESPONSE_LIMIT, Response};
+use tpm_machine_step::{Direction, RESPONSE_LIMIT, Response};
 use tpm_record::Keep;
+use tpm_session::{HashedParameters, ParameterHashes};
 use tpm_types::{Check, Handle, Refused};
 use tpm_types_command::{AuthEntry, Command, HEADER_SIZE, Tag};
 
@@ -88,9 +88,9 @@ fn write_handle(handle: Option<Handle>, text: &mut Response)
 /// Writes a success that has no entries.
 fn write_plain(handle: Option<Handle>, parameters: &[u8], text: &mut Response)
     requires empty { text.old.items ≡ [] }
-    requires parameters { length parameters.now ≤ 2048 }
+    requires parameters { length parameters.now ≤ ANSWER_LIMIT }
     ensures text { text.new.items ≡ framed 0x8001 0 (handle_answer handle ++ parameters.now) }
-    ensures fits { length text.new.items ≤ 2062 }
+    ensures fits { length text.new.items ≤ 1040 }
 {
     let size = HEADER_SIZE + handle_size(handle) + parameters.len();
     write_header(Tag::NoSessions.number(), size, 0, text);
@@ -101,11 +101,11 @@ fn write_plain(handle: Option<Handle>, parameters: &[u8], text: &mut Response)
 /// Writes a success whose entries are answered so.
 fn write_with_area(handle: Option<Handle>, parameters: &[u8], area: &[u8], text: &mut Response)
     requires empty { text.old.items ≡ [] }
-    requires parameters { length parameters.now ≤ 2048 }
+    requires parameters { length parameters.now ≤ ANSWER_LIMIT }
     requires area { length area.now ≤ AREA_LIMIT }
     ensures text { text.new.items ≡ framed 0x8002 0 (handle_answer handle
         ++ to_be_bytes w32 (length parameters.now) ++ parameters.now ++ area.now) }
-    ensures fits { length text.new.items ≤ 2273 }
+    ensures fits { length text.new.items ≤ 1251 }
 {
     let size = HEADER_SIZE + handle_size(handle) + 4 + parameters.len() + area.len();
     write_header(Tag::Sessions.number(), size, 0, text);
@@ -125,7 +125,8 @@ fn encrypt_answer<K: Keep>(
     ensures { parameters.new ≡ encrypted_answer (K.record_of keep.now)
         (zip (map entry_of entries.now) grants.now) parameters.old }
 {
-    encrypt(keep, entries, grants, parameters.as_mut_slice());
+    let text = parameters.as_mut_slice();
+    pass_parameters(Direction::Encrypt, keep, entries, grants, text);
 }
 
 /// Writes the response to a command with entries that succeeded, and does what is to be done with
@@ -146,7 +147,7 @@ fn write_with_sessions<K: Keep>(
         (text_of answer.old) (K.record_of keep.old) random.now }
     ensures drawn { DrawsFew random.now (K.record_of keep.old) (whole_of command.now).entries
         answer.old.drawn }
-    ensures fits { length text.new.items ≤ 2273 }
+    ensures fits { length text.new.items ≤ 1251 }
 {
     let entries = command.entries.as_slice();
     let grants = grants.entries.as_slice();
@@ -154,9 +155,10 @@ fn write_with_sessions<K: Keep>(
     roll_entries(keep, entries, &mut draws);
     encrypt_answer(keep, entries, grants, &mut answer.parameters);
     let parameters = answer.parameters.as_slice();
-    let mut hashes = ResponseHashes::new(command.code.number(), parameters);
+    let hashed = HashedParameters::Response(command.code.number(), parameters);
+    let mut hashes = ParameterHashes::new(hashed);
     let mut area = Sink::new();
-    answer_entries(keep, command.code, &mut hashes, entries, grants, &mut area);
+    answer_entries(keep, &mut hashes, entries, grants, &mut area);
     write_with_area(answer.handle, parameters, area.as_slice(), text);
     end_entries(keep, entries, grants);
 }
@@ -179,7 +181,7 @@ pub fn write_success<K: Keep>(
         answer.old.drawn }
     // An answer has no room for more.
     ensures room { length answer.old.parameters ≤ ANSWER_LIMIT }
-    ensures fits { length text.new.items ≤ 2273 }
+    ensures fits { length text.new.items ≤ 1251 }
 {
     let _length = answer.parameters.len();
     if command.entries.is_empty() {

@@ -12,7 +12,7 @@ ghost use Rattle.tpm_machine_step.specs.Step.{Accepts, acceptance};
 ghost use Rattle.tpm_machine_step.specs.Table.{row_of};
 ghost use Rattle.tpm_machine_step.specs.Parameters.{plain_parameters};
 
-use crate::parameters::decrypt;
+use crate::parameters::pass_parameters;
 use arrayvec::ArrayVec;
 use tpm_actions::answer::Answer;
 use tpm_actions::call::Call;
@@ -41,6 +41,7 @@ use tpm_actions_policy::policy_pcr::policy_pcr;
 use tpm_actions_policy::policy_restart::policy_restart;
 use tpm_actions_policy::policy_secret::policy_secret;
 use tpm_auth::{Grant, Grants, any_decrypts};
+use tpm_machine_step::Direction;
 use tpm_record::Keep;
 use tpm_types::{Locality, Refused};
 use tpm_types_command::{AuthEntry, Command, CommandCode};
@@ -103,7 +104,13 @@ fn plain_parameters<K: Keep>(
 {
     let mut text = ArrayVec::new();
     let _ = text.try_extend_from_slice(parameters);
-    decrypt(keep, entries, grants, text.as_mut_slice());
+    pass_parameters(
+        Direction::Decrypt,
+        keep,
+        entries,
+        grants,
+        text.as_mut_slice(),
+    );
     text
 }
 

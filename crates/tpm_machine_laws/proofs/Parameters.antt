@@ -36,7 +36,7 @@ use Rattle.tpm_object.specs.PrivateArea.{unwrapped}
 use Rattle.tpm_object.specs.Template.{template_passes}
 use Rattle.tpm_policy.specs.Assertion.{Assertion, asserted}
 use Rattle.tpm_policy.specs.State.{Policy}
-use Rattle.tpm_policy.specs.Use.{is_trial}
+use Rattle.tpm_types.specs.SessionType.{is_trial}
 use Rattle.tpm_policy.specs.declared.fault.PolicyFault.{PolicyFault}
 use Rattle.tpm_session.specs.declared.session.Session.{Session}
 use Rattle.tpm_session.specs.Key.{is_nonce_size}
@@ -59,7 +59,8 @@ use Rattle.tpm_actions.specs.Request.{Request, first_handle, second_handle}
 use Rattle.tpm_actions.specs.Rows.{Success, all_read, only}
 use Rattle.tpm_actions.specs.StartAuthSession.{parameters_in as start_parameters, parameters_pass, session_place, start_auth_session_row}
 use Rattle.tpm_actions.specs.Startup.{lacks_state, startup_row}
-use Rattle.tpm_actions_object.specs.Checks.{action_refusal, creation_refusal, given_passes, or_refusal, public_passes, template_refusal}
+use Rattle.tpm_actions.specs.Refusals.{action_refusal}
+use Rattle.tpm_actions_object.specs.Checks.{creation_refusal, given_passes, or_refusal, public_passes, template_refusal}
 use Rattle.tpm_actions_object.specs.Create.{create_row}
 use Rattle.tpm_actions_object.specs.CreatePrimary.{create_primary_row, named_hierarchy}
 use Rattle.tpm_actions_object.specs.Creation.{parameters_in as creation_parameters}

@@ -31,7 +31,8 @@ use Rattle.tpm_types.specs.declared.handle.SessionKind.{SessionKind}
 use Rattle.tpm_types.specs.declared.handle.SessionKind.TheVariants as kind
 use Rattle.tpm_types_command.specs.AuthEntry.{Entry}
 use Rattle.tpm_types.specs.Handle.{session_kind}
-use Rattle.tpm_auth.specs.Entries.{entries_pass, entry_fault, entry_passes, kind_passes, session_of}
+use Rattle.tpm_types.specs.Rc.{entry_fault}
+use Rattle.tpm_auth.specs.Entries.{entries_pass, entry_passes, kind_passes, session_of}
 use Rattle.tpm_machine_laws.specs.Sessions.{HasSession, HaveSessions, SessionsStay}
 
 -- ---- what stays where places change

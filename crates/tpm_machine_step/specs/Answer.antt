@@ -4,7 +4,9 @@ use Rattle.std.specs.Int.{w16, w32, to_be_bytes}
 use Rattle.tpm_types.specs.declared.handle.Handle.{Handle}
 use Rattle.tpm_types_command.specs.AuthEntry.{Entry}
 use Rattle.tpm_types_command.specs.Command.{Whole, handle_text}
+use Rattle.tpm_types_command.specs.CommandCode.{code_number}
 use Rattle.tpm_types.specs.Rc.{rc_number}
+use Rattle.tpm_session.specs.ParameterHash.{OfResponse}
 use Rattle.tpm_record.specs.Record.{Record}
 use Rattle.tpm_actions.specs.Answer.{AnswerParts, body_text}
 use Rattle.tpm_actions.specs.declared.answer.Answer.{Answer}
@@ -71,6 +73,6 @@ answer_to c grants a effect random =
     let parameters : List ℕ = encrypted_answer drawn.after granted a.parameters in
     record {
       response = success_text c.entries a.handle parameters
-          (entries_answer drawn.after c.code parameters granted);
+          (entries_answer drawn.after (OfResponse (code_number c.code) parameters) granted);
       after = entries_ended drawn.after granted;
     }

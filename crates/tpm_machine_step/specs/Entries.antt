@@ -9,14 +9,12 @@ use Rattle.tpm_mac.specs.declared.algorithm.HashAlg.{HashAlg}
 use Rattle.tpm_policy.specs.State.{starting}
 use Rattle.tpm_session.specs.declared.session.Session.{Session}
 use Rattle.tpm_session.specs.EntryText.{response_mac_of}
-use Rattle.tpm_session.specs.ParameterHash.{response_hash_of}
+use Rattle.tpm_session.specs.ParameterHash.{HashedParts, parameter_hash_of}
 use Rattle.tpm_session.specs.Sessions.{flushed, rolled, with_session_policy}
-use Rattle.tpm_types_command.specs.declared.command_code.CommandCode.{CommandCode}
 use Rattle.tpm_types.specs.declared.session_type.SessionType.{SessionType}
 use Rattle.tpm_types.specs.declared.session_type.SessionType.TheVariants as type
 use Rattle.tpm_types_command.specs.AuthEntry.{Entry}
 use Rattle.tpm_types.specs.SessionAttributes.{has_bits}
-use Rattle.tpm_types_command.specs.CommandCode.{code_number}
 use Rattle.tpm_record.specs.Record.{Record}
 use Rattle.tpm_auth.specs.Entries.{session_of}
 use Rattle.tpm_auth.specs.declared.session_grant.Grant.{Grant}
@@ -56,35 +54,29 @@ DrawsFew random r entries drawn =
 abbrev pub password_answer : List ℕ
 password_answer = 0 ∷ 0 ∷ 1 ∷ 0 ∷ 0 ∷ []
 
--- what the hash of a response is about: the command's code, and the parameters as they are answered
-pub record HashedResponse : Type 0 where
-  pub code : ℕ
-  pub parameters : List ℕ
-
 -- the HMAC of an answer. Its key is made after the command's effect: of the entity's value as it is
 -- then, and a session whose entity's value was changed is no longer bound to it. Where the
 -- command's HMAC was empty this is empty too, even if the key is no longer empty (this device's
 -- own); it is also empty where a policy demanded a password
-unfoldable pub answer_mac : Record → CommandCode → List ℕ → Option Grant → Entry → Session → List ℕ
-answer_mac r c answer grant e s =
+unfoldable pub answer_mac : Record → HashedParts → Option Grant → Entry → Session → List ℕ
+answer_mac r hashed grant e s =
     if length e.hmac == 0 || demands_password grant then []
-    else response_mac_of s (used_auth_value r s grant)
-    (response_hash_of s.hash (code_number c) answer) e.nonce e.attributes
+    else response_mac_of s (used_auth_value r s grant) (parameter_hash_of s.hash hashed) e.nonce
+    e.attributes
 
 -- the answer to an entry of a session: its nonce, the attributes of the command's entry, the HMAC
-unfoldable pub session_answer : Record
-    → CommandCode → List ℕ → Option Grant → Entry → Session → List ℕ
-session_answer r c answer grant e s =
+unfoldable pub session_answer : Record → HashedParts → Option Grant → Entry → Session → List ℕ
+session_answer r hashed grant e s =
     sized_text s.nonce_tpm ++ e.attributes.octet ∷ []
-    ++ sized_text (answer_mac r c answer grant e s)
+    ++ sized_text (answer_mac r hashed grant e s)
 
-unfoldable pub entry_answer : Record → CommandCode → List ℕ → Option Grant → Entry → List ℕ
-entry_answer r c answer grant e =
-    option_map_or (session_answer r c answer grant e) (session_of r e) password_answer
+unfoldable pub entry_answer : Record → HashedParts → Option Grant → Entry → List ℕ
+entry_answer r hashed grant e =
+    option_map_or (session_answer r hashed grant e) (session_of r e) password_answer
 
 -- the answers to the entries of a command, each of which authorized this handle or none
-abbrev pub entries_answer : Record → CommandCode → List ℕ → List Granted → List ℕ
-entries_answer r c answer granted = flat_map (λ g. entry_answer r c answer g.1 g.0) granted
+abbrev pub entries_answer : Record → HashedParts → List Granted → List ℕ
+entries_answer r hashed granted = flat_map (λ g. entry_answer r hashed g.1 g.0) granted
 
 -- a policy session that authorized returns to the policy with which it started
 abbrev pub restarted_by : SessionType → Record → Entry → HashAlg → Record

@@ -9,6 +9,7 @@ use Rattle.tpm_types_command.specs.declared.command.Header.{Header}
 use Rattle.tpm_types_command.specs.declared.command.HeaderFault.{HeaderFault}
 use Rattle.tpm_types_command.specs.declared.command.HeaderFault.TheVariants as fault
 use Rattle.tpm_types_command.specs.declared.command_code.CommandCode.{CommandCode}
+use Rattle.tpm_types_command.specs.declared.command_code.CommandCode.TheVariants as command
 use Rattle.tpm_types.specs.declared.handle.Handle.{Handle}
 use Rattle.tpm_types.specs.declared.rc.Rc.{Rc}
 use Rattle.tpm_types.specs.declared.rc.ResponseCode.TheVariants as code
@@ -51,7 +52,7 @@ in_header (Err f) = Err (header_refusal f)
 
 -- G5: before TPM2_Startup nothing else is accepted, and after it no second TPM2_Startup
 abbrev pub is_startup : CommandCode → Bool
-is_startup c = code_number c == 0x144
+is_startup c = code_number c == code_number command.Startup
 
 abbrev pub both_or_neither : Bool → Bool → Bool
 both_or_neither true b = b

@@ -8,6 +8,7 @@ pub mod Answer
 pub mod Step
 pub mod Run
 pub mod Safe
+pub mod Execution
 pub use Rattle.tpm_record.specs.Record
 pub use Rattle.tpm_record.specs.IsRecord
 pub use Rattle.tpm_record.specs.Tick

@@ -2,21 +2,21 @@
 use Rattle.std.specs.Prelude.{◌≡◌, Bool, List, [], ◌∷◌}
 use Rattle.std.specs.Borrow.{Bor}
 use Rattle.std.specs.Fn.{Mut, CalledAt}
-use Rattle.tpm_record.specs.IsRecord.{IsRecord}
 use Rattle.tpm_record.specs.Record.{Record}
-use Rattle.tpm_machine_step.specs.Events.{Happening, IsEvent}
-use Rattle.tpm_machine_step.specs.Step.{Steps, seen, step}
+use Rattle.tpm_machine_step.specs.Events.{Happening}
+use Rattle.tpm_machine_step.specs.Execution.{Executes}
+use Rattle.tpm_machine_step.specs.Step.{outcome_step, step}
 use Rattle.tpm_machine_step.specs.declared.event.Outcome.{Outcome}
 
--- The events ran from old to new, each an event as can happen, a step each with a record behind it,
--- and a closure in state p was called at the outcome of each, in order, which left it in state q;
--- can says whether memory can be refused.
+-- The events ran from old to new, each executed with a record behind it, and a closure in state p
+-- was called at the outcome of each, in order, which left it in state q; can says whether memory can
+-- be refused.
 abbrev pub Runs : {F : Type 0} → Mut F (Bor Outcome × Unit {0}) (Unit {0})
     → Bool → Record → F → List Happening → Record → F → Type 0
 Runs g can old p [] new q = (new ≡ old) × (q ≡ p)
 Runs {F} g can old p (event ∷ events) new q =
-    (outcome : Outcome) × (mid : Record) × (next : F) × IsEvent event
-    × Steps can old event (seen mid outcome) × IsRecord mid
+    (outcome : Outcome) × (mid : Record) × (next : F)
+    × Executes can old event (outcome_step mid outcome)
     × CalledAt g p outcome tt next × Runs g can mid next events new q
 
 -- where the events lead

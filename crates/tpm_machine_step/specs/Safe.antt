@@ -1,5 +1,5 @@
 -- What a refusal leaves, and what a success may take, said of a step and apart from it.
-use Rattle.std.specs.Prelude.{◌≡◌, ◌≢◌, ℕ, ◌≤◌, List, length, IfOk}
+use Rattle.std.specs.Prelude.{◌≡◌, ◌≢◌, ℕ, ◌≤◌, List, length, Ok, IfOk}
 use Rattle.tpm_record.specs.Record.{Record}
 use Rattle.tpm_record.specs.Tick.{ticked}
 use Rattle.tpm_types.specs.Check.{check_number}
@@ -26,13 +26,20 @@ IsHarmless r event x = x.row.check ≢ 0
     × (x.after ≡ counted_in refused.counted (only_ticked r event))
 
 -- A row draws at most 96 of the event's 256 random bytes, and with three nonces of 32 bytes behind
--- them at most 192 are drawn; and it answers at most 2,048 bytes of parameters.
+-- them at most 192 are drawn; and it answers at most 1,026 bytes of parameters.
 abbrev pub IsModest : List ℕ → Accepted → Type 0
 IsModest random a =
-    (a.success.answer.drawn ≤ 96) × (length (body_text a.success.answer.body) ≤ 2048)
+    (a.success.answer.drawn ≤ 96) × (length (body_text a.success.answer.body) ≤ 1026)
     × DrawsFew random a.success.after a.command.entries a.success.answer.drawn
 
+-- A command that is accepted is so.
+abbrev pub IsModestIfAccepted : Record → Happening → Type 0
+IsModestIfAccepted r (Given buffer locality elapsed random) =
+    IfOk (accepted (ticked r elapsed) buffer locality random) (IsModest random)
+IsModestIfAccepted r Cycled = Unit {0}
+
+-- And it is accepted.
 abbrev pub AcceptsModestly : Record → Happening → Type 0
 AcceptsModestly r (Given buffer locality elapsed random) =
-    let t = ticked r elapsed in IfOk (accepted t buffer locality random) (IsModest random)
+    (a : Accepted) × (accepted (ticked r elapsed) buffer locality random ≡ Ok a) × IsModest random a
 AcceptsModestly r Cycled = Unit {0}

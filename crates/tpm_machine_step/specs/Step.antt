@@ -16,7 +16,8 @@ use Rattle.tpm_types.specs.declared.refused.Refused.{Refused}
 use Rattle.tpm_actions.specs.Answer.{IsAnswer}
 use Rattle.tpm_actions.specs.Request.{Request}
 use Rattle.tpm_actions.specs.declared.answer.Answer.{Answer}
-use Rattle.tpm_actions.specs.Rows.{Success, memory_refused}
+use Rattle.tpm_actions.specs.Refusals.{memory_refusal}
+use Rattle.tpm_actions.specs.Rows.{Success}
 use Rattle.tpm_machine_step.specs.Answer.{Answered, answer_to, refusal_text, written_of}
 use Rattle.tpm_machine_step.specs.Events.{Happening, Given, Cycled}
 use Rattle.tpm_machine_step.specs.General.{general, in_command}
@@ -63,7 +64,7 @@ acceptance r c locality random = do
 abbrev pub RefusesOrStarves : Bool → Whole → Result Accepted Refused → Refused → Type 0
 RefusesOrStarves can c (Err refused) e = e ≡ refused
 RefusesOrStarves can c (Ok a) e =
-    (can ≡ true) × (a.command ≡ c) × ((shape_of c.code).grows ≡ true) × (e ≡ memory_refused)
+    (can ≡ true) × (a.command ≡ c) × ((shape_of c.code).grows ≡ true) × (e ≡ memory_refusal)
 
 -- A success of a command with these grants has this answer, and leaves this record.
 abbrev pub Succeeds : Result Accepted Refused → Whole → List (Option Grant)
@@ -112,13 +113,13 @@ abbrev pub answer_of : Record → List ℕ → Result Accepted Refusal → Stepp
 answer_of r random (Ok a) = success_step a random
 answer_of r random (Err e) = refusal_step r e
 
--- what is seen of an outcome that left this record
-abbrev pub seen : Record → Outcome → Stepped
-seen r o = record { response = o.response.items; row = o.row; after = r }
+-- the step of which an outcome tells that left this record
+abbrev pub outcome_step : Record → Outcome → Stepped
+outcome_step r o = record { response = o.response.items; row = o.row; after = r }
 
 -- the answer where memory was refused: MEMORY, check M, and the record as it was
 abbrev pub starved : Record → Whole → Stepped
-starved r c = refusal_step r (record { code = code_number c.code; refused = memory_refused })
+starved r c = refusal_step r (record { code = code_number c.code; refused = memory_refusal })
 
 -- a success where memory is refused: MEMORY in its place, if the command grows something
 abbrev pub starved_success : Record → List ℕ → Accepted → Stepped

@@ -7,7 +7,8 @@ use Rattle.tpm_types_object.specs.Public.{object_type}
 use Rattle.tpm_types_object.specs.SensitiveCreate.{SensitiveValues}
 use Rattle.tpm_types_object.specs.declared.public.Public.{Public}
 use Rattle.tpm_types_object.specs.declared.sensitive.Sensitive.{Sensitive}
-use Rattle.tpm_object.specs.Creation.{generated_size, is_given}
+use Rattle.tpm_types.specs.Buffer.{is_given}
+use Rattle.tpm_object.specs.Creation.{generated_size}
 use Rattle.tpm_object.specs.declared.areas.Created.{Created}
 
 -- the type of the template, the authorization value without the zeros at its end, the seed, and the
@@ -17,7 +18,7 @@ new_sensitive template given seed key = record {
   object_type = object_type template;
   auth_value = trimmed given.user_auth;
   seed_value = seed;
-  sensitive = if is_given given then given.data else key;
+  sensitive = if is_given given.data then given.data else key;
 }
 
 -- the template, whose unique becomes H(seedValue || sensitive)

@@ -6,6 +6,7 @@ use Rattle.std.specs.Prelude.{List, [], ◌∷◌, length, Result}
 use Rattle.tpm_mac.specs.Digest.{digest_size}
 use Rattle.tpm_mac.specs.declared.algorithm.HashAlg.{HashAlg}
 use Rattle.tpm_types.specs.AuthValue.{trimmed}
+use Rattle.tpm_types.specs.Buffer.{is_given}
 use Rattle.tpm_types_object.specs.ObjectAttributes.{has}
 use Rattle.tpm_types_object.specs.SensitiveCreate.{SensitiveValues}
 use Rattle.tpm_types_object.specs.declared.object_attributes.ObjectAttribute.TheVariants as attribute
@@ -18,26 +19,23 @@ use Rattle.tpm_object.specs.Object.{is_cipher, is_keyed_hash}
 use Rattle.tpm_object.specs.declared.creation.CreationFault.{CreationFault}
 use Rattle.tpm_object.specs.declared.creation.CreationFault.TheVariants as fault
 
--- the caller gives the key or the data to seal
-abbrev pub is_given : SensitiveValues → Bool
-is_given given = not (length given.data == 0)
-
 -- an authorization value has no more bytes than a digest of nameAlg; zeros at its end do not count
 abbrev pub is_long_auth : SensitiveValues → Public → Bool
 is_long_auth given t = nat_lt (digest_size t.name_alg) (length (trimmed given.user_auth))
 
--- each of these is wrong: sensitiveDataOrigin says that the TPM makes the key, and what is sealed
+-- each of these is wrong, where the caller may give the key or the data to seal:
+-- sensitiveDataOrigin says that the TPM makes the key, and what is sealed
 -- is not made
 abbrev pub origin_conflicts : SensitiveValues → Public → List Bool
 origin_conflicts given t =
     let made : Bool = has t.attributes attribute.SensitiveDataOrigin in
-    (made && is_given given)
-    ∷ (not made && not (is_given given))
+    (made && is_given given.data)
+    ∷ (not made && not (is_given given.data))
     ∷ (made && is_keyed_hash t && not (has t.attributes attribute.Sign)) ∷ []
 
 -- a cipher's key has 16 bytes; with no data it is made
 abbrev pub has_wrong_key_size : SensitiveValues → Public → Bool
-has_wrong_key_size given t = is_cipher t && is_given given && not (length given.data == 16)
+has_wrong_key_size given t = is_cipher t && is_given given.data && not (length given.data == 16)
 
 abbrev pub creation_checks : SensitiveValues → Public → List (Bool × CreationFault)
 creation_checks given t =
@@ -61,7 +59,7 @@ key_size t = parameters_key_size t.name_alg t.parameters
 
 -- how many bytes of a key the TPM makes
 abbrev pub generated_size : Public → SensitiveValues → ℕ
-generated_size t given = if is_given given then 0 else key_size t
+generated_size t given = if is_given given.data then 0 else key_size t
 
 -- how many random bytes a new object takes: those of its key, and of its seedValue
 abbrev pub drawn_by : Public → SensitiveValues → ℕ

@@ -1,7 +1,8 @@
 ghost use Rattle.std.specs.Prelude.{◌≡◌, ◌≤◌};
 ghost use Rattle.tpm_types_object.specs.SensitiveCreate.{sensitive_values_of};
+ghost use Rattle.tpm_types.specs.Buffer.{is_given};
 ghost use Rattle.tpm_object.specs.Checks.{one_of};
-ghost use Rattle.tpm_object.specs.Creation.{creation_passes, drawn_by, generated_size, is_given, is_long_auth, has_wrong_key_size, key_size, origin_conflicts, parameters_key_size};
+ghost use Rattle.tpm_object.specs.Creation.{creation_passes, drawn_by, generated_size, is_long_auth, has_wrong_key_size, key_size, origin_conflicts, parameters_key_size};
 
 use crate::object::{is_cipher, is_keyed_hash};
 use tpm_mac::HashAlg;
@@ -23,7 +24,7 @@ pub enum CreationFault {
 
 /// Whether the caller gives the key or the data to seal.
 pub(crate) fn is_given(given: &SensitiveCreate) -> bool
-    ensures { result ≡ is_given (sensitive_values_of given.now) }
+    ensures { result ≡ is_given given.now.data.now }
 {
     !given.data.is_empty()
 }

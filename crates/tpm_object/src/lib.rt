@@ -8,16 +8,16 @@
 //! back the sensitive area that was wrapped, and accepts nothing but what its parent wraps. No call
 //! here takes memory.
 
-pub mod areas;
-pub mod creation;
-pub mod object;
-pub mod primary;
-pub mod private_area;
-pub mod template;
+mod areas;
+mod creation;
+mod object;
+mod primary;
+mod private_area;
+mod template;
 
 pub use areas::create;
 pub use creation::{CreationFault, check_creation, drawn_by};
-pub use object::{Object, is_keyed_hash, is_storage_parent};
+pub use object::{Object, TRANSIENT_BYTE, is_keyed_hash, is_storage_parent};
 pub use primary::derive_primary;
 pub use private_area::{unwrap, wrap};
 pub use template::{TemplateFault, check_template};

@@ -57,7 +57,7 @@ pub fn is_storage_parent(public: &Public) -> bool
 }
 
 /// The highest byte of a transient object's handle.
-const TRANSIENT_BYTE: u32 = 0x80;
+pub const TRANSIENT_BYTE: u32 = 0x80;
 
 /// Loaded objects stand under the handles of transient objects.
 impl Kinded for Object {

@@ -3,7 +3,7 @@ use Rattle.std.proofs.Common.{◌≡◌, ◌≢◌, ℕ, ◌+◌, ◌<◌, ◌�
 use Rattle.std.specs.Prelude.{option_and_then}
 use Rattle.std.proofs.lemmas.Bool.{cases_eq, eqb-true, eq-eqb, ne_eqb}
 use Rattle.tpm_places.specs.Places.{at_place, lowest_free, taken_count}
-use Rattle.tpm_places.specs.Numbered.{IsMap, at_number, changed_at, if_of_kind, kind_of, number_of, place_of, without_number}
+use Rattle.tpm_places.specs.Numbered.{MapLaws, at_number, changed_at, if_of_kind, kind_of, number_of, place_of, without_number}
 use Rattle.tpm_places.proofs.PlaceLaws.{all_taken, at_inside, at_set-here, at_set-other, counted, lowest_free-free, lowest_free-lowest, taken_set}
 
 module _ {X : Type 0} (kind : X → ℕ) where
@@ -201,7 +201,7 @@ module _ {X : Type 0} (kind : X → ℕ) where
       by (Some x) is = let there = taken_there places number x (Some (change x)) is in ap (λ (p : Places). taken_count p) (changed_some change places number x is) ∙ omega (arith, there)
       by None is = ap (λ (p : Places). taken_count p) (changed_absent change places number is)
 
-  pub is_map : IsMap kind
+  pub is_map : MapLaws kind
   is_map = record {
     put_found = put_found;
     put_others = put_others;

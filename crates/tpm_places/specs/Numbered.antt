@@ -34,7 +34,7 @@ module _ {X : Type 0} where
       (at_number kind places number) places
 
   -- the laws of this map
-  pub record IsMap (kind : X → ℕ) : Type 0 where
+  pub record MapLaws (kind : X → ℕ) : Type 0 where
     -- what is put into the lowest free place is found under its number, and all else stays
     pub put_found : (places : List (Option X)) (place : ℕ) (x : X) → place < 2 ^ 24
         → lowest_free places ≡ Some place

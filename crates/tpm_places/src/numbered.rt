@@ -1,7 +1,7 @@
 ghost use Rattle.std.specs.Prelude.{◌≡◌, ◌<◌, ℕ, is_some, length, option_copied};
 ghost use Rattle.std.specs.Borrow.{LendsIf, sem};
 ghost use Rattle.std.specs.Option.{option_copied_mut};
-ghost use Rattle.tpm_places.specs.Numbered.{IsMap, at_number, number_of, place_of, without_number};
+ghost use Rattle.tpm_places.specs.Numbered.{MapLaws, at_number, number_of, place_of, without_number};
 ghost use Rattle.tpm_places.specs.Places.{AreAll};
 
 use crate::places::Places;
@@ -103,5 +103,5 @@ pub fn read_sizes<T: Sizes, const N: usize, P: Places<T, N>>(places: &P)
 #[inline(always)]
 #[tactic(auto, using(crate::proofs::NumberedLaws::is_map))]
 pub fn numbered_laws<T: Kinded>()
-    ensures { IsMap T.kind }
+    ensures { MapLaws T.kind }
 {}

@@ -11,6 +11,7 @@ use Rattle.std.specs.Str.{bytes_eq}
 use Rattle.tpm_bytes.specs.Reading.{◌>>=◌, refused_if}
 use Rattle.tpm_mac.specs.Digest.{digest_size, hash_of}
 use Rattle.tpm_mac.specs.declared.algorithm.HashAlg.{HashAlg}
+use Rattle.tpm_types.specs.Buffer.{is_given}
 use Rattle.tpm_types.specs.CommandNumber.{is_command_number}
 use Rattle.tpm_types.specs.PcrSelection.{selection_text}
 use Rattle.tpm_types.specs.Rc.{at, plain}
@@ -80,10 +81,6 @@ fault_of check rc = record { check = check; rc = rc }
 
 abbrev pub parameter_fault : ActionCheck → ResponseCode → ℕ → PolicyFault
 parameter_fault check code number = fault_of check (at (place.Parameter number) (plain code))
-
--- an empty buffer gives nothing to compare
-abbrev pub is_given : List ℕ → Bool
-is_given bytes = not (length bytes == 0)
 
 -- whether something else is recorded
 abbrev pub is_other : Option ℕ → ℕ → Bool

@@ -1,20 +1,18 @@
 -- The use of a policy session to authorize. TPM 2.0 Library, Part 1, section 19.7, and Part 3,
 -- section 5.6 (authorization checks). The order of the checks is this device's own: what was recorded
 -- is compared, and then the digest.
-use Rattle.std.specs.Prelude.{ℕ, ◌==◌, ◌&&◌, ◌||◌, not, Bool, true, false, List, Option, Some, None, is_none, option_map, Result, Ok}
+use Rattle.std.specs.Prelude.{ℕ, ◌==◌, ◌&&◌, ◌||◌, not, Bool, false, List, Option, Some, None, is_none, option_map, Result, Ok}
 use Rattle.std.specs.Int.{bit_at}
 use Rattle.std.specs.Str.{bytes_eq}
 use Rattle.tpm_bytes.specs.Reading.{◌>>=◌, refused_if}
 use Rattle.tpm_mac.specs.declared.algorithm.HashAlg.{HashAlg}
 use Rattle.tpm_types.specs.Algorithm.{hash_number}
 use Rattle.tpm_types.specs.Locality.{locality_number}
-use Rattle.tpm_types.specs.Rc.{at, plain}
-use Rattle.tpm_types.specs.declared.rc.Place.TheVariants as place
+use Rattle.tpm_types.specs.SessionType.{is_trial}
+use Rattle.tpm_types.specs.Rc.{entry_fault, plain}
 use Rattle.tpm_types.specs.declared.rc.Rc.{Rc}
-use Rattle.tpm_types.specs.declared.rc.ResponseCode.{ResponseCode}
 use Rattle.tpm_types.specs.declared.rc.ResponseCode.TheVariants as code
 use Rattle.tpm_types.specs.declared.session_type.SessionType.{SessionType}
-use Rattle.tpm_types.specs.declared.session_type.SessionType.TheVariants as type
 use Rattle.tpm_types.specs.declared.role.Role.{Role}
 use Rattle.tpm_types.specs.declared.role.Role.TheVariants as role
 use Rattle.tpm_policy.specs.Assertion.{is_other, is_other_hash}
@@ -49,7 +47,7 @@ entity_parts policy = record { hash = policy.hash; digest = policy.digest.now }
 
 abbrev pub parts_of : Use → UseParts
 parts_of u = record {
-  entry = u.number;
+  entry = u.entry;
   kind = u.kind;
   hash = u.hash;
   available = u.available;
@@ -60,12 +58,6 @@ parts_of u = record {
   locality = locality_number u.locality;
   entity = option_map entity_parts u.entity;
 }
-
--- a trial session authorizes nothing
-abbrev pub is_trial : SessionType → Bool
-is_trial type.Hmac = false
-is_trial type.Policy = false
-is_trial type.Trial = true
 
 -- the role of the administrator takes a policy that names the command
 abbrev pub lacks_command : Role → Option ℕ → Bool
@@ -78,19 +70,16 @@ is_policy_of hash digest None = false
 is_policy_of hash digest (Some entity) =
     hash_number entity.hash == hash_number hash && bytes_eq digest entity.digest
 
-abbrev pub session_fault : ResponseCode → ℕ → Rc
-session_fault fault entry = at (place.Session entry) (plain fault)
-
 -- whether a policy authorizes this, and what it demands in addition
 unfoldable pub use_passes : Policy → UseParts → Result Demand Rc
 use_passes policy u = do
-  trial ← refused_if (is_trial u.kind) (session_fault code.Attributes u.entry)
+  trial ← refused_if (is_trial u.kind) (entry_fault u.entry code.Attributes)
   available ← refused_if (not u.available) (plain code.AuthUnavailable)
   counter ← refused_if (is_other policy.update_count u.update_count) (plain code.PcrChanged)
-  command ← refused_if (is_other policy.command u.command) (session_fault code.PolicyCc u.entry)
+  command ← refused_if (is_other policy.command u.command) (entry_fault u.entry code.PolicyCc)
   call ← refused_if (lacks_command u.role policy.command || is_other_hash policy.cp_hash u.cp_hash)
-      (session_fault code.PolicyFail u.entry)
+      (entry_fault u.entry code.PolicyFail)
   locality ← refused_if (bit_at policy.localities u.locality == 0) (plain code.Locality)
   digest ← refused_if (not (is_policy_of u.hash policy.digest u.entity))
-      (session_fault code.PolicyFail u.entry)
+      (entry_fault u.entry code.PolicyFail)
   Ok policy.demand

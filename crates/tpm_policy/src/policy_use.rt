@@ -1,7 +1,7 @@
 ghost use Rattle.std.specs.Prelude.{◌≡◌, ◌==◌, option_map};
 ghost use Rattle.std.specs.Int.{bit_at};
 ghost use Rattle.tpm_types.specs.Locality.{locality_number};
-ghost use Rattle.tpm_policy.specs.Use.{entity_parts, is_policy_of, is_trial, lacks_command, parts_of, session_fault, use_passes};
+ghost use Rattle.tpm_policy.specs.Use.{entity_parts, is_policy_of, lacks_command, parts_of, use_passes};
 
 use crate::assertions::is_equal;
 use crate::state::{Demand, PolicyState};
@@ -21,7 +21,7 @@ pub struct EntityPolicy<'a> {
 #[derive(Clone, Copy)]
 pub struct Use<'a> {
     /// The number of the authorization entry.
-    pub number: u8,
+    pub entry: u8,
     /// The session's.
     pub kind: SessionType,
     /// The session's.
@@ -39,21 +39,6 @@ pub struct Use<'a> {
     pub locality: Locality,
     /// The policy of the entity, if it has one.
     pub entity: Option<EntityPolicy<'a>>,
-}
-
-fn session_fault(code: ResponseCode, number: u8) -> Rc
-    ensures { result ≡ session_fault code number }
-{
-    code.anywhere().at_session(number)
-}
-
-fn is_trial(kind: SessionType) -> bool
-    ensures { result ≡ is_trial kind }
-{
-    match kind {
-        SessionType::Hmac | SessionType::Policy => false,
-        SessionType::Trial => true,
-    }
 }
 
 impl PolicyState {
@@ -97,9 +82,9 @@ impl PolicyState {
     pub fn check_use(&self, asked: &Use) -> Result<Demand, Rc>
         ensures { result ≡ use_passes self.now (parts_of asked.now) }
     {
-        let number = asked.number;
-        if is_trial(asked.kind) {
-            return Err(session_fault(ResponseCode::Attributes, number));
+        let number = asked.entry;
+        if asked.kind.is_trial() {
+            return Err(ResponseCode::Attributes.anywhere().at_session(number));
         }
         if !asked.available {
             return Err(ResponseCode::AuthUnavailable.anywhere());
@@ -108,16 +93,16 @@ impl PolicyState {
             return Err(ResponseCode::PcrChanged.anywhere());
         }
         if self.records_other_code(asked.command) {
-            return Err(session_fault(ResponseCode::PolicyCc, number));
+            return Err(ResponseCode::PolicyCc.anywhere().at_session(number));
         }
         if self.lacks_command(asked.role) || self.records_other_hash(asked.cp_hash) {
-            return Err(session_fault(ResponseCode::PolicyFail, number));
+            return Err(ResponseCode::PolicyFail.anywhere().at_session(number));
         }
         if self.forbids(asked.locality) {
             return Err(ResponseCode::Locality.anywhere());
         }
         if !self.is_policy_of(asked.hash, asked.entity) {
-            return Err(session_fault(ResponseCode::PolicyFail, number));
+            return Err(ResponseCode::PolicyFail.anywhere().at_session(number));
         }
         Ok(self.demand)
     }

@@ -1,17 +1,14 @@
 ghost use Rattle.std.specs.Prelude.{◌≡◌, ◌<◌, is_some, length, option_copied};
 ghost use Rattle.tpm_object.specs.Object.{IsObject, transient_byte};
-ghost use Rattle.tpm_places.specs.Numbered.{IsMap};
+ghost use Rattle.tpm_places.specs.Numbered.{MapLaws};
 ghost use Rattle.tpm_places.specs.Places.{AreAll};
 ghost use Rattle.tpm_record.specs.Objects.{Adds, next_handle, object_at, object_handle, objects_of, without_object};
 ghost use Rattle.tpm_record.specs.Record.{no_objects};
 
 use std::alloc::Global;
-use tpm_object::Object;
+use tpm_object::{Object, TRANSIENT_BYTE};
 use tpm_places::{PlaceFault, Places, numbered};
 use tpm_types::Handle;
-
-/// The highest byte of a transient object's handle.
-const TRANSIENT_BYTE: u32 = 0x80;
 
 /// The transient objects of a device, at most eight, by their handles. Their places are kept by
 /// `O`.
@@ -94,7 +91,7 @@ impl<O: Places<Object, 8>> Objects<O> {
 /// The transient objects of a device are a map from handles: what is found after one was added or
 /// removed. It does nothing.
 pub fn object_laws()
-    ensures { IsMap transient_byte }
+    ensures { MapLaws transient_byte }
 {
     numbered::numbered_laws::<Object>()
 }

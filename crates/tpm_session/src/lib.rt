@@ -11,16 +11,20 @@
 
 pub mod encryption;
 pub mod entry;
+pub mod first_buffer;
 pub mod key;
 pub mod nonce;
 pub mod parameter_hash;
+pub mod parameter_hashes;
 pub mod session;
 pub mod sessions;
 
 pub use encryption::SymmetricFault;
 pub use entry::CommandText;
+pub use first_buffer::first_size;
 pub use key::{SessionKey, is_nonce_size};
 pub use nonce::Nonce;
-pub use parameter_hash::{command_hash, response_hash};
+pub use parameter_hash::{HashedParameters, command_hash, response_hash};
+pub use parameter_hashes::ParameterHashes;
 pub use session::{Binding, Protection, Session};
 pub use sessions::{Sessions, Start, StartFault};

@@ -40,3 +40,29 @@ pub fn response_hash(hash: HashAlg, code: u32, parameters: &[u8]) -> Digest
     let code = code.to_be_bytes();
     digest_parts(hash, &[&success, &code, parameters])
 }
+
+/// What a parameter hash is of.
+#[derive(Clone, Copy)]
+pub enum HashedParameters<'a> {
+    /// A command: its code, the Names of its handles, and its parameters as they are sent.
+    Command(u32, &'a [Name], &'a [u8]),
+    /// A success: the command's code, and its parameters as they are sent.
+    Response(u32, &'a [u8]),
+}
+
+impl HashedParameters<'_> {
+    ghost use Rattle.tpm_session.specs.ParameterHash.{HasFewNames, hashed_parts, parameter_hash_of};
+
+    /// Its hash, cpHash or rpHash.
+    pub fn hash(self, hash: HashAlg) -> Digest
+        requires { HasFewNames (hashed_parts self) }
+        ensures { result.items ≡ parameter_hash_of hash (hashed_parts self.entry) }
+    {
+        match self {
+            HashedParameters::Command(code, names, parameters) => command_hash(
+                hash, code, names, parameters,
+            ),
+            HashedParameters::Response(code, parameters) => response_hash(hash, code, parameters),
+        }
+    }
+}

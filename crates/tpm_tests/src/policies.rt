@@ -133,7 +133,7 @@ fn spoiled_from(condition: u8, digest: &[u8], locality: Locality) -> Use<'_> {
         digest,
     };
     Use {
-        number: 1,
+        entry: 1,
         kind: if condition <= 1 {
             SessionType::Trial
         } else {

@@ -1,5 +1,5 @@
 -- Fields of structures: what is read was spelled so, and what is spelled so is read.
-use Rattle.std.proofs.Common.{ℕ, ◌^◌, ◌<◌, ◌≤◌, List, ◌++◌, length, ap, arith}
+use Rattle.std.proofs.Common.{ℕ, ◌^◌, ◌<◌, ◌≤◌, ◌++◌, length, ap, arith}
 use Rattle.std.specs.Int.{Width, to_be_bytes}
 use Rattle.tpm_bytes.specs.Reading.{number_at, or_fault, sized_at}
 use Rattle.tpm_bytes.specs.Writing.{sized_text}

@@ -1,6 +1,6 @@
 -- Sized buffers of a command. TPM 2.0 Library, Part 2, section 10.4 (TPM2B: a size of two bytes,
 -- and that many bytes), and Part 3, section 5.8 (parameter unmarshaling).
-use Rattle.std.specs.Prelude.{ℕ, List, Result, Ok, Err}
+use Rattle.std.specs.Prelude.{ℕ, ◌==◌, not, Bool, List, length, Result, Ok, Err}
 use Rattle.tpm_bytes.specs.Reading.{sized_at}
 use Rattle.tpm_bytes.specs.declared.cursor.SizedFault.{SizedFault}
 use Rattle.tpm_bytes.specs.declared.cursor.SizedFault.TheVariants as fault
@@ -20,3 +20,7 @@ or_sized_rc (Err fault) = Err (sized_rc fault)
 -- the bytes of a buffer of at most so many, and what is after it
 unfoldable pub buffer_at : ℕ → List ℕ → Result (List ℕ × List ℕ) Rc
 buffer_at limit text = or_sized_rc (sized_at limit text)
+
+-- a caller who has nothing to give for a buffer leaves it empty
+abbrev pub is_given : List ℕ → Bool
+is_given bytes = not (length bytes == 0)

@@ -18,42 +18,56 @@ numbered number = record { number = number }
 abbrev pub handle_type : Handle → ℕ
 handle_type handle = handle.number / 2 ^ 24
 
+-- the handles that the standard gives: TPM_RH_OWNER, TPM_RH_NULL, TPM_RS_PW, TPM_RH_LOCKOUT,
+-- TPM_RH_ENDORSEMENT and TPM_RH_PLATFORM
+abbrev pub owner_handle : Handle
+owner_handle = numbered 0x4000_0001
+
+abbrev pub null_handle : Handle
+null_handle = numbered 0x4000_0007
+
+abbrev pub password_handle : Handle
+password_handle = numbered 0x4000_0009
+
+abbrev pub lockout_handle : Handle
+lockout_handle = numbered 0x4000_000a
+
+abbrev pub endorsement_handle : Handle
+endorsement_handle = numbered 0x4000_000b
+
+abbrev pub platform_handle : Handle
+platform_handle = numbered 0x4000_000c
+
 -- what a handle names in an authorization entry: TPM_RS_PW, an HMAC session (02) or a policy
 -- session (03)
 abbrev pub session_kind : Handle → SessionKind
 session_kind handle =
-    if handle.number == 0x4000_0009 then Password
+    if handle.number == password_handle.number then Password
     else (if handle_type handle == 0x02 || handle_type handle == 0x03 then Session
     else Other)
 
--- TPM_RH_NULL
-abbrev pub null_handle : Handle
-null_handle = record { number = 0x4000_0007 }
-
--- whose authorization value a handle names: TPM_RH_OWNER, TPM_RH_LOCKOUT, TPM_RH_ENDORSEMENT or
--- TPM_RH_PLATFORM
+-- whose authorization value a handle names (Part 2, section 9.19: TPMI_RH_HIERARCHY_AUTH)
 abbrev pub hierarchy_auth_of : Handle → Option HierarchyAuth
 hierarchy_auth_of handle =
-    if handle.number == 0x4000_0001 then Some auth.Owner
-    else (if handle.number == 0x4000_000a then Some auth.Lockout
-    else (if handle.number == 0x4000_000b then Some auth.Endorsement
-    else (if handle.number == 0x4000_000c then Some auth.Platform
+    if handle.number == owner_handle.number then Some auth.Owner
+    else (if handle.number == lockout_handle.number then Some auth.Lockout
+    else (if handle.number == endorsement_handle.number then Some auth.Endorsement
+    else (if handle.number == platform_handle.number then Some auth.Platform
     else None)))
 
--- the handle of a hierarchy: TPM_RH_OWNER, TPM_RH_ENDORSEMENT, TPM_RH_PLATFORM or TPM_RH_NULL
--- (Part 2, section 9.13: TPMI_RH_HIERARCHY+)
+-- the handle of a hierarchy (Part 2, section 9.13: TPMI_RH_HIERARCHY+)
 abbrev pub hierarchy_handle : HierarchyHandle → Handle
-hierarchy_handle hierarchy.Owner = record { number = 0x4000_0001 }
-hierarchy_handle hierarchy.Endorsement = record { number = 0x4000_000b }
-hierarchy_handle hierarchy.Platform = record { number = 0x4000_000c }
+hierarchy_handle hierarchy.Owner = owner_handle
+hierarchy_handle hierarchy.Endorsement = endorsement_handle
+hierarchy_handle hierarchy.Platform = platform_handle
 hierarchy_handle hierarchy.Null = null_handle
 
 -- the hierarchy that a handle names
 abbrev pub hierarchy_of : Handle → Option HierarchyHandle
 hierarchy_of handle =
-    if handle.number == 0x4000_0001 then Some hierarchy.Owner
-    else (if handle.number == 0x4000_000b then Some hierarchy.Endorsement
-    else (if handle.number == 0x4000_000c then Some hierarchy.Platform
+    if handle.number == owner_handle.number then Some hierarchy.Owner
+    else (if handle.number == endorsement_handle.number then Some hierarchy.Endorsement
+    else (if handle.number == platform_handle.number then Some hierarchy.Platform
     else (if handle.number == null_handle.number then Some hierarchy.Null
     else None)))
 

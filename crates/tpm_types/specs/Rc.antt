@@ -76,3 +76,7 @@ plain code = record { code = code; place = place.Nowhere }
 -- the same fault elsewhere
 abbrev pub at : Place → Rc → Rc
 at place rc = record rc { place = place }
+
+-- a fault of the authorization entry of this number
+abbrev pub entry_fault : ℕ → ResponseCode → Rc
+entry_fault n fault = at (place.Session n) (plain fault)

@@ -1,5 +1,5 @@
 -- The types of sessions. TPM 2.0 Library, Part 2, section 6.11 (TPM_SE) and section 7.2 (TPM_HT).
-use Rattle.std.specs.Prelude.{ℕ, ◌==◌, List, if◌then◌else◌, Option, Some, None, Result, Ok, ok_or}
+use Rattle.std.specs.Prelude.{ℕ, ◌==◌, Bool, true, false, List, if◌then◌else◌, Option, Some, None, Result, Ok, ok_or}
 use Rattle.std.specs.Int.{w8}
 use Rattle.tpm_bytes.specs.Reading.{◌>>=◌, number_at, or_fault}
 use Rattle.tpm_types.specs.declared.rc.Rc.{Rc}
@@ -25,6 +25,12 @@ abbrev pub type_byte : SessionType → ℕ
 type_byte Hmac = 0x02
 type_byte Policy = 0x03
 type_byte Trial = 0x03
+
+-- a trial session computes a policy, and authorizes nothing
+abbrev pub is_trial : SessionType → Bool
+is_trial Hmac = false
+is_trial Policy = false
+is_trial Trial = true
 
 -- a session type, and what is after it
 unfoldable pub session_type_at : List ℕ → Result (SessionType × List ℕ) Rc

@@ -5,6 +5,9 @@ ghost use Rattle.tpm_types.specs.Buffer.{buffer_at};
 use crate::rc::{Rc, ResponseCode};
 use tpm_bytes::{Cursor, SizedFault};
 
+/// The most bytes of a digest, and so of a nonce and an HMAC.
+pub const MOST_DIGEST: usize = 32;
+
 /// Reads a sized buffer of at most `limit` bytes (TPM2B of TPM 2.0 Library, Part 2, section 10.4):
 /// SIZE where it says that it has more, else INSUFFICIENT where it is cut.
 pub fn read_buffer<'a>(text: &mut Cursor<'a>, limit: usize) -> Result<&'a [u8], Rc>

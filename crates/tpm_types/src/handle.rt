@@ -110,9 +110,9 @@ impl Handle {
     pub fn session_kind(self) -> SessionKind
         ensures { result ≡ session_kind self }
     {
-        match self.number {
-            0x4000_0009 => SessionKind::Password,
-            number if number >> 24 == 0x02 || number >> 24 == 0x03 => SessionKind::Session,
+        match (self, self.type_byte()) {
+            (Handle::PASSWORD, _) => SessionKind::Password,
+            (_, 0x02 | 0x03) => SessionKind::Session,
             _ => SessionKind::Other,
         }
     }

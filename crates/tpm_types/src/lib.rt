@@ -38,7 +38,7 @@ pub mod symmetric;
 pub use action_check::ActionCheck;
 pub use algorithm::{hash_number, hash_or_null_number, read_hash, read_hash_or_null};
 pub use auth_value::{AuthValue, trimmed};
-pub use buffer::read_buffer;
+pub use buffer::{MOST_DIGEST, read_buffer};
 pub use check::Check;
 pub use command_number::is_command_number;
 pub use digest_list::DigestList;

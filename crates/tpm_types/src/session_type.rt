@@ -16,7 +16,7 @@ pub enum SessionType {
 }
 
 impl SessionType {
-    ghost use Rattle.tpm_types.specs.SessionType.{session_type_at, type_byte, type_named, type_number};
+    ghost use Rattle.tpm_types.specs.SessionType.{is_trial, session_type_at, type_byte, type_named, type_number};
 
     /// The number on the wire.
     pub fn number(self) -> u8
@@ -48,6 +48,16 @@ impl SessionType {
         match self {
             SessionType::Hmac => 0x02,
             SessionType::Policy | SessionType::Trial => 0x03,
+        }
+    }
+
+    /// Whether such a session computes a policy, and authorizes nothing.
+    pub fn is_trial(self) -> bool
+        ensures { result ≡ is_trial self }
+    {
+        match self {
+            SessionType::Hmac | SessionType::Policy => false,
+            SessionType::Trial => true,
         }
     }
 

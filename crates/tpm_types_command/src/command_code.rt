@@ -155,7 +155,7 @@ impl CommandCode {
         // The number names the command.
         ensures again { code_named result ≡ Some self }
         // A policy can name each command that is served.
-        ensures named { is_command_number result ≡ true }
+        ensures in_policies { is_command_number result ≡ true }
     {
         self as u32
     }

@@ -56,3 +56,6 @@ no_decimal digits none = refused (IsDecimal digits) (digits_value 10 digits) _ (
 -- what begins with a plus says none either
 pub plus_no_decimal : (digits : List ℕ) → slice_index digits 0 ≡ 43 → decimal_of digits ≡ None
 plus_no_decimal digits plus = refused (IsDecimal digits) (digits_value 10 digits) _ (test_decides digits) (λ h. numeral_begins_with_no_plus digits h.0 plus)
+
+-- what decimal digits write, and what writes no number
+pub ruleset decimals = (decimal_parsed, no_decimal, plus_no_decimal)

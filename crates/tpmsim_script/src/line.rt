@@ -125,7 +125,7 @@ fn locality(digits: &[u8]) -> Option<Locality>
 
 /// The number that decimal digits write: at least one, with leading zeros or none, and no sign.
 /// `None` is any other text, and a number of 2^32 or more.
-#[tactic(auto, using(crate::proofs::Decimal::decimal_parsed, crate::proofs::Decimal::no_decimal, crate::proofs::Decimal::plus_no_decimal))]
+#[tactic(auto, using(crate::proofs::Decimal::decimals))]
 pub fn decimal(digits: &[u8]) -> Option<u32>
     ensures { result ≡ decimal_of digits.now }
 {

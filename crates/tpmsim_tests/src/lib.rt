@@ -1,17 +1,7 @@
 #![tactic(auto)]
 
-//! What no clause says and no script under `tests/` shows of the device and of scripts: the rows
-//! that `execute` and `run` report, counters at their ends, a caller's side of a session over whole
-//! texts and what a refused authorization counts, over both keeps; and readers and writers that
+//! What no clause says and no script under `tests/` shows of scripts: readers and writers that
 //! fail.
 
-#[cfg(test)]
-mod counters;
-#[cfg(test)]
-mod object_rows;
-#[cfg(test)]
-mod rows;
-#[cfg(test)]
-mod sessions;
 #[cfg(test)]
 mod streams;

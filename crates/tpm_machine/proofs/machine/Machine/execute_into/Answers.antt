@@ -1,12 +1,28 @@
 use Rattle.tpm_machine_step.specs.Events.{happening}
 use Rattle.tpm_machine.specs.State.{state_of}
-use Rattle.tpm_machine_step.specs.Step.{seen}
+use Rattle.tpm_machine.proofs.Modesty.{accepts_modestly}
 use Rattle.tpm_machine.proofs.Refusals.{steps_harmless}
+use Rattle.tpm_machine.proofs.Running.{exactly}
+use Rattle.tpm_machine_step.specs.Step.{Stepped}
 use Rattle.tpm_machine.proofs.machine.Machine.execute_into.Goals as goal
 
-pub returns-clause-harmless : goal.returns-clause-harmless
-returns-clause-harmless g c =
+pub returns : goal.returns
+returns g c =
     let state = state_of g.K.Keep.record_of in
-    let advanced = c.advance-outcome in
-    steps_harmless g.K.Keep.can_refuse (state c.args.self.now) (happening c.args.event.now)
-    (record { response = advanced.new.text.items; row = advanced.result; after = state advanced.new.self }) advanced.ensures.steps
+    let can = g.K.Keep.can_refuse in
+    let old = state c.args.self.now in
+    let event = happening c.args.event.now in
+    let done = c.advance-outcome in
+    let x : Stepped = record { response = done.new.text.items; row = done.result; after = state done.new.self } in
+    let steps = done.ensures.steps in
+    record {
+      executes = record {
+        happens = done.ensures.event;
+        steps = steps;
+        exactly = λ cannot. exactly can old event x cannot steps;
+        is_record = c.read_widths.ensures;
+        harmless = steps_harmless can old event x steps;
+        modest = λ zero. accepts_modestly can old event x steps zero (done.ensures.modest zero);
+        fits = done.ensures.fits;
+      };
+    }

@@ -19,7 +19,7 @@ returns-in_ok-set_entropy-in-Entropy g c = λ cannot. (silence (playing c.set_en
 pub returns-in-PowerCycle : goal.returns-in-PowerCycle
 returns-in-PowerCycle g c = λ cannot.
     let p = playing_of g.K.Keep.record_of c.args.self.now in
-    let is = c.execute_into.ensures.exactly cannot in
+    let is = c.execute_into.ensures.executes.exactly cannot in
     (silence (record p { device = (step p.device Cycled).after }), search rules, nothing_printed _, ap (λ (s : Stepped). let next : Playing = record p { device = s.after } in next) is)
 
 pub returns-in-Nothing : goal.returns-in-Nothing

@@ -1,0 +1,16 @@
+#![tactic(auto)]
+
+//! What no clause says and no script under `tests/` shows of the device: the rows that `execute`
+//! and `run` report, counters at their ends, a caller's side of a session over whole texts and what
+//! a refused authorization counts, over both keeps.
+
+#[cfg(test)]
+mod counters;
+#[cfg(test)]
+mod object_rows;
+#[cfg(test)]
+mod rows;
+#[cfg(test)]
+mod sessions;
+#[cfg(test)]
+mod tables;
