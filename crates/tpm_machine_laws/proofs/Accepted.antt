@@ -17,7 +17,7 @@ use Rattle.tpm_machine_step.specs.Table.{row_of}
 use Rattle.tpm_machine_laws.specs.Sessions.{HaveSessions, SessionsStay}
 use Rattle.tpm_machine_laws.proofs.Sessions.{entries_have, entries_keep, row_stays}
 
-checked_ok : {X : Type 0} (check : Check) (x : Result X Rc) (y : X) → checked check x ≡ Ok y → x ≡ Ok y
+pub checked_ok : {X : Type 0} (check : Check) (x : Result X Rc) (y : X) → checked check x ≡ Ok y → x ≡ Ok y
 checked_ok {X} check (Ok x) y e = ap (λ (z : X). let r : Result X Rc = Ok z in r) (ok_is {E = Refused} x y e)
 checked_ok check (Err rc) y e = absurd cc
 

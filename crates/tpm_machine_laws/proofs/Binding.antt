@@ -1,7 +1,11 @@
 -- Steps of a row.
-use Rattle.std.proofs.Common.{◌≡◌, Option, Some, None, Result, Ok, Err, IfOk, refl}
+use Rattle.std.proofs.Common.{◌≡◌, Bool, true, false, Option, Some, None, Result, Ok, Err, IfOk, IfErr, refl}
 use Rattle.std.specs.Prelude.{ok_or}
-use Rattle.tpm_bytes.specs.Reading.{◌>>=◌}
+use Rattle.tpm_bytes.specs.Reading.{◌>>=◌, or_fault, refused_if}
+use Rattle.tpm_types.specs.Refused.{checked, refusal}
+use Rattle.tpm_types.specs.declared.check.Check.{Check}
+use Rattle.tpm_types.specs.declared.rc.Rc.{Rc}
+use Rattle.tpm_types.specs.declared.refused.Refused.{Refused}
 
 -- what holds of each success after a step holds of each success
 pub ok_bind : {A B E : Type 0} (Q : B → Type 0) (x : Result A E) (f : A → Result B E) → ((a : A) → IfOk (f a) Q) → IfOk (x >>= f) Q
@@ -22,6 +26,33 @@ ok_then P Q (Err e) f k h = tt
 pub ok_weaker : {A E : Type 0} (P Q : A → Type 0) (x : Result A E) → IfOk x P → ((a : A) → P a → Q a) → IfOk x Q
 ok_weaker P Q (Ok a) k h = h a k
 ok_weaker P Q (Err e) k h = tt
+
+-- what holds of each refusal of a step, and of each behind it
+pub err_bind : {A B E : Type 0} (Q : E → Type 0) (x : Result A E) (f : A → Result B E) → IfErr x Q → ((a : A) → IfErr (f a) Q) → IfErr (x >>= f) Q
+err_bind Q (Ok a) f k h = h a
+err_bind Q (Err e) f k h = k
+
+-- the same, where it matters what the step gave
+pub err_bind_is : {A B E : Type 0} (Q : E → Type 0) (x : Result A E) (f : A → Result B E) → IfErr x Q → ((a : A) → x ≡ Ok a → IfErr (f a) Q) → IfErr (x >>= f) Q
+err_bind_is Q (Ok a) f k h = h a refl
+err_bind_is Q (Err e) f k h = k
+
+-- what holds of the one refusal of a step
+pub err_if : {E : Type 0} (Q : E → Type 0) (b : Bool) (e : E) → Q e → IfErr (refused_if b e) Q
+err_if Q true e h = h
+err_if Q false e h = tt
+
+pub err_or : {X E : Type 0} (Q : E → Type 0) (o : Option X) (e : E) → Q e → IfErr (ok_or o e) Q
+err_or Q (Some x) e h = tt
+err_or Q None e h = h
+
+pub err_fault : {X E F : Type 0} (Q : F → Type 0) (x : Result X E) (e : F) → Q e → IfErr (or_fault x e) Q
+err_fault Q (Ok x) e h = tt
+err_fault Q (Err fault) e h = h
+
+pub err_checked : {X : Type 0} (Q : Refused → Type 0) (check : Check) (x : Result X Rc) → ((rc : Rc) → Q (refusal check rc)) → IfErr (checked check x) Q
+err_checked Q check (Ok x) h = tt
+err_checked Q check (Err rc) h = h rc
 
 -- what was there where a step asked for it
 pub some_is : {X E : Type 0} (o : Option X) (e : E) (x : X) → ok_or o e ≡ Ok x → o ≡ Some x

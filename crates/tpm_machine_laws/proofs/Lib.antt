@@ -5,4 +5,6 @@ pub mod Growth
 pub mod Sessions
 pub mod Accepted
 pub mod Readings
-pub mod Parameters
+pub mod Refusals
+pub mod Handles
+pub mod Grants

@@ -1,3 +1,6 @@
 pub mod Footprint
 pub mod Shapes
 pub mod Sessions
+pub mod Refusals
+pub mod Handles
+pub mod Grants

@@ -1,5 +1,5 @@
 -- What a command's shape says of its success, of its growth and of its parameters.
-use Rattle.std.specs.Prelude.{◌≡◌, ◌≢◌, ◌≤◌, ◌⊎◌, ℕ, ◌+◌, Bool, true, false, List, [], ◌∷◌, is_some, Result, Ok, Err}
+use Rattle.std.specs.Prelude.{◌≡◌, ◌≤◌, ◌⊎◌, ℕ, ◌+◌, Bool, true, false, List, [], ◌∷◌, is_some, Result, Ok, Err}
 use Rattle.std.specs.Int.{w8, w16, w32}
 use Rattle.tpm_bytes.specs.Reading.{◌>>=◌, number_at, or_fault}
 use Rattle.tpm_places.specs.Places.{taken_count}
@@ -26,6 +26,7 @@ use Rattle.tpm_types.specs.declared.check.Check.TheVariants as check
 use Rattle.tpm_types.specs.declared.refused.Refused.{Refused}
 use Rattle.tpm_actions.specs.Answer.{begins_sized}
 use Rattle.tpm_actions.specs.Rows.{Success, all_read, parameter}
+use Rattle.tpm_machine_laws.specs.Refusals.{Passes}
 
 -- A success has a handle, and a sized buffer as the first parameter of its answer, exactly where the
 -- command's shape says so.
@@ -73,11 +74,6 @@ spelled n (kind ∷ kinds) text = do
   rest ← parameter n (behind_kind kind text)
   spelled (n + 1) kinds rest
 
--- A row refuses no parameter.
-abbrev pub ParametersPass : {X : Type 0} → Result X Refused → Type 0
-ParametersPass (Ok s) = Unit {0}
-ParametersPass (Err e) = e.check ≢ check.Parameters
-
 -- A row refuses parameters with this fault, unless it refuses a handle first.
 abbrev pub ParametersFail : {X : Type 0} → Refused → Result X Refused → Type 0
 ParametersFail fault (Ok s) = ⊥
@@ -85,5 +81,5 @@ ParametersFail fault (Err e) = (e ≡ fault) ⊎ (e.check ≡ check.Handles)
 
 -- A row refuses parameters exactly where they are not spelled so, and then with the first fault.
 abbrev pub ReadsParameters : {X : Type 0} → Result (Unit {0}) Refused → Result X Refused → Type 0
-ReadsParameters (Ok done) row = ParametersPass row
+ReadsParameters (Ok done) row = Passes check.Parameters row
 ReadsParameters (Err fault) row = ParametersFail fault row

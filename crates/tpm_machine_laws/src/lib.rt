@@ -1,21 +1,29 @@
 #![tactic(auto)]
 
 //! Laws over the rows of all commands, each on the contract of a function that does nothing: what
-//! of the record a row's success touches, what a command's shape says of it, and that sessions in
-//! use stay. Behind a row, sessions are rolled and end, which is the step's and no row's.
+//! of the record a row's success touches, what a command's shape says of it, that sessions in use
+//! stay, and what is never refused. Behind a row, sessions are rolled and end, which is the step's
+//! and no row's.
 //!
 //! It stands on the definitions of tpm_machine_step. A row is opened here, so that theorems over
 //! histories need not open any.
 
-ghost use Rattle.std.specs.Prelude.{◌≡◌, ℕ, IfOk, List, Ok, false};
+ghost use Rattle.std.specs.Prelude.{◌≡◌, ℕ, IfOk, List, [], Ok, false};
+ghost use Rattle.tpm_types.specs.declared.check.Check.TheVariants as check;
 ghost use Rattle.tpm_types_command.specs.Command.{Whole};
 ghost use Rattle.tpm_types_command.specs.CommandCode.{shape_of};
 ghost use Rattle.tpm_types_command.specs.declared.command_code.CommandCode.{CommandCode};
 ghost use Rattle.tpm_record.specs.Record.{Record};
+ghost use Rattle.tpm_auth.specs.Entries.{entries_pass};
+ghost use Rattle.tpm_auth.specs.Grant.{authorize, grants_pass};
 ghost use Rattle.tpm_actions.specs.Request.{Request};
+ghost use Rattle.tpm_machine_step.specs.General.{general};
 ghost use Rattle.tpm_machine_step.specs.Step.{Accepted, acceptance};
 ghost use Rattle.tpm_machine_step.specs.Table.{row_of};
 ghost use Rattle.tpm_machine_laws.specs.Footprint.{Touches, part_of};
+ghost use Rattle.tpm_machine_laws.specs.Grants.{GrantsFit};
+ghost use Rattle.tpm_machine_laws.specs.Handles.{HandlesFit};
+ghost use Rattle.tpm_machine_laws.specs.Refusals.{Passes, RefusesAuthorization};
 ghost use Rattle.tpm_machine_laws.specs.Sessions.{HaveSessions, SessionsStay};
 ghost use Rattle.tpm_machine_laws.specs.Shapes.{AnswersItsShape, Grows, ReadsParameters, spelled};
 
@@ -46,7 +54,7 @@ pub fn rows_grow_by_their_shapes()
 /// A row that refuses no handle refuses parameters exactly where they are not of the kinds that its
 /// command's shape lists, and then with their first fault.
 #[inline(always)]
-#[tactic(auto, using(crate::proofs::Parameters::row_reads))]
+#[tactic(auto, using(crate::proofs::Refusals::row_reads))]
 pub fn rows_read_their_parameters()
     ensures { (r : Record) (c : CommandCode) (q : Request)
         → ReadsParameters (spelled 1 (shape_of c).parameters q.parameters) (row_of r c q) }
@@ -68,4 +76,50 @@ pub fn sessions_in_use_stay()
     ensures { (r : Record) (c : Whole) (locality : ℕ) (random : List ℕ) (a : Accepted)
         → (shape_of c.code).forbids_sessions ≡ false → acceptance r c locality random ≡ Ok a
         → HaveSessions a.success.after c.entries }
+{}
+
+/// A row refuses no handle where the handles fit the rules of its command's shape. A row says what
+/// it does with any request, and so refuses a handle that is missing or names nothing; but no such
+/// request comes to it.
+#[inline(always)]
+#[tactic(auto, using(crate::proofs::Refusals::row_passes))]
+pub fn rows_refuse_no_handle()
+    ensures { (r : Record) (c : CommandCode) (q : Request)
+        → HandlesFit r (shape_of c).handles q.handles → Passes check.Handles (row_of r c q) }
+{}
+
+/// The general checks let a command through only where its handles fit these rules.
+#[inline(always)]
+#[tactic(auto, using(crate::proofs::Handles::general_fits))]
+pub fn general_checks_fit_handles()
+    ensures { (r : Record) (buffer : List ℕ)
+        → IfOk (general r buffer) (λ c. HandlesFit r (shape_of c.code).handles c.handles) }
+{}
+
+/// So what the general checks let through is refused for no handle: neither by the authorization
+/// nor by the row.
+#[inline(always)]
+#[tactic(auto, using(crate::proofs::Handles::acceptance_passes))]
+pub fn no_handle_is_refused_later()
+    ensures { (r : Record) (buffer : List ℕ) (c : Whole) (locality : ℕ) (random : List ℕ)
+        → general r buffer ≡ Ok c → Passes check.Handles (acceptance r c locality random) }
+{}
+
+/// Where the entries' own checks pass, the walk of grants finds the session of each entry that is
+/// no password: it refuses what is not authorized, and no entry for want of its session.
+#[inline(always)]
+#[tactic(auto, using(crate::proofs::Grants::grants_refuse))]
+pub fn grants_find_their_sessions()
+    ensures { (r : Record) (c : Whole) (locality : ℕ)
+        → entries_pass r c.code [] c.entries ≡ Ok tt
+        → RefusesAuthorization (grants_pass r c locality [] c.entries) }
+{}
+
+/// An authorization gives a grant for each entry: to the first entries the handles that need
+/// authorization, in their order, and to the others no handle.
+#[inline(always)]
+#[tactic(auto, using(crate::proofs::Grants::grants_fit))]
+pub fn grants_fit_entries_and_handles()
+    ensures { (r : Record) (c : Whole) (locality : ℕ)
+        → IfOk (authorize r c locality) (GrantsFit c) }
 {}

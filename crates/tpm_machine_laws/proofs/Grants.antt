@@ -1,0 +1,166 @@
+-- What the entries of a command are granted.
+use Rattle.std.proofs.Common.{rules, ◌≡◌, ◌⊎◌, ℕ, zero, suc, ◌+◌, ◌<◌, ◌≤◌, arith, true, List, [], ◌∷◌, ◌++◌, length, length-append, slice_get, Option, Some, None, option_map, Result, Ok, IfOk, is_some, refl, inl, inr}
+use Rattle.std.proofs.lemmas.Bool.{cases_lt, false≢true, ltb-false}
+use Rattle.std.proofs.lemmas.List.{length-take}
+use Rattle.std.proofs.lemmas.Option.{slice_get_past}
+use Rattle.std.specs.Prelude.{nat_lt}
+use Rattle.tpm_bytes.specs.Reading.{refused_if}
+use Rattle.tpm_bytes.proofs.Fields.{passed}
+use Rattle.tpm_session.specs.declared.session.Protection.{Protection}
+use Rattle.tpm_session.specs.declared.session.Session.{Session}
+use Rattle.tpm_types.specs.declared.check.Check.TheVariants as check
+use Rattle.tpm_types.specs.declared.handle.Handle.{Handle}
+use Rattle.tpm_types.specs.declared.handle.SessionKind.{SessionKind}
+use Rattle.tpm_types.specs.declared.handle.SessionKind.TheVariants as kind
+use Rattle.tpm_types.specs.declared.refused.Refused.{Refused}
+use Rattle.tpm_types.specs.declared.session_type.SessionType.{SessionType}
+use Rattle.tpm_types.specs.declared.session_type.SessionType.TheVariants as type
+use Rattle.tpm_types.specs.Handle.{session_kind}
+use Rattle.tpm_types.specs.Refused.{checked}
+use Rattle.tpm_types_command.specs.AuthEntry.{Entry}
+use Rattle.tpm_types_command.specs.Command.{Whole}
+use Rattle.tpm_types_command.specs.CommandCode.{authorized_handles}
+use Rattle.tpm_record.specs.Record.{Record}
+use Rattle.tpm_auth.specs.Comparison.{check_of, failure}
+use Rattle.tpm_auth.specs.Entries.{entries_pass, session_of}
+use Rattle.tpm_auth.specs.Grant.{authorize, authorized, grant, grant_by, grants_pass, password_grant, session_grant_if, undemanding}
+use Rattle.tpm_auth.specs.SessionGrant.{demand_by, demanded, session_grant}
+use Rattle.tpm_auth.specs.declared.session_grant.Grant.{Grant}
+use Rattle.tpm_machine_laws.specs.Grants.{GrantsFit, granted_handle, handle_in}
+use Rattle.tpm_machine_laws.specs.Refusals.{RefusesAuthorization}
+use Rattle.tpm_machine_laws.specs.Sessions.{HasSession, HaveSessions}
+use Rattle.tpm_machine_laws.proofs.Binding.{err_bind, err_checked, err_if, ok_bind, ok_bind_is, ok_then, ok_weaker}
+use Rattle.tpm_machine_laws.proofs.Sessions.{entries_have}
+
+-- ---- what refuses
+
+abbrev IsAuthorization : Refused → Type 0
+IsAuthorization e = (e.check ≡ check.Authorization) ⊎ (e.check ≡ check.Others)
+
+failure_is : (granted : Option Grant) (n : ℕ) (p : Protection) → IsAuthorization (failure (check_of granted) n p)
+failure_is granted n p = grind arith
+
+password_refuses : (r : Record) (n : ℕ) (used : Option Handle) (e : Entry) → RefusesAuthorization (password_grant r n used e)
+unfolding password_grant
+password_refuses r n used e = search (rules, err_bind, err_if, failure_is)
+
+demand_refuses : (k : SessionType) (r : Record) (c : Whole) (locality n : ℕ) (handle : Handle) (s : Session) → RefusesAuthorization (demand_by k r c locality n handle s)
+demand_refuses type.Hmac r c locality n handle s = search (rules, err_bind, err_if)
+demand_refuses _ r c locality n handle s = search (rules, err_checked)
+
+session_refuses : (r : Record) (c : Whole) (locality n : ℕ) (used : Option Handle) (e : Entry) (s : Session) → RefusesAuthorization (session_grant r c locality n used e s)
+unfolding session_grant demanded
+session_refuses r c locality n None e s = search (rules, err_bind, err_if, failure_is)
+session_refuses r c locality n (Some handle) e s = search (rules, err_bind, err_if, failure_is, demand_refuses)
+
+-- an entry's session is there, and so it is asked what it authorizes
+there_refuses : (r : Record) (c : Whole) (locality n : ℕ) (used : Option Handle) (e : Entry) (o : Option Session) → is_some o ≡ true → RefusesAuthorization (session_grant_if r c locality n used e o)
+there_refuses r c locality n used e None there = absurd (false≢true there)
+there_refuses r c locality n used e (Some s) there = session_refuses r c locality n used e s
+
+kind_refuses : (k : SessionKind) (r : Record) (c : Whole) (locality n : ℕ) (used : Option Handle) (e : Entry) → HasSession k r e → RefusesAuthorization (grant_by k r c locality n used e)
+kind_refuses kind.Other r c locality n used e has = absurd has
+kind_refuses kind.Session r c locality n used e has = there_refuses r c locality n used e (session_of r e) has
+kind_refuses kind.Password r c locality n used e has = password_refuses r n used e
+
+grant_refuses : (r : Record) (c : Whole) (locality n : ℕ) (used : Option Handle) (e : Entry) → HasSession (session_kind e.session) r e → RefusesAuthorization (grant r c locality n used e)
+unfolding grant
+grant_refuses r c locality n used e has = kind_refuses (session_kind e.session) r c locality n used e has
+
+-- the walk over entries whose sessions are there
+walk_refuses : (r : Record) (c : Whole) (locality : ℕ) (before : List (Option Grant)) (es : List Entry) → HaveSessions r es → RefusesAuthorization (grants_pass r c locality before es)
+walk_refuses r c locality before [] have = tt
+walk_refuses r c locality before (e ∷ es) have =
+    err_bind IsAuthorization (grant r c locality (length before + 1) (slice_get (authorized c) (length before)) e) _
+    (grant_refuses r c locality (length before + 1) (slice_get (authorized c) (length before)) e have.0) (λ this.
+    walk_refuses r c locality (before ++ this ∷ []) es have.1)
+
+pub grants_refuse : (r : Record) (c : Whole) (locality : ℕ) → entries_pass r c.code [] c.entries ≡ Ok tt → RefusesAuthorization (grants_pass r c locality [] c.entries)
+grants_refuse r c locality is = walk_refuses r c locality [] c.entries (entries_have r c.code [] c.entries tt is)
+
+-- ---- what is granted
+
+-- an entry is granted the handle that it is to authorize, or none
+abbrev Grants : Option Handle → Result (Option Grant) Refused → Type 0
+Grants used result = IfOk result (λ granted. handle_in granted ≡ used)
+
+same_handle : (used : Option Handle) → handle_in (option_map undemanding used) ≡ used
+same_handle used = grind arith
+
+password_grants : (r : Record) (n : ℕ) (used : Option Handle) (e : Entry) → Grants used (password_grant r n used e)
+unfolding password_grant
+password_grants r n used e = search (rules, ok_bind, same_handle)
+
+session_grants : (r : Record) (c : Whole) (locality n : ℕ) (used : Option Handle) (e : Entry) (s : Session) → Grants used (session_grant r c locality n used e s)
+unfolding session_grant
+session_grants r c locality n None e s = search (rules, ok_bind)
+session_grants r c locality n (Some handle) e s = search (rules, ok_bind)
+
+there_grants : (r : Record) (c : Whole) (locality n : ℕ) (used : Option Handle) (e : Entry) (o : Option Session) → Grants used (session_grant_if r c locality n used e o)
+there_grants r c locality n used e None = tt
+there_grants r c locality n used e (Some s) = session_grants r c locality n used e s
+
+kind_grants : (k : SessionKind) (r : Record) (c : Whole) (locality n : ℕ) (used : Option Handle) (e : Entry) → Grants used (grant_by k r c locality n used e)
+kind_grants kind.Other r c locality n used e = tt
+kind_grants kind.Session r c locality n used e = there_grants r c locality n used e (session_of r e)
+kind_grants kind.Password r c locality n used e = password_grants r n used e
+
+grant_grants : (r : Record) (c : Whole) (locality n : ℕ) (used : Option Handle) (e : Entry) → Grants used (grant r c locality n used e)
+unfolding grant
+grant_grants r c locality n used e = kind_grants (session_kind e.session) r c locality n used e
+
+-- ---- and all of them
+
+-- the grants so far are those of these handles
+abbrev Follow : List Handle → List (Option Grant) → Type 0
+Follow handles grants = (place : ℕ) → place < length grants → granted_handle grants place ≡ slice_get handles place
+
+-- what stands in a list with one more thing at its end
+get_before : {X : Type 0} (xs : List X) (x : X) (n : ℕ) → n < length xs → slice_get (xs ++ x ∷ []) n ≡ slice_get xs n
+get_before [] x n within = absurd (omega arith)
+get_before (y ∷ xs) x zero within = refl
+get_before (y ∷ xs) x (suc n) within = get_before xs x n (omega arith)
+
+get_last : {X : Type 0} (xs : List X) (x : X) → slice_get (xs ++ x ∷ []) (length xs) ≡ Some x
+get_last [] x = refl
+get_last (y ∷ xs) x = get_last xs x
+
+-- one more grant
+follow_more : (handles : List Handle) (before : List (Option Grant)) (this : Option Grant) → Follow handles before → handle_in this ≡ slice_get handles (length before) → Follow handles (before ++ this ∷ [])
+follow_more handles before this follow is place within = place_by (cases_lt place (length before))
+  where
+    place_by : (place < length before) ⊎ (length before ≤ place) → granted_handle (before ++ this ∷ []) place ≡ slice_get handles place
+    place_by (inl below) = rw (get_before before this place below) (follow place below)
+    place_by (inr past) =
+        let last : place ≡ length before = omega (arith, length-append before (this ∷ []), within, past) in
+        rw (last, get_last before this) is
+
+-- the grants of the entries that are left, behind those before them
+walk_grants : (r : Record) (c : Whole) (locality : ℕ) (before : List (Option Grant)) (es : List Entry) → Follow (authorized c) before → IfOk (grants_pass r c locality before es) (λ grants. (length grants ≡ length before + length es) × Follow (authorized c) grants)
+walk_grants r c locality before [] follow = (omega arith, follow)
+walk_grants r c locality before (e ∷ es) follow =
+    ok_then (λ granted. handle_in granted ≡ slice_get (authorized c) (length before)) _ (grant r c locality (length before + 1) (slice_get (authorized c) (length before)) e) _
+    (grant_grants r c locality (length before + 1) (slice_get (authorized c) (length before)) e) (λ this is.
+    ok_weaker _ _ (grants_pass r c locality (before ++ this ∷ []) es)
+    (walk_grants r c locality (before ++ this ∷ []) es (follow_more (authorized c) before this follow is))
+    (λ grants all. (omega (arith, all.0, length-append before (this ∷ [])), all.1)))
+
+-- The handles that need authorization are no more than the entries, so behind the entries there is
+-- neither a grant nor such a handle.
+all_fit : (c : Whole) (grants : List (Option Grant)) → authorized_handles c.code ≤ length c.entries → length grants ≡ length c.entries → Follow (authorized c) grants → GrantsFit c grants
+all_fit c grants enough long follow = record { entries = long; handles = λ place. place_by place (cases_lt place (length grants)) }
+  where
+    place_by : (place : ℕ) → (place < length grants) ⊎ (length grants ≤ place) → granted_handle grants place ≡ slice_get (authorized c) place
+    place_by place (inl below) = follow place below
+    place_by place (inr past) =
+        let few = length-take (authorized_handles c.code) c.handles in
+        rw (slice_get_past grants place past, slice_get_past (authorized c) place (omega (arith, few, enough, long, past))) refl
+
+pub grants_fit : (r : Record) (c : Whole) (locality : ℕ) → IfOk (authorize r c locality) (GrantsFit c)
+unfolding authorize
+grants_fit r c locality =
+    ok_bind _ (checked check.Entries (entries_pass r c.code [] c.entries)) _ (λ own.
+    ok_bind_is _ (refused_if (nat_lt (length c.entries) (authorized_handles c.code)) _) _ (λ enough is.
+    ok_then _ _ (grants_pass r c locality [] c.entries) _ (walk_grants r c locality [] c.entries (λ place within. absurd (omega (arith, within)))) (λ grants all.
+    let fit : GrantsFit c grants = all_fit c grants (ltb-false _ _ (passed _ _ enough is)) (omega (arith, all.0)) all.1 in
+    search (rules, ok_bind, fit))))
