@@ -14,7 +14,7 @@ folder=$(mktemp -d)
 trap 'rm -rf "$folder"' EXIT
 
 cp "$repository/crates.txt" "$repository/HANDLES" "$folder"
-cp -R "$repository/crates" "$folder/crates"
+cp -Rp "$repository/crates" "$folder/crates"
 rm -rf "$folder"/crates/*/must-fail
 for crate in "$@"; do
     cp -R "$repository/wrong/$crate" "$folder/crates/$crate/must-fail"

@@ -11,8 +11,8 @@ use Rattle.tpm_types.specs.declared.rc.ResponseCode.{ResponseCode}
 use Rattle.tpm_types.specs.declared.rc.ResponseCode.TheVariants as code
 use Rattle.tpm_types.specs.declared.refused.Refused.{Refused}
 
--- a handle does not name what the general checks have found that it names, so that no row acts;
--- that does not occur
+-- a handle does not name what the general checks have found that it names, so that no row acts.
+-- That does not occur (no_handle_is_refused_later of tpm_machine_laws)
 abbrev pub handle_refusal : Refused
 handle_refusal = refusal check.Handles (plain code.Failure)
 

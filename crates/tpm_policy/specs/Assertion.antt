@@ -1,11 +1,12 @@
 -- The assertions of policies. TPM 2.0 Library, Part 3, section 23, and Part 1, section 19.7: each
 -- changes the policy digest, and most record what is compared when the session authorizes. In a trial
--- session TPM2_PolicyPCR, TPM2_PolicyOR and TPM2_PolicySecret do not compare anything with the PCRs,
--- the digest so far, nonceTPM or a recorded cpHash. The order of the checks is this device's own.
+-- session TPM2_PolicyPCR, TPM2_PolicyOR, TPM2_PolicySecret and TPM2_PolicyNV do not compare anything
+-- with the PCRs, the digest so far, nonceTPM or a recorded cpHash, or an NV index. The order of the checks is this device's own.
 use Rattle.std.specs.Prelude.{◌≡◌, ℕ, ◌==◌, ◌&&◌, ◌||◌, not, nat_lt, bit_and, if◌then◌else◌}
-use Rattle.std.specs.Prelude.{Bool, false, List, [], ◌∷◌, ◌++◌, length, replicate}
+use Rattle.std.specs.Prelude.{Bool, true, false, List, [], ◌∷◌, ◌++◌, length, replicate}
 use Rattle.std.specs.Prelude.{Option, Some, None, Result, Ok, Err}
-use Rattle.std.specs.Int.{w32, to_be_bytes}
+use Rattle.std.specs.Borrow.{Bor}
+use Rattle.std.specs.Int.{w16, w32, to_be_bytes}
 use Rattle.std.specs.List.{flat_map, list_any}
 use Rattle.std.specs.Str.{bytes_eq}
 use Rattle.tpm_bytes.specs.Reading.{◌>>=◌, refused_if}
@@ -13,16 +14,20 @@ use Rattle.tpm_mac.specs.Digest.{digest_size, hash_of}
 use Rattle.tpm_mac.specs.declared.algorithm.HashAlg.{HashAlg}
 use Rattle.tpm_types.specs.Buffer.{is_given}
 use Rattle.tpm_types.specs.CommandNumber.{is_command_number}
+use Rattle.tpm_types.specs.Operation.{operation_number}
 use Rattle.tpm_types.specs.PcrSelection.{selection_text}
 use Rattle.tpm_types.specs.Rc.{at, plain}
 use Rattle.tpm_types.specs.declared.action_check.ActionCheck.{ActionCheck}
 use Rattle.tpm_types.specs.declared.action_check.ActionCheck.TheVariants as action
+use Rattle.tpm_types.specs.declared.operation.Operation.{Operation}
 use Rattle.tpm_types.specs.declared.rc.Place.TheVariants as place
 use Rattle.tpm_types.specs.declared.rc.Rc.{Rc}
 use Rattle.tpm_types.specs.declared.rc.ResponseCode.{ResponseCode}
 use Rattle.tpm_types.specs.declared.rc.ResponseCode.TheVariants as code
+use Rattle.tpm_policy.specs.Comparison.{compares}
 use Rattle.tpm_policy.specs.State.{Policy}
 use Rattle.tpm_policy.specs.declared.fault.PolicyFault.{PolicyFault}
+use Rattle.tpm_policy.specs.declared.nv.NvAssertion.{NvAssertion}
 use Rattle.tpm_policy.specs.declared.pcr.PcrAssertion.{PcrAssertion}
 use Rattle.tpm_policy.specs.declared.secret.SecretAssertion.{SecretAssertion}
 use Rattle.tpm_policy.specs.declared.state.Demand.{Demand}
@@ -46,6 +51,15 @@ pub record SecretParts : Type 0 where
   pub reference : List ℕ
   pub expiration : ℕ
 
+-- what TPM2_PolicyNV is about: the Name of the index, the operand, the offset from which it is
+-- compared, how, and as many bytes of the index as the operand has, or why they cannot be read
+pub record NvParts : Type 0 where
+  pub name : List ℕ
+  pub operand : List ℕ
+  pub offset : ℕ
+  pub operation : Operation
+  pub compared : Result (List ℕ) PolicyFault
+
 -- the same, wherever its bytes lie in memory
 abbrev pub pcr_parts : PcrAssertion → PcrParts
 pcr_parts asserted = record {
@@ -65,6 +79,19 @@ secret_parts asserted = record {
   expiration = asserted.expiration;
 }
 
+abbrev pub compared_bytes : Result (Bor (List ℕ)) PolicyFault → Result (List ℕ) PolicyFault
+compared_bytes (Ok bytes) = Ok bytes.now
+compared_bytes (Err fault) = Err fault
+
+abbrev pub nv_parts : NvAssertion → NvParts
+nv_parts asserted = record {
+  name = asserted.name.now;
+  operand = asserted.operand.now;
+  offset = asserted.offset;
+  operation = asserted.operation;
+  compared = compared_bytes asserted.compared;
+}
+
 -- an assertion, with what it speaks of
 pub data Assertion : Type 0 where
   Pcr : PcrParts → Assertion
@@ -74,6 +101,7 @@ pub data Assertion : Type 0 where
   CommandCode : (number : ℕ) → Assertion
   Locality : (localities : ℕ) → Assertion
   Secret : SecretParts → Assertion
+  Nv : NvParts → Assertion
 
 -- a fault of a check, with no place, or in a parameter
 abbrev pub fault_of : ActionCheck → Rc → PolicyFault
@@ -179,6 +207,26 @@ secret_asserted hash trial secret policy = do
     cp_hash = if is_given secret.cp_hash then Some secret.cp_hash else policy.cp_hash;
   })
 
+-- TPM2_PolicyNV (section 23.9): the bytes of the index stand so to the operand; in a trial session
+-- nothing is compared
+abbrev pub nv_compared : (trial : Bool) → NvParts → Result (Unit {0}) PolicyFault
+nv_compared true nv = Ok tt
+nv_compared false nv = do
+  bytes ← nv.compared
+  refused_if (not (compares nv.operation bytes nv.operand)) (fault_of action.Fifth (plain code.Policy))
+
+-- H(operand || offset || operation)
+abbrev pub nv_arguments : HashAlg → NvParts → List ℕ
+nv_arguments hash nv =
+    hash_of hash (nv.operand ++ to_be_bytes w16 nv.offset
+    ++ to_be_bytes w16 (operation_number nv.operation))
+
+unfoldable pub nv_asserted : HashAlg → (trial : Bool) → NvParts
+    → Policy → Result Policy PolicyFault
+nv_asserted hash trial nv policy = do
+  compared ← nv_compared trial nv
+  Ok (extended hash 0x149 (nv_arguments hash nv ++ nv.name) policy)
+
 -- what an assertion makes of a policy, or the first check that refuses it
 abbrev pub asserted : HashAlg → (trial : Bool) → Assertion → Policy → Result Policy PolicyFault
 asserted hash trial (Pcr pcr) policy = pcr_asserted hash trial pcr policy
@@ -188,6 +236,7 @@ asserted hash trial Password policy = Ok (password_asserted hash policy)
 asserted hash trial (CommandCode number) policy = command_code_asserted hash number policy
 asserted hash trial (Locality localities) policy = locality_asserted hash localities policy
 asserted hash trial (Secret secret) policy = secret_asserted hash trial secret policy
+asserted hash trial (Nv nv) policy = nv_asserted hash trial nv policy
 
 -- An assertion did what it should; a refused one changes nothing.
 abbrev pub Asserts : Result Policy PolicyFault

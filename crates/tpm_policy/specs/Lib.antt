@@ -1,4 +1,5 @@
 pub mod State
+pub mod Comparison
 pub mod Assertion
 pub mod Use
 pub use Rattle.tpm_name.specs.Name

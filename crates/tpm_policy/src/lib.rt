@@ -9,13 +9,16 @@
 //! function on it; a refused assertion changes nothing. No call here takes memory.
 
 pub mod assertions;
+mod comparison;
 pub mod fault;
+pub mod nv;
 pub mod pcr;
 pub mod policy_use;
 pub mod secret;
 pub mod state;
 
 pub use fault::PolicyFault;
+pub use nv::NvAssertion;
 pub use pcr::PcrAssertion;
 pub use policy_use::{EntityPolicy, Use};
 pub use secret::SecretAssertion;

@@ -9,6 +9,7 @@ pub mod DigestList
 pub mod DigestValues
 pub mod StartupType
 pub mod SessionType
+pub mod Operation
 pub mod SessionAttributes
 pub mod ActionCheck
 pub mod Check

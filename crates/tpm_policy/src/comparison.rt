@@ -1,0 +1,86 @@
+ghost use Rattle.std.specs.Prelude.{◌≡◌, ◌+◌, ◌-◌, nat_lt, if◌then◌else◌};
+ghost use Rattle.tpm_policy.specs.Comparison.{compares, has_clear, has_set, is_less, raised, raised_byte};
+
+use crate::assertions::is_equal;
+use tpm_types::Operation;
+
+/// Whether a number is less than another of the same size.
+fn is_less(bytes: &[u8], others: &[u8]) -> bool
+    ensures { result ≡ is_less bytes.now others.now }
+{
+    let [byte, bytes @ ..] = bytes else {
+        return false;
+    };
+    let [other, others @ ..] = others else {
+        return false;
+    };
+    byte < other || byte == other && is_less(bytes, others)
+}
+
+/// The first byte of a signed number that is raised by half of the range of its size.
+fn raised_byte(byte: u8) -> u8
+    ensures { result ≡ raised_byte byte }
+{
+    if byte < 128 { byte + 128 } else { byte - 128 }
+}
+
+/// Whether a signed number is less than another of the same size.
+fn is_signed_less(bytes: &[u8], others: &[u8]) -> bool
+    ensures { result ≡ is_less (raised bytes.now) (raised others.now) }
+{
+    let [byte, bytes @ ..] = bytes else {
+        return false;
+    };
+    let [other, others @ ..] = others else {
+        return false;
+    };
+    let (byte, other) = (raised_byte(*byte), raised_byte(*other));
+    byte < other || byte == other && is_less(bytes, others)
+}
+
+/// Whether each bit that is set in the operand is set in the bytes.
+fn has_set(bytes: &[u8], operand: &[u8]) -> bool
+    ensures { result ≡ has_set bytes.now operand.now }
+{
+    let [byte, bytes @ ..] = bytes else {
+        return true;
+    };
+    let [mask, operand @ ..] = operand else {
+        return true;
+    };
+    byte & mask == *mask && has_set(bytes, operand)
+}
+
+/// Whether each bit that is set in the operand is clear in the bytes.
+fn has_clear(bytes: &[u8], operand: &[u8]) -> bool
+    ensures { result ≡ has_clear bytes.now operand.now }
+{
+    let [byte, bytes @ ..] = bytes else {
+        return true;
+    };
+    let [mask, operand @ ..] = operand else {
+        return true;
+    };
+    byte & mask == 0 && has_clear(bytes, operand)
+}
+
+/// Whether the bytes of an NV index stand so to an operand.
+#[tactic(auto, unfolding(crate::specs::Comparison::compares))]
+pub(crate) fn compares(operation: Operation, bytes: &[u8], operand: &[u8]) -> bool
+    ensures { result ≡ compares operation bytes.now operand.now }
+{
+    match operation {
+        Operation::Equal => is_equal(bytes, operand),
+        Operation::NotEqual => !is_equal(bytes, operand),
+        Operation::SignedGreater => is_signed_less(operand, bytes),
+        Operation::UnsignedGreater => is_less(operand, bytes),
+        Operation::SignedLess => is_signed_less(bytes, operand),
+        Operation::UnsignedLess => is_less(bytes, operand),
+        Operation::SignedGreaterOrEqual => !is_signed_less(bytes, operand),
+        Operation::UnsignedGreaterOrEqual => !is_less(bytes, operand),
+        Operation::SignedLessOrEqual => !is_signed_less(operand, bytes),
+        Operation::UnsignedLessOrEqual => !is_less(operand, bytes),
+        Operation::BitSet => has_set(bytes, operand),
+        Operation::BitClear => has_clear(bytes, operand),
+    }
+}

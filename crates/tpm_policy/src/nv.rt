@@ -1,0 +1,76 @@
+ghost use Rattle.std.specs.Prelude.{◌≡◌};
+ghost use Rattle.tpm_policy.specs.Assertion as assertion;
+ghost use Rattle.tpm_policy.specs.Assertion.{Asserts, asserted, nv_arguments, nv_compared, nv_parts};
+
+use crate::comparison::compares;
+use crate::fault::PolicyFault;
+use crate::state::PolicyState;
+use tpm_mac::{Digest, HashAlg, digest_parts};
+use tpm_name::Name;
+use tpm_types::{ActionCheck, Operation, ResponseCode};
+
+/// TPM_CC_PolicyNV.
+const NV: u32 = 0x149;
+
+/// What TPM2_PolicyNV is about.
+#[derive(Clone, Copy)]
+pub struct NvAssertion<'a> {
+    /// Of the index.
+    pub name: &'a Name,
+    pub operand: &'a [u8],
+    pub offset: u16,
+    pub operation: Operation,
+    /// As many bytes of the index as the operand has, from the offset on, or why they cannot be
+    /// read.
+    pub compared: Result<&'a [u8], PolicyFault>,
+}
+
+impl NvAssertion<'_> {
+    /// The digest of what is compared, and how.
+    fn arguments(&self, hash: HashAlg) -> Digest
+        ensures { result.items ≡ nv_arguments hash (nv_parts self.now) }
+    {
+        let (offset, operation) = (
+            self.offset.to_be_bytes(),
+            self.operation.number().to_be_bytes(),
+        );
+        digest_parts(hash, &[self.operand, &offset, &operation])
+    }
+
+    /// Refuses bytes that cannot be read, or do not stand so to the operand; in a trial session
+    /// nothing.
+    fn check(&self, trial: bool) -> Result<(), PolicyFault>
+        ensures { result ≡ nv_compared trial (nv_parts self.now) }
+    {
+        if trial {
+            return Ok(());
+        }
+        let bytes = self.compared?;
+        if !compares(self.operation, bytes, self.operand) {
+            return Err(PolicyFault {
+                check: ActionCheck::Fifth,
+                rc: ResponseCode::Policy.anywhere(),
+            });
+        }
+        Ok(())
+    }
+}
+
+impl PolicyState {
+    /// TPM2_PolicyNV: what refuses the reading of the index, or POLICY where the comparison is
+    /// false. A trial session takes any.
+    #[tactic(auto, unfolding(crate::specs::Assertion::nv_asserted))]
+    pub fn nv(&mut self, hash: HashAlg, trial: bool, about: &NvAssertion) -> Result<(), PolicyFault>
+        ensures { Asserts (asserted hash trial (assertion.Nv (nv_parts about.now)) self.old)
+            self.old result self.new }
+    {
+        about.check(trial)?;
+        let code = NV.to_be_bytes();
+        let (digest, arguments) = (self.digest.as_slice(), about.arguments(hash));
+        self.digest = digest_parts(
+            hash,
+            &[digest, &code, arguments.as_slice(), about.name.as_slice()],
+        );
+        Ok(())
+    }
+}
