@@ -8,7 +8,7 @@ use Rattle.tpm_types_nv.specs.declared.nv_attributes.NvAttribute.{NvAttribute}
 use Rattle.tpm_types_nv.specs.declared.nv_attributes.NvAttribute.TheVariants as attribute
 use Rattle.tpm_types_nv.specs.declared.nv_attributes.NvAttributes.{NvAttributes}
 use Rattle.tpm_types_nv.specs.declared.nv_type.NvType.{NvType}
-use Rattle.tpm_types_nv.specs.NvType.{nv_type_named}
+use Rattle.tpm_types_nv.specs.NvType.{nv_type_named, nv_type_number}
 use Rattle.tpm_types.specs.declared.rc.Rc.{Rc}
 use Rattle.tpm_types.specs.declared.rc.ResponseCode.TheVariants as code
 use Rattle.tpm_types.specs.Rc.{plain}
@@ -51,8 +51,15 @@ without_attribute attributes attribute =
     record { bits = bit_and attributes.bits (bit_not w32 (2 ^ attribute_bit attribute)) }
 
 -- the type of an index, which bits 4 to 7 number
+abbrev pub type_number : NvAttributes → ℕ
+type_number attributes = attributes.bits / 2 ^ 4 % 2 ^ 4
+
 abbrev pub index_type : NvAttributes → Option NvType
-index_type attributes = nv_type_named (attributes.bits / 2 ^ 4 % 2 ^ 4)
+index_type attributes = nv_type_named (type_number attributes)
+
+-- whether it is this type
+abbrev pub is_of : NvAttributes → NvType → Bool
+is_of attributes type = type_number attributes == nv_type_number type
 
 -- all attributes
 abbrev pub all_attributes : List NvAttribute

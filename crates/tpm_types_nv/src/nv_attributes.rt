@@ -53,7 +53,7 @@ pub struct NvAttributes {
 }
 
 impl NvAttributes {
-    ghost use Rattle.tpm_types_nv.specs.NvAttributes.{has, index_type, nv_attributes_at, with_attribute, without_attribute};
+    ghost use Rattle.tpm_types_nv.specs.NvAttributes.{has, index_type, is_of, nv_attributes_at, with_attribute, without_attribute};
 
     /// Whether the index has this attribute.
     #[tactic(auto, using(std::proofs::lemmas::Nat::Bits::shr_and_one))]
@@ -86,6 +86,13 @@ impl NvAttributes {
         ensures { result ≡ index_type self }
     {
         NvType::named((self.bits >> 4) % 16)
+    }
+
+    /// Whether the index is of this type.
+    pub fn is_of(self, kind: NvType) -> bool
+        ensures { result ≡ is_of self kind }
+    {
+        (self.bits >> 4) % 16 == kind.number()
     }
 
     /// Reads attributes: INSUFFICIENT where they are cut, RESERVED_BITS where a bit is set that is
