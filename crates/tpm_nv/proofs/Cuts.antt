@@ -1,12 +1,12 @@
 -- Heads and the row of their bytes: that a change of the one and of the other is a change of the indices.
-use Rattle.std.proofs.Common.{◌≡◌, ◌≢◌, ℕ, ◌+◌, ◌<◌, ◌≤◌, cond, eqb, leb, List, [], ◌∷◌, ◌++◌, length, take, drop, Option, Some, None, refl, sym, ap, subst, ◌∙◌, arith, inl, inr, append_assoc, length-append, length-drop}
+use Rattle.std.proofs.Common.{◌≡◌, ◌≢◌, ℕ, ◌+◌, ◌-◌, ◌<◌, ◌≤◌, cond, eqb, leb, List, [], ◌∷◌, ◌++◌, length, take, drop, replicate, Option, Some, None, refl, sym, ap, subst, ◌∙◌, arith, inl, inr, append_assoc, length-append, length-drop}
 use Rattle.std.proofs.Math.Seq.{drop-append-add, take-append-add}
 use Rattle.std.specs.List.{sum_by}
 use Rattle.std.proofs.lemmas.Bool.{cases_eq, cases_lt, cond_both, cond-true, cond-false, eq-eqb, ne_eqb, le-leb, lt-leb}
-use Rattle.std.proofs.lemmas.List.{append-nil, drop-drop, drop-append-le, drop-take, drop_all, drop_at, length-take-le, take-append-drop, take-append-le, take-take, take_at}
+use Rattle.std.proofs.lemmas.List.{append-nil, drop-drop, drop-append-le, drop-take, drop-replicate, drop_all, drop_at, length-replicate, length-take-le, take-append-drop, take-append-le, take-take, take_at}
 use Rattle.std.proofs.lemmas.List.Sums.{sum_by-cons}
 use Rattle.tpm_ascending.specs.Ascending.{AllAbove, Ascends, Entries, at_key, changed_key, key_from, with_key, without_key}
-use Rattle.tpm_nv.specs.Bytes.{closed_up, piece_of, put_over}
+use Rattle.tpm_nv.specs.Bytes.{closed_up, opened, piece_of, put_over}
 use Rattle.tpm_nv.specs.Head.{AreHeads, IsHead, index_with, indices_of, size_of, start_of, total}
 use Rattle.tpm_nv.specs.Index.{NvIndex}
 use Rattle.tpm_nv.specs.declared.head.Head.{Head}
@@ -79,8 +79,8 @@ found_among (e ∷ es) row key h up there =
       | behind apart lower found ↦
           let s = start_of es key in
           rw (ne_eqb e.0 key apart, lt-leb key e.0 lower) (
-            found_among es (drop (size_of e.1) row) key h up.1 found
-            ∙ ap (λ (l : List ℕ). Some (index_with h (take (size_of h) l))) (drop-drop s (size_of e.1) row)
+          found_among es (drop (size_of e.1) row) key h up.1 found
+          ∙ ap (λ (l : List ℕ). Some (index_with h (take (size_of h) l))) (drop-drop s (size_of e.1) row)
           )
     ]
 
@@ -130,10 +130,10 @@ put_among (e ∷ es) row piece key h fits size =
           let within : n + s ≤ length row = omega (arith, fits, start_fits es key) in
           let rest = piece ++ drop (n + s) row in
           rw (lt-leb key e.0 lower, take_front n s row rest within, drop_front n s row rest within) (
-            ap (λ (l : Entries NvIndex). (e.0, index_with e.1 (take n row)) ∷ l) (
-              put_among es (drop n row) piece key h (rest_fits e es row fits) size
-              ∙ ap (λ (l : List ℕ). indices_of (with_key es key h) (take s (drop n row) ++ (piece ++ l))) (drop-drop s n row)
-            )
+          ap (λ (l : Entries NvIndex). (e.0, index_with e.1 (take n row)) ∷ l) (
+          put_among es (drop n row) piece key h (rest_fits e es row fits) size
+          ∙ ap (λ (l : List ℕ). indices_of (with_key es key h) (take s (drop n row) ++ (piece ++ l))) (drop-drop s n row)
+          )
           )
       | inr from ↦ rw (le-leb key e.0 from, take_at piece row (size_of h) size, drop_at piece row (size_of h) size) refl
     ]
@@ -155,10 +155,10 @@ removed_among (e ∷ es) row key h up fits there =
           let rest = drop (n + s + m) row in
           let sum : n + (s + m) ≡ n + s + m = omega arith in
           rw (ne_eqb e.0 key apart, lt-leb key e.0 lower, take_front n s row rest within, drop_front n s row rest within) (
-            ap (λ (l : Entries NvIndex). (e.0, index_with e.1 (take n row)) ∷ l) (
-              removed_among es (drop n row) key h up.1 (rest_fits e es row fits) found
-              ∙ ap (λ (l : List ℕ). indices_of (without_key es key) (take s (drop n row) ++ l)) (drop-drop (s + m) n row ∙ ap (λ (k : ℕ). drop k row) sum)
-            )
+          ap (λ (l : Entries NvIndex). (e.0, index_with e.1 (take n row)) ∷ l) (
+          removed_among es (drop n row) key h up.1 (rest_fits e es row fits) found
+          ∙ ap (λ (l : List ℕ). indices_of (without_key es key) (take s (drop n row) ++ l)) (drop-drop (s + m) n row ∙ ap (λ (k : ℕ). drop k row) sum)
+          )
           )
     ]
 
@@ -182,10 +182,10 @@ changed_among (e ∷ es) row piece key h g up fits there same_size size =
           let rest = piece ++ drop (n + s + m) row in
           let sum : n + (s + m) ≡ n + s + m = omega arith in
           rw (ne_eqb e.0 key apart, lt-leb key e.0 lower, take_front n s row rest within, drop_front n s row rest within) (
-            ap (λ (l : Entries NvIndex). (e.0, index_with e.1 (take n row)) ∷ l) (
-              changed_among es (drop n row) piece key h g up.1 (rest_fits e es row fits) found same_size size
-              ∙ ap (λ (l : List ℕ). indices_of (changed_key es key g) (take s (drop n row) ++ (piece ++ l))) (drop-drop (s + m) n row ∙ ap (λ (k : ℕ). drop k row) sum)
-            )
+          ap (λ (l : Entries NvIndex). (e.0, index_with e.1 (take n row)) ∷ l) (
+          changed_among es (drop n row) piece key h g up.1 (rest_fits e es row fits) found same_size size
+          ∙ ap (λ (l : List ℕ). indices_of (changed_key es key g) (take s (drop n row) ++ (piece ++ l))) (drop-drop (s + m) n row ∙ ap (λ (k : ℕ). drop k row) sum)
+          )
           )
     ]
 
@@ -268,14 +268,14 @@ put_inside start offset inner piece row fits within =
     let rest = drop (offset + length inner) piece in
     let many : length front ≡ start = length-take-le start row (omega arith) in
     let first : take (start + offset) (front ++ (piece ++ back)) ≡ front ++ take offset piece =
-      ap (λ (k : ℕ). take (k + offset) (front ++ (piece ++ back))) (sym many)
-      ∙ take-append-add front (piece ++ back) offset
-      ∙ ap (λ (l : List ℕ). front ++ l) (take-append-le offset piece back (omega arith)) in
+    ap (λ (k : ℕ). take (k + offset) (front ++ (piece ++ back))) (sym many)
+    ∙ take-append-add front (piece ++ back) offset
+    ∙ ap (λ (l : List ℕ). front ++ l) (take-append-le offset piece back (omega arith)) in
     let far : start + offset + length inner ≡ length front + (offset + length inner) = omega arith in
     let last : drop (start + offset + length inner) (front ++ (piece ++ back)) ≡ rest ++ back =
-      ap (λ (k : ℕ). drop k (front ++ (piece ++ back))) far
-      ∙ drop-append-add front (piece ++ back) (offset + length inner)
-      ∙ drop-append-le (offset + length inner) piece back within in
+    ap (λ (k : ℕ). drop k (front ++ (piece ++ back))) far
+    ∙ drop-append-add front (piece ++ back) (offset + length inner)
+    ∙ drop-append-le (offset + length inner) piece back within in
     rw (first, last, length_put offset inner piece within) (simp append_assoc refl)
 
 -- and where the piece is there, within what is there
@@ -301,7 +301,22 @@ closed_again start size piece row inside same =
     let front = take start row in
     let many : length front ≡ start = length-take-le start row inside in
     let behind : drop (start + size) (front ++ (piece ++ drop start row)) ≡ drop start row =
-      ap (λ (k : ℕ). drop k (front ++ (piece ++ drop start row))) (let sum : start + size ≡ length front + size = omega arith in sum)
-      ∙ drop-append-add front (piece ++ drop start row) size
-      ∙ drop_at piece (drop start row) size same in
+    ap (λ (k : ℕ). drop k (front ++ (piece ++ drop start row))) (let sum : start + size ≡ length front + size = omega arith in sum)
+    ∙ drop-append-add front (piece ++ drop start row) size
+    ∙ drop_at piece (drop start row) size same in
     rw (take_at front (piece ++ drop start row) start many, behind) (take-append-drop start row)
+
+-- bytes put into a place that was opened, and zeros where there are none
+pub put_opened : (start size : ℕ) (piece row : List ℕ) → start ≤ length row → length piece ≤ size → put_over start piece (opened start size row) ≡ take start row ++ ((piece ++ replicate (size - length piece) 0) ++ drop start row)
+put_opened start size piece row inside within =
+    let front = take start row in
+    let back = drop start row in
+    let zeros = replicate {A = ℕ} size 0 in
+    let many : length front ≡ start = length-take-le start row inside in
+    let far : start + length piece ≡ length front + length piece = omega arith in
+    let last : drop (start + length piece) (front ++ (zeros ++ back)) ≡ replicate (size - length piece) 0 ++ back =
+    ap (λ (k : ℕ). drop k (front ++ (zeros ++ back))) far
+    ∙ drop-append-add front (zeros ++ back) (length piece)
+    ∙ drop-append-le (length piece) zeros back (omega (arith, within, length-replicate {A = ℕ} size 0))
+    ∙ ap (λ (l : List ℕ). l ++ back) (drop-replicate (length piece) size 0) in
+    rw (take_at front (zeros ++ back) start many, last) (ap (λ (l : List ℕ). front ++ l) (sym (append_assoc piece (replicate (size - length piece) 0) back)))

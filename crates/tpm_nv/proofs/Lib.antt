@@ -1,3 +1,4 @@
 pub mod ByteLaws
 pub mod Cuts
 pub mod KeptLaws
+pub mod RowLaws

@@ -39,8 +39,8 @@ abbrev pub marked : NvIndex → NvAttribute → NvIndex
 marked index attribute =
     record index {
       public = record index.public {
-        attributes = with_attribute index.public.attributes attribute
-      }
+        attributes = with_attribute index.public.attributes attribute;
+      };
     }
 
 -- with these data, and so written
@@ -65,6 +65,11 @@ writable type index = do
   open_to_all ← refused_if (is index attribute.WriteLocked) Locked
   refused_if (not (is_of index.public.attributes type)) Attributes
 
+abbrev pub check_writable : NvContents → Handle → NvType → Result (Unit {0}) NvFault
+check_writable contents handle type = do
+  index ← index_or_fault contents handle
+  writable type index
+
 -- bytes are put over the data from an offset on: within the data, and over all of it where the
 -- index has WRITEALL; the other bytes of a first write are FF
 unfoldable pub written : NvContents → Handle → (offset : ℕ) → List ℕ → Result NvContents NvFault
@@ -73,7 +78,7 @@ written contents handle offset bytes = do
   ordinary ← writable type.Ordinary index
   inside ← refused_if (nat_lt index.public.data_size (offset + length bytes)) Range
   whole ← refused_if
-    (is index attribute.WriteAll && not (length bytes == index.public.data_size)) Range
+      (is index attribute.WriteAll && not (length bytes == index.public.data_size)) Range
   Ok (changed_index contents handle (with_data index (put_over offset bytes (data_or 0xff index))))
 
 -- a counter had this value
@@ -88,7 +93,7 @@ incremented contents handle = do
   counter ← writable type.Counter index
   fits ← refused_if (nat_le (2 ^ 64) (number_or contents.max_count index + 1)) Range
   let count : ℕ = number_or contents.max_count index + 1 in
-    Ok (counted (changed_index contents handle (with_data index (to_be_bytes w64 count))) count)
+      Ok (counted (changed_index contents handle (with_data index (to_be_bytes w64 count))) count)
 
 -- bits are set, from none on
 unfoldable pub bits_set : NvContents → Handle → ℕ → Result NvContents NvFault
@@ -96,7 +101,7 @@ bits_set contents handle bits = do
   index ← index_or_fault contents handle
   field ← writable type.Bits index
   let number : ℕ = bit_or (number_or 0 index) bits in
-    Ok (changed_index contents handle (with_data index (to_be_bytes w64 number)))
+      Ok (changed_index contents handle (with_data index (to_be_bytes w64 number)))
 
 -- the data becomes the digest of itself and these bytes, by nameAlg, from zeros on
 unfoldable pub extended : NvContents → Handle → List ℕ → Result NvContents NvFault
@@ -104,7 +109,7 @@ extended contents handle bytes = do
   index ← index_or_fault contents handle
   extendable ← writable type.Extend index
   let digest : List ℕ = hash_of index.public.name_alg (data_or 0 index ++ bytes) in
-    Ok (changed_index contents handle (with_data index digest))
+      Ok (changed_index contents handle (with_data index digest))
 
 -- ---- reading
 
@@ -139,7 +144,7 @@ unfoldable pub write_locked : NvContents → Handle → Result NvContents NvFaul
 write_locked contents handle = do
   index ← index_or_fault contents handle
   lockable ← refused_if
-    (not (is index attribute.WriteDefine || is index attribute.WriteStClear)) Attributes
+      (not (is index attribute.WriteDefine || is index attribute.WriteStClear)) Attributes
   Ok (changed_index contents handle (marked index attribute.WriteLocked))
 
 -- and one that may be locked for reading

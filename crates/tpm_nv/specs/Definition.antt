@@ -79,7 +79,7 @@ definition_passes by_platform p auth_size = do
   value ← refused_if (nat_lt (digest_size p.name_alg) auth_size) fault.AuthValueSize
   policy ← refused_if (not (is_policy_size p)) fault.AuthPolicySize
   attributes ← refused_if
-    (list_any (λ wrong. wrong) (attribute_conflicts by_platform p.attributes)) fault.Attributes
+      (list_any (λ wrong. wrong) (attribute_conflicts by_platform p.attributes)) fault.Attributes
   refused_if (not (has_type_size p)) fault.DataSize
 
 -- ---- the effect
@@ -87,6 +87,15 @@ definition_passes by_platform p auth_size = do
 -- an index as it is defined: without data
 abbrev pub defined_index : NvPublic → List ℕ → NvIndex
 defined_index public auth_value = record { public = public; auth_value = auth_value; bytes = [] }
+
+-- whether there is room for an index, or why there is none
+abbrev pub HasRoomFor : NvContents → NvPublic → Result (Unit {0}) DefineFault → Type 0
+HasRoomFor contents public (Ok done) =
+    (index_at contents public.nv_index ≡ None) × (has_room contents public.data_size ≡ true)
+HasRoomFor contents public (Err Defined) = is_some (index_at contents public.nv_index) ≡ true
+HasRoomFor contents public (Err Space) =
+    (index_at contents public.nv_index ≡ None) × (has_room contents public.data_size ≡ false)
+HasRoomFor contents public (Err NoMemory) = ⊥
 
 -- An index was put under its handle, or nothing changed: the handle has an index, or there is no
 -- room for it, or there was room and memory was refused.

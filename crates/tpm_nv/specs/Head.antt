@@ -1,14 +1,15 @@
 -- How NV indices are kept: their heads by their handles, and the bytes of all in one row, in the
 -- order of the handles, as many of each as its head says, whether it is written or not.
-use Rattle.std.specs.Prelude.{◌≡◌, ℕ, ◌+◌, ◌≤◌, nat_le, true, List, [], ◌∷◌, length, take, drop, if◌then◌else◌}
+use Rattle.std.specs.Prelude.{◌≡◌, ℕ, ◌+◌, ◌≤◌, nat_le, true, List, [], ◌∷◌, length, take, drop, Some, if◌then◌else◌}
 use Rattle.tpm_ascending.specs.Ascending.{Ascends, Entries}
 use Rattle.tpm_types.specs.AuthValue.{IsAuthValue}
+use Rattle.tpm_types.specs.declared.handle.Handle.{Handle}
 use Rattle.tpm_types_nv.specs.NvAttributes.{has}
 use Rattle.tpm_types_nv.specs.NvPublic.{IsNvPublic}
 use Rattle.tpm_types_nv.specs.declared.nv_attributes.NvAttribute.TheVariants as attribute
 use Rattle.tpm_types_nv.specs.declared.nv_attributes.NvAttributes.{NvAttributes}
 use Rattle.tpm_nv.specs.Definition.{has_type_size}
-use Rattle.tpm_nv.specs.Index.{NvIndex}
+use Rattle.tpm_nv.specs.Index.{NvContents, NvIndex, index_at}
 use Rattle.tpm_nv.specs.declared.head.Head.{Head}
 
 -- an index without its data
@@ -65,3 +66,12 @@ pub record AreKept (heads : Entries Head) (row : List ℕ) : Type 0 where
 abbrev pub with_attributes : Head → NvAttributes → Head
 with_attributes head attributes =
     record head { public = record head.public { attributes = attributes } }
+
+-- what is seen of the index of a handle: its head, and bytes, as many as it says, that are its data
+-- where it is written
+pub record IsIndexOf (contents : NvContents) (handle : Handle) (head : Head) (bytes : List ℕ)
+    : Type 0
+  where
+    pub long : length bytes ≡ size_of head
+    pub sized : has_type_size head.public ≡ true
+    pub found : index_at contents handle ≡ Some (index_with head bytes)

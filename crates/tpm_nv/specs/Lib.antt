@@ -5,7 +5,6 @@ pub mod Access
 pub mod Startup
 pub mod IsContents
 pub mod Head
-pub mod Writable
 pub use Rattle.tpm_ascending.specs.Ascending
 pub use Rattle.tpm_types_nv.specs.NvAttributes
 pub use Rattle.tpm_types_nv.specs.NvPublic

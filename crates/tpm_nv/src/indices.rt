@@ -5,7 +5,6 @@ ghost use Rattle.tpm_nv.specs.Definition.{Defines, defined_index, has_type_size}
 ghost use Rattle.tpm_nv.specs.Head.{head_of};
 ghost use Rattle.tpm_nv.specs.Index.{NvContents, index_at, next_index, no_indices, without_index};
 ghost use Rattle.tpm_nv.specs.IsContents.{IsContents};
-ghost use Rattle.tpm_nv.specs.Startup.{started};
 ghost use Rattle.tpm_types_nv.specs.NvAttributes.{has};
 ghost use Rattle.tpm_types_nv.specs.NvPublic.{IsNvPublic};
 ghost use Rattle.tpm_types_nv.specs.declared.nv_attributes.NvAttribute.TheVariants as attribute;
@@ -51,14 +50,14 @@ pub trait Indices: Drop + Sized {
         &mut self,
         public: NvPublic,
         auth_value: AuthValue,
-        data: &[u8],
+        bytes: &[u8],
     ) -> Result<(), DefineFault>
         requires named { IsNvPublic public }
         requires sized { has_type_size public ≡ true }
-        requires data_size { length data.now
+        requires data_size { length bytes.now
             ≡ (if has public.attributes attribute.Written then public.data_size else 0) }
         ensures { Defines can_refuse (contents self.old)
-            (record { public = public; auth_value = auth_value; bytes = data.now }) result
+            (record { public = public; auth_value = auth_value; bytes = bytes.now }) result
             (contents self.new) };
 
     /// Removes an index with its data, and tells whether there was one (Part 3, section 31.4).
@@ -67,8 +66,8 @@ pub trait Indices: Drop + Sized {
         ensures after { contents self.new ≡ without_index (contents self.old) handle };
 
     /// Writes data from an offset on (Part 3, section 31.7).
-    fn write(&mut self, handle: Handle, offset: u16, data: &[u8]) -> Result<(), NvFault>
-        ensures { Changes (written (contents self.old) handle offset data.now) (contents self.old)
+    fn write(&mut self, handle: Handle, offset: u16, bytes: &[u8]) -> Result<(), NvFault>
+        ensures { Changes (written (contents self.old) handle offset bytes.now) (contents self.old)
             result (contents self.new) };
 
     /// Raises a counter (Part 3, section 31.8).
@@ -82,8 +81,8 @@ pub trait Indices: Drop + Sized {
             result (contents self.new) };
 
     /// Extends a digest (Part 3, section 31.9).
-    fn extend(&mut self, handle: Handle, data: &[u8]) -> Result<(), NvFault>
-        ensures { Changes (extended (contents self.old) handle data.now) (contents self.old)
+    fn extend(&mut self, handle: Handle, bytes: &[u8]) -> Result<(), NvFault>
+        ensures { Changes (extended (contents self.old) handle bytes.now) (contents self.old)
             result (contents self.new) };
 
     /// Whether an index may be read.
@@ -108,10 +107,6 @@ pub trait Indices: Drop + Sized {
     fn change_auth(&mut self, handle: Handle, value: AuthValue) -> Result<(), NvFault>
         ensures { Changes (with_auth_value (contents self.old) handle value) (contents self.old)
             result (contents self.new) };
-
-    /// What a startup with CLEAR does (Part 3, section 9.3).
-    fn startup(&mut self)
-        ensures { contents self.new ≡ started (contents self.old) };
 
     /// The largest value that a counter ever had.
     fn max_count(&self) -> u64

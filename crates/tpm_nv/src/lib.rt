@@ -14,8 +14,8 @@ pub mod stored_indices;
 
 pub use definition::{DefinitionFault, check_definition};
 pub use fault::{DefineFault, NvFault};
-pub use head::Head;
 pub use fixed_row::FixedRow;
+pub use head::Head;
 pub use indices::Indices;
 pub use list_row::ListRow;
 pub use row::{NoMemory, Row};

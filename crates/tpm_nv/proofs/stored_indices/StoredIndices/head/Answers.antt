@@ -7,4 +7,4 @@ returns-clause-absent g c =
 
 pub returns-clause-there : goal.returns-clause-there
 returns-clause-there g c =
-    rw (← c.self.view_is) (there_is (g.H.Ascending.entries c.self.inside.heads) (g.R.Row.bytes c.self.inside.row) c.args.handle.number c.get.result c.self.invariant.ascends c.get.ensures.value)
+    rw (← c.self.view_is) (there_is (g.H.Ascending.entries c.self.inside.heads) (g.R.Row.bytes c.self.inside.row) c.self.inside.max_count c.args.handle c.get.result c.self.invariant c.get.ensures.value)

@@ -68,7 +68,7 @@ returns g c =
     let heads = c.set_attributes.ensures h there ∙ ap (λ (a : NvAttributes). changed_key es key (with_attributes h a)) c.with-written.ensures in
     let bytes_are = put_is (g.R.Row.bytes c.put_bytes.new.row) bytes row (has h.public.attributes attribute.Written) (start_of es key) (size_of h) c.args.offset c.args.first c.start_of-start.result c.from-size.result c.has-is_written.result c.put_bytes.ensures c.has-is_written.ensures from c.from-size.ensures in
     let seen =
-      ap (λ l. indices_of l (g.R.Row.bytes c.put_bytes.new.row)) heads
-      ∙ ap (λ l. indices_of (changed_key es key (written_head h)) l) bytes_are
-      ∙ seen_put es row bytes key c.args.offset c.args.first h c.self.invariant there within in
+    ap (λ l. indices_of l (g.R.Row.bytes c.put_bytes.new.row)) heads
+    ∙ ap (λ l. indices_of (changed_key es key (written_head h)) l) bytes_are
+    ∙ seen_put es row bytes key c.args.offset c.args.first h c.self.invariant there within in
     contents_changed es (g.H.Ascending.entries c.set_attributes.new.heads) row (g.R.Row.bytes c.put_bytes.new.row) c.self.inside.max_count c.args.handle c.args.self.now index (λ i. with_data i (put_over c.args.offset bytes (data_or c.args.first i))) c.self.view_is (found_among es row key h c.self.invariant.ascends there) seen
