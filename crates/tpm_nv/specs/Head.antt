@@ -10,6 +10,7 @@ use Rattle.tpm_types_nv.specs.declared.nv_attributes.NvAttribute.TheVariants as 
 use Rattle.tpm_types_nv.specs.declared.nv_attributes.NvAttributes.{NvAttributes}
 use Rattle.tpm_nv.specs.Definition.{has_type_size}
 use Rattle.tpm_nv.specs.Index.{NvContents, NvIndex, index_at}
+use Rattle.tpm_nv.specs.Startup.{started_attributes}
 use Rattle.tpm_nv.specs.declared.head.Head.{Head}
 
 -- an index without its data
@@ -75,3 +76,7 @@ pub record IsIndexOf (contents : NvContents) (handle : Handle) (head : Head) (by
     pub long : length bytes ≡ size_of head
     pub sized : has_type_size head.public ≡ true
     pub found : index_at contents handle ≡ Some (index_with head bytes)
+
+-- after a startup with CLEAR
+abbrev pub started_head : Head → Head
+started_head head = with_attributes head (started_attributes head.public.attributes)

@@ -6,5 +6,6 @@ pub mod Startup
 pub mod IsContents
 pub mod Head
 pub use Rattle.tpm_ascending.specs.Ascending
+pub use Rattle.tpm_ascending.specs.IsAscendingMap
 pub use Rattle.tpm_types_nv.specs.NvAttributes
 pub use Rattle.tpm_types_nv.specs.NvPublic

@@ -5,6 +5,7 @@ ghost use Rattle.tpm_nv.specs.Definition.{Defines, defined_index, has_type_size}
 ghost use Rattle.tpm_nv.specs.Head.{head_of};
 ghost use Rattle.tpm_nv.specs.Index.{NvContents, index_at, next_index, no_indices, without_index};
 ghost use Rattle.tpm_nv.specs.IsContents.{IsContents};
+ghost use Rattle.tpm_nv.specs.Startup.{started};
 ghost use Rattle.tpm_types_nv.specs.NvAttributes.{has};
 ghost use Rattle.tpm_types_nv.specs.NvPublic.{IsNvPublic};
 ghost use Rattle.tpm_types_nv.specs.declared.nv_attributes.NvAttribute.TheVariants as attribute;
@@ -107,6 +108,10 @@ pub trait Indices: Drop + Sized {
     fn change_auth(&mut self, handle: Handle, value: AuthValue) -> Result<(), NvFault>
         ensures { Changes (with_auth_value (contents self.old) handle value) (contents self.old)
             result (contents self.new) };
+
+    /// What a startup with CLEAR does (Part 3, section 9.3).
+    fn startup(&mut self)
+        ensures { contents self.new ≡ started (contents self.old) };
 
     /// The largest value that a counter ever had.
     fn max_count(&self) -> u64

@@ -14,13 +14,16 @@ ghost use Rattle.tpm_types_nv.specs.NvPublic.{IsNvPublic};
 ghost use Rattle.tpm_types_nv.specs.declared.nv_attributes.NvAttribute.TheVariants as attributes;
 
 use crate::fault::{DefineFault, NvFault};
+use crate::fixed_row::FixedRow;
 use crate::head::Head;
 use crate::heads::{auth_value_fits, set_attributes, set_auth_value, start_of};
 use crate::indices::Indices;
+use crate::list_row::ListRow;
 use crate::row::{MOST_BYTES, NoMemory, Row};
+use crate::startup::start_heads;
 use std::alloc::Global;
 use std::marker::Model;
-use tpm_ascending::{Ascending, KeyFault};
+use tpm_ascending::{Ascending, FixedAscending, KeyFault, ListAscending};
 use tpm_bytes::Cursor;
 use tpm_mac::{Digest, HashAlg, digest_parts};
 use tpm_types::{AuthValue, Handle};
@@ -34,6 +37,13 @@ pub struct StoredIndices<H: Ascending<Head, 32>, R: Row> {
     row: R,
     max_count: u64,
 }
+
+/// NV indices in lists that grow. Memory can be refused where an index is defined.
+pub type ListIndices = StoredIndices<ListAscending<Head, 32>, ListRow>;
+
+/// NV indices in as many places as there can be. No memory is ever taken, so none can be refused.
+/// They are some twelve thousand bytes long: they are made once, and lent.
+pub type SlotIndices = StoredIndices<FixedAscending<Head, 32>, FixedRow>;
 
 impl<H: Ascending<Head, 32>, R: Row> Model for StoredIndices<H, R> {
     ghost use Rattle.tpm_nv.specs.Head.{AreKept, indices_of};
@@ -396,6 +406,11 @@ impl<H: Ascending<Head, 32>, R: Row> Indices for StoredIndices<H, R> {
         };
         self.replace_auth(handle, value);
         Ok(())
+    }
+
+    #[tactic(auto, unfolding(crate::specs::Startup::started))]
+    fn startup(&mut self) {
+        start_heads(&mut self.heads);
     }
 
     fn max_count(&self) -> u64 {
