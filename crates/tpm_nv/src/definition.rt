@@ -1,4 +1,4 @@
-ghost use Rattle.std.specs.Prelude.{◌≡◌, OnOk, true};
+ghost use Rattle.std.specs.Prelude.{◌≡◌, OnOk, false, true};
 ghost use Rattle.std.specs.List.{list_any};
 ghost use Rattle.tpm_nv.specs.Definition.{attribute_conflicts, definition_passes, has_one, has_type_size, is_policy_size, read_attributes, undefinable_attributes, write_attributes};
 ghost use Rattle.tpm_types_nv.specs.NvAttributes.{has};
@@ -85,13 +85,16 @@ pub(crate) fn has_type_size(public: &NvPublic) -> bool
 /// Whether an index may be defined with this public area and an authorization value of this size,
 /// by the platform or else by the owner (TPM 2.0 Library, Part 3, section 31.3). The first check
 /// that it fails refuses it.
-#[tactic(auto, unfolding(crate::specs::Definition::definition_passes))]
+#[tactic(auto, unfolding(crate::specs::Definition::definition_passes), using(crate::proofs::DefinitionLaws::unwritten_is))]
 pub fn check_definition(
     public: &NvPublic,
     auth_size: usize,
     by_platform: bool,
 ) -> Result<(), DefinitionFault>
-    ensures { result ≡ definition_passes by_platform public.now auth_size }
+    ensures checked { result ≡ definition_passes by_platform public.now auth_size }
+    // What passes can be defined.
+    ensures sized { OnOk result (has_type_size public.now ≡ true) }
+    ensures unwritten { OnOk result (has public.now.attributes attribute.Written ≡ false) }
 {
     if auth_size > public.name_alg.size() {
         return Err(DefinitionFault::AuthValueSize);
