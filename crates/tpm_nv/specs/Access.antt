@@ -31,8 +31,8 @@ index_or_fault contents handle = ok_or (index_at contents handle) Undefined
 
 -- ---- what an index has
 
-abbrev pub is : NvIndex → NvAttribute → Bool
-is index attribute = has index.public.attributes attribute
+abbrev pub index_has : NvIndex → NvAttribute → Bool
+index_has index attribute = has index.public.attributes attribute
 
 -- with an attribute more
 abbrev pub marked : NvIndex → NvAttribute → NvIndex
@@ -50,19 +50,19 @@ with_data index bytes = record (marked index attribute.Written) { bytes = bytes 
 -- its data, or until it is written as many of this byte
 abbrev pub data_or : ℕ → NvIndex → List ℕ
 data_or byte index =
-    if is index attribute.Written then index.bytes else replicate index.public.data_size byte
+    if index_has index attribute.Written then index.bytes else replicate index.public.data_size byte
 
 -- the number that its data are, or until it is written this one
 abbrev pub number_or : ℕ → NvIndex → ℕ
 number_or number index =
-    if is index attribute.Written then from_be_bytes w64 index.bytes else number
+    if index_has index attribute.Written then from_be_bytes w64 index.bytes else number
 
 -- ---- writing
 
 -- an index that a command for this type may write: it is not locked, and it is of the type
 abbrev pub writable : NvType → NvIndex → Result (Unit {0}) NvFault
 writable type index = do
-  open_to_all ← refused_if (is index attribute.WriteLocked) Locked
+  open_to_all ← refused_if (index_has index attribute.WriteLocked) Locked
   refused_if (not (is_of index.public.attributes type)) Attributes
 
 abbrev pub check_writable : NvContents → Handle → NvType → Result (Unit {0}) NvFault
@@ -78,7 +78,7 @@ written contents handle offset bytes = do
   ordinary ← writable type.Ordinary index
   inside ← refused_if (nat_lt index.public.data_size (offset + length bytes)) Range
   whole ← refused_if
-      (is index attribute.WriteAll && not (length bytes == index.public.data_size)) Range
+      (index_has index attribute.WriteAll && not (length bytes == index.public.data_size)) Range
   Ok (changed_index contents handle (with_data index (put_over offset bytes (data_or 0xff index))))
 
 -- a counter had this value
@@ -116,8 +116,8 @@ extended contents handle bytes = do
 -- an index that may be read: it is not locked, and it is written
 abbrev pub readable : NvIndex → Result (Unit {0}) NvFault
 readable index = do
-  open_to_all ← refused_if (is index attribute.ReadLocked) Locked
-  refused_if (not (is index attribute.Written)) Uninitialized
+  open_to_all ← refused_if (index_has index attribute.ReadLocked) Locked
+  refused_if (not (index_has index attribute.Written)) Uninitialized
 
 unfoldable pub check_readable : NvContents → Handle → Result (Unit {0}) NvFault
 check_readable contents handle = do
@@ -144,14 +144,14 @@ unfoldable pub write_locked : NvContents → Handle → Result NvContents NvFaul
 write_locked contents handle = do
   index ← index_or_fault contents handle
   lockable ← refused_if
-      (not (is index attribute.WriteDefine || is index attribute.WriteStClear)) Attributes
+      (not (index_has index attribute.WriteDefine || index_has index attribute.WriteStClear)) Attributes
   Ok (changed_index contents handle (marked index attribute.WriteLocked))
 
 -- and one that may be locked for reading
 unfoldable pub read_locked : NvContents → Handle → Result NvContents NvFault
 read_locked contents handle = do
   index ← index_or_fault contents handle
-  lockable ← refused_if (not (is index attribute.ReadStClear)) Attributes
+  lockable ← refused_if (not (index_has index attribute.ReadStClear)) Attributes
   Ok (changed_index contents handle (marked index attribute.ReadLocked))
 
 -- another authorization value

@@ -1,13 +1,14 @@
 //! What is done to the heads alone.
 
-ghost use Rattle.std.specs.Prelude.{◌≡◌, ◌≤◌, ℕ, Some};
-ghost use Rattle.tpm_ascending.specs.Ascending.{at_key, changed_key};
+ghost use Rattle.std.specs.Prelude.{◌≡◌, ◌<◌, ◌≤◌, ℕ, None, OnErr, OnOk, Some, length, true};
+ghost use Rattle.tpm_ascending.specs.Ascending.{at_key, changed_key, with_key};
 ghost use Rattle.tpm_nv.specs.Head.{start_of, total, with_attributes};
 ghost use Rattle.tpm_nv.specs.declared.head.Head.{Head};
 ghost use Rattle.tpm_types.specs.AuthValue.{IsAuthValue};
 
 use crate::head::Head;
-use tpm_ascending::Ascending;
+use crate::row::NoMemory;
+use tpm_ascending::{Ascending, KeyFault};
 use tpm_types::AuthValue;
 use tpm_types_nv::NvAttributes;
 
@@ -57,4 +58,22 @@ pub(crate) fn auth_value_fits(value: &AuthValue)
     ensures { IsAuthValue value.now }
 {
     let _ = value.as_slice();
+}
+
+/// Puts a head under a free key.
+pub(crate) fn put_head<H: Ascending<Head, 32>>(
+    heads: &mut H,
+    key: u32,
+    head: Head,
+) -> Result<(), NoMemory>
+    requires free { at_key (H.entries heads.old) key ≡ None }
+    requires room { length (H.entries heads.old) < 32 }
+    ensures put { OnOk result (H.entries heads.new ≡ with_key (H.entries heads.old) key head) }
+    ensures unchanged { OnErr result (H.entries heads.new ≡ H.entries heads.old) }
+    ensures refused { OnErr result (H.can_refuse ≡ true) }
+{
+    match heads.insert(key, head) {
+        Ok(()) => Ok(()),
+        Err(KeyFault::Taken | KeyFault::Full | KeyFault::NoMemory) => Err(NoMemory),
+    }
 }

@@ -21,9 +21,11 @@ mod heads;
 pub mod indices;
 pub mod laws;
 pub mod list_row;
+mod pieces;
 pub mod row;
 mod startup;
 pub mod stored_indices;
+mod values;
 
 pub use definition::{DefinitionFault, check_definition};
 pub use fault::{DefineFault, NvFault};

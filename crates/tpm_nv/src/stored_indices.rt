@@ -1,14 +1,12 @@
-ghost use Rattle.std.specs.Prelude.{◌≡◌, ◌≢◌, ◌<◌, ◌≤◌, ◌+◌, ◌-◌, ◌^◌, ◌||◌, ◌&&◌, ◌==◌, not, nat_lt, nat_le, ℕ, List, ◌++◌, None, Some, Ok, Err, true, if◌then◌else◌};
+ghost use Rattle.std.specs.Prelude.{◌≡◌, ◌≢◌, ◌<◌, ◌≤◌, ◌+◌, ◌||◌, ℕ, List, ◌++◌, None, Some, Ok, Err};
 ghost use Rattle.std.specs.Prelude.{IfErr, IfNone, IfOk, IfSome, IsSomeAnd, OnErr, OnOk};
-ghost use Rattle.std.specs.Prelude.{drop, length, replicate, take};
-ghost use Rattle.std.specs.Int.{from_be_bytes, w64};
+ghost use Rattle.std.specs.Prelude.{length, true, if◌then◌else◌};
 ghost use Rattle.tpm_mac.specs.Digest.{digest_size, hash_of};
 ghost use Rattle.tpm_nv.specs.Access.{check_writable, data_or, marked, number_or, with_data, writable};
-ghost use Rattle.tpm_nv.specs.Bytes.{filled, piece_of, put_over};
+ghost use Rattle.tpm_nv.specs.Bytes.{put_over};
 ghost use Rattle.tpm_nv.specs.Definition.{HasRoomFor, has_type_size};
 ghost use Rattle.tpm_nv.specs.Head.{IsIndexOf, index_with};
 ghost use Rattle.tpm_nv.specs.Index.{NvIndex, changed_index, has_room, index_at, with_index};
-ghost use Rattle.tpm_ascending.specs.Ascending.{at_key, with_key};
 ghost use Rattle.tpm_types_nv.specs.NvAttributes.{attribute_bit, has};
 ghost use Rattle.tpm_types_nv.specs.NvPublic.{IsNvPublic};
 ghost use Rattle.tpm_types_nv.specs.declared.nv_attributes.NvAttribute.TheVariants as attributes;
@@ -16,18 +14,19 @@ ghost use Rattle.tpm_types_nv.specs.declared.nv_attributes.NvAttribute.TheVarian
 use crate::fault::{DefineFault, NvFault};
 use crate::fixed_row::FixedRow;
 use crate::head::Head;
-use crate::heads::{auth_value_fits, set_attributes, set_auth_value, start_of};
+use crate::heads::{auth_value_fits, put_head, set_attributes, set_auth_value, start_of};
 use crate::indices::Indices;
 use crate::list_row::ListRow;
-use crate::row::{MOST_BYTES, NoMemory, Row};
+use crate::pieces::{Piece, piece_at, put_between, put_bytes};
+use crate::row::{NoMemory, Row};
 use crate::startup::start_heads;
+use crate::values::{count_fits, digest_of, is_part, is_room, is_write_lockable, number_of, zeros};
 use std::alloc::Global;
 use std::marker::Model;
-use tpm_ascending::{Ascending, FixedAscending, KeyFault, ListAscending};
-use tpm_bytes::Cursor;
-use tpm_mac::{Digest, HashAlg, digest_parts};
+use tpm_ascending::{Ascending, FixedAscending, ListAscending};
+use tpm_mac::Digest;
 use tpm_types::{AuthValue, Handle};
-use tpm_types_nv::{NvAttribute, NvAttributes, NvPublic, NvType};
+use tpm_types_nv::{NvAttribute, NvPublic, NvType};
 
 /// NV indices: their heads in a map by handles, and the bytes of all in one row, in the order of
 /// the handles. Each has its bytes from its definition on, so that no write takes memory.
@@ -57,14 +56,6 @@ impl<H: Ascending<Head, 32>, R: Row> Model for StoredIndices<H, R> {
     } };
 
     ghost invariant = { λ stored. AreKept (H.entries stored.heads) (R.bytes stored.row) };
-}
-
-/// The bytes of an index in the row of all.
-#[derive(Clone, Copy)]
-struct Piece {
-    start: usize,
-    size: usize,
-    is_written: bool,
 }
 
 impl<H: Ascending<Head, 32>, R: Row> StoredIndices<H, R> {
@@ -424,116 +415,4 @@ impl<H: Ascending<Head, 32>, R: Row> Indices for StoredIndices<H, R> {
     fn read_sizes(&self) {
         count_fits(self.max_count);
     }
-}
-
-/// Whether an index of these attributes may be locked for writing.
-fn is_write_lockable(of: NvAttributes) -> bool
-    ensures { result ≡ (has of attributes.WriteDefine || has of attributes.WriteStClear) }
-{
-    of.has(NvAttribute::WriteDefine) || of.has(NvAttribute::WriteStClear)
-}
-
-/// Whether a write of so many bytes leaves some that are to be written with it.
-fn is_part(of: NvAttributes, count: usize, size: usize) -> bool
-    ensures { result ≡ (has of attributes.WriteAll && not (count == size)) }
-{
-    of.has(NvAttribute::WriteAll) && count != size
-}
-
-/// So many bytes from a place on.
-fn piece_at(bytes: &[u8], start: usize, size: usize) -> &[u8]
-    requires { start + size ≤ length bytes.now }
-    ensures { result.now ≡ piece_of start size bytes.now }
-{
-    &bytes[start..start + size]
-}
-
-/// The digest of two parts.
-fn digest_of(name_alg: HashAlg, first: &[u8], second: &[u8]) -> Digest
-    ensures value { result.items ≡ hash_of name_alg (first.now ++ second.now) }
-    ensures size { length result.items ≡ digest_size name_alg }
-{
-    digest_parts(name_alg, &[first, second])
-}
-
-/// Puts a head under a free key.
-fn put_head<H: Ascending<Head, 32>>(heads: &mut H, key: u32, head: Head) -> Result<(), NoMemory>
-    requires free { at_key (H.entries heads.old) key ≡ None }
-    requires room { length (H.entries heads.old) < 32 }
-    ensures put { OnOk result (H.entries heads.new ≡ with_key (H.entries heads.old) key head) }
-    ensures unchanged { OnErr result (H.entries heads.new ≡ H.entries heads.old) }
-    ensures refused { OnErr result (H.can_refuse ≡ true) }
-{
-    match heads.insert(key, head) {
-        Ok(()) => Ok(()),
-        Err(KeyFault::Taken | KeyFault::Full | KeyFault::NoMemory) => Err(NoMemory),
-    }
-}
-
-/// Says of a count what its type says.
-fn count_fits(count: u64)
-    ensures { count < 2 ^ 64 }
-{
-    let _ = count;
-}
-
-/// Whether there is room for an index of so many bytes besides so many.
-fn is_room(count: usize, bytes: usize, size: usize) -> bool
-    requires few { bytes ≤ 8192 }
-    requires small { size < 65536 }
-    ensures { result ≡ (nat_lt count 32 && nat_le (bytes + size) 8192) }
-{
-    count < 32 && bytes + size <= MOST_BYTES
-}
-
-/// As many zeros as a digest has bytes.
-fn zeros(name_alg: HashAlg) -> &'static [u8]
-    ensures { result.now ≡ replicate (digest_size name_alg) 0 }
-{
-    match name_alg {
-        HashAlg::Sha1 => &[0; 20],
-        HashAlg::Sha256 => &[0; 32],
-    }
-}
-
-/// The number that eight bytes are.
-fn number_of(bytes: &[u8]) -> u64
-    ensures { length bytes.now ≡ 8 → result ≡ from_be_bytes w64 bytes.now }
-{
-    match Cursor::new(bytes).u64() {
-        Ok(number) => number,
-        Err(_) => 0,
-    }
-}
-
-/// Puts data, or zeros where there are none, between the bytes.
-#[tactic(auto, using(crate::proofs::Cuts::put_opened))]
-fn put_between<R: Row>(row: &mut R, start: usize, size: usize, bytes: &[u8]) -> Result<(), NoMemory>
-    requires inside { start ≤ length (R.bytes row.old) }
-    requires fits { length (R.bytes row.old) + size ≤ 8192 }
-    requires within { length bytes.now ≤ size }
-    ensures put { OnOk result (R.bytes row.new ≡ take start (R.bytes row.old)
-        ++ ((bytes.now ++ replicate (size - length bytes.now) 0) ++ drop start (R.bytes row.old))) }
-    ensures unchanged { OnErr result (R.bytes row.new ≡ R.bytes row.old) }
-    ensures refused { OnErr result (R.can_refuse ≡ true) }
-{
-    row.open(start, size)?;
-    row.put(start, bytes);
-    Ok(())
-}
-
-/// Puts bytes into the piece of an index from an offset on; where it is not written yet, the piece
-/// is filled before.
-#[tactic(auto, using(crate::proofs::Cuts::length_put, crate::proofs::KeptLaws::length_filled))]
-fn put_bytes<R: Row>(row: &mut R, piece: Piece, first: u8, offset: usize, bytes: &[u8])
-    requires few { length (R.bytes row.old) ≤ 8192 }
-    requires inside { piece.start + piece.size ≤ length (R.bytes row.old) }
-    requires within { offset + length bytes.now ≤ piece.size }
-    ensures { R.bytes row.new ≡ put_over (piece.start + offset) bytes.now
-        (filled piece.is_written piece.start piece.size first (R.bytes row.old)) }
-{
-    if !piece.is_written {
-        row.fill(piece.start, piece.size, first);
-    }
-    row.put(piece.start + offset, bytes);
 }
