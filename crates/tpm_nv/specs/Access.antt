@@ -47,22 +47,23 @@ marked index attribute =
 abbrev pub with_data : NvIndex → List ℕ → NvIndex
 with_data index bytes = record (marked index attribute.Written) { bytes = bytes }
 
--- its data, or until it is written as many of this byte
+-- its data, or before its first write this byte, as often as it will have bytes
 abbrev pub data_or : ℕ → NvIndex → List ℕ
 data_or byte index =
     if index_has index attribute.Written then index.bytes else replicate index.public.data_size byte
 
--- the number that its data are, or until it is written this one
+-- the number that its data are, or before its first write this one
 abbrev pub number_or : ℕ → NvIndex → ℕ
 number_or number index =
     if index_has index attribute.Written then from_be_bytes w64 index.bytes else number
 
 -- ---- writing
 
--- an index that a command for this type may write: it is not locked, and it is of the type
+-- whether a command for this type may write an index: it is not locked against writing, and it is
+-- of the type
 abbrev pub writable : NvType → NvIndex → Result (Unit {0}) NvFault
 writable type index = do
-  open_to_all ← refused_if (index_has index attribute.WriteLocked) Locked
+  unlocked ← refused_if (index_has index attribute.WriteLocked) Locked
   refused_if (not (is_of index.public.attributes type)) Attributes
 
 abbrev pub check_writable : NvContents → Handle → NvType → Result (Unit {0}) NvFault
@@ -71,7 +72,7 @@ check_writable contents handle type = do
   writable type index
 
 -- bytes are put over the data from an offset on: within the data, and over all of it where the
--- index has WRITEALL; the other bytes of a first write are FF
+-- index has WRITEALL; the other bytes of a first write are FF (this device's own)
 unfoldable pub written : NvContents → Handle → (offset : ℕ) → List ℕ → Result NvContents NvFault
 written contents handle offset bytes = do
   index ← index_or_fault contents handle
@@ -85,8 +86,9 @@ written contents handle offset bytes = do
 abbrev pub counted : NvContents → ℕ → NvContents
 counted contents count = record contents { max_count = max contents.max_count count }
 
--- a counter becomes one more than it was, or at first one more than any counter ever was; and that
--- is the largest value then, if it is larger
+-- a counter becomes one more than it was, or at first one more than any counter ever was (section
+-- 31.2); the largest value of any counter rises to it if it was less. A counter that would pass
+-- 2^64 - 1 is out of range (this device's own)
 unfoldable pub incremented : NvContents → Handle → Result NvContents NvFault
 incremented contents handle = do
   index ← index_or_fault contents handle
@@ -95,7 +97,7 @@ incremented contents handle = do
   let count : ℕ = number_or contents.max_count index + 1 in
       Ok (counted (changed_index contents handle (with_data index (to_be_bytes w64 count))) count)
 
--- bits are set, from none on
+-- bits are set; before the first write none is
 unfoldable pub bits_set : NvContents → Handle → ℕ → Result NvContents NvFault
 bits_set contents handle bits = do
   index ← index_or_fault contents handle
@@ -103,7 +105,8 @@ bits_set contents handle bits = do
   let number : ℕ = bit_or (number_or 0 index) bits in
       Ok (changed_index contents handle (with_data index (to_be_bytes w64 number)))
 
--- the data becomes the digest of itself and these bytes, by nameAlg, from zeros on
+-- the data becomes the digest, by nameAlg, of itself and these bytes; before the first write it is
+-- zeros
 unfoldable pub extended : NvContents → Handle → List ℕ → Result NvContents NvFault
 extended contents handle bytes = do
   index ← index_or_fault contents handle
@@ -113,10 +116,10 @@ extended contents handle bytes = do
 
 -- ---- reading
 
--- an index that may be read: it is not locked, and it is written
+-- whether an index may be read: it is not locked against reading, and it is written
 abbrev pub readable : NvIndex → Result (Unit {0}) NvFault
 readable index = do
-  open_to_all ← refused_if (index_has index attribute.ReadLocked) Locked
+  unlocked ← refused_if (index_has index attribute.ReadLocked) Locked
   refused_if (not (index_has index attribute.Written)) Uninitialized
 
 unfoldable pub check_readable : NvContents → Handle → Result (Unit {0}) NvFault
@@ -139,7 +142,7 @@ Shows read (Err fault) = read ≡ Err fault
 
 -- ---- locks, and the authorization value
 
--- an index that may be locked for writing is so
+-- an index that has WRITEDEFINE or WRITE_STCLEAR is locked against writing
 unfoldable pub write_locked : NvContents → Handle → Result NvContents NvFault
 write_locked contents handle = do
   index ← index_or_fault contents handle
@@ -147,14 +150,14 @@ write_locked contents handle = do
       (not (index_has index attribute.WriteDefine || index_has index attribute.WriteStClear)) Attributes
   Ok (changed_index contents handle (marked index attribute.WriteLocked))
 
--- and one that may be locked for reading
+-- and one that has READ_STCLEAR against reading
 unfoldable pub read_locked : NvContents → Handle → Result NvContents NvFault
 read_locked contents handle = do
   index ← index_or_fault contents handle
   lockable ← refused_if (not (index_has index attribute.ReadStClear)) Attributes
   Ok (changed_index contents handle (marked index attribute.ReadLocked))
 
--- another authorization value
+-- another authorization value; that it is not too long is the command's to check
 unfoldable pub with_auth_value : NvContents → Handle → List ℕ → Result NvContents NvFault
 with_auth_value contents handle value = do
   index ← index_or_fault contents handle

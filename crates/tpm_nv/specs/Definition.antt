@@ -23,7 +23,7 @@ use Rattle.tpm_nv.specs.declared.definition.DefinitionFault.TheVariants as fault
 
 -- ---- the checks
 
--- no policy, or a digest of nameAlg
+-- no policy, or one as long as a digest of nameAlg
 abbrev pub is_policy_size : NvPublic → Bool
 is_policy_size p = length p.auth_policy == 0 || length p.auth_policy == digest_size p.name_alg
 
@@ -40,15 +40,16 @@ abbrev pub read_attributes : List NvAttribute
 read_attributes =
     attribute.PpRead ∷ attribute.OwnerRead ∷ attribute.AuthRead ∷ attribute.PolicyRead ∷ []
 
--- what no index has as it is defined: its state, and what this device does not serve
+-- what no index has as it is defined: its state (the first three), and what this device does not
+-- serve
 abbrev pub undefinable_attributes : List NvAttribute
 undefinable_attributes =
     attribute.Written ∷ attribute.ReadLocked ∷ attribute.WriteLocked
     ∷ attribute.PolicyDelete ∷ attribute.GlobalLock ∷ attribute.Orderly ∷ []
 
--- each of these is wrong: a type that is not served; an attribute that none has as it is defined;
--- that nobody may write, or nobody read; a counter that a startup clears; and that the platform
--- defines without PLATFORMCREATE, or another with it
+-- each of these is wrong: a type that is not served; an attribute that no index has as it is
+-- defined; an index that nobody may write, or that nobody may read; a counter that a startup clears;
+-- PLATFORMCREATE where the owner defines the index, or none where the platform does
 abbrev pub attribute_conflicts : (by_platform : Bool) → NvAttributes → List Bool
 attribute_conflicts by_platform a =
     not (is_some (index_type a))
@@ -70,7 +71,8 @@ abbrev pub has_type_size : NvPublic → Bool
 has_type_size p = is_type_size p (index_type p.attributes)
 
 -- whether an index may be defined with this public area and an authorization value of this size,
--- by the platform or else by the owner; or the fault of the first check that it fails
+-- without its trailing zeros, by the platform or else by the owner; or the fault of the first check
+-- that it fails
 unfoldable pub definition_passes : (by_platform : Bool)
     → NvPublic
     → (auth_size : ℕ)

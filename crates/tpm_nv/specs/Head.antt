@@ -1,4 +1,4 @@
--- How NV indices are kept: their heads by their handles, and the bytes of all in one row, in the
+-- How NV indices are kept, which no rule of the standard says: their heads by their handles, and the bytes of all in one row, in the
 -- order of the handles, as many of each as its head says, whether it is written or not.
 use Rattle.std.specs.Prelude.{◌≡◌, ℕ, ◌+◌, ◌≤◌, nat_le, true, List, [], ◌∷◌, length, take, drop, Some, if◌then◌else◌}
 use Rattle.tpm_ascending.specs.Ascending.{Ascends, Entries}
@@ -35,7 +35,7 @@ indices_of [] row = []
 indices_of (e ∷ es) row =
     (e.0, index_with e.1 (take (size_of e.1) row)) ∷ indices_of es (drop (size_of e.1) row)
 
--- how many bytes all have, and those below a key, behind which its own begin
+-- how many bytes all have, and how many those have whose keys are below this one
 abbrev pub total : Entries Head → ℕ
 total [] = 0
 total (e ∷ es) = size_of e.1 + total es

@@ -11,12 +11,12 @@ abbrev pub kept_written : NvAttributes → NvAttributes
 kept_written a =
     if has a attribute.ClearStClear then without_attribute a attribute.Written else a
 
--- then READLOCKED is cleared, and WRITELOCKED unless the index has WRITEDEFINE and is written
+-- then READLOCKED is cleared, and WRITELOCKED unless the index has WRITEDEFINE and is still written
 abbrev pub unlocked : NvAttributes → NvAttributes
 unlocked a =
-    let readable : NvAttributes = without_attribute a attribute.ReadLocked in
-    if has a attribute.WriteDefine && has a attribute.Written then readable
-    else without_attribute readable attribute.WriteLocked
+    let to_read : NvAttributes = without_attribute a attribute.ReadLocked in
+    if has a attribute.WriteDefine && has a attribute.Written then to_read
+    else without_attribute to_read attribute.WriteLocked
 
 abbrev pub started_attributes : NvAttributes → NvAttributes
 started_attributes a = unlocked (kept_written a)

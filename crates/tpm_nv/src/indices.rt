@@ -94,12 +94,12 @@ pub trait Indices: Drop + Sized {
     fn read(&self, handle: Handle, offset: u16, size: u16) -> Result<&[u8], NvFault>
         ensures { Shows (read_at (contents self.now) handle offset size) result };
 
-    /// Locks an index for writing (Part 3, section 31.11).
+    /// Locks an index against writing (Part 3, section 31.11).
     fn lock_write(&mut self, handle: Handle) -> Result<(), NvFault>
         ensures { Changes (write_locked (contents self.old) handle) (contents self.old)
             result (contents self.new) };
 
-    /// Locks an index for reading (Part 3, section 31.14).
+    /// Locks an index against reading (Part 3, section 31.14).
     fn lock_read(&mut self, handle: Handle) -> Result<(), NvFault>
         ensures { Changes (read_locked (contents self.old) handle) (contents self.old)
             result (contents self.new) };
@@ -121,7 +121,7 @@ pub trait Indices: Drop + Sized {
     fn set_max_count(&mut self, count: u64)
         ensures { contents self.new ≡ record (contents self.old) { max_count = count } };
 
-    /// Says what holds of the indices whatever came before. It only reads.
+    /// Says what holds of the indices whatever came before. It does nothing else.
     fn read_sizes(&self)
         ensures { IsContents (contents self.now) };
 }

@@ -23,7 +23,7 @@ pub struct Kept<S: Places<Session, 16>, O: Places<Object, 8>, N: Indices> {
 pub type ListKeep = Kept<ListPlaces<Session, 16>, ListPlaces<Object, 8>, ListIndices>;
 
 /// The record in places that are as many as there can be. No memory is ever taken, so none can be
-/// refused. It is some twenty thousand bytes long: it is made once, and lent.
+/// refused. It is some twenty-two thousand bytes long: it is made once, and lent.
 pub type SlotKeep = Kept<FixedPlaces<Session, 16>, FixedPlaces<Object, 8>, SlotIndices>;
 
 impl<S: Places<Session, 16>, O: Places<Object, 8>, N: Indices> Keep for Kept<S, O, N> {
