@@ -3,28 +3,37 @@
 //! Laws over the rows of all commands, each on the contract of a function that does nothing: what
 //! of the record a row's success touches, what a command's shape says of it, that sessions in use
 //! stay, and what is never refused. Behind a row, sessions are rolled and end, which is the step's
-//! and no row's.
+//! and no row's; the sizes of sessions and objects stay through all of a step.
 //!
 //! It stands on the definitions of tpm_machine_step. A row is opened here, so that theorems over
 //! histories need not open any.
 
-ghost use Rattle.std.specs.Prelude.{◌≡◌, ℕ, IfOk, List, [], Ok, false};
+ghost use Rattle.std.specs.Prelude.{◌≡◌, ℕ, Bool, IfOk, List, [], Ok, Option, false};
 ghost use Rattle.tpm_types.specs.declared.check.Check.TheVariants as check;
 ghost use Rattle.tpm_types_command.specs.Command.{Whole};
 ghost use Rattle.tpm_types_command.specs.CommandCode.{shape_of};
 ghost use Rattle.tpm_types_command.specs.declared.command_code.CommandCode.{CommandCode};
-ghost use Rattle.tpm_record.specs.Record.{Record};
+ghost use Rattle.tpm_record.specs.Cycle.{cycled};
+ghost use Rattle.tpm_record.specs.IsRecord.{IsRecord};
+ghost use Rattle.tpm_record.specs.Record.{Record, manufactured};
+ghost use Rattle.tpm_places.specs.Places.{AreAll};
+ghost use Rattle.tpm_types_object.specs.Public.{IsPublic};
+ghost use Rattle.tpm_auth.specs.declared.session_grant.Grant.{Grant};
 ghost use Rattle.tpm_auth.specs.Entries.{entries_pass};
 ghost use Rattle.tpm_auth.specs.Grant.{authorize, grants_pass};
 ghost use Rattle.tpm_actions.specs.Request.{Request};
 ghost use Rattle.tpm_machine_step.specs.General.{general};
-ghost use Rattle.tpm_machine_step.specs.Step.{Accepted, acceptance};
+ghost use Rattle.tpm_machine_step.specs.Answer.{Written, answer_to};
+ghost use Rattle.tpm_machine_step.specs.Events.{Happening};
+ghost use Rattle.tpm_machine_step.specs.Run.{after_all};
+ghost use Rattle.tpm_machine_step.specs.Step.{Accepted, acceptance, step_where};
 ghost use Rattle.tpm_machine_step.specs.Table.{row_of};
 ghost use Rattle.tpm_machine_laws.specs.Footprint.{Touches, part_of};
 ghost use Rattle.tpm_machine_laws.specs.Grants.{GrantsFit};
 ghost use Rattle.tpm_machine_laws.specs.Handles.{HandlesFit};
 ghost use Rattle.tpm_machine_laws.specs.Refusals.{Passes, RefusesAuthorization};
 ghost use Rattle.tpm_machine_laws.specs.Sessions.{HaveSessions, SessionsStay};
+ghost use Rattle.tpm_machine_laws.specs.Sizes.{AreSized};
 ghost use Rattle.tpm_machine_laws.specs.Shapes.{AnswersItsShape, Grows, ReadsParameters, spelled};
 
 /// A success touches the part of its command, and nothing else.
@@ -122,4 +131,51 @@ pub fn grants_find_their_sessions()
 pub fn grants_fit_entries_and_handles()
     ensures { (r : Record) (c : Whole) (locality : ℕ)
         → IfOk (authorize r c locality) (GrantsFit c) }
+{}
+
+/// A device as it is manufactured, and a device after a power cycle, has no session and no object,
+/// and so all of them have their sizes.
+#[inline(always)]
+#[tactic(auto, using(crate::proofs::SizedSteps::manufactured_sized, crate::proofs::SizedSteps::cycled_sized))]
+pub fn devices_begin_sized()
+    ensures manufactured { (random : List ℕ) → AreSized (manufactured random) }
+    ensures cycled { (r : Record) → AreSized (cycled r) }
+{}
+
+/// A success leaves sessions and objects of their sizes.
+#[inline(always)]
+#[tactic(auto, using(crate::proofs::SizedRows::row_sized))]
+pub fn rows_keep_sizes()
+    ensures { (r : Record) (c : CommandCode) (q : Request)
+        → AreSized r → IfOk (row_of r c q) (λ s. AreSized s.after) }
+{}
+
+/// And so does what follows it: sessions take new nonces, policies start over, sessions end.
+#[inline(always)]
+pub fn answers_keep_sizes()
+    ensures { (c : Whole) (grants : List (Option Grant)) (a : Written) (effect : Record)
+        (random : List ℕ) → AreSized effect → AreSized (answer_to c grants a effect random).after }
+{}
+
+/// So every event leaves them, whether memory is refused or not.
+#[inline(always)]
+pub fn steps_keep_sizes()
+    ensures { (refused : Bool) (r : Record) (event : Happening)
+        → AreSized r → AreSized (step_where refused r event).after }
+{}
+
+/// Whatever happens to a device from the day on which it is manufactured, its sessions and objects
+/// have their sizes.
+#[inline(always)]
+pub fn histories_keep_sizes()
+    ensures { (random : List ℕ) (events : List Happening)
+        → AreSized (after_all (manufactured random) events) }
+{}
+
+/// Where the record is one, each object's public area then is one.
+#[inline(always)]
+#[tactic(auto, using(crate::proofs::SizedSteps::public_areas))]
+pub fn objects_have_public_areas()
+    ensures { (r : Record) → IsRecord r → AreSized r
+        → AreAll (λ object. IsPublic object.public) r.objects }
 {}
