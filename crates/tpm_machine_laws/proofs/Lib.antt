@@ -12,4 +12,5 @@ pub mod AllPlaces
 pub mod SizedParts
 pub mod WholeAreas
 pub mod SizedRows
+pub mod Draws
 pub mod SizedSteps

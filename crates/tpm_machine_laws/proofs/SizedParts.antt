@@ -1,6 +1,8 @@
 -- The sizes of what sessions and objects are made of.
-use Rattle.std.proofs.Common.{rules, arith, ◌≡◌, ◌⊎◌, ℕ, Bool, List, [], ◌++◌, length, take, Option, Some, None, IfOk, refl, inl, inr, append-nil}
-use Rattle.std.proofs.lemmas.List.{length-replicate, length-take}
+use Rattle.std.proofs.Common.{rules, arith, ◌≡◌, ◌⊎◌, ℕ, Bool, List, [], ◌++◌, length, take, Option, Some, None, IfOk, refl, inl, inr, append-nil, ◌≤◌, true, false, subst, sym}
+use Rattle.std.proofs.lemmas.List.{length-replicate, length-take, length-take-le}
+use Rattle.std.specs.Prelude.{◌&&◌, nat_le}
+use Rattle.std.proofs.lemmas.Bool.{leb-true}
 use Rattle.tpm_mac.specs.Digest.{digest_size}
 use Rattle.tpm_mac.specs.Hmac.{hmac_of}
 use Rattle.tpm_mac.specs.Kdf.{kdfa_of}
@@ -9,7 +11,7 @@ use Rattle.tpm_mac.specs.declared.algorithm.HashAlg.TheVariants.{Sha1, Sha256}
 use Rattle.tpm_mac.proofs.DigestSize.{length-hash_of, length-hmac_of}
 use Rattle.tpm_policy.specs.Assertion.{Assertion, Pcr, Or, AuthValue, Password, CommandCode, Locality, Secret, asserted, auth_value_asserted, command_code_asserted, locality_asserted, or_asserted, or_digest, password_asserted, pcr_asserted, secret_asserted}
 use Rattle.tpm_policy.specs.State.{Policy, starting}
-use Rattle.tpm_session.specs.Key.{session_key}
+use Rattle.tpm_session.specs.Key.{is_nonce_size, session_key}
 use Rattle.tpm_session.specs.declared.session.Binding.{Binding}
 use Rattle.tpm_machine_laws.proofs.Binding.{ok_bind}
 
@@ -44,3 +46,23 @@ asserted_sized hash trial Password policy = length-hash_of hash _
 asserted_sized hash trial (CommandCode number) policy = search (rules, ok_bind, length-hash_of)
 asserted_sized hash trial (Locality localities) policy = search (rules, ok_bind, length-hash_of)
 asserted_sized hash trial (Secret secret) policy = search (rules, ok_bind, length-hash_of)
+
+-- ---- nonces
+
+both : (a b : Bool) → (a && b) ≡ true → (a ≡ true) × (b ≡ true)
+both true b is = (refl, is)
+both false b is = absurd cc
+
+pub digest_few : (hash : HashAlg) → digest_size hash ≤ 32
+digest_few Sha1 = omega arith
+digest_few Sha256 = omega arith
+
+pub nonce_few : (hash : HashAlg) (size : ℕ) → is_nonce_size hash size ≡ true → size ≤ 32
+nonce_few hash size is =
+    let most = leb-true size (digest_size hash) (both (nat_le 16 size) (nat_le size (digest_size hash)) is).1 in
+    omega (arith, most, digest_few hash)
+
+-- so many of the bytes, where there are enough, are a nonce of that size
+pub nonce_taken : (hash : HashAlg) (size : ℕ) (bytes : List ℕ) → is_nonce_size hash size ≡ true → 32 ≤ length bytes → is_nonce_size hash (length (take size bytes)) ≡ true
+nonce_taken hash size bytes is enough =
+    subst (λ (n : ℕ). is_nonce_size hash n ≡ true) (sym (length-take-le size bytes (omega (arith, nonce_few hash size is, enough)))) is

@@ -1,8 +1,6 @@
 -- A success keeps the sizes of sessions and objects.
-use Rattle.std.proofs.Common.{rules, arith, ◌≡◌, ◌≤◌, ℕ, Bool, true, false, List, length, take, Option, Some, Result, Ok, Err, IfOk, refl, sym, subst}
-use Rattle.std.specs.Prelude.{◌&&◌, IfSome, not, nat_le}
-use Rattle.std.proofs.lemmas.Bool.{leb-true}
-use Rattle.std.proofs.lemmas.List.{length-take}
+use Rattle.std.proofs.Common.{rules, ◌≡◌, ◌≤◌, ℕ, Bool, true, false, List, length, take, Option, Some, Result, Ok, Err, IfOk, refl, sym, subst}
+use Rattle.std.specs.Prelude.{IfSome, not}
 use Rattle.tpm_bytes.specs.Reading.{refused_if}
 use Rattle.tpm_bytes.proofs.Fields.{bind_ok, passed}
 use Rattle.tpm_mac.specs.Digest.{digest_size}
@@ -43,7 +41,7 @@ use Rattle.tpm_machine_laws.specs.Sizes.{AreSized, IsSized, IsWhole}
 use Rattle.tpm_machine_laws.proofs.AllPlaces.{all_changed, all_found, all_set, all_without}
 use Rattle.tpm_machine_laws.proofs.Binding.{ok_bind, ok_bind_is, ok_then, ok_weaker, some_is}
 use Rattle.tpm_machine_laws.proofs.Footprint.{row_touches}
-use Rattle.tpm_machine_laws.proofs.SizedParts.{asserted_sized, key_sized, starting_sized}
+use Rattle.tpm_machine_laws.proofs.SizedParts.{asserted_sized, key_sized, nonce_taken, starting_sized}
 use Rattle.tpm_machine_laws.proofs.WholeAreas.{loaded_whole, primary_whole, template_whole}
 
 -- ---- records with other places
@@ -57,34 +55,32 @@ with_whole r place o whole sized =
 
 -- ---- a session starts
 
-both : (a b : Bool) → not (a && b) ≡ false → (a ≡ true) × (b ≡ true)
-both true true e = (refl, refl)
-both true false e = absurd cc
-both false b e = absurd cc
+granted : (b : Bool) → not b ≡ false → b ≡ true
+granted true is = refl
+granted false is = absurd cc
 
 -- the nonce of the caller has its size where the parameters pass
-caller_sized : (p : Parameters) (x : Unit {0}) → parameters_pass p ≡ Ok x → (16 ≤ length p.nonce_caller) × (length p.nonce_caller ≤ digest_size p.hash)
+pub caller_sized : (p : Parameters) (x : Unit {0}) → parameters_pass p ≡ Ok x → is_nonce_size p.hash (length p.nonce_caller) ≡ true
 unfolding parameters_pass
 caller_sized p x is =
     let a1 = bind_ok (refused_if (not (is_nonce_size p.hash (length p.nonce_caller))) (parameter_fault 1 1 code.Size)) _ x is in
-    let sizes = both (nat_le 16 (length p.nonce_caller)) (nat_le (length p.nonce_caller) (digest_size p.hash)) (passed _ _ a1.0 a1.1) in
-    (leb-true _ _ sizes.0, leb-true _ _ sizes.1)
+    granted (is_nonce_size p.hash (length p.nonce_caller)) (passed _ _ a1.0 a1.1)
 
-started_sized : (p : Parameters) (binding : Option Binding) (random : List ℕ) → length p.nonce_caller ≤ digest_size p.hash → IsSized (session_with p binding (take (length p.nonce_caller) random))
-started_sized p binding random few = record {
+started_sized : (p : Parameters) (binding : Option Binding) (random : List ℕ) → 32 ≤ length random → is_nonce_size p.hash (length p.nonce_caller) ≡ true → IsSized (session_with p binding (take (length p.nonce_caller) random))
+started_sized p binding random enough is = record {
   digest = starting_sized p.hash;
   key = key_sized p.hash binding (take (length p.nonce_caller) random) p.nonce_caller;
-  nonce_tpm = omega (arith, few, length-take (length p.nonce_caller) random);
+  nonce_tpm = nonce_taken p.hash (length p.nonce_caller) random is enough;
 }
 
-start_sized : (r : Record) (q : Request) → AreSized r → IfOk (start_auth_session_row r q) (λ s. AreSized s.after)
+start_sized : (r : Record) (q : Request) → 32 ≤ length q.random → AreSized r → IfOk (start_auth_session_row r q) (λ s. AreSized s.after)
 unfolding start_auth_session_row
-start_sized r q sized =
+start_sized r q enough sized =
     ok_bind _ (second_handle q.handles) _ (λ bind.
     ok_bind _ (parameters_in q.parameters) _ (λ p.
     ok_bind_is _ (parameters_pass p) _ (λ passed is.
     ok_bind _ (session_place r.sessions) _ (λ place.
-    with_sessions r _ (all_set IsSized r.sessions place (Some _) (started_sized p _ q.random (caller_sized p passed is).1) sized.sessions) sized))))
+    with_sessions r _ (all_set IsSized r.sessions place (Some _) (started_sized p _ q.random enough (caller_sized p passed is)) sized.sessions) sized))))
 
 -- ---- another policy
 
@@ -117,9 +113,9 @@ assertion_sized r c q sized =
     policy_all r.sessions handle s policy (some_is _ _ s is) digest sized.sessions)))
     (λ sessions are. with_sessions r sessions are sized)))
 
-restart_sized : (r : Record) (q : Request) → AreSized r → IfOk (policy_restart_row r q) (λ s. AreSized s.after)
+restart_sized : (r : Record) (q : Request) → 32 ≤ length q.random → AreSized r → IfOk (policy_restart_row r q) (λ s. AreSized s.after)
 unfolding policy_restart_row
-restart_sized r q sized =
+restart_sized r q enough sized =
     ok_bind _ (first_handle q.handles) _ (λ handle.
     ok_bind _ (all_read q.parameters) _ (λ ended.
     ok_bind_is _ (policy_session r.sessions handle) _ (λ s is.
@@ -197,12 +193,12 @@ fixed_sized r c q keeps sized = ok_weaker (λ s. Touches (part_of c) r s.after) 
 
 ruleset kept_rows = (rules, assertion_sized, fixed_sized)
 
-pub row_sized : (r : Record) (c : CommandCode) (q : Request) → AreSized r → IfOk (row_of r c q) (λ s. AreSized s.after)
+pub row_sized : (r : Record) (c : CommandCode) (q : Request) → 32 ≤ length q.random → AreSized r → IfOk (row_of r c q) (λ s. AreSized s.after)
 unfolding row_of
-row_sized r command.StartAuthSession q sized = start_sized r q sized
-row_sized r command.CreatePrimary q sized = create_primary_sized r q sized
-row_sized r command.Load q sized = load_sized r q sized
-row_sized r command.FlushContext q sized = flush_sized r q sized
-row_sized r command.PolicyRestart q sized = restart_sized r q sized
-row_sized r command.Startup q sized = fixed_sized r command.Startup q refl sized
-row_sized r _ q sized = search kept_rows
+row_sized r command.StartAuthSession q enough sized = start_sized r q enough sized
+row_sized r command.CreatePrimary q enough sized = create_primary_sized r q sized
+row_sized r command.Load q enough sized = load_sized r q sized
+row_sized r command.FlushContext q enough sized = flush_sized r q sized
+row_sized r command.PolicyRestart q enough sized = restart_sized r q enough sized
+row_sized r command.Startup q enough sized = fixed_sized r command.Startup q refl sized
+row_sized r _ q enough sized = search kept_rows

@@ -1,18 +1,19 @@
 -- Sizes that sessions and objects have by how they are made, and that no type of the code says.
-use Rattle.std.specs.Prelude.{◌≡◌, ◌⊎◌, ◌<◌, ◌≤◌, ◌^◌, [], length}
+use Rattle.std.specs.Prelude.{◌≡◌, ◌⊎◌, ◌<◌, ◌^◌, true, [], length}
 use Rattle.tpm_mac.specs.Digest.{digest_size}
 use Rattle.tpm_places.specs.Places.{AreAll}
+use Rattle.tpm_session.specs.Key.{is_nonce_size}
 use Rattle.tpm_session.specs.declared.session.Session.{Session}
 use Rattle.tpm_types_object.specs.Public.{IsPublic}
 use Rattle.tpm_types_object.specs.declared.public.Public.{Public}
 use Rattle.tpm_record.specs.Record.{Record}
 
 -- A session's policy digest has the size of its hash, its key that size or no byte, and its nonceTPM
--- at most that size.
+-- a size that a first nonce may have: that of the caller's first nonce.
 pub record IsSized (session : Session) : Type 0 where
   pub digest : length session.policy.digest ≡ digest_size session.hash
   pub key : (session.key ≡ []) ⊎ (length session.key ≡ digest_size session.hash)
-  pub nonce_tpm : length session.nonce_tpm ≤ digest_size session.hash
+  pub nonce_tpm : is_nonce_size session.hash (length session.nonce_tpm) ≡ true
 
 -- This is a public area, if its attributes have 32 bits. Those of a command have, as they are read
 -- from bytes; but a definition takes any list of numbers for bytes, and so it is said of every record

@@ -8,7 +8,8 @@
 //! It stands on the definitions of tpm_machine_step. A row is opened here, so that theorems over
 //! histories need not open any.
 
-ghost use Rattle.std.specs.Prelude.{◌≡◌, ℕ, Bool, IfOk, List, [], Ok, Option, false};
+ghost use Rattle.std.specs.List.{AllByRecursion};
+ghost use Rattle.std.specs.Prelude.{◌≡◌, ℕ, ◌+◌, ◌*◌, ◌≤◌, Bool, IfOk, List, [], length, Ok, Option, false};
 ghost use Rattle.tpm_types.specs.declared.check.Check.TheVariants as check;
 ghost use Rattle.tpm_types_command.specs.Command.{Whole};
 ghost use Rattle.tpm_types_command.specs.CommandCode.{shape_of};
@@ -24,7 +25,7 @@ ghost use Rattle.tpm_auth.specs.Grant.{authorize, grants_pass};
 ghost use Rattle.tpm_actions.specs.Request.{Request};
 ghost use Rattle.tpm_machine_step.specs.General.{general};
 ghost use Rattle.tpm_machine_step.specs.Answer.{Written, answer_to};
-ghost use Rattle.tpm_machine_step.specs.Events.{Happening};
+ghost use Rattle.tpm_machine_step.specs.Events.{Happening, IsEvent};
 ghost use Rattle.tpm_machine_step.specs.Run.{after_all};
 ghost use Rattle.tpm_machine_step.specs.Step.{Accepted, acceptance, step_where};
 ghost use Rattle.tpm_machine_step.specs.Table.{row_of};
@@ -136,32 +137,38 @@ pub fn grants_fit_entries_and_handles()
 /// A device as it is manufactured, and a device after a power cycle, has no session and no object,
 /// and so all of them have their sizes.
 #[inline(always)]
-#[tactic(auto, using(crate::proofs::SizedSteps::manufactured_sized, crate::proofs::SizedSteps::cycled_sized))]
+#[tactic(auto, using(crate::proofs::AllPlaces::all_free))]
 pub fn devices_begin_sized()
     ensures manufactured { (random : List ℕ) → AreSized (manufactured random) }
     ensures cycled { (r : Record) → AreSized (cycled r) }
 {}
 
-/// A success leaves sessions and objects of their sizes.
+/// A success draws at most 96 random bytes, and where there are enough for a nonce it leaves sessions
+/// and objects of their sizes.
 #[inline(always)]
-#[tactic(auto, using(crate::proofs::SizedRows::row_sized))]
+#[tactic(auto, using(crate::proofs::Draws::row_draws, crate::proofs::SizedRows::row_sized))]
 pub fn rows_keep_sizes()
-    ensures { (r : Record) (c : CommandCode) (q : Request)
-        → AreSized r → IfOk (row_of r c q) (λ s. AreSized s.after) }
+    ensures few { (r : Record) (c : CommandCode) (q : Request)
+        → IfOk (row_of r c q) (λ s. s.answer.drawn ≤ 96) }
+    ensures sized { (r : Record) (c : CommandCode) (q : Request)
+        → 32 ≤ length q.random → AreSized r → IfOk (row_of r c q) (λ s. AreSized s.after) }
 {}
 
-/// And so does what follows it: sessions take new nonces, policies start over, sessions end.
+/// And so does what follows it, where there are enough for a nonce of each entry: sessions take new
+/// nonces, policies start over, sessions end.
 #[inline(always)]
 pub fn answers_keep_sizes()
     ensures { (c : Whole) (grants : List (Option Grant)) (a : Written) (effect : Record)
-        (random : List ℕ) → AreSized effect → AreSized (answer_to c grants a effect random).after }
+        (random : List ℕ) → a.drawn + 32 * length c.entries ≤ length random → AreSized effect
+        → AreSized (answer_to c grants a effect random).after }
 {}
 
-/// So every event leaves them, whether memory is refused or not.
+/// So every event leaves them, whether memory is refused or not, as its 256 random bytes are enough
+/// for each command.
 #[inline(always)]
 pub fn steps_keep_sizes()
     ensures { (refused : Bool) (r : Record) (event : Happening)
-        → AreSized r → AreSized (step_where refused r event).after }
+        → IsEvent event → AreSized r → AreSized (step_where refused r event).after }
 {}
 
 /// Whatever happens to a device from the day on which it is manufactured, its sessions and objects
@@ -169,7 +176,7 @@ pub fn steps_keep_sizes()
 #[inline(always)]
 pub fn histories_keep_sizes()
     ensures { (random : List ℕ) (events : List Happening)
-        → AreSized (after_all (manufactured random) events) }
+        → AllByRecursion IsEvent events → AreSized (after_all (manufactured random) events) }
 {}
 
 /// Where the record is one, each object's public area then is one.
