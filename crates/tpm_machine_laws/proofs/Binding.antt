@@ -1,6 +1,8 @@
 -- Steps of a row.
 use Rattle.std.proofs.Common.{◌≡◌, Bool, true, false, Option, Some, None, Result, Ok, Err, IfOk, IfErr, refl}
-use Rattle.std.specs.Prelude.{ok_or}
+use Rattle.std.specs.Prelude.{not, ok_or}
+use Rattle.std.proofs.lemmas.Bool.{not-false}
+use Rattle.tpm_bytes.proofs.Fields.{passed}
 use Rattle.tpm_bytes.specs.Reading.{◌>>=◌, or_fault, refused_if}
 use Rattle.tpm_types.specs.Refused.{checked, refusal}
 use Rattle.tpm_types_command.specs.declared.command_code.CommandCode.{CommandCode}
@@ -69,3 +71,7 @@ ok_checked P check (Err rc) h = tt
 pub ok_in_command : {X : Type 0} (P : X → Type 0) (c : CommandCode) (x : Result X Refused) → IfOk x P → IfOk (in_command c x) P
 ok_in_command P c (Ok x) h = h
 ok_in_command P c (Err e) h = tt
+
+-- what was asked for holds where a step did not refuse for want of it
+pub asked : {E : Type 0} (b : Bool) (fault : E) (u : Unit {0}) → refused_if (not b) fault ≡ Ok u → b ≡ true
+asked b fault u is = not-false b (passed (not b) fault u is)

@@ -1,12 +1,10 @@
 -- Behind the general checks the handles of a command fit its shape, and none is refused any more.
-use Rattle.std.proofs.Common.{arith, rules, ◌≡◌, ◌⊎◌, ◌+◌, ℕ, Bool, true, List, [], ◌∷◌, Ok, IfOk}
-use Rattle.std.proofs.lemmas.Bool.{not-false}
+use Rattle.std.proofs.Common.{arith, rules, ◌≡◌, ◌⊎◌, ◌+◌, ℕ, true, List, [], ◌∷◌, Ok, IfOk}
 use Rattle.std.proofs.lemmas.Result.{IfErr-weaker, IfOk-at_ok}
 use Rattle.std.specs.Prelude.{not}
 use Rattle.std.specs.Int.{w32}
 use Rattle.tpm_bytes.specs.Many.{each_at}
 use Rattle.tpm_bytes.specs.Reading.{number_at, or_fault, refused_if}
-use Rattle.tpm_bytes.proofs.Fields.{passed}
 use Rattle.tpm_types.specs.declared.check.Check.TheVariants as check
 use Rattle.tpm_types.specs.declared.refused.Refused.{Refused}
 use Rattle.tpm_types.specs.Refused.{checked}
@@ -27,15 +25,11 @@ use Rattle.tpm_machine_step.specs.Table.{row_of}
 use Rattle.tpm_machine_laws.specs.Handles.{FitsRule, HandlesFit}
 use Rattle.tpm_machine_laws.specs.Refusals.{Passes}
 use Rattle.tpm_machine_laws.proofs.Accepted.{checked_ok}
-use Rattle.tpm_machine_laws.proofs.Binding.{ok_checked, ok_in_command, err_bind, err_bind_is, err_checked, err_if, ok_bind, ok_bind_is, ok_then}
+use Rattle.tpm_machine_laws.proofs.Binding.{asked, ok_checked, ok_in_command, err_bind, err_bind_is, err_checked, err_if, ok_bind, ok_bind_is, ok_then}
 use Rattle.tpm_machine_laws.proofs.Grants.{grants_refuse}
 use Rattle.tpm_machine_laws.proofs.Refusals.{row_passes}
 
 -- ---- what the general checks let through
-
--- what was asked for holds where a step did not refuse for want of it
-asked : {E : Type 0} (b : Bool) (fault : E) (u : Unit {0}) → refused_if (not b) fault ≡ Ok u → b ≡ true
-asked b fault u is = not-false b (passed (not b) fault u is)
 
 -- one that its rule allows, and one that is present too
 allowed_fits : (n : ℕ) (rule : HandleRule) (text : List ℕ) → IfOk (allowed_handle_at n rule text) (λ x. is_of_kind rule.kind x.0 ≡ true)

@@ -1,8 +1,8 @@
 -- A success keeps the sizes of sessions and objects.
-use Rattle.std.proofs.Common.{rules, ◌≡◌, ◌≤◌, ℕ, Bool, true, false, List, length, take, Option, Some, Result, Ok, Err, IfOk, refl, sym, subst}
+use Rattle.std.proofs.Common.{rules, ◌≡◌, ◌≤◌, ℕ, Bool, true, List, length, take, Option, Some, Result, Ok, Err, IfOk, refl, sym, subst}
 use Rattle.std.specs.Prelude.{IfSome, not}
 use Rattle.tpm_bytes.specs.Reading.{refused_if}
-use Rattle.tpm_bytes.proofs.Fields.{bind_ok, passed}
+use Rattle.tpm_bytes.proofs.Fields.{bind_ok}
 use Rattle.tpm_mac.specs.Digest.{digest_size}
 use Rattle.tpm_mac.specs.declared.algorithm.HashAlg.{HashAlg}
 use Rattle.tpm_places.specs.Places.{AreAll}
@@ -39,8 +39,9 @@ use Rattle.tpm_machine_step.specs.Table.{row_of}
 use Rattle.tpm_machine_laws.specs.Footprint.{Part, Nothing, Sessions, Objects, SessionsAndObjects, AuthValues, Banks, Beginning, Touches, part_of}
 use Rattle.tpm_machine_laws.specs.Sizes.{AreSized, IsSized, IsWhole}
 use Rattle.tpm_machine_laws.proofs.AllPlaces.{all_changed, all_found, all_set, all_without}
-use Rattle.tpm_machine_laws.proofs.Binding.{ok_bind, ok_bind_is, ok_then, ok_weaker, some_is}
+use Rattle.tpm_machine_laws.proofs.Binding.{asked, ok_bind, ok_bind_is, ok_then, ok_weaker, some_is}
 use Rattle.tpm_machine_laws.proofs.Footprint.{row_touches}
+use Rattle.tpm_machine_laws.proofs.Growth.{keeps_places}
 use Rattle.tpm_machine_laws.proofs.SizedParts.{asserted_sized, key_sized, nonce_taken, starting_sized}
 use Rattle.tpm_machine_laws.proofs.WholeAreas.{loaded_whole, primary_whole, template_whole}
 
@@ -55,16 +56,12 @@ with_whole r place o whole sized =
 
 -- ---- a session starts
 
-granted : (b : Bool) → not b ≡ false → b ≡ true
-granted true is = refl
-granted false is = absurd cc
-
 -- the nonce of the caller has its size where the parameters pass
 pub caller_sized : (p : Parameters) (x : Unit {0}) → parameters_pass p ≡ Ok x → is_nonce_size p.hash (length p.nonce_caller) ≡ true
 unfolding parameters_pass
 caller_sized p x is =
     let a1 = bind_ok (refused_if (not (is_nonce_size p.hash (length p.nonce_caller))) (parameter_fault 1 1 code.Size)) _ x is in
-    granted (is_nonce_size p.hash (length p.nonce_caller)) (passed _ _ a1.0 a1.1)
+    asked (is_nonce_size p.hash (length p.nonce_caller)) _ a1.0 a1.1
 
 started_sized : (p : Parameters) (binding : Option Binding) (random : List ℕ) → 32 ≤ length random → is_nonce_size p.hash (length p.nonce_caller) ≡ true → IsSized (session_with p binding (take (length p.nonce_caller) random))
 started_sized p binding random enough is = record {
@@ -164,13 +161,6 @@ flush_sized r q sized =
     ok_bind _ (flushed_handle q.parameters) _ (λ handle. search (rules, ok_bind))
 
 -- ---- all others
-
--- whether a part is neither the sessions nor the objects
-abbrev keeps_places : Part → Bool
-keeps_places Sessions = false
-keeps_places Objects = false
-keeps_places SessionsAndObjects = false
-keeps_places _ = true
 
 same_places : (old new : Record) → new.sessions ≡ old.sessions → new.objects ≡ old.objects → AreSized old → AreSized new
 same_places old new sessions objects sized =

@@ -208,3 +208,6 @@ public_found None is whole = tt
 
 pub public_areas : (r : Record) → IsRecord r → AreSized r → AreAll (λ object. IsPublic object.public) r.objects
 public_areas r is sized place = public_found (at_place r.objects place) (is.each_object place) (sized.objects place)
+
+pub execution_public : (can : Bool) (old : Record) (event : Happening) (x : Stepped) → Executes can old event x → AreSized old → AreAll (λ object. IsPublic object.public) x.after.objects
+execution_public can old event x executes sized = public_areas x.after executes.is_record (execution_sized can old event x executes sized)
