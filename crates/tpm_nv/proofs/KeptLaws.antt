@@ -13,7 +13,6 @@ use Rattle.tpm_types.specs.AuthValue.{IsAuthValue}
 use Rattle.tpm_types.specs.declared.handle.Handle.{Handle}
 use Rattle.tpm_types_nv.specs.NvAttributes.{IsNvAttributes, attribute_bit, has, index_type, is_of, type_number, with_attribute}
 use Rattle.tpm_types_nv.specs.NvType.{nv_type_named, nv_type_number}
-use Rattle.tpm_types_nv.specs.NvPublic.{IsNvPublic}
 use Rattle.tpm_types_nv.specs.declared.nv_attributes.NvAttribute.{NvAttribute}
 use Rattle.tpm_types_nv.specs.declared.nv_attributes.NvAttribute.TheVariants as attribute
 use Rattle.tpm_types_nv.specs.declared.nv_attributes.NvAttributes.{NvAttributes}

@@ -1,6 +1,6 @@
 -- What a call gives where no check refuses it.
-use Rattle.std.proofs.Common.{◌≡◌, ℕ, ◌+◌, ◌<◌, ◌≤◌, ◌^◌, false, true, List, ◌++◌, length, Ok, refl, arith}
-use Rattle.std.specs.Prelude.{◌&&◌, ◌||◌, ◌==◌, not, bit_or, Result}
+use Rattle.std.proofs.Common.{◌≡◌, ℕ, ◌+◌, ◌<◌, ◌≤◌, ◌^◌, false, true, List, ◌++◌, length, Ok, refl}
+use Rattle.std.specs.Prelude.{◌&&◌, ◌||◌, ◌==◌, not, bit_or}
 use Rattle.std.specs.Int.{w64, to_be_bytes}
 use Rattle.std.proofs.lemmas.Bool.{le-ltb, lt-leb}
 use Rattle.tpm_mac.specs.Digest.{hash_of}
@@ -11,7 +11,7 @@ use Rattle.tpm_types_nv.specs.declared.nv_type.NvType.TheVariants as type
 use Rattle.tpm_nv.specs.Access.{bits_set, counted, data_or, extended, incremented, marked, number_or, read_at, read_locked, with_auth_value, with_data, writable, write_locked, written}
 use Rattle.tpm_nv.specs.Bytes.{piece_of, put_over}
 use Rattle.tpm_nv.specs.Head.{IsIndexOf, index_with, size_of}
-use Rattle.tpm_nv.specs.Index.{NvContents, NvIndex, changed_index}
+use Rattle.tpm_nv.specs.Index.{NvContents, changed_index}
 use Rattle.tpm_nv.specs.declared.head.Head.{Head}
 
 module _ (contents : NvContents) (handle : Handle) (h : Head) (old : List ℕ) where

@@ -1,15 +1,15 @@
 -- A startup, head by head: what is done so far, and what it makes of the indices.
-use Rattle.std.proofs.Common.{◌≡◌, ◌≢◌, ℕ, zero, suc, ◌+◌, ◌<◌, ◌≤◌, ◌^◌, Bool, true, false, cond, List, [], ◌∷◌, ◌++◌, length, take, drop, get_or, Some, refl, sym, ap, subst, ◌∙◌, arith, length-append, length-drop}
+use Rattle.std.proofs.Common.{◌≡◌, ◌≢◌, ℕ, zero, suc, ◌+◌, ◌<◌, ◌≤◌, Bool, true, false, cond, List, [], ◌∷◌, ◌++◌, length, take, drop, get_or, Some, refl, sym, ap, subst, ◌∙◌, arith}
 use Rattle.std.specs.Prelude.{◌&&◌, map}
 use Rattle.std.proofs.lemmas.Bool.{cond_both, cond-true, cond-false, eq-eqb, ne_eqb}
-use Rattle.std.proofs.lemmas.List.{length-map, length-take-le}
+use Rattle.std.proofs.lemmas.List.{length-map}
 use Rattle.tpm_ascending.specs.Ascending.{AllAbove, Ascends, Entries, at_key, changed_key}
 use Rattle.tpm_types_nv.specs.NvAttributes.{IsNvAttributes, has, index_type, without_attribute}
 use Rattle.tpm_types_nv.specs.declared.nv_attributes.NvAttribute.{NvAttribute}
 use Rattle.tpm_types_nv.specs.declared.nv_attributes.NvAttribute.TheVariants as attribute
 use Rattle.tpm_types_nv.specs.declared.nv_attributes.NvAttributes.{NvAttributes}
 use Rattle.tpm_types_nv.proofs.AttributeLaws.{are_attributes}
-use Rattle.tpm_nv.specs.Head.{AreHeads, AreKept, IsHead, index_with, indices_of, size_of, started_head, total}
+use Rattle.tpm_nv.specs.Head.{AreHeads, AreKept, index_with, indices_of, size_of, started_head, total}
 use Rattle.tpm_nv.specs.Index.{NvIndex}
 use Rattle.tpm_nv.specs.Startup.{kept_written, started_attributes, started_index, unlocked}
 use Rattle.tpm_nv.specs.declared.head.Head.{Head}

@@ -1,5 +1,5 @@
 -- What holds of the NV indices of a device, whatever came before.
-use Rattle.std.specs.Prelude.{◌≡◌, ℕ, ◌<◌, ◌≤◌, ◌^◌, true, List, [], ◌∷◌, length, if◌then◌else◌}
+use Rattle.std.specs.Prelude.{◌≡◌, ℕ, ◌<◌, ◌≤◌, ◌^◌, true, [], ◌∷◌, length, if◌then◌else◌}
 use Rattle.tpm_ascending.specs.Ascending.{Ascends, Entries}
 use Rattle.tpm_types.specs.AuthValue.{IsAuthValue}
 use Rattle.tpm_types_nv.specs.NvAttributes.{has}

@@ -1,6 +1,6 @@
 -- What a startup with CLEAR does to NV indices. TPM 2.0 Library, Part 3, section 9.3
 -- (TPM2_Startup), and Part 2, section 13.4 (TPMA_NV).
-use Rattle.std.specs.Prelude.{ℕ, ◌&&◌, List, [], map, if◌then◌else◌}
+use Rattle.std.specs.Prelude.{◌&&◌, [], map, if◌then◌else◌}
 use Rattle.tpm_types_nv.specs.NvAttributes.{has, without_attribute}
 use Rattle.tpm_types_nv.specs.declared.nv_attributes.NvAttribute.TheVariants as attribute
 use Rattle.tpm_types_nv.specs.declared.nv_attributes.NvAttributes.{NvAttributes}

@@ -1,6 +1,6 @@
 -- What attributes and which type an index has after an attribute was set or cleared: bits that a mask does not have
 -- change nothing of it.
-use Rattle.std.proofs.Common.{◌≡◌, ◌≢◌, ℕ, ◌+◌, ◌-◌, ◌*◌, ◌/◌, ◌%◌, ◌^◌, ◌<◌, ◌≤◌, min, max, true, false, refl, sym, ap, ◌∙◌, arith, inl, inr}
+use Rattle.std.proofs.Common.{◌≡◌, ◌≢◌, ℕ, ◌-◌, ◌*◌, ◌/◌, ◌%◌, ◌^◌, ◌<◌, refl, ap, ◌∙◌, arith, inl, inr}
 use Rattle.std.specs.Prelude.{bit_and, bit_or}
 use Rattle.std.specs.Int.{w32, bit_at, bit_not}
 use Rattle.std.proofs.lemmas.Bool.{cases_eq, cases_lt}
@@ -8,9 +8,8 @@ use Rattle.std.proofs.lemmas.Nat.{and_le_l, or_of_32}
 use Rattle.std.proofs.lemmas.Nat.Bits.{and_high, bit_at-lt, bit_at-pow_other, bit_at-pow_same, bit_at_above, bit_at_and, bit_at_not, bit_at_or, same_from_bits}
 use Rattle.tpm_types_nv.specs.declared.nv_attributes.NvAttribute.{NvAttribute}
 use Rattle.tpm_types_nv.specs.declared.nv_attributes.NvAttribute.TheVariants as attribute
-use Rattle.tpm_types_nv.specs.declared.nv_attributes.NvAttributes.{NvAttributes}
 use Rattle.tpm_types_nv.specs.AreNvAttributes.{AreNvAttributes}
-use Rattle.tpm_types_nv.specs.NvAttributes.{IsNvAttributes, attribute_bit, has, index_type, reserved_bits, with_attribute, without_attribute}
+use Rattle.tpm_types_nv.specs.NvAttributes.{attribute_bit, reserved_bits}
 use Rattle.tpm_types_nv.specs.NvType.{nv_type_named}
 
 -- ---- one bit

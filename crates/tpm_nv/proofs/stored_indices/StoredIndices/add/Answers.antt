@@ -1,8 +1,8 @@
-use Rattle.std.proofs.Common.{◌≡◌, ◌+◌, ◌≤◌, ◌<◌, ℕ, List, None, refl, sym, ap, ◌∙◌, length, ◌++◌, take, drop, arith, length-append, length-drop}
+use Rattle.std.proofs.Common.{◌≡◌, ◌≤◌, ℕ, List, refl, sym, ap, ◌∙◌, length, ◌++◌, take, drop, arith, length-append, length-drop}
 use Rattle.std.proofs.lemmas.List.{length-take-le}
-use Rattle.tpm_ascending.specs.Ascending.{Entries, at_key, with_key}
+use Rattle.tpm_ascending.specs.Ascending.{Entries, with_key}
 use Rattle.tpm_nv.specs.Bytes.{closed_up}
-use Rattle.tpm_nv.specs.Head.{IsHead, index_with, indices_of, size_of, start_of}
+use Rattle.tpm_nv.specs.Head.{IsHead, indices_of, start_of}
 use Rattle.tpm_nv.specs.Index.{NvContents, NvIndex, with_index}
 use Rattle.tpm_nv.specs.declared.head.Head.{Head}
 use Rattle.tpm_nv.proofs.Cuts.{closed_again, put_among, start_fits}

@@ -1,8 +1,6 @@
-use Rattle.std.proofs.Common.{◌≡◌, ◌+◌, ◌≤◌, Some, None, sym, ap, ◌∙◌, length, arith}
-use Rattle.tpm_ascending.specs.Ascending.{at_key}
+use Rattle.std.proofs.Common.{◌≡◌, sym, ap, ◌∙◌, length, arith}
 use Rattle.tpm_nv.specs.Bytes.{piece_of}
 use Rattle.tpm_nv.specs.Head.{index_with, size_of, start_of}
-use Rattle.tpm_nv.specs.Index.{index_at}
 use Rattle.tpm_nv.proofs.KeptLaws.{bytes_of, none_at, piece_inside, some_at}
 use Rattle.tpm_nv.proofs.stored_indices.StoredIndices.data.Goals as goal
 

@@ -5,7 +5,7 @@ use Rattle.tpm_types_nv.specs.declared.nv_attributes.NvAttributes.{NvAttributes}
 use Rattle.tpm_nv.specs.Access.{marked}
 use Rattle.tpm_nv.specs.Bytes.{piece_of}
 use Rattle.tpm_nv.specs.Head.{indices_of, size_of, start_of, with_attributes}
-use Rattle.tpm_nv.specs.Index.{NvContents, NvIndex, index_at}
+use Rattle.tpm_nv.specs.Index.{NvIndex, index_at}
 use Rattle.tpm_nv.proofs.Cuts.{found_among, head_at, none_among}
 use Rattle.tpm_nv.proofs.KeptLaws.{contents_changed, is_head_marked, kept_changed, marked_is, seen_changed}
 use Rattle.tpm_nv.proofs.stored_indices.StoredIndices.mark.Goals as goal

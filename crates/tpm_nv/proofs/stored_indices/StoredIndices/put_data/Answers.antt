@@ -1,12 +1,12 @@
-use Rattle.std.proofs.Common.{◌≡◌, ◌+◌, ◌≤◌, ℕ, Some, None, length, refl, sym, ap, ◌∙◌, arith}
+use Rattle.std.proofs.Common.{◌≡◌, ◌+◌, ◌≤◌, Some, None, length, sym, ap, ◌∙◌, arith}
 use Rattle.tpm_ascending.specs.Ascending.{at_key, changed_key}
-use Rattle.tpm_types_nv.specs.NvAttributes.{has, with_attribute}
+use Rattle.tpm_types_nv.specs.NvAttributes.{has}
 use Rattle.tpm_types_nv.specs.declared.nv_attributes.NvAttribute.TheVariants as attribute
 use Rattle.tpm_types_nv.specs.declared.nv_attributes.NvAttributes.{NvAttributes}
 use Rattle.tpm_nv.specs.Access.{data_or, with_data}
-use Rattle.tpm_nv.specs.Bytes.{filled, piece_of, put_over}
+use Rattle.tpm_nv.specs.Bytes.{piece_of, put_over}
 use Rattle.tpm_nv.specs.Head.{index_with, indices_of, size_of, start_of, with_attributes}
-use Rattle.tpm_nv.specs.Index.{NvContents, NvIndex, index_at}
+use Rattle.tpm_nv.specs.Index.{index_at}
 use Rattle.tpm_nv.proofs.Cuts.{found_among, none_among, piece_fits}
 use Rattle.tpm_nv.proofs.KeptLaws.{contents_changed, kept_put, known_of, put_is, seen_put, written_head}
 use Rattle.tpm_nv.proofs.stored_indices.StoredIndices.put_data.Goals as goal

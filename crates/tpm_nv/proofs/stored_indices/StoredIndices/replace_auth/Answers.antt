@@ -1,5 +1,5 @@
-use Rattle.std.proofs.Common.{◌≡◌, Some, None, refl, sym, ap, ◌∙◌}
-use Rattle.tpm_ascending.specs.Ascending.{at_key, changed_key}
+use Rattle.std.proofs.Common.{◌≡◌, Some, refl, sym, ap, ◌∙◌}
+use Rattle.tpm_ascending.specs.Ascending.{at_key}
 use Rattle.tpm_nv.specs.Bytes.{piece_of}
 use Rattle.tpm_nv.specs.Head.{index_with, indices_of, size_of, start_of}
 use Rattle.tpm_nv.specs.Index.{NvIndex}

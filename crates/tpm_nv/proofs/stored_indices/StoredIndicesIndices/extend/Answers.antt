@@ -2,7 +2,7 @@ use Rattle.std.proofs.Common.{◌≡◌, ℕ, List, Ok, sym, ap, ◌∙◌, leng
 use Rattle.std.specs.Prelude.{Result}
 use Rattle.std.proofs.lemmas.Bool.{eqb-true}
 use Rattle.tpm_types_nv.specs.declared.nv_type.NvType.TheVariants as type
-use Rattle.tpm_nv.specs.Access.{data_or, with_data}
+use Rattle.tpm_nv.specs.Access.{with_data}
 use Rattle.tpm_nv.specs.Head.{index_with, size_of}
 use Rattle.tpm_nv.specs.Index.{NvContents, changed_index}
 use Rattle.tpm_nv.specs.declared.fault.NvFault.{NvFault}

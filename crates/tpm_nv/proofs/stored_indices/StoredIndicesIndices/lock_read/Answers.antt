@@ -1,7 +1,7 @@
 use Rattle.std.proofs.Common.{Ok, sym, ap, ◌∙◌}
 use Rattle.std.specs.Prelude.{Result}
-use Rattle.tpm_nv.specs.Head.{index_with, size_of}
-use Rattle.tpm_nv.specs.Index.{NvContents, changed_index}
+use Rattle.tpm_nv.specs.Head.{index_with}
+use Rattle.tpm_nv.specs.Index.{NvContents}
 use Rattle.tpm_nv.specs.declared.fault.NvFault.{NvFault}
 use Rattle.tpm_nv.proofs.RowLaws.{read_locked_is}
 use Rattle.tpm_nv.proofs.stored_indices.StoredIndicesIndices.lock_read.Goals as goal

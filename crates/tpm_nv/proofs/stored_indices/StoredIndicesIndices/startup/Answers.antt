@@ -1,4 +1,4 @@
-use Rattle.std.proofs.Common.{List, ℕ, sym, ap, ◌∙◌}
+use Rattle.std.proofs.Common.{List, ℕ, ap, ◌∙◌}
 use Rattle.tpm_nv.specs.Head.{indices_of}
 use Rattle.tpm_nv.specs.Index.{NvContents, NvIndex}
 use Rattle.tpm_nv.specs.Startup.{started}

@@ -1,10 +1,10 @@
-use Rattle.std.proofs.Common.{◌≡◌, Some, None, is_some, refl, sym, ap, ◌∙◌, arith}
+use Rattle.std.proofs.Common.{◌≡◌, Some, is_some, sym, ap, ◌∙◌, arith}
 use Rattle.tpm_ascending.specs.Ascending.{at_key, without_key}
 use Rattle.tpm_ascending.proofs.AscendingLaws.{removed_absent}
 use Rattle.tpm_nv.specs.Bytes.{closed_up}
 use Rattle.tpm_nv.specs.Head.{indices_of, size_of, start_of}
-use Rattle.tpm_nv.specs.Index.{NvContents, index_at, without_index}
-use Rattle.tpm_nv.proofs.Cuts.{none_among, removed_among}
+use Rattle.tpm_nv.specs.Index.{NvContents}
+use Rattle.tpm_nv.proofs.Cuts.{removed_among}
 use Rattle.tpm_nv.proofs.KeptLaws.{kept_removed, none_at, piece_inside, some_at}
 use Rattle.tpm_nv.proofs.stored_indices.StoredIndicesIndices.undefine.Goals as goal
 
