@@ -1,5 +1,6 @@
 -- TPM2_Startup. TPM 2.0 Library, Part 3, section 9.3.
 use Rattle.std.specs.Prelude.{ℕ, ◌+◌, ◌-◌, ◌^◌, min, true, Bool, false, List, [], take, drop, Result, Ok}
+use Rattle.tpm_nv.specs.Startup.{started}
 use Rattle.tpm_bytes.specs.Reading.{◌>>=◌, refused_if}
 use Rattle.tpm_types.specs.declared.rc.ResponseCode.TheVariants as code
 use Rattle.tpm_types.specs.declared.startup_type.StartupType.{StartupType}
@@ -51,5 +52,5 @@ startup_row r q = do
       (parameter_fault 1 1 code.Value)
   Ok (record {
     answer = record nothing { drawn = 64 };
-    after = record r { fixed = reset_fixed r.fixed q.random };
+    after = record r { fixed = reset_fixed r.fixed q.random; nv = started r.nv };
   })

@@ -9,6 +9,7 @@ use crate::call::Call;
 use crate::reading::{end, parameter};
 use crate::refusals::parameter_fault;
 use tpm_bytes::Cursor;
+use tpm_nv::Indices;
 use tpm_record::{Hierarchies, Keep, Saved, Secrets};
 use tpm_types::{AuthValue, HierarchyAuth, Refused, ResponseCode, StartupType};
 
@@ -55,6 +56,7 @@ pub fn startup<K: Keep>(keep: &mut K, call: &Call, answer: &mut Answer) -> Resul
     fixed.banks.restart_update_count();
     fixed.reset_count = fixed.reset_count.saturating_add(1);
     fixed.restart_count = 0;
+    keep.nv_mut().startup();
     answer.drawn = RESET_DRAWS;
     Ok(())
 }

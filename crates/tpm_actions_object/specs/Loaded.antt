@@ -1,5 +1,5 @@
 -- The object that a command's handle names, and what is asked of a parent.
-use Rattle.std.specs.Prelude.{◌≡◌, ℕ, not, Bool, Result, Ok, Err, ok_or}
+use Rattle.std.specs.Prelude.{◌≡◌, ℕ, not, Bool, true, Result, Ok, Err, ok_or}
 use Rattle.std.specs.Borrow.{Bor}
 use Rattle.tpm_bytes.specs.Reading.{refused_if}
 use Rattle.tpm_object.specs.declared.object.Object.{Object}
@@ -12,9 +12,10 @@ use Rattle.tpm_types.specs.declared.rc.ResponseCode.TheVariants as code
 use Rattle.tpm_types_object.specs.ObjectAttributes.{has}
 use Rattle.tpm_types.specs.Rc.{at, plain}
 use Rattle.tpm_record.specs.Entity.{object_of}
+use Rattle.tpm_record.specs.Objects.{object_handle, with_object}
 use Rattle.tpm_record.specs.Record.{Record}
 use Rattle.tpm_types.specs.declared.refused.Refused.{Refused}
-use Rattle.tpm_actions.specs.Refusals.{action_refusal, handle_refusal}
+use Rattle.tpm_actions.specs.Refusals.{action_refusal, handle_refusal, memory_refusal}
 
 -- the object of a handle, which the general checks have found
 abbrev pub loaded_at : Record → Handle → Result Object Refused
@@ -42,3 +43,14 @@ no_place n = action_refusal n (plain code.ObjectMemory)
 -- the place that a new object takes, or check n: there is none
 abbrev pub place_for : ℕ → Record → Result ℕ Refused
 place_for n r = ok_or (lowest_free r.objects) (no_place n)
+
+-- The code loaded an object into the place that it takes, or was refused memory, where it can be; or
+-- there is no place. A refusal changes nothing.
+abbrev pub Loads : Bool → Result ℕ Refused → Record → Object → Result Handle Refused → Record → Type 0
+Loads can (Ok place) old object (Ok handle) new =
+    (handle ≡ object_handle place)
+    × (new ≡ record old { objects = with_object old.objects place object })
+Loads can (Ok place) old object (Err e) new =
+    (can ≡ true) × (e ≡ memory_refusal) × (new ≡ old)
+Loads can (Err refused) old object (Ok handle) new = ⊥
+Loads can (Err refused) old object (Err e) new = (e ≡ refused) × (new ≡ old)

@@ -6,12 +6,11 @@ ghost use Rattle.tpm_actions_object.specs.CreatePrimary.{create_primary_row, nam
 
 use crate::checks::{given_passes, public_passes};
 use crate::creation::{Parent, put_creation, read_asked};
-use crate::loaded::no_place;
+use crate::loaded::load_object;
 use tpm_actions::answer::Answer;
 use tpm_actions::call::Call;
-use tpm_actions::refusals::{handle_refusal, memory_refusal};
+use tpm_actions::refusals::handle_refusal;
 use tpm_object::derive_primary;
-use tpm_places::PlaceFault;
 use tpm_record::Keep;
 use tpm_types::{Handle, HierarchyHandle, Refused};
 
@@ -40,9 +39,6 @@ pub fn create_primary<K: Keep>(
     let asked = read_asked(call.parameters)?;
     public_passes(0, &asked.template, true)?;
     given_passes(3, &asked.given, &asked.template)?;
-    if keep.objects().free().is_none() {
-        return Err(no_place(7));
-    }
     let seed = keep.fixed().hierarchies.secrets(hierarchy).seed;
     let object = derive_primary(hierarchy, &seed, &asked.template, &asked.given);
     let name = object.name();
@@ -58,12 +54,6 @@ pub fn create_primary<K: Keep>(
         text,
     );
     let _ = answer.parameters.put_sized(name.as_slice());
-    match keep.objects_mut().add(object) {
-        Ok(handle) => {
-            answer.handle = Some(handle);
-            Ok(())
-        }
-        Err(PlaceFault::Full) => Err(no_place(7)),
-        Err(PlaceFault::NoMemory) => Err(memory_refusal()),
-    }
+    answer.handle = Some(load_object(keep, object, 7)?);
+    Ok(())
 }

@@ -5,14 +5,13 @@ ghost use Rattle.tpm_actions.specs.Rows.{ActsIfRoom};
 ghost use Rattle.tpm_actions_object.specs.Load.{load_row, sensitive_of};
 
 use crate::checks::public_passes;
-use crate::loaded::{check_parent, is_fixed, loaded, no_place};
+use crate::loaded::{check_parent, is_fixed, load_object, loaded};
 use tpm_actions::answer::Answer;
 use tpm_actions::call::Call;
 use tpm_actions::reading::{end, parameter};
-use tpm_actions::refusals::{memory_refusal, parameter_fault};
+use tpm_actions::refusals::parameter_fault;
 use tpm_bytes::Cursor;
 use tpm_object::{Object, unwrap};
-use tpm_places::PlaceFault;
 use tpm_record::Keep;
 use tpm_types::{Refused, ResponseCode, read_buffer};
 use tpm_types_object::{Public, Sensitive, read_filled};
@@ -48,12 +47,6 @@ pub fn load<K: Keep>(keep: &mut K, call: &Call, answer: &mut Answer) -> Result<(
     let above = parent.qualified_name.as_slice();
     let object = Object::loaded(parent.hierarchy, public, &sensitive, above);
     let _ = answer.parameters.put_sized(object.name().as_slice());
-    match keep.objects_mut().add(object) {
-        Ok(handle) => {
-            answer.handle = Some(handle);
-            Ok(())
-        }
-        Err(PlaceFault::Full) => Err(no_place(6)),
-        Err(PlaceFault::NoMemory) => Err(memory_refusal()),
-    }
+    answer.handle = Some(load_object(keep, object, 6)?);
+    Ok(())
 }

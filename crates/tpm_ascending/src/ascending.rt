@@ -36,6 +36,10 @@ pub trait Ascending<T: Drop, const N: usize>: Drop + Sized {
     fn len(&self) -> usize
         ensures { result ≡ length (entries self.now) };
 
+    /// The keys in ascending order, each with its value.
+    fn as_slice(&self) -> &[(u32, T)]
+        ensures { result.now ≡ entries self.now };
+
     /// What is under a key.
     fn get(&self, key: u32) -> Option<&T>
         ensures value { option_copied result ≡ at_key (entries self.now) key }

@@ -42,6 +42,10 @@ impl<T: Drop + Default, const N: usize> Ascending<T, N> for FixedAscending<T, N>
         self.entries.len()
     }
 
+    fn as_slice(&self) -> &[(u32, T)] {
+        self.entries.as_slice()
+    }
+
     fn get(&self, key: u32) -> Option<&T> {
         value_at(self.entries.as_slice(), key)
     }

@@ -40,6 +40,10 @@ impl<T: Drop, const N: usize> Ascending<T, N> for ListAscending<T, N> {
         self.entries.len()
     }
 
+    fn as_slice(&self) -> &[(u32, T)] {
+        self.entries.as_slice()
+    }
+
     fn get(&self, key: u32) -> Option<&T> {
         value_at(self.entries.as_slice(), key)
     }

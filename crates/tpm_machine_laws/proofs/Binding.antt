@@ -1,8 +1,12 @@
 -- Steps of a row.
 use Rattle.std.proofs.Common.{◌≡◌, Bool, true, false, Option, Some, None, Result, Ok, Err, IfOk, IfErr, refl}
-use Rattle.std.specs.Prelude.{ok_or}
+use Rattle.std.specs.Prelude.{not, ok_or}
+use Rattle.std.proofs.lemmas.Bool.{not-false}
+use Rattle.tpm_bytes.proofs.Fields.{passed}
 use Rattle.tpm_bytes.specs.Reading.{◌>>=◌, or_fault, refused_if}
 use Rattle.tpm_types.specs.Refused.{checked, refusal}
+use Rattle.tpm_types_command.specs.declared.command_code.CommandCode.{CommandCode}
+use Rattle.tpm_machine_step.specs.General.{in_command}
 use Rattle.tpm_types.specs.declared.check.Check.{Check}
 use Rattle.tpm_types.specs.declared.rc.Rc.{Rc}
 use Rattle.tpm_types.specs.declared.refused.Refused.{Refused}
@@ -58,3 +62,16 @@ err_checked Q check (Err rc) h = h rc
 pub some_is : {X E : Type 0} (o : Option X) (e : E) (x : X) → ok_or o e ≡ Ok x → o ≡ Some x
 some_is None e x is = absurd (let never : ⊥ = cc in never)
 some_is (Some y) e x is = cc
+
+-- a fault that is handed on as a refusal changes no success
+pub ok_checked : {X : Type 0} (P : X → Type 0) (check : Check) (x : Result X Rc) → IfOk x P → IfOk (checked check x) P
+ok_checked P check (Ok x) h = h
+ok_checked P check (Err rc) h = tt
+
+pub ok_in_command : {X : Type 0} (P : X → Type 0) (c : CommandCode) (x : Result X Refused) → IfOk x P → IfOk (in_command c x) P
+ok_in_command P c (Ok x) h = h
+ok_in_command P c (Err e) h = tt
+
+-- what was asked for holds where a step did not refuse for want of it
+pub asked : {E : Type 0} (b : Bool) (fault : E) (u : Unit {0}) → refused_if (not b) fault ≡ Ok u → b ≡ true
+asked b fault u is = not-false b (passed (not b) fault u is)

@@ -109,7 +109,7 @@ restart_grows r q =
     same_sessions r (with_session_policy r.sessions handle (starting s.hash)) (policy_same r.sessions handle (starting s.hash)))))
 
 -- whether a part is neither the sessions nor the objects
-abbrev keeps_places : Part → Bool
+abbrev pub keeps_places : Part → Bool
 keeps_places Sessions = false
 keeps_places Objects = false
 keeps_places SessionsAndObjects = false

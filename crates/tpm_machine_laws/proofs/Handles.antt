@@ -1,19 +1,14 @@
 -- Behind the general checks the handles of a command fit its shape, and none is refused any more.
-use Rattle.std.proofs.Common.{arith, rules, ◌≡◌, ◌⊎◌, ◌+◌, ℕ, Bool, true, List, [], ◌∷◌, Result, Ok, Err, IfOk}
-use Rattle.std.proofs.lemmas.Bool.{not-false}
+use Rattle.std.proofs.Common.{arith, rules, ◌≡◌, ◌⊎◌, ◌+◌, ℕ, true, List, [], ◌∷◌, Ok, IfOk}
 use Rattle.std.proofs.lemmas.Result.{IfErr-weaker, IfOk-at_ok}
 use Rattle.std.specs.Prelude.{not}
 use Rattle.std.specs.Int.{w32}
 use Rattle.tpm_bytes.specs.Many.{each_at}
 use Rattle.tpm_bytes.specs.Reading.{number_at, or_fault, refused_if}
-use Rattle.tpm_bytes.proofs.Fields.{passed}
-use Rattle.tpm_types.specs.declared.check.Check.{Check}
 use Rattle.tpm_types.specs.declared.check.Check.TheVariants as check
-use Rattle.tpm_types.specs.declared.rc.Rc.{Rc}
 use Rattle.tpm_types.specs.declared.refused.Refused.{Refused}
 use Rattle.tpm_types.specs.Refused.{checked}
 use Rattle.tpm_types_command.specs.declared.command.Header.{Header}
-use Rattle.tpm_types_command.specs.declared.command_code.CommandCode.{CommandCode}
 use Rattle.tpm_types_command.specs.declared.shape.HandleRule.{HandleRule}
 use Rattle.tpm_types_command.specs.Command.{Whole, sessions_at}
 use Rattle.tpm_types_command.specs.CommandCode.{shape_of}
@@ -24,21 +19,17 @@ use Rattle.tpm_record.specs.Entity.{is_present}
 use Rattle.tpm_record.specs.Record.{Record}
 use Rattle.tpm_auth.specs.Entries.{entries_pass}
 use Rattle.tpm_auth.specs.Grant.{authorize, grants_pass}
-use Rattle.tpm_machine_step.specs.General.{body_of, general, both_or_neither, is_startup, in_command, in_header, present_handle_at, present_handles_at, sessions_pass}
+use Rattle.tpm_machine_step.specs.General.{body_of, general, both_or_neither, is_startup, in_header, present_handle_at, present_handles_at, sessions_pass}
 use Rattle.tpm_machine_step.specs.Step.{acceptance, request_in}
 use Rattle.tpm_machine_step.specs.Table.{row_of}
 use Rattle.tpm_machine_laws.specs.Handles.{FitsRule, HandlesFit}
 use Rattle.tpm_machine_laws.specs.Refusals.{Passes}
 use Rattle.tpm_machine_laws.proofs.Accepted.{checked_ok}
-use Rattle.tpm_machine_laws.proofs.Binding.{err_bind, err_bind_is, err_checked, err_if, ok_bind, ok_bind_is, ok_then}
+use Rattle.tpm_machine_laws.proofs.Binding.{asked, ok_checked, ok_in_command, err_bind, err_bind_is, err_checked, err_if, ok_bind, ok_bind_is, ok_then}
 use Rattle.tpm_machine_laws.proofs.Grants.{grants_refuse}
 use Rattle.tpm_machine_laws.proofs.Refusals.{row_passes}
 
 -- ---- what the general checks let through
-
--- what was asked for holds where a step did not refuse for want of it
-asked : {E : Type 0} (b : Bool) (fault : E) (u : Unit {0}) → refused_if (not b) fault ≡ Ok u → b ≡ true
-asked b fault u is = not-false b (passed (not b) fault u is)
 
 -- one that its rule allows, and one that is present too
 allowed_fits : (n : ℕ) (rule : HandleRule) (text : List ℕ) → IfOk (allowed_handle_at n rule text) (λ x. is_of_kind rule.kind x.0 ≡ true)
@@ -59,15 +50,6 @@ each_fits r n [] text = tt
 each_fits r n (rule ∷ rules) text =
     ok_then (λ x. FitsRule r rule x.0) _ (present_handle_at r n rule text) _ (present_fits r n rule text) (λ first fits.
     ok_then (λ x. HandlesFit r rules x.0) _ (each_at (present_handle_at r) (n + 1) rules first.1) _ (each_fits r (n + 1) rules first.1) (λ others fit. (fits, fit)))
-
--- a fault that is handed on as a refusal changes no success
-ok_checked : {X : Type 0} (P : X → Type 0) (check : Check) (x : Result X Rc) → IfOk x P → IfOk (checked check x) P
-ok_checked P check (Ok x) h = h
-ok_checked P check (Err rc) h = tt
-
-ok_in_command : {X : Type 0} (P : X → Type 0) (c : CommandCode) (x : Result X Refused) → IfOk x P → IfOk (in_command c x) P
-ok_in_command P c (Ok x) h = h
-ok_in_command P c (Err e) h = tt
 
 body_fits : (r : Record) (header : Header) (text : List ℕ) → IfOk (body_of r header text) (λ c. HandlesFit r (shape_of c.code).handles c.handles)
 unfolding body_of

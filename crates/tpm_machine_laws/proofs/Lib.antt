@@ -8,3 +8,9 @@ pub mod Readings
 pub mod Refusals
 pub mod Handles
 pub mod Grants
+pub mod AllPlaces
+pub mod SizedParts
+pub mod WholeAreas
+pub mod SizedRows
+pub mod Draws
+pub mod SizedSteps

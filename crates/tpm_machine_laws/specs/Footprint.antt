@@ -3,13 +3,14 @@ use Rattle.std.specs.Prelude.{◌≡◌}
 use Rattle.tpm_types_command.specs.declared.command_code.CommandCode.{CommandCode}
 use Rattle.tpm_types_command.specs.declared.command_code.CommandCode.TheVariants as command
 use Rattle.tpm_types.specs.declared.handle.HierarchyHandle.{HierarchyHandle}
+use Rattle.tpm_nv.specs.Startup.{started}
 use Rattle.tpm_record.specs.declared.fixed.Fixed.{Fixed}
 use Rattle.tpm_record.specs.declared.hierarchy.Hierarchies.{Hierarchies}
 use Rattle.tpm_record.specs.Hierarchy.{secrets_of}
 use Rattle.tpm_record.specs.Record.{Record}
 
 -- the parts of a record: none of it; the sessions; the objects; both; the authorization values of
--- the hierarchies and of lockout; the banks; and what a startup begins
+-- the hierarchies and of lockout; the banks; and what a startup begins, the NV indices too
 pub data Part : Type 0 where
   Nothing : Part
   Sessions : Part
@@ -76,4 +77,5 @@ Touches AuthValues old new =
     (new ≡ record old { fixed = record old.fixed { hierarchies = new.fixed.hierarchies } })
     × KeepsSecrets old.fixed.hierarchies new.fixed.hierarchies
 Touches Banks old new = new ≡ record old { fixed = record old.fixed { banks = new.fixed.banks } }
-Touches Beginning old new = new ≡ record old { fixed = begun old.fixed new.fixed }
+Touches Beginning old new =
+    new ≡ record old { fixed = begun old.fixed new.fixed; nv = started old.nv }

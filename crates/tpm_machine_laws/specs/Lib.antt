@@ -4,3 +4,4 @@ pub mod Sessions
 pub mod Refusals
 pub mod Handles
 pub mod Grants
+pub mod Sizes

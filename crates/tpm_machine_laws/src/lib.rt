@@ -3,22 +3,33 @@
 //! Laws over the rows of all commands, each on the contract of a function that does nothing: what
 //! of the record a row's success touches, what a command's shape says of it, that sessions in use
 //! stay, and what is never refused. Behind a row, sessions are rolled and end, which is the step's
-//! and no row's.
+//! and no row's; the sizes of sessions and objects stay through all of a step.
 //!
 //! It stands on the definitions of tpm_machine_step. A row is opened here, so that theorems over
 //! histories need not open any.
 
-ghost use Rattle.std.specs.Prelude.{◌≡◌, ℕ, IfOk, List, [], Ok, false};
+ghost use Rattle.std.specs.Prelude.{◌≡◌, ℕ, ◌+◌, ◌*◌, ◌≤◌, Bool, IfOk, List, [], Ok, Option};
+ghost use Rattle.std.specs.Prelude.{false, length};
+ghost use Rattle.std.specs.List.{AllByRecursion};
 ghost use Rattle.tpm_types.specs.declared.check.Check.TheVariants as check;
+ghost use Rattle.tpm_types_object.specs.Public.{IsPublic};
 ghost use Rattle.tpm_types_command.specs.Command.{Whole};
 ghost use Rattle.tpm_types_command.specs.CommandCode.{shape_of};
 ghost use Rattle.tpm_types_command.specs.declared.command_code.CommandCode.{CommandCode};
-ghost use Rattle.tpm_record.specs.Record.{Record};
+ghost use Rattle.tpm_places.specs.Places.{AreAll};
+ghost use Rattle.tpm_record.specs.Cycle.{cycled};
+ghost use Rattle.tpm_record.specs.IsRecord.{IsRecord};
+ghost use Rattle.tpm_record.specs.Record.{Record, manufactured};
 ghost use Rattle.tpm_auth.specs.Entries.{entries_pass};
 ghost use Rattle.tpm_auth.specs.Grant.{authorize, grants_pass};
+ghost use Rattle.tpm_auth.specs.declared.session_grant.Grant.{Grant};
 ghost use Rattle.tpm_actions.specs.Request.{Request};
+ghost use Rattle.tpm_machine_step.specs.Answer.{Written, answer_to};
+ghost use Rattle.tpm_machine_step.specs.Events.{Happening, IsEvent};
+ghost use Rattle.tpm_machine_step.specs.Execution.{Executes};
 ghost use Rattle.tpm_machine_step.specs.General.{general};
-ghost use Rattle.tpm_machine_step.specs.Step.{Accepted, acceptance};
+ghost use Rattle.tpm_machine_step.specs.Run.{Runs, after_all};
+ghost use Rattle.tpm_machine_step.specs.Step.{Accepted, Stepped, acceptance, step_where};
 ghost use Rattle.tpm_machine_step.specs.Table.{row_of};
 ghost use Rattle.tpm_machine_laws.specs.Footprint.{Touches, part_of};
 ghost use Rattle.tpm_machine_laws.specs.Grants.{GrantsFit};
@@ -26,6 +37,9 @@ ghost use Rattle.tpm_machine_laws.specs.Handles.{HandlesFit};
 ghost use Rattle.tpm_machine_laws.specs.Refusals.{Passes, RefusesAuthorization};
 ghost use Rattle.tpm_machine_laws.specs.Sessions.{HaveSessions, SessionsStay};
 ghost use Rattle.tpm_machine_laws.specs.Shapes.{AnswersItsShape, Grows, ReadsParameters, spelled};
+ghost use Rattle.tpm_machine_laws.specs.Sizes.{AreSized};
+
+use tpm_machine_step::event::Outcome;
 
 /// A success touches the part of its command, and nothing else.
 #[inline(always)]
@@ -122,4 +136,80 @@ pub fn grants_find_their_sessions()
 pub fn grants_fit_entries_and_handles()
     ensures { (r : Record) (c : Whole) (locality : ℕ)
         → IfOk (authorize r c locality) (GrantsFit c) }
+{}
+
+/// A device as it is manufactured, and a device after a power cycle, has no session and no object,
+/// and so all of them have their sizes.
+#[inline(always)]
+#[tactic(auto, using(crate::proofs::AllPlaces::all_free))]
+pub fn devices_begin_sized()
+    ensures manufactured { (random : List ℕ) → AreSized (manufactured random) }
+    ensures cycled { (r : Record) → AreSized (cycled r) }
+{}
+
+/// A success draws at most 96 of the event's 256 random bytes.
+#[inline(always)]
+#[tactic(auto, using(crate::proofs::Draws::row_draws))]
+pub fn rows_draw_few_bytes()
+    ensures { (r : Record) (c : CommandCode) (q : Request)
+        → IfOk (row_of r c q) (λ s. s.answer.drawn ≤ 96) }
+{}
+
+/// A success leaves sessions and objects of their sizes, where there are random bytes enough for a
+/// nonce.
+#[inline(always)]
+#[tactic(auto, using(crate::proofs::SizedRows::row_sized))]
+pub fn rows_keep_sizes()
+    ensures { (r : Record) (c : CommandCode) (q : Request)
+        → 32 ≤ length q.random → AreSized r → IfOk (row_of r c q) (λ s. AreSized s.after) }
+{}
+
+/// What follows it leaves them too, where there are random bytes enough for a nonce of each entry:
+/// sessions take new nonces, policies start over, sessions end.
+#[inline(always)]
+pub fn answers_keep_sizes()
+    ensures { (c : Whole) (grants : List (Option Grant)) (a : Written) (effect : Record)
+        (random : List ℕ) → a.drawn + 32 * length c.entries ≤ length random → AreSized effect
+        → AreSized (answer_to c grants a effect random).after }
+{}
+
+/// So every event leaves them, whether memory is refused or not: 256 random bytes are enough for
+/// each command.
+#[inline(always)]
+pub fn steps_keep_sizes()
+    ensures { (refused : Bool) (r : Record) (event : Happening)
+        → IsEvent event → AreSized r → AreSized (step_where refused r event).after }
+{}
+
+/// Every execution of an event leaves them, and each object's public area then is one.
+#[inline(always)]
+pub fn executions_keep_sizes()
+    ensures sized { (can : Bool) (old : Record) (event : Happening) (x : Stepped)
+        → Executes can old event x → AreSized old → AreSized x.after }
+    ensures public { (can : Bool) (old : Record) (event : Happening) (x : Stepped)
+        → Executes can old event x → AreSized old
+        → AreAll (λ object. IsPublic object.public) x.after.objects }
+{}
+
+/// And every run of events leaves them.
+#[inline(always)]
+pub fn runs_keep_sizes<F: FnMut(&Outcome)>()
+    ensures { (can : Bool) (old : Record) (p : F) (events : List Happening) (new : Record) (q : F)
+        → Runs F.FnMut can old p events new q → AreSized old → AreSized new }
+{}
+
+/// Whatever happens to a device since it was manufactured, its sessions and objects have their
+/// sizes.
+#[inline(always)]
+pub fn histories_keep_sizes()
+    ensures { (random : List ℕ) (events : List Happening)
+        → AllByRecursion IsEvent events → AreSized (after_all (manufactured random) events) }
+{}
+
+/// Where all that holds of every record holds too, each object's public area is one.
+#[inline(always)]
+#[tactic(auto, using(crate::proofs::SizedSteps::public_areas))]
+pub fn objects_have_public_areas()
+    ensures { (r : Record) → IsRecord r → AreSized r
+        → AreAll (λ object. IsPublic object.public) r.objects }
 {}

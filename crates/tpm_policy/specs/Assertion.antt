@@ -208,7 +208,7 @@ secret_asserted hash trial secret policy = do
   })
 
 -- TPM2_PolicyNV (section 23.9): the bytes of the index stand so to the operand; in a trial session
--- nothing is compared
+-- nothing is checked
 abbrev pub nv_compared : (trial : Bool) → NvParts → Result (Unit {0}) PolicyFault
 nv_compared true nv = Ok tt
 nv_compared false nv = do

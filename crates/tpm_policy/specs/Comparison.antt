@@ -1,7 +1,9 @@
 -- The comparison of the bytes of an NV index with an operand. TPM 2.0 Library, Part 3, section 23.9
 -- (TPM2_PolicyNV), and Part 2, section 6.8 (TPM_EO). Both have as many bytes; numbers are
--- big-endian, and a signed one is in two's complement. Two empty texts are equal.
-use Rattle.std.specs.Prelude.{ℕ, ◌+◌, ◌-◌, ◌==◌, ◌&&◌, ◌||◌, not, nat_lt, bit_and, if◌then◌else◌, Bool, true, false, List, [], ◌∷◌}
+-- big-endian, and a signed one is in two's complement. Two empty texts are equal; of texts of
+-- different sizes no bit is compared.
+use Rattle.std.specs.Prelude.{ℕ, ◌+◌, ◌-◌, ◌==◌, ◌&&◌, ◌||◌, not, nat_lt, bit_and, if◌then◌else◌, Bool, false, List, [], ◌∷◌}
+use Rattle.std.specs.Cmp.Lexicographic.{pointwise}
 use Rattle.std.specs.Str.{bytes_eq}
 use Rattle.tpm_types.specs.declared.operation.Operation.{Operation}
 use Rattle.tpm_types.specs.declared.operation.Operation.TheVariants.{Equal, NotEqual, SignedGreater, UnsignedGreater, SignedLess, UnsignedLess, SignedGreaterOrEqual, UnsignedGreaterOrEqual, SignedLessOrEqual, UnsignedLessOrEqual, BitSet, BitClear}
@@ -23,14 +25,10 @@ raised (byte ∷ bytes) = raised_byte byte ∷ bytes
 
 -- whether each bit that is set in the operand is set in the other, or is clear there
 abbrev pub has_set : (bytes operand : List ℕ) → Bool
-has_set [] operand = true
-has_set (byte ∷ bytes) [] = true
-has_set (byte ∷ bytes) (mask ∷ operand) = bit_and byte mask == mask && has_set bytes operand
+has_set bytes operand = pointwise (λ byte mask. bit_and byte mask == mask) bytes operand
 
 abbrev pub has_clear : (bytes operand : List ℕ) → Bool
-has_clear [] operand = true
-has_clear (byte ∷ bytes) [] = true
-has_clear (byte ∷ bytes) (mask ∷ operand) = bit_and byte mask == 0 && has_clear bytes operand
+has_clear bytes operand = pointwise (λ byte mask. bit_and byte mask == 0) bytes operand
 
 -- whether the bytes of the index stand so to the operand
 unfoldable pub compares : Operation → (bytes operand : List ℕ) → Bool
@@ -40,9 +38,11 @@ compares SignedGreater bytes operand = is_less (raised operand) (raised bytes)
 compares UnsignedGreater bytes operand = is_less operand bytes
 compares SignedLess bytes operand = is_less (raised bytes) (raised operand)
 compares UnsignedLess bytes operand = is_less bytes operand
-compares SignedGreaterOrEqual bytes operand = not (is_less (raised bytes) (raised operand))
-compares UnsignedGreaterOrEqual bytes operand = not (is_less bytes operand)
-compares SignedLessOrEqual bytes operand = not (is_less (raised operand) (raised bytes))
-compares UnsignedLessOrEqual bytes operand = not (is_less operand bytes)
+compares SignedGreaterOrEqual bytes operand =
+    is_less (raised operand) (raised bytes) || bytes_eq bytes operand
+compares UnsignedGreaterOrEqual bytes operand = is_less operand bytes || bytes_eq bytes operand
+compares SignedLessOrEqual bytes operand =
+    is_less (raised bytes) (raised operand) || bytes_eq bytes operand
+compares UnsignedLessOrEqual bytes operand = is_less bytes operand || bytes_eq bytes operand
 compares BitSet bytes operand = has_set bytes operand
 compares BitClear bytes operand = has_clear bytes operand

@@ -43,10 +43,10 @@ fn has_set(bytes: &[u8], operand: &[u8]) -> bool
     ensures { result ≡ has_set bytes.now operand.now }
 {
     let [byte, bytes @ ..] = bytes else {
-        return true;
+        return operand.is_empty();
     };
     let [mask, operand @ ..] = operand else {
-        return true;
+        return false;
     };
     byte & mask == *mask && has_set(bytes, operand)
 }
@@ -56,10 +56,10 @@ fn has_clear(bytes: &[u8], operand: &[u8]) -> bool
     ensures { result ≡ has_clear bytes.now operand.now }
 {
     let [byte, bytes @ ..] = bytes else {
-        return true;
+        return operand.is_empty();
     };
     let [mask, operand @ ..] = operand else {
-        return true;
+        return false;
     };
     byte & mask == 0 && has_clear(bytes, operand)
 }
@@ -76,10 +76,12 @@ pub(crate) fn compares(operation: Operation, bytes: &[u8], operand: &[u8]) -> bo
         Operation::UnsignedGreater => is_less(operand, bytes),
         Operation::SignedLess => is_signed_less(bytes, operand),
         Operation::UnsignedLess => is_less(bytes, operand),
-        Operation::SignedGreaterOrEqual => !is_signed_less(bytes, operand),
-        Operation::UnsignedGreaterOrEqual => !is_less(bytes, operand),
-        Operation::SignedLessOrEqual => !is_signed_less(operand, bytes),
-        Operation::UnsignedLessOrEqual => !is_less(operand, bytes),
+        Operation::SignedGreaterOrEqual => {
+            is_signed_less(operand, bytes) || is_equal(bytes, operand)
+        }
+        Operation::UnsignedGreaterOrEqual => is_less(operand, bytes) || is_equal(bytes, operand),
+        Operation::SignedLessOrEqual => is_signed_less(bytes, operand) || is_equal(bytes, operand),
+        Operation::UnsignedLessOrEqual => is_less(bytes, operand) || is_equal(bytes, operand),
         Operation::BitSet => has_set(bytes, operand),
         Operation::BitClear => has_clear(bytes, operand),
     }

@@ -13,6 +13,7 @@ ghost use Rattle.tpm_session.specs.declared.sessions.Sessions.{Sessions as Sessi
 use crate::fixed::Fixed;
 use crate::objects::Objects;
 use std::alloc::Global;
+use tpm_nv::Indices;
 use tpm_object::Object;
 use tpm_places::Places;
 use tpm_session::{Session, Sessions};
@@ -29,6 +30,9 @@ pub trait Keep: Drop + Sized {
     /// The places of its objects.
     type Ob: Places<Object, 8>;
 
+    /// Its NV indices.
+    type Nv: Indices;
+
     /// The record.
     ghost record_of: { Self → Record };
 
@@ -40,6 +44,9 @@ pub trait Keep: Drop + Sized {
 
     /// The keep with other objects.
     ghost with_objects: { Self → ObjectsParts Self.Ob → Self };
+
+    /// The keep with other NV indices.
+    ghost with_nv: { Self → Self.Nv → Self };
 
     /// Whether memory can be refused where the record grows.
     ghost can_refuse: { Bool };
@@ -83,6 +90,16 @@ pub trait Keep: Drop + Sized {
             (with_objects self.entry.now)) }
         ensures value { objects_of Self.Ob.places result.now ≡ (record_of self.old).objects };
 
+    /// The NV indices.
+    fn nv(&self) -> &Self::Nv
+        ensures { Self.Nv.contents result.now ≡ (record_of self.now).nv };
+
+    /// The NV indices, to be changed.
+    fn nv_mut(&mut self) -> &mut Self::Nv
+        ensures* writes_back { sem 𝓛 (Lends Self.row Self.Nv.row self.entry result
+            (with_nv self.entry.now)) }
+        ensures value { Self.Nv.contents result.now ≡ (record_of self.old).nv };
+
     /// What is written to the fixed part is its place in the record.
     ghost fixed_written: { (keep : Self) (fixed : FixedParts)
         → record_of (with_fixed keep fixed) ≡ record (record_of keep) { fixed = fixed } };
@@ -97,8 +114,14 @@ pub trait Keep: Drop + Sized {
         → record_of (with_objects keep objects)
         ≡ record (record_of keep) { objects = objects_of Self.Ob.places objects } };
 
-    /// Memory can be refused where the sessions can be refused it, or the objects.
+    /// And to the NV indices.
+    ghost nv_written: { (keep : Self) (nv : Self.Nv)
+        → record_of (with_nv keep nv) ≡ record (record_of keep) { nv = Self.Nv.contents nv } };
+
+    /// Memory can be refused where the sessions can be refused it, the objects, or the NV indices.
     ghost sessions_can_refuse: { Self.Se.can_refuse ≡ true → can_refuse ≡ true };
 
     ghost objects_can_refuse: { Self.Ob.can_refuse ≡ true → can_refuse ≡ true };
+
+    ghost nv_can_refuse: { Self.Nv.can_refuse ≡ true → can_refuse ≡ true };
 }

@@ -4,27 +4,30 @@ use crate::fixed::Fixed;
 use crate::keep::{Keep, NoMemory};
 use crate::objects::Objects;
 use std::alloc::Global;
+use tpm_nv::{Indices, ListIndices, SlotIndices};
 use tpm_object::Object;
 use tpm_places::{FixedPlaces, ListPlaces, Places};
 use tpm_session::{Session, Sessions};
 
-/// The record, with its sessions and its objects in containers of any kind.
+/// The record, with its sessions, its objects and its NV indices in containers of any kind.
 #[derive(Drop)]
-pub struct Kept<S: Places<Session, 16>, O: Places<Object, 8>> {
+pub struct Kept<S: Places<Session, 16>, O: Places<Object, 8>, N: Indices> {
     fixed: Fixed,
     sessions: Sessions<S>,
     objects: Objects<O>,
+    nv: N,
 }
 
-/// The record in lists that grow. Memory can be refused to a session or to an object.
-pub type ListKeep = Kept<ListPlaces<Session, 16>, ListPlaces<Object, 8>>;
+/// The record in lists that grow. Memory can be refused to a session, to an object or to an NV
+/// index.
+pub type ListKeep = Kept<ListPlaces<Session, 16>, ListPlaces<Object, 8>, ListIndices>;
 
 /// The record in places that are as many as there can be. No memory is ever taken, so none can be
-/// refused. It is some ten thousand bytes long: it is made once, and lent.
-pub type SlotKeep = Kept<FixedPlaces<Session, 16>, FixedPlaces<Object, 8>>;
+/// refused. It is some twenty-two thousand bytes long: it is made once, and lent.
+pub type SlotKeep = Kept<FixedPlaces<Session, 16>, FixedPlaces<Object, 8>, SlotIndices>;
 
-impl<S: Places<Session, 16>, O: Places<Object, 8>> Keep for Kept<S, O> {
-    ghost use Rattle.std.specs.Prelude.{◌||◌, false, refl};
+impl<S: Places<Session, 16>, O: Places<Object, 8>, N: Indices> Keep for Kept<S, O, N> {
+    ghost use Rattle.std.specs.Prelude.{◌≡◌, ◌||◌, false, refl, true};
     ghost use Rattle.std.proofs.lemmas.Bool.{or_right};
     ghost use Rattle.tpm_record.specs.Kept.{kept_record};
 
@@ -32,7 +35,9 @@ impl<S: Places<Session, 16>, O: Places<Object, 8>> Keep for Kept<S, O> {
 
     type Ob = O;
 
-    ghost record_of = { kept_record S.places O.places };
+    type Nv = N;
+
+    ghost record_of = { kept_record S.places O.places N.contents };
 
     ghost with_fixed = { λ keep fixed. record keep { fixed = fixed } };
 
@@ -40,15 +45,18 @@ impl<S: Places<Session, 16>, O: Places<Object, 8>> Keep for Kept<S, O> {
 
     ghost with_objects = { λ keep objects. record keep { objects = objects } };
 
-    ghost can_refuse = { S.can_refuse || O.can_refuse };
+    ghost with_nv = { λ keep nv. record keep { nv = nv } };
+
+    ghost can_refuse = { S.can_refuse || (O.can_refuse || N.can_refuse) };
 
     ghost empty_can_refuse = { false };
 
-    fn empty(alloc: Global) -> Result<Kept<S, O>, NoMemory> {
+    fn empty(alloc: Global) -> Result<Kept<S, O, N>, NoMemory> {
         Ok(Kept {
             fixed: Fixed::manufactured(&[0; 256]),
             sessions: Sessions::new(alloc),
             objects: Objects::new(alloc),
+            nv: N::new(alloc),
         })
     }
 
@@ -76,13 +84,26 @@ impl<S: Places<Session, 16>, O: Places<Object, 8>> Keep for Kept<S, O> {
         &mut self.objects
     }
 
+    fn nv(&self) -> &N {
+        &self.nv
+    }
+
+    fn nv_mut(&mut self) -> &mut N {
+        &mut self.nv
+    }
+
     ghost fixed_written = { λ keep fixed. refl };
 
     ghost sessions_written = { λ keep sessions. refl };
 
     ghost objects_written = { λ keep objects. refl };
 
+    ghost nv_written = { λ keep nv. refl };
+
     ghost sessions_can_refuse = { λ e. rw e refl };
 
-    ghost objects_can_refuse = { or_right _ _ };
+    ghost objects_can_refuse = { λ e.
+        let may : (O.can_refuse || N.can_refuse) ≡ true = rw e refl in or_right _ _ may };
+
+    ghost nv_can_refuse = { λ e. or_right _ _ (or_right _ _ e) };
 }

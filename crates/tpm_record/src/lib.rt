@@ -5,10 +5,11 @@
 //! [`keep::Keep`] is the trait, [`kept::Kept`] the way of keeping the record, in containers of any
 //! kind: [`kept::ListKeep`] in lists that grow, [`kept::SlotKeep`] in places that are as many as
 //! there can be, which takes no memory. [`fixed::Fixed`] is the part that does not grow,
-//! [`objects::Objects`] are the loaded objects. [`tick::tick`] and [`cycle::power_cycle`] are what
-//! happens to a record whatever the command, [`entity`] what a handle's entity is. It stands on
-//! `tpm_pcr`, on `tpm_session` and `tpm_object`, and on `tpm_places` for the places of both. It
-//! promises for each keep the equations of `specs/` on its record.
+//! [`objects::Objects`] are the loaded objects; NV indices are tpm_nv's. [`tick::tick`] and
+//! [`cycle::power_cycle`] are what happens to a record whatever the command, [`entity`] what a
+//! handle's entity is. It stands on `tpm_pcr`, `tpm_session`, `tpm_object` and `tpm_nv`, and on
+//! `tpm_places` for the places of sessions and objects. It promises for each keep the equations of
+//! `specs/` on its record.
 
 pub mod cycle;
 pub mod entity;

@@ -15,6 +15,10 @@ mod ciphers;
 #[cfg(test)]
 mod digests;
 #[cfg(test)]
+mod nv_indices;
+#[cfg(test)]
+mod nv_public;
+#[cfg(test)]
 mod objects;
 #[cfg(test)]
 mod policies;

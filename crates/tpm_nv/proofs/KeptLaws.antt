@@ -1,0 +1,362 @@
+-- What is kept, head by head and byte by byte, after a change of one index: that it is still as it has to be, and
+-- which indices it shows.
+use Rattle.std.proofs.Common.{◌≡◌, ◌≢◌, ℕ, ◌+◌, ◌-◌, ◌<◌, ◌≤◌, ◌^◌, Bool, true, false, cond, List, [], ◌∷◌, ◌++◌, length, take, drop, replicate, Option, Some, None, refl, sym, ap, subst, ◌∙◌, arith, length-append, length-drop}
+use Rattle.std.specs.Prelude.{◌&&◌, not, nat_lt, nat_le, Ok, IfNone, IfSome, IsSomeAnd, option_copied, option_map}
+use Rattle.std.specs.Borrow.{Bor}
+use Rattle.std.proofs.lemmas.Bool.{eqb-true, leb-true, ltb-true}
+use Rattle.std.proofs.lemmas.List.{append-nil, length-replicate, length-take-le, nil_from_length}
+use Rattle.tpm_bytes.specs.Reading.{refused_if}
+use Rattle.tpm_bytes.proofs.Fields.{bind_ok, passed}
+use Rattle.tpm_ascending.specs.Ascending.{Ascends, Entries, at_key, changed_key, with_key, without_key}
+use Rattle.tpm_ascending.proofs.AscendingLaws.{changed_ascends, changed_length, put_ascends, put_length, removed_ascends, removed_few}
+use Rattle.tpm_types.specs.AuthValue.{IsAuthValue}
+use Rattle.tpm_types.specs.declared.handle.Handle.{Handle}
+use Rattle.tpm_types_nv.specs.NvAttributes.{IsNvAttributes, attribute_bit, has, index_type, is_of, type_number, with_attribute}
+use Rattle.tpm_types_nv.specs.NvType.{nv_type_named, nv_type_number}
+use Rattle.tpm_types_nv.specs.declared.nv_attributes.NvAttribute.{NvAttribute}
+use Rattle.tpm_types_nv.specs.declared.nv_attributes.NvAttribute.TheVariants as attribute
+use Rattle.tpm_types_nv.specs.declared.nv_attributes.NvAttributes.{NvAttributes}
+use Rattle.tpm_types_nv.specs.declared.nv_public.NvPublic.{NvPublic}
+use Rattle.tpm_types_nv.specs.declared.nv_type.NvType.{NvType}
+use Rattle.tpm_types_nv.specs.declared.nv_type.NvType.TheVariants as type
+use Rattle.tpm_types_nv.proofs.AttributeLaws.{are_attributes}
+use Rattle.tpm_nv.specs.Access.{data_or, marked, with_data, writable}
+use Rattle.tpm_nv.specs.declared.fault.NvFault.TheVariants.{Locked, Attributes}
+use Rattle.tpm_nv.specs.Bytes.{closed_up, filled, piece_of, put_over}
+use Rattle.tpm_nv.specs.Definition.{has_type_size, is_type_size}
+use Rattle.tpm_nv.specs.Head.{AreHeads, AreKept, IsHead, IsIndexOf, head_of, index_with, indices_of, size_of, start_of, total, with_attributes}
+use Rattle.tpm_nv.specs.Index.{NvContents, NvIndex, changed_index, has_room, index_at}
+use Rattle.tpm_nv.specs.IsContents.{AreIndices, IsContents}
+use Rattle.tpm_nv.specs.declared.head.Head.{Head}
+use Rattle.tpm_nv.proofs.Cuts.{ascends_among, bytes_among, changed_among, found_among, head_at, heads_changed, heads_put, heads_removed, length_among, length_put, none_among, piece_fits, put_anew, put_back, put_within, start_fits, total_changed, total_put, total_removed}
+
+-- ---- what a lookup of a head says of the index
+
+pub absent_is : (es : Entries Head) (row : List ℕ) (key : ℕ) (found : Option (Bor Head)) → option_copied found ≡ at_key es key → IfNone found (at_key (indices_of es row) key ≡ None)
+absent_is es row key None is = none_among es row key (sym is)
+absent_is es row key (Some h) is = tt
+
+pub there_is : (es : Entries Head) (row : List ℕ) (count : ℕ) (handle : Handle) (found : Option (Bor Head)) → AreKept es row → option_copied found ≡ at_key es handle.number → IfSome found (λ h. (bytes : List ℕ) × IsIndexOf (record { indices = indices_of es row; max_count = count }) handle h.now bytes)
+there_is es row count handle None kept is = tt
+there_is es row count handle (Some h) kept is =
+    let key = handle.number in
+    let s = start_of es key in
+    let n = size_of h.now in
+    let fits : s + n ≤ length row = omega (arith, kept.whole, piece_fits es key h.now kept.ascends (sym is)) in (
+      piece_of s n row,
+      record {
+        long = length-take-le n (drop s row) (omega (arith, fits, length-drop s row));
+        sized = (head_at es key h.now kept.ascends kept.each (sym is)).sized;
+        found = found_among es row key h.now kept.ascends (sym is);
+      },
+    )
+
+-- what is known of the index that is there is known of this one
+pub known_of : (P : NvIndex → Type 0) (found : Option NvIndex) (x : NvIndex) → found ≡ Some x → IsSomeAnd found P → P x
+known_of P None x is known = absurd cc
+known_of P (Some y) x is known = let same : y ≡ x = cc in subst P same known
+
+-- where the one index changes so, the contents do
+pub contents_changed : (es new : Entries Head) (row after : List ℕ) (count : ℕ) (handle : Handle) (shown : NvContents) (x : NvIndex) (f : NvIndex → NvIndex) → (let view : NvContents = record { indices = indices_of es row; max_count = count } in view ≡ shown) → at_key (indices_of es row) handle.number ≡ Some x → indices_of new after ≡ changed_key (indices_of es row) handle.number (f x) → (index : NvIndex) → index_at shown handle ≡ Some index → (let view : NvContents = record { indices = indices_of new after; max_count = count } in view ≡ changed_index shown handle (f index))
+contents_changed es new row after count handle shown x f view found seen index is =
+    let there : at_key (indices_of es row) handle.number ≡ Some index = ap (λ (s : NvContents). index_at s handle) view ∙ is in
+    let same : x ≡ index = cc in
+    let whole : NvContents = record { indices = indices_of es row; max_count = count } in
+    let changed : indices_of new after ≡ changed_key (indices_of es row) handle.number (f index) = seen ∙ ap (λ (i : NvIndex). changed_key (indices_of es row) handle.number (f i)) same in
+    let made : List (ℕ × NvIndex) → NvContents = λ l. record { indices = l; max_count = count } in
+    ap made changed ∙ ap (λ (s : NvContents). changed_index s handle (f index)) view
+
+-- ---- attributes of a head
+
+type_size_is : (p q : NvPublic) (type : Option NvType) → p.data_size ≡ q.data_size → p.name_alg ≡ q.name_alg → is_type_size p type ≡ is_type_size q type
+type_size_is p q (Some type.Ordinary) size alg = cc
+type_size_is p q (Some type.Counter) size alg = cc
+type_size_is p q (Some type.Bits) size alg = cc
+type_size_is p q (Some type.Extend) size alg = cc
+type_size_is p q None size alg = refl
+
+pub is_head_with : (key : ℕ) (h : Head) (a : NvAttributes) → IsHead key h → IsNvAttributes a → index_type a ≡ index_type h.public.attributes → IsHead key (with_attributes h a)
+is_head_with key h a is named same = record {
+  named = is.named;
+  public = record { nv_index = is.public.nv_index; attributes = named; auth_policy = is.public.auth_policy; data_size = is.public.data_size };
+  sized =
+      type_size_is (with_attributes h a).public h.public (index_type a) refl refl
+      ∙ ap (is_type_size h.public) same
+      ∙ is.sized;
+  auth_value = is.auth_value;
+}
+
+pub is_head_authorized : (key : ℕ) (h : Head) (value : List ℕ) → IsHead key h → IsAuthValue value → IsHead key (record h { auth_value = value })
+is_head_authorized key h value is fits = record { named = is.named; public = is.public; sized = is.sized; auth_value = fits }
+
+-- ---- a head changed
+
+pub kept_changed : (es : Entries Head) (row after : List ℕ) (key : ℕ) (h g : Head) → AreKept es row → at_key es key ≡ Some h → IsHead key g → size_of g ≡ size_of h → length after ≡ length row → AreKept (changed_key es key g) after
+kept_changed es row after key h g kept there is same_size same_length =
+    let many = changed_length es key g in
+    let sum = total_changed es key h g kept.ascends there same_size in
+    record {
+      ascends = changed_ascends es key g kept.ascends;
+      few = omega (arith, many, kept.few);
+      whole = same_length ∙ kept.whole ∙ sym sum;
+      small = omega (arith, sum, kept.small);
+      each = heads_changed es key g kept.each is;
+    }
+
+-- where its bytes stay
+pub seen_changed : (es : Entries Head) (row : List ℕ) (key : ℕ) (h g : Head) → AreKept es row → at_key es key ≡ Some h → size_of g ≡ size_of h → indices_of (changed_key es key g) row ≡ changed_key (indices_of es row) key (index_with g (piece_of (start_of es key) (size_of h) row))
+seen_changed es row key h g kept there same_size =
+    let s = start_of es key in
+    let n = size_of h in
+    let fits : s + n ≤ length row = omega (arith, kept.whole, piece_fits es key h kept.ascends there) in
+    let many : length (piece_of s n row) ≡ n = length-take-le n (drop s row) (omega (arith, fits, length-drop s row)) in
+    ap (λ (l : List ℕ). indices_of (changed_key es key g) l) (sym (put_back s n row fits))
+    ∙ sym (changed_among es row (piece_of s n row) key h g kept.ascends (omega (arith, kept.whole)) there same_size many)
+
+-- ---- an attribute set
+
+other_bit : (a : NvAttributes) (one : NvAttribute) → attribute_bit one ≢ attribute_bit attribute.Written → has (with_attribute a one) attribute.Written ≡ has a attribute.Written
+other_bit a one apart = are_attributes.set_others a one attribute.Written (λ same. apart (sym same))
+
+pub marked_is : (h : Head) (bytes : List ℕ) (one : NvAttribute) → attribute_bit one ≢ attribute_bit attribute.Written → index_with (with_attributes h (with_attribute h.public.attributes one)) bytes ≡ marked (index_with h bytes) one
+marked_is h bytes one apart = rw (other_bit h.public.attributes one apart) refl
+
+pub is_head_marked : (key : ℕ) (h : Head) (one : NvAttribute) → IsHead key h → IsHead key (with_attributes h (with_attribute h.public.attributes one))
+is_head_marked key h one is =
+    let a = h.public.attributes in
+    is_head_with key h (with_attribute a one) is (are_attributes.set_named a one is.public.attributes) (are_attributes.set_type a one)
+
+-- ---- data put
+
+pub length_filled : (is_written : Bool) (start size byte : ℕ) (row : List ℕ) → start + size ≤ length row → length (filled is_written start size byte row) ≡ length row
+length_filled true start size byte row fits = refl
+length_filled false start size byte row fits =
+    length_put start (replicate size byte) row (omega (arith, fits, length-replicate {A = ℕ} size byte))
+
+-- what then is put is put over the piece that was there or that was filled
+filled_put : (is_written : Bool) (start size offset byte : ℕ) (bytes row : List ℕ) → start + size ≤ length row → offset + length bytes ≤ size → put_over (start + offset) bytes (filled is_written start size byte row) ≡ put_over start (put_over offset bytes (cond is_written (piece_of start size row) (replicate size byte))) row
+filled_put true start size offset byte bytes row fits within = put_within start size offset bytes row fits within
+filled_put false start size offset byte bytes row fits within =
+    let many = length-replicate {A = ℕ} size byte in
+    put_anew start offset bytes (replicate size byte) row (omega (arith, many, fits)) (omega (arith, many, within))
+
+abbrev pub written_head : Head → Head
+written_head h = with_attributes h (with_attribute h.public.attributes attribute.Written)
+
+-- the data of an index whose head is this, or what is there before it is written
+data_is : (h : Head) (bytes : List ℕ) (byte : ℕ) → data_or byte (index_with h bytes) ≡ cond (has h.public.attributes attribute.Written) bytes (replicate (size_of h) byte)
+data_is h bytes byte = by (has h.public.attributes attribute.Written)
+  where
+    by : (b : Bool) → cond b (cond b bytes []) (replicate (size_of h) byte) ≡ cond b bytes (replicate (size_of h) byte)
+    by true = refl
+    by false = refl
+
+pub seen_put : (es : Entries Head) (row bytes : List ℕ) (key offset byte : ℕ) (h : Head) → AreKept es row → at_key es key ≡ Some h → offset + length bytes ≤ size_of h → indices_of (changed_key es key (written_head h)) (put_over (start_of es key + offset) bytes (filled (has h.public.attributes attribute.Written) (start_of es key) (size_of h) byte row)) ≡ changed_key (indices_of es row) key (with_data (index_with h (piece_of (start_of es key) (size_of h) row)) (put_over offset bytes (data_or byte (index_with h (piece_of (start_of es key) (size_of h) row)))))
+seen_put es row bytes key offset byte h kept there within =
+    let s = start_of es key in
+    let n = size_of h in
+    let b = has h.public.attributes attribute.Written in
+    let fits : s + n ≤ length row = omega (arith, kept.whole, piece_fits es key h kept.ascends there) in
+    let old = piece_of s n row in
+    let under = cond b old (replicate n byte) in
+    let many : length old ≡ n = length-take-le n (drop s row) (omega (arith, fits, length-drop s row)) in
+    let long : length under ≡ n = each b old (replicate n byte) n many (length-replicate {A = ℕ} n byte) in
+    let piece = put_over offset bytes under in
+    let size : length piece ≡ n = length_put offset bytes under (omega (arith, long, within)) ∙ long in
+    let seen = changed_among es row piece key h (written_head h) kept.ascends (omega (arith, kept.whole)) there refl size in
+    ap (λ (l : List ℕ). indices_of (changed_key es key (written_head h)) l) (filled_put b s n offset byte bytes row fits within)
+    ∙ sym seen
+    ∙ ap (λ (i : NvIndex). changed_key (indices_of es row) key i) (now_written piece ∙ ap (λ (l : List ℕ). with_data (index_with h old) (put_over offset bytes l)) (sym (data_is h old byte)))
+  where
+    each : (b : Bool) (xs ys : List ℕ) (n : ℕ) → length xs ≡ n → length ys ≡ n → length (cond b xs ys) ≡ n
+    each true xs ys n x y = x
+    each false xs ys n x y = y
+
+    now_written : (piece : List ℕ) → index_with (written_head h) piece ≡ with_data (index_with h (piece_of (start_of es key) (size_of h) row)) piece
+    now_written piece = rw (are_attributes.set_there h.public.attributes attribute.Written) refl
+
+pub length_put_filled : (es : Entries Head) (row bytes : List ℕ) (key offset byte : ℕ) (h : Head) → AreKept es row → at_key es key ≡ Some h → offset + length bytes ≤ size_of h → length (put_over (start_of es key + offset) bytes (filled (has h.public.attributes attribute.Written) (start_of es key) (size_of h) byte row)) ≡ length row
+length_put_filled es row bytes key offset byte h kept there within =
+    let s = start_of es key in
+    let n = size_of h in
+    let b = has h.public.attributes attribute.Written in
+    let fits : s + n ≤ length row = omega (arith, kept.whole, piece_fits es key h kept.ascends there) in
+    let long = length_filled b s n byte row fits in
+    length_put (s + offset) bytes (filled b s n byte row) (omega (arith, long, fits, within)) ∙ long
+
+pub kept_put : (es : Entries Head) (row bytes : List ℕ) (key offset byte : ℕ) (h : Head) → AreKept es row → at_key es key ≡ Some h → offset + length bytes ≤ size_of h → AreKept (changed_key es key (written_head h)) (put_over (start_of es key + offset) bytes (filled (has h.public.attributes attribute.Written) (start_of es key) (size_of h) byte row))
+kept_put es row bytes key offset byte h kept there within =
+    kept_changed es row _ key h (written_head h) kept there
+    (is_head_marked key h attribute.Written (head_at es key h kept.ascends kept.each there))
+    refl
+    (length_put_filled es row bytes key offset byte h kept there within)
+
+-- a piece that is known by other names
+pub put_is : (after bytes row : List ℕ) (is_written : Bool) (start size offset byte from many : ℕ) (b : Bool) → after ≡ put_over (from + offset) bytes (filled b from many byte row) → b ≡ is_written → from ≡ start → many ≡ size → after ≡ put_over (start + offset) bytes (filled is_written start size byte row)
+put_is after bytes row is_written start size offset byte from many b is written from_is size_is =
+    is
+    ∙ ap (λ (c : Bool). put_over (from + offset) bytes (filled c from many byte row)) written
+    ∙ ap (λ (s : ℕ). put_over (s + offset) bytes (filled is_written s many byte row)) from_is
+    ∙ ap (λ (n : ℕ). put_over (start + offset) bytes (filled is_written start n byte row)) size_is
+
+-- ---- lookups
+
+pub none_at : (es : Entries Head) (row : List ℕ) (count : ℕ) (handle : Handle) (shown : NvContents) → (let view : NvContents = record { indices = indices_of es row; max_count = count } in view ≡ shown) → at_key es handle.number ≡ None → index_at shown handle ≡ None
+none_at es row count handle shown view none = rw (← view) (none_among es row handle.number none)
+
+pub some_at : (es : Entries Head) (row : List ℕ) (count : ℕ) (handle : Handle) (shown : NvContents) (h : Head) → (let view : NvContents = record { indices = indices_of es row; max_count = count } in view ≡ shown) → AreKept es row → at_key es handle.number ≡ Some h → index_at shown handle ≡ Some (index_with h (piece_of (start_of es handle.number) (size_of h) row))
+some_at es row count handle shown h view kept there = rw (← view) (found_among es row handle.number h kept.ascends there)
+
+pub piece_inside : (es : Entries Head) (row : List ℕ) (key : ℕ) (h : Head) → AreKept es row → at_key es key ≡ Some h → start_of es key + size_of h ≤ length row
+piece_inside es row key h kept there = omega (arith, kept.whole, piece_fits es key h kept.ascends there)
+
+pub seen_head : (es : Entries Head) (row : List ℕ) (key : ℕ) (found : Option (Bor Head)) → Ascends es → option_copied found ≡ at_key es key → option_copied found ≡ option_map head_of (at_key (indices_of es row) key)
+seen_head es row key None up is = rw (none_among es row key (sym is)) refl
+seen_head es row key (Some h) up is = rw (found_among es row key h.now up (sym is)) refl
+
+-- the data of an index that is written are its bytes
+pub bytes_of : (h : Head) (bytes : List ℕ) (index : NvIndex) → index_with h bytes ≡ index → has index.public.attributes attribute.Written ≡ true → bytes ≡ index.bytes
+bytes_of h bytes index same is =
+    let written : has h.public.attributes attribute.Written ≡ true = ap (λ (i : NvIndex). has i.public.attributes attribute.Written) same ∙ is in
+    let first : bytes ≡ cond (has h.public.attributes attribute.Written) bytes [] = rw written refl in
+    first ∙ ap (λ (i : NvIndex). i.bytes) same
+
+-- ---- what holds of all of it
+
+data_many : (b : Bool) (bytes : List ℕ) (n : ℕ) → length bytes ≡ n → length (cond b bytes []) ≡ cond b n 0
+data_many true bytes n is = is
+data_many false bytes n is = refl
+
+indices_are : (es : Entries Head) (row : List ℕ) → total es ≤ length row → AreHeads es → AreIndices (indices_of es row)
+indices_are [] row fits are = tt
+indices_are (e ∷ es) row fits are =
+    let n = size_of e.1 in (
+      record {
+        named = are.0.named;
+        public = are.0.public;
+        sized = are.0.sized;
+        auth_value = are.0.auth_value;
+        data_size = data_many (has e.1.public.attributes attribute.Written) (take n row) n (length-take-le n row (omega (arith, fits)));
+      },
+      indices_are es (drop n row) (omega (arith, fits, length-drop n row)) are.1,
+    )
+
+pub contents_are : (es : Entries Head) (row : List ℕ) (count : ℕ) → AreKept es row → count < 2 ^ 64 → IsContents (record { indices = indices_of es row; max_count = count })
+contents_are es row count kept small = record {
+  ascends = ascends_among es row kept.ascends;
+  few = omega (arith, length_among es row, kept.few);
+  small = omega (arith, bytes_among es row, kept.small);
+  indices = indices_are es row (omega (arith, kept.whole)) kept.each;
+  max_count = small;
+}
+
+-- ---- an index removed
+
+pub kept_removed : (es : Entries Head) (row : List ℕ) (key : ℕ) (h : Head) → AreKept es row → at_key es key ≡ Some h → AreKept (without_key es key) (closed_up (start_of es key) (size_of h) row)
+kept_removed es row key h kept there =
+    let s = start_of es key in
+    let n = size_of h in
+    let fits = piece_inside es row key h kept there in
+    let sum = total_removed es key h kept.ascends there in
+    let many = removed_few es key in
+    record {
+      ascends = removed_ascends es key kept.ascends;
+      few = omega (arith, many, kept.few);
+      whole = omega (arith, sum, kept.whole, fits, length-append (take s row) (drop (s + n) row), length-take-le s row (omega (arith, fits)), length-drop (s + n) row);
+      small = omega (arith, sum, kept.small);
+      each = heads_removed es key kept.each;
+    }
+
+-- ---- room, and an index more
+
+pub room_is : (es : Entries Head) (row : List ℕ) (count size : ℕ) → AreKept es row → has_room (record { indices = indices_of es row; max_count = count }) size ≡ (nat_lt (length es) 32 && nat_le (length row + size) 8192)
+room_is es row count size kept = rw (length_among es row, bytes_among es row, kept.whole) refl
+
+and_both : (a b : Bool) → (a && b) ≡ true → (a ≡ true) × (b ≡ true)
+and_both true b is = (refl, is)
+and_both false b is = absurd cc
+
+pub room_gives : (es : Entries Head) (row : List ℕ) (count size : ℕ) (shown : NvContents) → (let view : NvContents = record { indices = indices_of es row; max_count = count } in view ≡ shown) → AreKept es row → has_room shown size ≡ true → (length es < 32) × (length row + size ≤ 8192)
+room_gives es row count size shown view kept is =
+    let here : (nat_lt (length es) 32 && nat_le (length row + size) 8192) ≡ true = sym (room_is es row count size kept) ∙ ap (λ (s : NvContents). has_room s size) view ∙ is in
+    let both = and_both (nat_lt (length es) 32) (nat_le (length row + size) 8192) here in
+    (ltb-true (length es) 32 both.0, leb-true (length row + size) 8192 both.1)
+
+pub absent_gives : (es : Entries Head) (row : List ℕ) (count : ℕ) (handle : Handle) (shown : NvContents) → (let view : NvContents = record { indices = indices_of es row; max_count = count } in view ≡ shown) → Ascends es → index_at shown handle ≡ None → at_key es handle.number ≡ None
+absent_gives es row count handle shown view up none = by (at_key es handle.number) refl
+  where
+    by : (found : Option Head) → at_key es handle.number ≡ found → found ≡ None
+    by None is = refl
+    by (Some h) is =
+        let there = found_among es row handle.number h up is in
+        let gone : at_key (indices_of es row) handle.number ≡ None = ap (λ (s : NvContents). index_at s handle) view ∙ none in
+        absurd cc
+
+-- the bytes of a new index: its data, or zeros
+abbrev pub padded : ℕ → List ℕ → List ℕ
+padded size bytes = bytes ++ replicate (size - length bytes) 0
+
+pub length_padded : (size : ℕ) (bytes : List ℕ) → length bytes ≤ size → length (padded size bytes) ≡ size
+length_padded size bytes fits =
+    omega (arith, fits, length-append bytes (replicate (size - length bytes) 0), length-replicate {A = ℕ} (size - length bytes) 0)
+
+data_padded : (is_written : Bool) (size : ℕ) (bytes : List ℕ) → length bytes ≡ cond is_written size 0 → cond is_written (padded size bytes) [] ≡ bytes
+data_padded true size bytes is =
+    let none : size - length bytes ≡ 0 = omega (arith, is) in
+    ap (λ (n : ℕ). bytes ++ replicate n 0) none ∙ append-nil bytes
+data_padded false size bytes is = sym (nil_from_length bytes is)
+
+data_fits : (is_written : Bool) (size : ℕ) (bytes : List ℕ) → length bytes ≡ cond is_written size 0 → length bytes ≤ size
+data_fits true size bytes is = omega (arith, is)
+data_fits false size bytes is = omega (arith, is)
+
+pub bytes_fit : (p : NvPublic) (bytes : List ℕ) → length bytes ≡ cond (has p.attributes attribute.Written) p.data_size 0 → length bytes ≤ p.data_size
+bytes_fit p bytes is = data_fits (has p.attributes attribute.Written) p.data_size bytes is
+
+pub index_padded : (h : Head) (bytes : List ℕ) → length bytes ≡ cond (has h.public.attributes attribute.Written) (size_of h) 0 → index_with h (padded (size_of h) bytes) ≡ record { public = h.public; auth_value = h.auth_value; bytes = bytes }
+index_padded h bytes is =
+    let made : List ℕ → NvIndex = λ l. record { public = h.public; auth_value = h.auth_value; bytes = l } in
+    ap made (data_padded (has h.public.attributes attribute.Written) (size_of h) bytes is)
+
+pub kept_more : (es : Entries Head) (row piece : List ℕ) (key : ℕ) (h : Head) → AreKept es row → at_key es key ≡ None → length es < 32 → length row + size_of h ≤ 8192 → length piece ≡ size_of h → IsHead key h → AreKept (with_key es key h) (take (start_of es key) row ++ (piece ++ drop (start_of es key) row))
+kept_more es row piece key h kept none few fits size is =
+    let s = start_of es key in
+    let inside = start_fits es key in
+    let many = put_length es key h in
+    let sum = total_put es key h in
+    record {
+      ascends = put_ascends es key h kept.ascends none;
+      few = omega (arith, many, few);
+      whole = omega (arith, sum, kept.whole, size, inside, length-append (take s row) (piece ++ drop s row), length-append piece (drop s row), length-take-le s row (omega (arith, kept.whole, inside)), length-drop s row);
+      small = omega (arith, sum, kept.whole, fits);
+      each = heads_put es key h kept.each is;
+    }
+
+-- ---- what an index has as its type says
+
+pub data_long : (h : Head) (bytes : List ℕ) (byte : ℕ) → length bytes ≡ size_of h → length (data_or byte (index_with h bytes)) ≡ size_of h
+data_long h bytes byte long = ap length (data_is h bytes byte) ∙ by (has h.public.attributes attribute.Written)
+  where
+    by : (b : Bool) → length (cond b bytes (replicate (size_of h) byte)) ≡ size_of h
+    by true = long
+    by false = length-replicate {A = ℕ} (size_of h) byte
+
+not_false : (b : Bool) → not b ≡ false → b ≡ true
+not_false true e = refl
+not_false false e = absurd cc
+
+pub type_of_writable : (type : NvType) (index : NvIndex) → writable type index ≡ Ok tt → is_of index.public.attributes type ≡ true
+type_of_writable type index e =
+    let a = bind_ok (refused_if (has index.public.attributes attribute.WriteLocked) Locked) (λ _. refused_if (not (is_of index.public.attributes type)) Attributes) tt e in
+    not_false (is_of index.public.attributes type) (passed (not (is_of index.public.attributes type)) Attributes tt a.2)
+
+-- the size of the data by the type
+pub size_of_type : (p : NvPublic) (kind : NvType) → is_of p.attributes kind ≡ true → has_type_size p ≡ true → is_type_size p (Some kind) ≡ true
+size_of_type p kind is sized =
+    let number : type_number p.attributes ≡ nv_type_number kind = eqb-true _ _ is in
+    let named : index_type p.attributes ≡ Some kind = ap nv_type_named number ∙ again kind in
+    ap (is_type_size p) (sym named) ∙ sized
+  where
+    again : (kind : NvType) → nv_type_named (nv_type_number kind) ≡ Some kind
+    again type.Ordinary = refl
+    again _ = refl

@@ -1,0 +1,6 @@
+pub mod ByteLaws
+pub mod DefinitionLaws
+pub mod Cuts
+pub mod KeptLaws
+pub mod RowLaws
+pub mod StartupLaws

@@ -1,0 +1,6 @@
+use Rattle.tpm_nv.proofs.KeptLaws.{contents_are}
+use Rattle.tpm_nv.proofs.stored_indices.StoredIndicesIndices.read_sizes.Goals as goal
+
+pub returns : goal.returns
+returns g c =
+    rw (← c.self.view_is) (contents_are (g.H.Ascending.entries c.self.inside.heads) (g.R.Row.bytes c.self.inside.row) c.self.inside.max_count c.self.invariant c.count_fits.ensures)

@@ -1,0 +1,164 @@
+-- What reads, changes and locks an NV index. TPM 2.0 Library, Part 3, sections 31.7 to 31.15
+-- (TPM2_NV_Write, NV_Increment, NV_Extend, NV_SetBits, NV_WriteLock, NV_Read, NV_ReadLock and
+-- NV_ChangeAuth), and Part 1, section 37. Who may do it is no matter of this page.
+use Rattle.std.specs.Prelude.{◌≡◌, ℕ, ◌+◌, ◌^◌, ◌==◌, ◌&&◌, ◌||◌, max, nat_lt, nat_le, not, bit_or}
+use Rattle.std.specs.Prelude.{Bool, List, ◌++◌, length, replicate, Result, Ok, Err, ok_or, if◌then◌else◌}
+use Rattle.std.specs.Borrow.{Bor}
+use Rattle.std.specs.Int.{w64, from_be_bytes, to_be_bytes}
+use Rattle.tpm_bytes.specs.Reading.{◌>>=◌, refused_if}
+use Rattle.tpm_mac.specs.Digest.{hash_of}
+use Rattle.tpm_types.specs.declared.handle.Handle.{Handle}
+use Rattle.tpm_types_nv.specs.NvAttributes.{has, is_of, with_attribute}
+use Rattle.tpm_types_nv.specs.declared.nv_attributes.NvAttribute.{NvAttribute}
+use Rattle.tpm_types_nv.specs.declared.nv_attributes.NvAttribute.TheVariants as attribute
+use Rattle.tpm_types_nv.specs.declared.nv_type.NvType.{NvType}
+use Rattle.tpm_types_nv.specs.declared.nv_type.NvType.TheVariants as type
+use Rattle.tpm_nv.specs.Bytes.{piece_of, put_over}
+use Rattle.tpm_nv.specs.Index.{NvContents, NvIndex, changed_index, index_at}
+use Rattle.tpm_nv.specs.declared.fault.NvFault.{NvFault}
+use Rattle.tpm_nv.specs.declared.fault.NvFault.TheVariants.{Undefined, Locked, Attributes, Range, Uninitialized}
+
+-- A call gave the contents that it is to give, or was refused with its fault and changed nothing.
+abbrev pub Changes : Result NvContents NvFault
+    → NvContents → Result (Unit {0}) NvFault → NvContents
+    → Type 0
+Changes answer old (Ok done) new = answer ≡ Ok new
+Changes answer old (Err fault) new = (answer ≡ Err fault) × (new ≡ old)
+
+-- the index of a handle, which is to be there
+abbrev pub index_or_fault : NvContents → Handle → Result NvIndex NvFault
+index_or_fault contents handle = ok_or (index_at contents handle) Undefined
+
+-- ---- what an index has
+
+abbrev pub index_has : NvIndex → NvAttribute → Bool
+index_has index attribute = has index.public.attributes attribute
+
+-- with an attribute more
+abbrev pub marked : NvIndex → NvAttribute → NvIndex
+marked index attribute =
+    record index {
+      public = record index.public {
+        attributes = with_attribute index.public.attributes attribute;
+      };
+    }
+
+-- with these data, and so written
+abbrev pub with_data : NvIndex → List ℕ → NvIndex
+with_data index bytes = record (marked index attribute.Written) { bytes = bytes }
+
+-- its data, or before its first write this byte, as often as it will have bytes
+abbrev pub data_or : ℕ → NvIndex → List ℕ
+data_or byte index =
+    if index_has index attribute.Written then index.bytes else replicate index.public.data_size byte
+
+-- the number that its data are, or before its first write this one
+abbrev pub number_or : ℕ → NvIndex → ℕ
+number_or number index =
+    if index_has index attribute.Written then from_be_bytes w64 index.bytes else number
+
+-- ---- writing
+
+-- whether a command for this type may write an index: it is not locked against writing, and it is
+-- of the type
+abbrev pub writable : NvType → NvIndex → Result (Unit {0}) NvFault
+writable type index = do
+  unlocked ← refused_if (index_has index attribute.WriteLocked) Locked
+  refused_if (not (is_of index.public.attributes type)) Attributes
+
+abbrev pub check_writable : NvContents → Handle → NvType → Result (Unit {0}) NvFault
+check_writable contents handle type = do
+  index ← index_or_fault contents handle
+  writable type index
+
+-- bytes are put over the data from an offset on: within the data, and over all of it where the
+-- index has WRITEALL; the other bytes of a first write are FF (this device's own)
+unfoldable pub written : NvContents → Handle → (offset : ℕ) → List ℕ → Result NvContents NvFault
+written contents handle offset bytes = do
+  index ← index_or_fault contents handle
+  ordinary ← writable type.Ordinary index
+  inside ← refused_if (nat_lt index.public.data_size (offset + length bytes)) Range
+  whole ← refused_if
+      (index_has index attribute.WriteAll && not (length bytes == index.public.data_size)) Range
+  Ok (changed_index contents handle (with_data index (put_over offset bytes (data_or 0xff index))))
+
+-- a counter had this value
+abbrev pub counted : NvContents → ℕ → NvContents
+counted contents count = record contents { max_count = max contents.max_count count }
+
+-- a counter becomes one more than it was, or at first one more than any counter ever was (section
+-- 31.2); the largest value of any counter rises to it if it was less. A counter that would pass
+-- 2^64 - 1 is out of range (this device's own)
+unfoldable pub incremented : NvContents → Handle → Result NvContents NvFault
+incremented contents handle = do
+  index ← index_or_fault contents handle
+  counter ← writable type.Counter index
+  fits ← refused_if (nat_le (2 ^ 64) (number_or contents.max_count index + 1)) Range
+  let count : ℕ = number_or contents.max_count index + 1 in
+      Ok (counted (changed_index contents handle (with_data index (to_be_bytes w64 count))) count)
+
+-- bits are set; before the first write none is
+unfoldable pub bits_set : NvContents → Handle → ℕ → Result NvContents NvFault
+bits_set contents handle bits = do
+  index ← index_or_fault contents handle
+  field ← writable type.Bits index
+  let number : ℕ = bit_or (number_or 0 index) bits in
+      Ok (changed_index contents handle (with_data index (to_be_bytes w64 number)))
+
+-- the data becomes the digest, by nameAlg, of itself and these bytes; before the first write it is
+-- zeros
+unfoldable pub extended : NvContents → Handle → List ℕ → Result NvContents NvFault
+extended contents handle bytes = do
+  index ← index_or_fault contents handle
+  extendable ← writable type.Extend index
+  let digest : List ℕ = hash_of index.public.name_alg (data_or 0 index ++ bytes) in
+      Ok (changed_index contents handle (with_data index digest))
+
+-- ---- reading
+
+-- whether an index may be read: it is not locked against reading, and it is written
+abbrev pub readable : NvIndex → Result (Unit {0}) NvFault
+readable index = do
+  unlocked ← refused_if (index_has index attribute.ReadLocked) Locked
+  refused_if (not (index_has index attribute.Written)) Uninitialized
+
+unfoldable pub check_readable : NvContents → Handle → Result (Unit {0}) NvFault
+check_readable contents handle = do
+  index ← index_or_fault contents handle
+  readable index
+
+-- so many bytes of the data, from an offset on
+unfoldable pub read_at : NvContents → Handle → (offset size : ℕ) → Result (List ℕ) NvFault
+read_at contents handle offset size = do
+  index ← index_or_fault contents handle
+  initialized ← readable index
+  inside ← refused_if (nat_lt index.public.data_size (offset + size)) Range
+  Ok (piece_of offset size index.bytes)
+
+-- a read showed these bytes, or its fault
+abbrev pub Shows : Result (List ℕ) NvFault → Result (Bor (List ℕ)) NvFault → Type 0
+Shows read (Ok bytes) = read ≡ Ok bytes.now
+Shows read (Err fault) = read ≡ Err fault
+
+-- ---- locks, and the authorization value
+
+-- an index that has WRITEDEFINE or WRITE_STCLEAR is locked against writing
+unfoldable pub write_locked : NvContents → Handle → Result NvContents NvFault
+write_locked contents handle = do
+  index ← index_or_fault contents handle
+  lockable ← refused_if
+      (not (index_has index attribute.WriteDefine || index_has index attribute.WriteStClear)) Attributes
+  Ok (changed_index contents handle (marked index attribute.WriteLocked))
+
+-- and one that has READ_STCLEAR against reading
+unfoldable pub read_locked : NvContents → Handle → Result NvContents NvFault
+read_locked contents handle = do
+  index ← index_or_fault contents handle
+  lockable ← refused_if (not (index_has index attribute.ReadStClear)) Attributes
+  Ok (changed_index contents handle (marked index attribute.ReadLocked))
+
+-- another authorization value; that it is not too long is the command's to check
+unfoldable pub with_auth_value : NvContents → Handle → List ℕ → Result NvContents NvFault
+with_auth_value contents handle value = do
+  index ← index_or_fault contents handle
+  Ok (changed_index contents handle (record index { auth_value = value }))

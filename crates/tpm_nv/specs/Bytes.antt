@@ -1,0 +1,33 @@
+-- Edits of a row of bytes.
+use Rattle.std.specs.Prelude.{ℕ, ◌+◌, ◌-◌, List, ◌++◌, length, take, drop, replicate, Bool, if◌then◌else◌}
+
+-- so many bytes from a place on
+abbrev pub piece_of : (start size : ℕ) → List ℕ → List ℕ
+piece_of start size bytes = take size (drop start bytes)
+
+-- a piece put over the bytes from a place on
+abbrev pub put_over : (start : ℕ) → (piece bytes : List ℕ) → List ℕ
+put_over start piece bytes = take start bytes ++ (piece ++ drop (start + length piece) bytes)
+
+-- the bytes before some are written: where none was written so far, a piece is filled
+abbrev pub filled : (is_written : Bool) → (start size byte : ℕ) → List ℕ → List ℕ
+filled is_written start size byte bytes =
+    if is_written then bytes else put_over start (replicate size byte) bytes
+
+-- zeros put between the bytes, so many at a place
+abbrev pub opened : (start size : ℕ) → List ℕ → List ℕ
+opened start size bytes = take start bytes ++ (replicate size 0 ++ drop start bytes)
+
+-- without so many bytes from a place on
+abbrev pub closed_up : (start size : ℕ) → List ℕ → List ℕ
+closed_up start size bytes = take start bytes ++ drop (start + size) bytes
+
+-- so many bytes moved from the end to a place, and from a place to the end
+unfoldable pub moved_from_end : (start size : ℕ) → List ℕ → List ℕ
+moved_from_end start size bytes =
+    let behind : List ℕ = drop start bytes in
+    take start bytes ++ (drop (length behind - size) behind ++ take (length behind - size) behind)
+
+abbrev pub moved_to_end : (start size : ℕ) → List ℕ → List ℕ
+moved_to_end start size bytes =
+    take start bytes ++ (drop (start + size) bytes ++ piece_of start size bytes)

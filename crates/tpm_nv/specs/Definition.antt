@@ -1,0 +1,120 @@
+-- What may be defined as an NV index, and what a definition does. TPM 2.0 Library, Part 3, section
+-- 31.3 (TPM2_NV_DefineSpace), and Part 2, section 13.4 (TPMA_NV). The order of the checks and the
+-- limits are this device's own: at most 2,048 bytes of data, and no attribute that it does not
+-- serve.
+use Rattle.std.specs.Prelude.{◌≡◌, ℕ, ◌==◌, ◌&&◌, ◌||◌, nat_lt, nat_le, not, Bool, true, false}
+use Rattle.std.specs.Prelude.{List, [], ◌∷◌, length, Option, Some, None, Result, Ok, Err, is_some}
+use Rattle.std.specs.Bool.{beq}
+use Rattle.std.specs.List.{list_any}
+use Rattle.tpm_bytes.specs.Reading.{◌>>=◌, refused_if}
+use Rattle.tpm_mac.specs.Digest.{digest_size}
+use Rattle.tpm_types_nv.specs.NvAttributes.{has, index_type, is_of}
+use Rattle.tpm_types_nv.specs.declared.nv_attributes.NvAttribute.{NvAttribute}
+use Rattle.tpm_types_nv.specs.declared.nv_attributes.NvAttribute.TheVariants as attribute
+use Rattle.tpm_types_nv.specs.declared.nv_attributes.NvAttributes.{NvAttributes}
+use Rattle.tpm_types_nv.specs.declared.nv_public.NvPublic.{NvPublic}
+use Rattle.tpm_types_nv.specs.declared.nv_type.NvType.{NvType}
+use Rattle.tpm_types_nv.specs.declared.nv_type.NvType.TheVariants as type
+use Rattle.tpm_nv.specs.Index.{NvContents, NvIndex, has_room, index_at, with_index}
+use Rattle.tpm_nv.specs.declared.fault.DefineFault.{DefineFault}
+use Rattle.tpm_nv.specs.declared.fault.DefineFault.TheVariants.{Defined, Space, NoMemory}
+use Rattle.tpm_nv.specs.declared.definition.DefinitionFault.{DefinitionFault}
+use Rattle.tpm_nv.specs.declared.definition.DefinitionFault.TheVariants as fault
+
+-- ---- the checks
+
+-- no policy, or one as long as a digest of nameAlg
+abbrev pub is_policy_size : NvPublic → Bool
+is_policy_size p = length p.auth_policy == 0 || length p.auth_policy == digest_size p.name_alg
+
+-- one of these
+abbrev pub has_one : NvAttributes → List NvAttribute → Bool
+has_one attributes these = list_any (λ one. has attributes one) these
+
+-- what says who may write, and who may read
+abbrev pub write_attributes : List NvAttribute
+write_attributes =
+    attribute.PpWrite ∷ attribute.OwnerWrite ∷ attribute.AuthWrite ∷ attribute.PolicyWrite ∷ []
+
+abbrev pub read_attributes : List NvAttribute
+read_attributes =
+    attribute.PpRead ∷ attribute.OwnerRead ∷ attribute.AuthRead ∷ attribute.PolicyRead ∷ []
+
+-- what no index has as it is defined: its state (the first three), and what this device does not
+-- serve
+abbrev pub undefinable_attributes : List NvAttribute
+undefinable_attributes =
+    attribute.Written ∷ attribute.ReadLocked ∷ attribute.WriteLocked
+    ∷ attribute.PolicyDelete ∷ attribute.GlobalLock ∷ attribute.Orderly ∷ []
+
+-- each of these is wrong: a type that is not served; an attribute that no index has as it is
+-- defined; an index that nobody may write, or that nobody may read; a counter that a startup clears;
+-- PLATFORMCREATE where the owner defines the index, or none where the platform does
+abbrev pub attribute_conflicts : (by_platform : Bool) → NvAttributes → List Bool
+attribute_conflicts by_platform a =
+    not (is_some (index_type a))
+    ∷ has_one a undefinable_attributes
+    ∷ not (has_one a write_attributes)
+    ∷ not (has_one a read_attributes)
+    ∷ (is_of a type.Counter && has a attribute.ClearStClear)
+    ∷ not (beq (has a attribute.PlatformCreate) by_platform) ∷ []
+
+-- the size that an index of its type has
+abbrev pub is_type_size : NvPublic → Option NvType → Bool
+is_type_size p (Some type.Ordinary) = nat_le p.data_size 2048
+is_type_size p (Some type.Counter) = p.data_size == 8
+is_type_size p (Some type.Bits) = p.data_size == 8
+is_type_size p (Some type.Extend) = p.data_size == digest_size p.name_alg
+is_type_size p None = false
+
+abbrev pub has_type_size : NvPublic → Bool
+has_type_size p = is_type_size p (index_type p.attributes)
+
+-- whether an index may be defined with this public area and an authorization value of this size,
+-- without its trailing zeros, by the platform or else by the owner; or the fault of the first check
+-- that it fails
+unfoldable pub definition_passes : (by_platform : Bool)
+    → NvPublic
+    → (auth_size : ℕ)
+    → Result (Unit {0}) DefinitionFault
+definition_passes by_platform p auth_size = do
+  value ← refused_if (nat_lt (digest_size p.name_alg) auth_size) fault.AuthValueSize
+  policy ← refused_if (not (is_policy_size p)) fault.AuthPolicySize
+  attributes ← refused_if
+      (list_any (λ wrong. wrong) (attribute_conflicts by_platform p.attributes)) fault.Attributes
+  refused_if (not (has_type_size p)) fault.DataSize
+
+-- ---- the effect
+
+-- an index as it is defined: without data
+abbrev pub defined_index : NvPublic → List ℕ → NvIndex
+defined_index public auth_value = record { public = public; auth_value = auth_value; bytes = [] }
+
+-- whether there is room for an index, or why there is none
+abbrev pub HasRoomFor : NvContents → NvPublic → Result (Unit {0}) DefineFault → Type 0
+HasRoomFor contents public (Ok done) =
+    (index_at contents public.nv_index ≡ None) × (has_room contents public.data_size ≡ true)
+HasRoomFor contents public (Err Defined) = is_some (index_at contents public.nv_index) ≡ true
+HasRoomFor contents public (Err Space) =
+    (index_at contents public.nv_index ≡ None) × (has_room contents public.data_size ≡ false)
+HasRoomFor contents public (Err NoMemory) = ⊥
+
+-- An index was put under its handle, or nothing changed: the handle has an index, or there is no
+-- room for it, or there was room and memory was refused.
+abbrev pub Defines : Bool → NvContents → NvIndex → Result (Unit {0}) DefineFault → NvContents
+    → Type 0
+Defines can old index (Ok done) new =
+    (index_at old index.public.nv_index ≡ None)
+    × (has_room old index.public.data_size ≡ true)
+    × (new ≡ with_index old index.public.nv_index index)
+Defines can old index (Err Defined) new =
+    (is_some (index_at old index.public.nv_index) ≡ true) × (new ≡ old)
+Defines can old index (Err Space) new =
+    (index_at old index.public.nv_index ≡ None)
+    × (has_room old index.public.data_size ≡ false)
+    × (new ≡ old)
+Defines can old index (Err NoMemory) new =
+    (index_at old index.public.nv_index ≡ None)
+    × (has_room old index.public.data_size ≡ true)
+    × (can ≡ true)
+    × (new ≡ old)

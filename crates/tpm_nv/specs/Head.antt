@@ -1,0 +1,82 @@
+-- How NV indices are kept, which no rule of the standard says: their heads by their handles, and the bytes of all in one row, in the
+-- order of the handles, as many of each as its head says, whether it is written or not.
+use Rattle.std.specs.Prelude.{◌≡◌, ℕ, ◌+◌, ◌≤◌, nat_le, true, List, [], ◌∷◌, length, take, drop, Some, if◌then◌else◌}
+use Rattle.tpm_ascending.specs.Ascending.{Ascends, Entries}
+use Rattle.tpm_types.specs.AuthValue.{IsAuthValue}
+use Rattle.tpm_types.specs.declared.handle.Handle.{Handle}
+use Rattle.tpm_types_nv.specs.NvAttributes.{has}
+use Rattle.tpm_types_nv.specs.NvPublic.{IsNvPublic}
+use Rattle.tpm_types_nv.specs.declared.nv_attributes.NvAttribute.TheVariants as attribute
+use Rattle.tpm_types_nv.specs.declared.nv_attributes.NvAttributes.{NvAttributes}
+use Rattle.tpm_nv.specs.Definition.{has_type_size}
+use Rattle.tpm_nv.specs.Index.{NvContents, NvIndex, index_at}
+use Rattle.tpm_nv.specs.Startup.{started_attributes}
+use Rattle.tpm_nv.specs.declared.head.Head.{Head}
+
+-- an index without its data
+abbrev pub head_of : NvIndex → Head
+head_of index = record { public = index.public; auth_value = index.auth_value }
+
+-- the index of a head whose bytes these are: they are its data once it is written
+abbrev pub index_with : Head → List ℕ → NvIndex
+index_with head bytes = record {
+  public = head.public;
+  auth_value = head.auth_value;
+  bytes = if has head.public.attributes attribute.Written then bytes else [];
+}
+
+-- how many bytes a head has
+abbrev pub size_of : Head → ℕ
+size_of head = head.public.data_size
+
+-- the indices of these heads and this row
+abbrev pub indices_of : Entries Head → List ℕ → Entries NvIndex
+indices_of [] row = []
+indices_of (e ∷ es) row =
+    (e.0, index_with e.1 (take (size_of e.1) row)) ∷ indices_of es (drop (size_of e.1) row)
+
+-- how many bytes all have, and how many those have whose keys are below this one
+abbrev pub total : Entries Head → ℕ
+total [] = 0
+total (e ∷ es) = size_of e.1 + total es
+
+abbrev pub start_of : Entries Head → ℕ → ℕ
+start_of [] key = 0
+start_of (e ∷ es) key = if nat_le key e.0 then 0 else size_of e.1 + start_of es key
+
+-- a head under its handle: its public area has a text and the size of its type
+pub record IsHead (key : ℕ) (head : Head) : Type 0 where
+  pub named : key ≡ head.public.nv_index.number
+  pub public : IsNvPublic head.public
+  pub sized : has_type_size head.public ≡ true
+  pub auth_value : IsAuthValue head.auth_value
+
+abbrev pub AreHeads : Entries Head → Type 0
+AreHeads [] = Unit {0}
+AreHeads (e ∷ es) = IsHead e.0 e.1 × AreHeads es
+
+-- heads and the row of their bytes, which is as long as they say
+pub record AreKept (heads : Entries Head) (row : List ℕ) : Type 0 where
+  pub ascends : Ascends heads
+  pub few : length heads ≤ 32
+  pub whole : length row ≡ total heads
+  pub small : total heads ≤ 8192
+  pub each : AreHeads heads
+
+-- with other attributes
+abbrev pub with_attributes : Head → NvAttributes → Head
+with_attributes head attributes =
+    record head { public = record head.public { attributes = attributes } }
+
+-- what is seen of the index of a handle: its head, and bytes, as many as it says, that are its data
+-- where it is written
+pub record IsIndexOf (contents : NvContents) (handle : Handle) (head : Head) (bytes : List ℕ)
+    : Type 0
+  where
+    pub long : length bytes ≡ size_of head
+    pub sized : has_type_size head.public ≡ true
+    pub found : index_at contents handle ≡ Some (index_with head bytes)
+
+-- after a startup with CLEAR
+abbrev pub started_head : Head → Head
+started_head head = with_attributes head (started_attributes head.public.attributes)

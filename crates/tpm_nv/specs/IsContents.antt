@@ -1,0 +1,30 @@
+-- What holds of the NV indices of a device, whatever came before.
+use Rattle.std.specs.Prelude.{◌≡◌, ℕ, ◌<◌, ◌≤◌, ◌^◌, true, [], ◌∷◌, length, if◌then◌else◌}
+use Rattle.tpm_ascending.specs.Ascending.{Ascends, Entries}
+use Rattle.tpm_types.specs.AuthValue.{IsAuthValue}
+use Rattle.tpm_types_nv.specs.NvAttributes.{has}
+use Rattle.tpm_types_nv.specs.NvPublic.{IsNvPublic}
+use Rattle.tpm_types_nv.specs.declared.nv_attributes.NvAttribute.TheVariants as attribute
+use Rattle.tpm_nv.specs.Definition.{has_type_size}
+use Rattle.tpm_nv.specs.Index.{NvContents, NvIndex, data_bytes}
+
+-- an index under its handle: its public area has a text and the size of its type, and it has as
+-- many bytes of data as it says where it is written, and else none
+pub record IsIndex (key : ℕ) (index : NvIndex) : Type 0 where
+  pub named : key ≡ index.public.nv_index.number
+  pub public : IsNvPublic index.public
+  pub sized : has_type_size index.public ≡ true
+  pub auth_value : IsAuthValue index.auth_value
+  pub data_size : length index.bytes
+      ≡ (if has index.public.attributes attribute.Written then index.public.data_size else 0)
+
+abbrev pub AreIndices : Entries NvIndex → Type 0
+AreIndices [] = Unit {0}
+AreIndices (e ∷ es) = IsIndex e.0 e.1 × AreIndices es
+
+pub record IsContents (contents : NvContents) : Type 0 where
+  pub ascends : Ascends contents.indices
+  pub few : length contents.indices ≤ 32
+  pub small : data_bytes contents ≤ 8192
+  pub indices : AreIndices contents.indices
+  pub max_count : contents.max_count < 2 ^ 64

@@ -1,0 +1,11 @@
+pub mod Bytes
+pub mod Index
+pub mod Definition
+pub mod Access
+pub mod Startup
+pub mod IsContents
+pub mod Head
+pub use Rattle.tpm_ascending.specs.Ascending
+pub use Rattle.tpm_ascending.specs.IsAscendingMap
+pub use Rattle.tpm_types_nv.specs.NvAttributes
+pub use Rattle.tpm_types_nv.specs.NvPublic

@@ -1,0 +1,112 @@
+ghost use Rattle.std.specs.Prelude.{◌≡◌, OnOk, false, true};
+ghost use Rattle.std.specs.List.{list_any};
+ghost use Rattle.tpm_nv.specs.Definition.{attribute_conflicts, definition_passes, has_one, has_type_size, is_policy_size, read_attributes, undefinable_attributes, write_attributes};
+ghost use Rattle.tpm_types_nv.specs.NvAttributes.{has};
+ghost use Rattle.tpm_types_nv.specs.declared.nv_attributes.NvAttribute.TheVariants as attribute;
+
+use tpm_types_nv::{NvAttribute, NvAttributes, NvPublic, NvType};
+
+/// Why an index is not to be defined with a public area.
+#[derive(Clone, Copy, Debug, PartialEq, Eq)]
+pub enum DefinitionFault {
+    /// The authorization value is longer than a digest of nameAlg.
+    AuthValueSize,
+    /// authPolicy is neither empty nor a digest of nameAlg.
+    AuthPolicySize,
+    /// Attributes that no index has as it is defined, or that do not go together.
+    Attributes,
+    /// Not a size that an index of its type has.
+    DataSize,
+}
+
+fn is_policy_size(public: &NvPublic) -> bool
+    ensures { result ≡ is_policy_size public.now }
+{
+    let size = public.auth_policy.len();
+    size == 0 || size == public.name_alg.size()
+}
+
+/// Whether it has a state, or what is not served.
+fn is_undefinable(attributes: NvAttributes) -> bool
+    ensures { result ≡ has_one attributes undefinable_attributes }
+{
+    attributes.has(NvAttribute::Written)
+        || attributes.has(NvAttribute::ReadLocked)
+        || attributes.has(NvAttribute::WriteLocked)
+        || attributes.has(NvAttribute::PolicyDelete)
+        || attributes.has(NvAttribute::GlobalLock)
+        || attributes.has(NvAttribute::Orderly)
+}
+
+/// Whether somebody may write.
+fn has_writer(attributes: NvAttributes) -> bool
+    ensures { result ≡ has_one attributes write_attributes }
+{
+    attributes.has(NvAttribute::PpWrite)
+        || attributes.has(NvAttribute::OwnerWrite)
+        || attributes.has(NvAttribute::AuthWrite)
+        || attributes.has(NvAttribute::PolicyWrite)
+}
+
+/// Whether somebody may read.
+fn has_reader(attributes: NvAttributes) -> bool
+    ensures { result ≡ has_one attributes read_attributes }
+{
+    attributes.has(NvAttribute::PpRead)
+        || attributes.has(NvAttribute::OwnerRead)
+        || attributes.has(NvAttribute::AuthRead)
+        || attributes.has(NvAttribute::PolicyRead)
+}
+
+fn has_attribute_conflict(by_platform: bool, attributes: NvAttributes) -> bool
+    ensures { result ≡ list_any (λ wrong. wrong) (attribute_conflicts by_platform attributes) }
+{
+    attributes.index_type().is_none()
+        || is_undefinable(attributes)
+        || !has_writer(attributes)
+        || !has_reader(attributes)
+        || attributes.is_of(NvType::Counter) && attributes.has(NvAttribute::ClearStClear)
+        || attributes.has(NvAttribute::PlatformCreate) != by_platform
+}
+
+/// Whether an index of its type has this size.
+pub(crate) fn has_type_size(public: &NvPublic) -> bool
+    ensures { result ≡ has_type_size public.now }
+{
+    let size = usize::from(public.data_size);
+    match public.attributes.index_type() {
+        Some(NvType::Ordinary) => size <= 2048,
+        Some(NvType::Counter | NvType::Bits) => size == 8,
+        Some(NvType::Extend) => size == public.name_alg.size(),
+        None => false,
+    }
+}
+
+/// Whether an index may be defined with this public area and an authorization value of this size,
+/// by the platform or else by the owner (TPM 2.0 Library, Part 3, section 31.3). The first check
+/// that it fails refuses it.
+#[tactic(auto, unfolding(crate::specs::Definition::definition_passes), using(crate::proofs::DefinitionLaws::unwritten_is))]
+pub fn check_definition(
+    public: &NvPublic,
+    auth_size: usize,
+    by_platform: bool,
+) -> Result<(), DefinitionFault>
+    ensures checked { result ≡ definition_passes by_platform public.now auth_size }
+    // What passes can be defined.
+    ensures sized { OnOk result (has_type_size public.now ≡ true) }
+    ensures unwritten { OnOk result (has public.now.attributes attribute.Written ≡ false) }
+{
+    if auth_size > public.name_alg.size() {
+        return Err(DefinitionFault::AuthValueSize);
+    }
+    if !is_policy_size(public) {
+        return Err(DefinitionFault::AuthPolicySize);
+    }
+    if has_attribute_conflict(by_platform, public.attributes) {
+        return Err(DefinitionFault::Attributes);
+    }
+    if !has_type_size(public) {
+        return Err(DefinitionFault::DataSize);
+    }
+    Ok(())
+}

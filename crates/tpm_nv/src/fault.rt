@@ -1,0 +1,25 @@
+/// Why a call on an index was refused.
+#[derive(Clone, Copy, Debug, PartialEq, Eq)]
+pub enum NvFault {
+    /// The handle has no index.
+    Undefined,
+    /// The index is locked: READLOCKED for a read, WRITELOCKED for a write.
+    Locked,
+    /// The index is not of the type, or its attributes allow no lock.
+    Attributes,
+    /// Past the data of the index, or not all of it, or past the largest count.
+    Range,
+    /// The index was not yet written.
+    Uninitialized,
+}
+
+/// Why an index was not defined.
+#[derive(Clone, Copy, Debug, PartialEq, Eq)]
+pub enum DefineFault {
+    /// The handle has an index.
+    Defined,
+    /// There are 32 indices, or not as many bytes are left of 8,192.
+    Space,
+    /// Memory was refused.
+    NoMemory,
+}

@@ -1,0 +1,79 @@
+//! What is done to the heads alone.
+
+ghost use Rattle.std.specs.Prelude.{◌≡◌, ◌<◌, ◌≤◌, ℕ, None, OnErr, OnOk, Some, length, true};
+ghost use Rattle.tpm_ascending.specs.Ascending.{at_key, changed_key, with_key};
+ghost use Rattle.tpm_nv.specs.Head.{start_of, total, with_attributes};
+ghost use Rattle.tpm_nv.specs.declared.head.Head.{Head};
+ghost use Rattle.tpm_types.specs.AuthValue.{IsAuthValue};
+
+use crate::head::Head;
+use crate::row::NoMemory;
+use tpm_ascending::{Ascending, KeyFault};
+use tpm_types::AuthValue;
+use tpm_types_nv::NvAttributes;
+
+/// Where the bytes of a key begin in the row of all.
+pub(crate) fn start_of(heads: &[(u32, Head)], key: u32) -> usize
+    requires { total heads.now ≤ 8192 }
+    ensures { result ≡ start_of heads.now key }
+{
+    let mut start = 0;
+    for (other, head) in heads {
+        if key <= *other {
+            return start;
+        }
+        start += usize::from(head.public.data_size);
+    }
+    start
+}
+
+/// Gives the index of a key other attributes.
+pub(crate) fn set_attributes<H: Ascending<Head, 32>>(
+    heads: &mut H,
+    key: u32,
+    attributes: NvAttributes,
+)
+    ensures { (head : Head) → at_key (H.entries heads.old) key ≡ Some head
+        → H.entries heads.new
+        ≡ changed_key (H.entries heads.old) key (with_attributes head attributes) }
+{
+    if let Some(head) = heads.get_mut(key) {
+        head.public.attributes = attributes;
+    }
+}
+
+/// Gives the index of a key another authorization value.
+pub(crate) fn set_auth_value<H: Ascending<Head, 32>>(heads: &mut H, key: u32, value: AuthValue)
+    ensures { (head : Head) → at_key (H.entries heads.old) key ≡ Some head
+        → H.entries heads.new
+        ≡ changed_key (H.entries heads.old) key (record head { auth_value = value }) }
+{
+    if let Some(head) = heads.get_mut(key) {
+        head.auth_value = value;
+    }
+}
+
+/// Says of an authorization value what its type says.
+pub(crate) fn auth_value_fits(value: &AuthValue)
+    ensures { IsAuthValue value.now }
+{
+    let _ = value.as_slice();
+}
+
+/// Puts a head under a free key.
+pub(crate) fn put_head<H: Ascending<Head, 32>>(
+    heads: &mut H,
+    key: u32,
+    head: Head,
+) -> Result<(), NoMemory>
+    requires free { at_key (H.entries heads.old) key ≡ None }
+    requires room { length (H.entries heads.old) < 32 }
+    ensures put { OnOk result (H.entries heads.new ≡ with_key (H.entries heads.old) key head) }
+    ensures unchanged { OnErr result (H.entries heads.new ≡ H.entries heads.old) }
+    ensures refused { OnErr result (H.can_refuse ≡ true) }
+{
+    match heads.insert(key, head) {
+        Ok(()) => Ok(()),
+        Err(KeyFault::Taken | KeyFault::Full | KeyFault::NoMemory) => Err(NoMemory),
+    }
+}

@@ -1,0 +1,127 @@
+ghost use Rattle.std.specs.Prelude.{◌≡◌, ◌<◌, ◌≤◌, ◌^◌, ℕ, [], Bool, false, true, is_some, if◌then◌else◌};
+ghost use Rattle.std.specs.Prelude.{length, option_copied, option_map, OnOk};
+ghost use Rattle.tpm_nv.specs.Access.{Changes, Shows, bits_set, check_readable, extended, incremented, read_at, read_locked, with_auth_value, write_locked, written};
+ghost use Rattle.tpm_nv.specs.Definition.{Defines, defined_index, has_type_size};
+ghost use Rattle.tpm_nv.specs.Head.{head_of};
+ghost use Rattle.tpm_nv.specs.Index.{NvContents, index_at, next_index, no_indices, without_index};
+ghost use Rattle.tpm_nv.specs.IsContents.{IsContents};
+ghost use Rattle.tpm_nv.specs.Startup.{started};
+ghost use Rattle.tpm_types_nv.specs.NvAttributes.{has};
+ghost use Rattle.tpm_types_nv.specs.NvPublic.{IsNvPublic};
+ghost use Rattle.tpm_types_nv.specs.declared.nv_attributes.NvAttribute.TheVariants as attribute;
+
+use crate::fault::{DefineFault, NvFault};
+use crate::head::Head;
+use std::alloc::Global;
+use tpm_types::{AuthValue, Handle};
+use tpm_types_nv::NvPublic;
+
+/// The NV indices of a device by their handles: at most 32, with at most 8,192 bytes of data in
+/// all. A refused call changes nothing. Who may read or write is no matter of these calls.
+pub trait Indices: Drop + Sized {
+    /// The indices, and the largest value that a counter ever had.
+    ghost contents: { Self → NvContents };
+
+    /// Whether memory can be refused where an index is defined.
+    ghost can_refuse: { Bool };
+
+    /// No index; no memory is taken.
+    fn new(alloc: Global) -> Self
+        ensures { contents result ≡ no_indices };
+
+    /// The public area and the authorization value of an index.
+    fn get(&self, handle: Handle) -> Option<&Head>
+        ensures { option_copied result ≡ option_map head_of (index_at (contents self.now) handle) };
+
+    /// The lowest handle of an index from this one on.
+    fn next(&self, handle: Handle) -> Option<u32>
+        ensures { result ≡ next_index (contents self.now) handle.number };
+
+    /// Defines an index that is not yet written (TPM 2.0 Library, Part 3, section 31.3). Its public
+    /// area has the size of its type, as [`crate::definition::check_definition`] sees to.
+    fn define(&mut self, public: NvPublic, auth_value: AuthValue) -> Result<(), DefineFault>
+        requires named { IsNvPublic public }
+        requires sized { has_type_size public ≡ true }
+        requires unwritten { has public.attributes attribute.Written ≡ false }
+        ensures { Defines can_refuse (contents self.old) (defined_index public auth_value) result
+            (contents self.new) };
+
+    /// Puts an index back, with its data if it is written.
+    fn restore(
+        &mut self,
+        public: NvPublic,
+        auth_value: AuthValue,
+        bytes: &[u8],
+    ) -> Result<(), DefineFault>
+        requires named { IsNvPublic public }
+        requires sized { has_type_size public ≡ true }
+        requires data_size { length bytes.now
+            ≡ (if has public.attributes attribute.Written then public.data_size else 0) }
+        ensures { Defines can_refuse (contents self.old)
+            (record { public = public; auth_value = auth_value; bytes = bytes.now }) result
+            (contents self.new) };
+
+    /// Removes an index with its data, and tells whether there was one (Part 3, section 31.4).
+    fn undefine(&mut self, handle: Handle) -> bool
+        ensures there { result ≡ is_some (index_at (contents self.old) handle) }
+        ensures after { contents self.new ≡ without_index (contents self.old) handle };
+
+    /// Writes data from an offset on (Part 3, section 31.7).
+    fn write(&mut self, handle: Handle, offset: u16, bytes: &[u8]) -> Result<(), NvFault>
+        ensures { Changes (written (contents self.old) handle offset bytes.now) (contents self.old)
+            result (contents self.new) };
+
+    /// Raises a counter (Part 3, section 31.8).
+    fn increment(&mut self, handle: Handle) -> Result<(), NvFault>
+        ensures { Changes (incremented (contents self.old) handle) (contents self.old)
+            result (contents self.new) };
+
+    /// Sets bits (Part 3, section 31.10).
+    fn set_bits(&mut self, handle: Handle, bits: u64) -> Result<(), NvFault>
+        ensures { Changes (bits_set (contents self.old) handle bits) (contents self.old)
+            result (contents self.new) };
+
+    /// Extends a digest (Part 3, section 31.9).
+    fn extend(&mut self, handle: Handle, bytes: &[u8]) -> Result<(), NvFault>
+        ensures { Changes (extended (contents self.old) handle bytes.now) (contents self.old)
+            result (contents self.new) };
+
+    /// Whether an index may be read.
+    fn check_readable(&self, handle: Handle) -> Result<(), NvFault>
+        ensures { result ≡ check_readable (contents self.now) handle };
+
+    /// So many bytes of the data from an offset on (Part 3, section 31.13).
+    fn read(&self, handle: Handle, offset: u16, size: u16) -> Result<&[u8], NvFault>
+        ensures { Shows (read_at (contents self.now) handle offset size) result };
+
+    /// Locks an index against writing (Part 3, section 31.11).
+    fn lock_write(&mut self, handle: Handle) -> Result<(), NvFault>
+        ensures { Changes (write_locked (contents self.old) handle) (contents self.old)
+            result (contents self.new) };
+
+    /// Locks an index against reading (Part 3, section 31.14).
+    fn lock_read(&mut self, handle: Handle) -> Result<(), NvFault>
+        ensures { Changes (read_locked (contents self.old) handle) (contents self.old)
+            result (contents self.new) };
+
+    /// Gives an index another authorization value (Part 3, section 31.15).
+    fn change_auth(&mut self, handle: Handle, value: AuthValue) -> Result<(), NvFault>
+        ensures { Changes (with_auth_value (contents self.old) handle value) (contents self.old)
+            result (contents self.new) };
+
+    /// What a startup with CLEAR does (Part 3, section 9.3).
+    fn startup(&mut self)
+        ensures { contents self.new ≡ started (contents self.old) };
+
+    /// The largest value that a counter ever had.
+    fn max_count(&self) -> u64
+        ensures { result ≡ (contents self.now).max_count };
+
+    /// Sets the largest value that a counter ever had.
+    fn set_max_count(&mut self, count: u64)
+        ensures { contents self.new ≡ record (contents self.old) { max_count = count } };
+
+    /// Says what holds of the indices whatever came before. It does nothing else.
+    fn read_sizes(&self)
+        ensures { IsContents (contents self.now) };
+}

@@ -1,0 +1,16 @@
+ghost use Rattle.std.specs.Prelude.{◌≡◌, false};
+ghost use Rattle.tpm_ascending.specs.IsAscendingMap.{IsAscendingMap};
+ghost use Rattle.tpm_nv.specs.Index.{NvIndex};
+
+use crate::indices::Indices;
+use crate::stored_indices::SlotIndices;
+
+/// NV indices are a map from handles: what is found after one was defined, changed or removed, that
+/// the handles still ascend, how many there are, and which comes next; and no memory is refused
+/// where they stand in fixed places. It does nothing.
+#[inline(always)]
+#[tactic(auto, using(tpm_ascending::proofs::AscendingLaws::is_map))]
+pub fn index_laws()
+    ensures map { IsAscendingMap NvIndex }
+    ensures never_refused { ⟦<SlotIndices as Indices>⟧.can_refuse ≡ false }
+{}

@@ -1,0 +1,38 @@
+#![tactic(auto)]
+
+//! The NV indices of a device (TPM 2.0 Library, Part 1, section 37): small memories that outlive a
+//! power cycle, each under a handle, that are written, counted up, whose bits are set, or that are
+//! extended.
+//!
+//! It stands on `tpm_types_nv` for their public areas, on `tpm_ascending` for the map of their
+//! handles, on `tpm_mac` for the digest that extends one, and on `tpm_bytes` for the number that a
+//! counter is. [`indices::Indices`] is what a device does with them: contracts see a finite map
+//! from handles to public area, authorization value and data, with the largest value that a counter
+//! ever had, and each call is one equation on it. [`stored_indices::StoredIndices`] keeps them, in
+//! lists that grow or in fixed places: the heads in an ascending map, the bytes of all in one row.
+//! A definition alone may take memory; a refused call changes nothing. [`check_definition`] is what
+//! may be defined. Who may read or write an index is no matter of this crate.
+
+pub mod definition;
+pub mod fault;
+pub mod fixed_row;
+pub mod head;
+mod heads;
+pub mod indices;
+pub mod laws;
+pub mod list_row;
+mod pieces;
+pub mod row;
+mod startup;
+pub mod stored_indices;
+mod values;
+
+pub use definition::{DefinitionFault, check_definition};
+pub use fault::{DefineFault, NvFault};
+pub use fixed_row::FixedRow;
+pub use head::Head;
+pub use indices::Indices;
+pub use laws::index_laws;
+pub use list_row::ListRow;
+pub use row::{NoMemory, Row};
+pub use stored_indices::{ListIndices, SlotIndices, StoredIndices};

@@ -1,0 +1,84 @@
+ghost use Rattle.std.specs.Prelude.{◌≡◌, ◌≤◌, ◌+◌, ℕ, [], Bool, List, length, replicate, OnErr, OnOk, true};
+ghost use Rattle.tpm_nv.specs.Bytes.{closed_up, moved_from_end, moved_to_end, opened, put_over};
+
+use std::alloc::Global;
+
+/// How many bytes there may be at most.
+pub(crate) const MOST_BYTES: usize = 8192;
+
+/// Memory was refused.
+#[derive(Clone, Copy, Debug, PartialEq, Eq)]
+pub struct NoMemory;
+
+/// At most 8,192 bytes in a row.
+pub trait Row: Drop + Sized {
+    /// The bytes.
+    ghost bytes: { Self → List ℕ };
+
+    /// Whether memory can be refused.
+    ghost can_refuse: { Bool };
+
+    /// No byte; no memory is taken.
+    fn new(alloc: Global) -> Self
+        ensures { bytes result ≡ [] };
+
+    /// The bytes.
+    fn as_slice(&self) -> &[u8]
+        ensures { result.now ≡ bytes self.now };
+
+    /// Puts a piece over the bytes from a place on.
+    fn put(&mut self, start: usize, piece: &[u8])
+        requires { start + length piece.now ≤ length (bytes self.old) }
+        ensures { bytes self.new ≡ put_over start piece.now (bytes self.old) };
+
+    /// Puts so many of one byte over those from a place on.
+    fn fill(&mut self, start: usize, size: usize, byte: u8)
+        requires { start + size ≤ length (bytes self.old) }
+        ensures { bytes self.new ≡ put_over start (replicate size byte) (bytes self.old) };
+
+    /// Puts so many zeros between the bytes.
+    fn open(&mut self, start: usize, size: usize) -> Result<(), NoMemory>
+        requires inside { start ≤ length (bytes self.old) }
+        requires fits { length (bytes self.old) + size ≤ 8192 }
+        ensures opened { OnOk result (bytes self.new ≡ opened start size (bytes self.old)) }
+        ensures unchanged { OnErr result (bytes self.new ≡ bytes self.old) }
+        ensures refused { OnErr result (can_refuse ≡ true) };
+
+    /// Removes so many bytes.
+    fn close_up(&mut self, start: usize, size: usize)
+        requires { start + size ≤ length (bytes self.old) }
+        ensures { bytes self.new ≡ closed_up start size (bytes self.old) };
+}
+
+/// Puts a piece over the bytes from a place on.
+pub(crate) fn put_piece(bytes: &mut [u8], start: usize, piece: &[u8])
+    requires { start + length piece.now ≤ length bytes.old }
+    ensures { bytes.new ≡ put_over start piece.now bytes.old }
+{
+    bytes[start..start + piece.len()].copy_from_slice(piece);
+}
+
+/// Puts so many of one byte over those from a place on.
+pub(crate) fn fill_piece(bytes: &mut [u8], start: usize, size: usize, byte: u8)
+    requires { start + size ≤ length bytes.old }
+    ensures { bytes.new ≡ put_over start (replicate size byte) bytes.old }
+{
+    bytes[start..start + size].fill(byte);
+}
+
+/// Moves so many bytes from the end to a place.
+#[tactic(auto, unfolding(crate::specs::Bytes::moved_from_end))]
+pub(crate) fn move_from_end(bytes: &mut [u8], start: usize, size: usize)
+    requires { start + size ≤ length bytes.old }
+    ensures { bytes.new ≡ moved_from_end start size bytes.old }
+{
+    bytes[start..].rotate_right(size);
+}
+
+/// Moves so many bytes from a place to the end.
+pub(crate) fn move_to_end(bytes: &mut [u8], start: usize, size: usize)
+    requires { start + size ≤ length bytes.old }
+    ensures { bytes.new ≡ moved_to_end start size bytes.old }
+{
+    bytes[start..].rotate_left(size);
+}

@@ -1,0 +1,418 @@
+ghost use Rattle.std.specs.Prelude.{◌≡◌, ◌≢◌, ◌<◌, ◌≤◌, ◌+◌, ◌||◌, ℕ, List, ◌++◌, None, Some, Ok, Err};
+ghost use Rattle.std.specs.Prelude.{IfErr, IfNone, IfOk, IfSome, IsSomeAnd, OnErr, OnOk};
+ghost use Rattle.std.specs.Prelude.{length, true, if◌then◌else◌};
+ghost use Rattle.tpm_mac.specs.Digest.{digest_size, hash_of};
+ghost use Rattle.tpm_nv.specs.Access.{check_writable, data_or, marked, number_or, with_data, writable};
+ghost use Rattle.tpm_nv.specs.Bytes.{put_over};
+ghost use Rattle.tpm_nv.specs.Definition.{HasRoomFor, has_type_size};
+ghost use Rattle.tpm_nv.specs.Head.{IsIndexOf, index_with};
+ghost use Rattle.tpm_nv.specs.Index.{NvIndex, changed_index, has_room, index_at, with_index};
+ghost use Rattle.tpm_types_nv.specs.NvAttributes.{attribute_bit, has};
+ghost use Rattle.tpm_types_nv.specs.NvPublic.{IsNvPublic};
+ghost use Rattle.tpm_types_nv.specs.declared.nv_attributes.NvAttribute.TheVariants as attributes;
+
+use crate::fault::{DefineFault, NvFault};
+use crate::fixed_row::FixedRow;
+use crate::head::Head;
+use crate::heads::{auth_value_fits, put_head, set_attributes, set_auth_value, start_of};
+use crate::indices::Indices;
+use crate::list_row::ListRow;
+use crate::pieces::{Piece, piece_at, put_between, put_bytes};
+use crate::row::{NoMemory, Row};
+use crate::startup::start_heads;
+use crate::values::{count_fits, digest_of, is_part, is_room, is_write_lockable, number_of, zeros};
+use std::alloc::Global;
+use std::marker::Model;
+use tpm_ascending::{Ascending, FixedAscending, ListAscending};
+use tpm_mac::Digest;
+use tpm_types::{AuthValue, Handle};
+use tpm_types_nv::{NvAttribute, NvPublic, NvType};
+
+/// NV indices: their heads in a map by handles, and the bytes of all in one row, in the order of
+/// the handles. Each has its bytes from its definition on, so that no write takes memory.
+#[derive(Drop)]
+pub struct StoredIndices<H: Ascending<Head, 32>, R: Row> {
+    heads: H,
+    row: R,
+    max_count: u64,
+}
+
+/// NV indices in lists that grow. Memory can be refused where an index is defined.
+pub type ListIndices = StoredIndices<ListAscending<Head, 32>, ListRow>;
+
+/// NV indices in as many places as there can be. No memory is ever taken, so none can be refused.
+/// They are some twelve thousand bytes long: they are made once, and lent.
+pub type SlotIndices = StoredIndices<FixedAscending<Head, 32>, FixedRow>;
+
+impl<H: Ascending<Head, 32>, R: Row> Model for StoredIndices<H, R> {
+    ghost use Rattle.tpm_nv.specs.Head.{AreKept, indices_of};
+    ghost use Rattle.tpm_nv.specs.Index.{NvContents};
+
+    ghost Value = { NvContents };
+
+    ghost view = { λ stored. record {
+      indices = indices_of (H.entries stored.heads) (R.bytes stored.row);
+      max_count = stored.max_count;
+    } };
+
+    ghost invariant = { λ stored. AreKept (H.entries stored.heads) (R.bytes stored.row) };
+}
+
+impl<H: Ascending<Head, 32>, R: Row> StoredIndices<H, R> {
+    /// The head of an index.
+    fn head(&self, handle: Handle) -> Option<&Head>
+        ensures absent { IfNone result (index_at self.now handle ≡ None) }
+        ensures there { IfSome result (λ head. (old : List ℕ)
+            × IsIndexOf self.now handle head.now old) }
+    {
+        self.heads.get(handle.number)
+    }
+
+    /// The head of an index that a command for this type may write.
+    fn writable(&self, handle: Handle, kind: NvType) -> Result<&Head, NvFault>
+        ensures refused { IfErr result (λ fault. check_writable self.now handle kind ≡ Err fault) }
+        ensures there { IfOk result (λ head. (old : List ℕ)
+            × IsIndexOf self.now handle head.now old
+            × (writable kind (index_with head.now old) ≡ Ok tt)) }
+    {
+        let Some(head) = self.head(handle) else {
+            return Err(NvFault::Undefined);
+        };
+        if head.public.attributes.has(NvAttribute::WriteLocked) {
+            return Err(NvFault::Locked);
+        }
+        if !head.public.attributes.is_of(kind) {
+            return Err(NvFault::Attributes);
+        }
+        Ok(head)
+    }
+
+    /// Puts bytes over the data of an index from an offset on, or until it is written over so many
+    /// of the first byte; it is written then.
+    fn put_data(&mut self, handle: Handle, offset: usize, first: u8, bytes: &[u8])
+        requires { IsSomeAnd (index_at self.old handle) (λ index.
+            offset + length bytes.now ≤ index.public.data_size) }
+        ensures { (index : NvIndex) → index_at self.old handle ≡ Some index
+            → self.new ≡ changed_index self.old handle
+            (with_data index (put_over offset bytes.now (data_or first index))) }
+    {
+        let Some(head) = self.heads.get(handle.number) else {
+            return;
+        };
+        let attributes = head.public.attributes;
+        let size = usize::from(head.public.data_size);
+        let start = start_of(self.heads.as_slice(), handle.number);
+        let is_written = attributes.has(NvAttribute::Written);
+        let piece = Piece {
+            start,
+            size,
+            is_written,
+        };
+        put_bytes(&mut self.row, piece, first, offset, bytes);
+        let written = attributes.with(NvAttribute::Written);
+        set_attributes(&mut self.heads, handle.number, written);
+    }
+
+    /// Gives an index an attribute.
+    fn mark(&mut self, handle: Handle, attribute: NvAttribute)
+        requires { attribute_bit attribute ≢ attribute_bit attributes.Written }
+        ensures { (index : NvIndex) → index_at self.old handle ≡ Some index
+            → self.new ≡ changed_index self.old handle (marked index attribute) }
+    {
+        let Some(head) = self.heads.get(handle.number) else {
+            return;
+        };
+        let attributes = head.public.attributes.with(attribute);
+        set_attributes(&mut self.heads, handle.number, attributes);
+    }
+
+    /// Puts other data in the place of all data of an index; it is written then.
+    fn set_data(&mut self, handle: Handle, bytes: &[u8])
+        requires { IsSomeAnd (index_at self.old handle) (λ index.
+            (length bytes.now ≡ index.public.data_size)
+            × (length (data_or 0 index) ≡ index.public.data_size)) }
+        ensures { (index : NvIndex) → index_at self.old handle ≡ Some index
+            → self.new ≡ changed_index self.old handle (with_data index bytes.now) }
+    {
+        self.put_data(handle, 0, 0, bytes);
+    }
+
+    /// Gives an index another authorization value.
+    fn replace_auth(&mut self, handle: Handle, value: AuthValue)
+        ensures { (index : NvIndex) → index_at self.old handle ≡ Some index
+            → self.new ≡ changed_index self.old handle (record index { auth_value = value }) }
+    {
+        let Some(_) = self.heads.get(handle.number) else {
+            return;
+        };
+        auth_value_fits(&value);
+        set_auth_value(&mut self.heads, handle.number, value);
+    }
+
+    /// Whether there is room for an index of so many bytes.
+    fn has_room(&self, size: usize) -> bool
+        requires { size < 65536 }
+        ensures { result ≡ has_room self.now size }
+    {
+        is_room(self.heads.len(), self.row.as_slice().len(), size)
+    }
+
+    /// Whether an index may be put under its handle.
+    fn check_room(&self, public: &NvPublic) -> Result<(), DefineFault>
+        ensures { HasRoomFor self.now public.now result }
+    {
+        if let Some(_) = self.head(public.nv_index) {
+            return Err(DefineFault::Defined);
+        }
+        if !self.has_room(usize::from(public.data_size)) {
+            return Err(DefineFault::Space);
+        }
+        Ok(())
+    }
+
+    /// Puts an index under its handle, where there is room for it.
+    fn add(&mut self, public: NvPublic, auth_value: AuthValue, bytes: &[u8]) -> Result<(), NoMemory>
+        requires named { IsNvPublic public }
+        requires sized { has_type_size public ≡ true }
+        requires data_size { length bytes.now
+            ≡ (if has public.attributes attributes.Written then public.data_size else 0) }
+        requires absent { index_at self.old public.nv_index ≡ None }
+        requires room { has_room self.old public.data_size ≡ true }
+        ensures added { OnOk result (self.new ≡ with_index self.old public.nv_index
+            (record { public = public; auth_value = auth_value; bytes = bytes.now })) }
+        ensures unchanged { OnErr result (self.new ≡ self.old) }
+        ensures refused { OnErr result ((H.can_refuse || R.can_refuse) ≡ true) }
+    {
+        let key = public.nv_index.number;
+        let size = usize::from(public.data_size);
+        let start = start_of(self.heads.as_slice(), key);
+        auth_value_fits(&auth_value);
+        put_between(&mut self.row, start, size, bytes)?;
+        match put_head(&mut self.heads, key, Head { public, auth_value }) {
+            Ok(()) => Ok(()),
+            Err(NoMemory) => {
+                self.row.close_up(start, size);
+                Err(NoMemory)
+            }
+        }
+    }
+
+    /// The data of an index that is written.
+    fn data(&self, handle: Handle) -> &[u8]
+        ensures { (index : NvIndex) → index_at self.now handle ≡ Some index
+            → has index.public.attributes attributes.Written ≡ true → result.now ≡ index.bytes }
+    {
+        let Some(head) = self.heads.get(handle.number) else {
+            return &[];
+        };
+        let size = usize::from(head.public.data_size);
+        let start = start_of(self.heads.as_slice(), handle.number);
+        piece_at(self.row.as_slice(), start, size)
+    }
+
+    /// The number that the data of an index are, or until it is written this one.
+    fn number(&self, handle: Handle, head: &Head, first: u64) -> u64
+        ensures { (old : List ℕ) → IsIndexOf self.now handle head.now old
+            → length old ≡ 8 → result ≡ number_or first (index_with head.now old) }
+    {
+        if head.public.attributes.has(NvAttribute::Written) {
+            return number_of(self.data(handle));
+        }
+        first
+    }
+
+    /// The digest of the data of an index, or of zeros until it is written, and of these bytes.
+    fn extended_digest(&self, handle: Handle, head: &Head, bytes: &[u8]) -> Digest
+        ensures value { (old : List ℕ) → IsIndexOf self.now handle head.now old
+            → head.now.public.data_size ≡ digest_size head.now.public.name_alg
+            → result.items ≡ hash_of head.now.public.name_alg
+            (data_or 0 (index_with head.now old) ++ bytes.now) }
+        ensures size { length result.items ≡ digest_size head.now.public.name_alg }
+    {
+        let name_alg = head.public.name_alg;
+        if head.public.attributes.has(NvAttribute::Written) {
+            return digest_of(name_alg, self.data(handle), bytes);
+        }
+        digest_of(name_alg, zeros(name_alg), bytes)
+    }
+}
+
+impl<H: Ascending<Head, 32>, R: Row> Indices for StoredIndices<H, R> {
+    ghost use Rattle.std.specs.Prelude.{◌||◌};
+
+    ghost contents = { λ stored. stored };
+
+    ghost can_refuse = { H.can_refuse || R.can_refuse };
+
+    fn new(alloc: Global) -> StoredIndices<H, R> {
+        StoredIndices {
+            heads: H::new(alloc),
+            row: R::new(alloc),
+            max_count: 0,
+        }
+    }
+
+    fn get(&self, handle: Handle) -> Option<&Head> {
+        self.heads.get(handle.number)
+    }
+
+    fn next(&self, handle: Handle) -> Option<u32> {
+        self.heads.next(handle.number)
+    }
+
+    fn define(&mut self, public: NvPublic, auth_value: AuthValue) -> Result<(), DefineFault> {
+        self.restore(public, auth_value, &[])
+    }
+
+    fn restore(
+        &mut self,
+        public: NvPublic,
+        auth_value: AuthValue,
+        bytes: &[u8],
+    ) -> Result<(), DefineFault> {
+        self.check_room(&public)?;
+        match self.add(public, auth_value, bytes) {
+            Ok(()) => Ok(()),
+            Err(NoMemory) => Err(DefineFault::NoMemory),
+        }
+    }
+
+    fn undefine(&mut self, handle: Handle) -> bool {
+        let Some(head) = self.heads.get(handle.number) else {
+            return false;
+        };
+        let size = usize::from(head.public.data_size);
+        let start = start_of(self.heads.as_slice(), handle.number);
+        self.row.close_up(start, size);
+        let _ = self.heads.remove(handle.number);
+        true
+    }
+
+    #[tactic(auto, unfolding(crate::specs::Access::written))]
+    fn write(&mut self, handle: Handle, offset: u16, bytes: &[u8]) -> Result<(), NvFault> {
+        let head = self.writable(handle, NvType::Ordinary)?;
+        let size = usize::from(head.public.data_size);
+        let offset = usize::from(offset);
+        let is_part = is_part(head.public.attributes, bytes.len(), size);
+        if offset + bytes.len() > size {
+            return Err(NvFault::Range);
+        }
+        if is_part {
+            return Err(NvFault::Range);
+        }
+        self.put_data(handle, offset, 0xff, bytes);
+        Ok(())
+    }
+
+    #[tactic(auto, unfolding(crate::specs::Access::incremented))]
+    fn increment(&mut self, handle: Handle) -> Result<(), NvFault> {
+        let head = self.writable(handle, NvType::Counter)?;
+        let last = self.number(handle, head, self.max_count);
+        if last == u64::MAX {
+            return Err(NvFault::Range);
+        }
+        let count = last + 1;
+        self.set_data(handle, &count.to_be_bytes());
+        self.max_count = self.max_count.max(count);
+        Ok(())
+    }
+
+    #[tactic(auto, unfolding(crate::specs::Access::bits_set))]
+    fn set_bits(&mut self, handle: Handle, bits: u64) -> Result<(), NvFault> {
+        let head = self.writable(handle, NvType::Bits)?;
+        let number = self.number(handle, head, 0) | bits;
+        self.set_data(handle, &number.to_be_bytes());
+        Ok(())
+    }
+
+    #[tactic(auto, unfolding(crate::specs::Access::extended))]
+    fn extend(&mut self, handle: Handle, bytes: &[u8]) -> Result<(), NvFault> {
+        let head = self.writable(handle, NvType::Extend)?;
+        let digest = self.extended_digest(handle, head, bytes);
+        self.set_data(handle, digest.as_slice());
+        Ok(())
+    }
+
+    #[tactic(auto, unfolding(crate::specs::Access::check_readable))]
+    fn check_readable(&self, handle: Handle) -> Result<(), NvFault> {
+        let Some(head) = self.head(handle) else {
+            return Err(NvFault::Undefined);
+        };
+        if head.public.attributes.has(NvAttribute::ReadLocked) {
+            return Err(NvFault::Locked);
+        }
+        if !head.public.attributes.has(NvAttribute::Written) {
+            return Err(NvFault::Uninitialized);
+        }
+        Ok(())
+    }
+
+    #[tactic(auto, unfolding(crate::specs::Access::read_at))]
+    fn read(&self, handle: Handle, offset: u16, size: u16) -> Result<&[u8], NvFault> {
+        let Some(head) = self.head(handle) else {
+            return Err(NvFault::Undefined);
+        };
+        if head.public.attributes.has(NvAttribute::ReadLocked) {
+            return Err(NvFault::Locked);
+        }
+        if !head.public.attributes.has(NvAttribute::Written) {
+            return Err(NvFault::Uninitialized);
+        }
+        let offset = usize::from(offset);
+        let size = usize::from(size);
+        if offset + size > usize::from(head.public.data_size) {
+            return Err(NvFault::Range);
+        }
+        Ok(piece_at(self.data(handle), offset, size))
+    }
+
+    #[tactic(auto, unfolding(crate::specs::Access::write_locked))]
+    fn lock_write(&mut self, handle: Handle) -> Result<(), NvFault> {
+        let Some(head) = self.head(handle) else {
+            return Err(NvFault::Undefined);
+        };
+        if !is_write_lockable(head.public.attributes) {
+            return Err(NvFault::Attributes);
+        }
+        self.mark(handle, NvAttribute::WriteLocked);
+        Ok(())
+    }
+
+    #[tactic(auto, unfolding(crate::specs::Access::read_locked))]
+    fn lock_read(&mut self, handle: Handle) -> Result<(), NvFault> {
+        let Some(head) = self.head(handle) else {
+            return Err(NvFault::Undefined);
+        };
+        if !head.public.attributes.has(NvAttribute::ReadStClear) {
+            return Err(NvFault::Attributes);
+        }
+        self.mark(handle, NvAttribute::ReadLocked);
+        Ok(())
+    }
+
+    #[tactic(auto, unfolding(crate::specs::Access::with_auth_value))]
+    fn change_auth(&mut self, handle: Handle, value: AuthValue) -> Result<(), NvFault> {
+        let Some(_) = self.head(handle) else {
+            return Err(NvFault::Undefined);
+        };
+        self.replace_auth(handle, value);
+        Ok(())
+    }
+
+    #[tactic(auto, unfolding(crate::specs::Startup::started))]
+    fn startup(&mut self) {
+        start_heads(&mut self.heads);
+    }
+
+    fn max_count(&self) -> u64 {
+        self.max_count
+    }
+
+    fn set_max_count(&mut self, count: u64) {
+        self.max_count = count;
+    }
+
+    fn read_sizes(&self) {
+        count_fits(self.max_count);
+    }
+}

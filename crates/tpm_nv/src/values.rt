@@ -1,0 +1,71 @@
+//! What is computed and asked of an index's attributes, sizes and data.
+
+ghost use Rattle.std.specs.Prelude.{◌≡◌, ◌==◌, ◌<◌, ◌≤◌, ◌+◌, ◌^◌, ◌||◌, ◌&&◌, not, nat_lt, nat_le};
+ghost use Rattle.std.specs.Prelude.{◌++◌, length, replicate};
+ghost use Rattle.std.specs.Int.{from_be_bytes, w64};
+ghost use Rattle.tpm_mac.specs.Digest.{digest_size, hash_of};
+ghost use Rattle.tpm_types_nv.specs.NvAttributes.{has};
+ghost use Rattle.tpm_types_nv.specs.declared.nv_attributes.NvAttribute.TheVariants as attributes;
+
+use crate::row::MOST_BYTES;
+use tpm_bytes::Cursor;
+use tpm_mac::{Digest, HashAlg, digest_parts};
+use tpm_types_nv::{NvAttribute, NvAttributes};
+
+/// Whether an index of these attributes may be locked for writing.
+pub(crate) fn is_write_lockable(of: NvAttributes) -> bool
+    ensures { result ≡ (has of attributes.WriteDefine || has of attributes.WriteStClear) }
+{
+    of.has(NvAttribute::WriteDefine) || of.has(NvAttribute::WriteStClear)
+}
+
+/// Whether a write of so many bytes leaves some that are to be written with it.
+pub(crate) fn is_part(of: NvAttributes, count: usize, size: usize) -> bool
+    ensures { result ≡ (has of attributes.WriteAll && not (count == size)) }
+{
+    of.has(NvAttribute::WriteAll) && count != size
+}
+
+/// Whether there is room for an index of so many bytes besides so many.
+pub(crate) fn is_room(count: usize, bytes: usize, size: usize) -> bool
+    requires few { bytes ≤ 8192 }
+    requires small { size < 65536 }
+    ensures { result ≡ (nat_lt count 32 && nat_le (bytes + size) 8192) }
+{
+    count < 32 && bytes + size <= MOST_BYTES
+}
+
+/// Says of a count what its type says.
+pub(crate) fn count_fits(count: u64)
+    ensures { count < 2 ^ 64 }
+{
+    let _ = count;
+}
+
+/// The number that eight bytes are.
+pub(crate) fn number_of(bytes: &[u8]) -> u64
+    ensures { length bytes.now ≡ 8 → result ≡ from_be_bytes w64 bytes.now }
+{
+    match Cursor::new(bytes).u64() {
+        Ok(number) => number,
+        Err(_) => 0,
+    }
+}
+
+/// As many zeros as a digest has bytes.
+pub(crate) fn zeros(name_alg: HashAlg) -> &'static [u8]
+    ensures { result.now ≡ replicate (digest_size name_alg) 0 }
+{
+    match name_alg {
+        HashAlg::Sha1 => &[0; 20],
+        HashAlg::Sha256 => &[0; 32],
+    }
+}
+
+/// The digest of two parts.
+pub(crate) fn digest_of(name_alg: HashAlg, first: &[u8], second: &[u8]) -> Digest
+    ensures value { result.items ≡ hash_of name_alg (first.now ++ second.now) }
+    ensures size { length result.items ≡ digest_size name_alg }
+{
+    digest_parts(name_alg, &[first, second])
+}

@@ -1,0 +1,137 @@
+//! NV indices: each call once, over lists and over fixed places, with a digest that was computed
+//! outside, by Python's `hashlib`.
+
+use std::process::Abort;
+use tpm_bytes::Cursor;
+use tpm_nv::{
+    DefineFault, DefinitionFault, Indices, ListIndices, NvFault, SlotIndices, check_definition,
+};
+use tpm_types::{AuthValue, Handle};
+use tpm_types_nv::NvPublic;
+
+const FIRST: Handle = Handle {
+    number: 0x0100_0001,
+};
+
+const SECOND: Handle = Handle {
+    number: 0x0100_0002,
+};
+
+/// An ordinary index of eight bytes, whose authorization value writes and reads it.
+const ORDINARY: &[u8] = b"\x01\0\0\x01\0\x0b\0\x04\0\x04\0\0\0\x08";
+
+/// A counter that can be locked for reading until the next startup.
+const COUNTER: &[u8] = b"\x01\0\0\x02\0\x0b\x80\x04\0\x14\0\0\0\x08";
+
+/// Bits that can be locked for writing until the next startup, which a startup clears.
+const BITS: &[u8] = b"\x01\0\0\x01\0\x0b\x08\x04\x40\x24\0\0\0\x08";
+
+/// What is extended by SHA-1.
+const EXTENDED: &[u8] = b"\x01\0\0\x01\0\x04\0\x04\0\x44\0\0\0\x14";
+
+/// SHA-1 of twenty zeros and "abc".
+const DIGEST: &[u8] =
+    b"\x82\x6e\xb4\x34\xa3\xb9\x98\xd5\x2e\x8f\x8d\x6f\xf9\x74\x18\xcb\x60\xd5\x25\x6e";
+
+/// What became of a definition: no public area, or the check that it failed, or the call's answer.
+#[derive(Clone, Copy, Debug, PartialEq, Eq)]
+enum Outcome {
+    Unread,
+    Refused(DefinitionFault),
+    Answered(Result<(), DefineFault>),
+}
+
+/// Defines the index of a public area with the authorization value "a".
+fn defined<N: Indices>(indices: &mut N, text: &[u8]) -> Outcome {
+    let Ok(public) = NvPublic::read(&mut Cursor::new(text)) else {
+        return Outcome::Unread;
+    };
+    match check_definition(&public, 1, false) {
+        Ok(()) => Outcome::Answered(indices.define(public, AuthValue::of(b"a"))),
+        Err(fault) => Outcome::Refused(fault),
+    }
+}
+
+fn is_read<N: Indices>(indices: &N, handle: Handle, size: u16, bytes: &[u8]) -> bool {
+    match indices.read(handle, 0, size) {
+        Ok(read) => read == bytes,
+        Err(_) => false,
+    }
+}
+
+fn has_auth<N: Indices>(indices: &N, handle: Handle, bytes: &[u8]) -> bool {
+    match indices.get(handle) {
+        Some(head) => head.auth_value.is_same(bytes),
+        None => false,
+    }
+}
+
+fn ordinary<N: Indices>(rt: &impl Abort, mut indices: N) {
+    assert_eq!(rt; indices.next(Handle::default()), None);
+    assert_eq!(rt; defined(&mut indices, ORDINARY), Outcome::Answered(Ok(())));
+    assert_eq!(rt;
+        defined(&mut indices, ORDINARY),
+        Outcome::Answered(Err(DefineFault::Defined))
+    );
+    assert_eq!(rt; indices.check_readable(FIRST), Err(NvFault::Uninitialized));
+    assert_eq!(rt; indices.write(FIRST, 2, b"\x5a"), Ok(()));
+    assert!(rt; is_read(&indices, FIRST, 8, b"\xff\xff\x5a\xff\xff\xff\xff\xff"));
+    assert_eq!(rt; indices.write(FIRST, 1, b"abcdefgh"), Err(NvFault::Range));
+    assert_eq!(rt; indices.lock_write(FIRST), Err(NvFault::Attributes));
+    assert_eq!(rt; indices.increment(FIRST), Err(NvFault::Attributes));
+    assert_eq!(rt; indices.write(SECOND, 0, b"a"), Err(NvFault::Undefined));
+    assert!(rt; has_auth(&indices, FIRST, b"a"));
+    assert_eq!(rt; indices.change_auth(FIRST, AuthValue::of(b"bc")), Ok(()));
+    assert!(rt; has_auth(&indices, FIRST, b"bc"));
+    assert_eq!(rt; indices.next(Handle::default()), Some(FIRST.number));
+    assert!(rt; indices.undefine(FIRST));
+    assert_eq!(rt; indices.undefine(FIRST), false);
+}
+
+fn counters<N: Indices>(rt: &impl Abort, mut indices: N) {
+    assert_eq!(rt; defined(&mut indices, COUNTER), Outcome::Answered(Ok(())));
+    indices.set_max_count(7);
+    assert_eq!(rt; indices.increment(SECOND), Ok(()));
+    assert_eq!(rt; defined(&mut indices, BITS), Outcome::Answered(Ok(())));
+    assert_eq!(rt; indices.increment(SECOND), Ok(()));
+    assert!(rt; is_read(&indices, SECOND, 8, b"\0\0\0\0\0\0\0\x09"));
+    assert_eq!(rt; indices.max_count(), 9);
+    assert_eq!(rt; indices.set_bits(FIRST, 0x0102), Ok(()));
+    assert_eq!(rt; indices.set_bits(FIRST, 0x0201), Ok(()));
+    assert!(rt; is_read(&indices, FIRST, 8, b"\0\0\0\0\0\0\x03\x03"));
+    assert_eq!(rt; indices.lock_write(FIRST), Ok(()));
+    assert_eq!(rt; indices.set_bits(FIRST, 1), Err(NvFault::Locked));
+    assert_eq!(rt; indices.lock_read(SECOND), Ok(()));
+    assert_eq!(rt; indices.check_readable(SECOND), Err(NvFault::Locked));
+    indices.startup();
+    assert_eq!(rt; indices.check_readable(FIRST), Err(NvFault::Uninitialized));
+    assert_eq!(rt; indices.set_bits(FIRST, 1), Ok(()));
+    assert!(rt; is_read(&indices, SECOND, 8, b"\0\0\0\0\0\0\0\x09"));
+    assert!(rt; indices.undefine(FIRST));
+    assert!(rt; is_read(&indices, SECOND, 8, b"\0\0\0\0\0\0\0\x09"));
+    indices.read_sizes();
+}
+
+fn extended<N: Indices>(rt: &impl Abort, mut indices: N) {
+    assert_eq!(rt; defined(&mut indices, EXTENDED), Outcome::Answered(Ok(())));
+    assert_eq!(rt; indices.extend(FIRST, b"abc"), Ok(()));
+    assert!(rt; is_read(&indices, FIRST, 20, DIGEST));
+}
+
+#[test]
+fn ordinary_indices(rt: HostRuntime) {
+    ordinary(&rt, ListIndices::new(rt.alloc()));
+    ordinary(&rt, SlotIndices::new(rt.alloc()));
+}
+
+#[test]
+fn counters_and_bits(rt: HostRuntime) {
+    counters(&rt, ListIndices::new(rt.alloc()));
+    counters(&rt, SlotIndices::new(rt.alloc()));
+}
+
+#[test]
+fn extended_indices(rt: HostRuntime) {
+    extended(&rt, ListIndices::new(rt.alloc()));
+    extended(&rt, SlotIndices::new(rt.alloc()));
+}

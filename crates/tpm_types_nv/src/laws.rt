@@ -1,0 +1,9 @@
+ghost use Rattle.tpm_types_nv.specs.AreNvAttributes.{AreNvAttributes};
+
+/// What attributes and which type an index has after an attribute was set or cleared. It does
+/// nothing.
+#[inline(always)]
+#[tactic(auto, using(crate::proofs::AttributeLaws::are_attributes))]
+pub fn nv_attribute_laws()
+    ensures { AreNvAttributes }
+{}

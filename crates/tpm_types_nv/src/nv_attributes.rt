@@ -1,0 +1,115 @@
+ghost use Rattle.std.specs.Prelude.{◌≡◌, ◌<◌};
+ghost use Rattle.tpm_bytes.specs.Reading.{Reads};
+
+use crate::nv_type::NvType;
+use tpm_bytes::Cursor;
+use tpm_types::{Rc, ResponseCode};
+
+/// The bits that are neither an attribute nor of the type: 8, 9 and 20 to 24.
+const RESERVED_BITS: u32 = 0x01f0_0300;
+
+/// An attribute of an NV index, by its bit: TPMA_NV of TPM 2.0 Library, Part 2, section 13.4.
+#[derive(Clone, Copy, Debug, PartialEq, Eq)]
+pub enum NvAttribute {
+    PpWrite = 0,
+    OwnerWrite = 1,
+    AuthWrite = 2,
+    PolicyWrite = 3,
+    PolicyDelete = 10,
+    WriteLocked = 11,
+    WriteAll = 12,
+    WriteDefine = 13,
+    WriteStClear = 14,
+    GlobalLock = 15,
+    PpRead = 16,
+    OwnerRead = 17,
+    AuthRead = 18,
+    PolicyRead = 19,
+    NoDa = 25,
+    Orderly = 26,
+    ClearStClear = 27,
+    ReadLocked = 28,
+    Written = 29,
+    PlatformCreate = 30,
+    ReadStClear = 31,
+}
+
+impl NvAttribute {
+    ghost use Rattle.tpm_types_nv.specs.NvAttributes.{attribute_bit};
+
+    /// Which bit it is.
+    pub fn bit(self) -> u32
+        ensures value { result ≡ attribute_bit self }
+        ensures small { result < 32 }
+    {
+        self as u32
+    }
+}
+
+/// The attributes of an NV index, a bit for each, and four bits for its type.
+#[derive(Clone, Copy, Debug, PartialEq, Eq)]
+pub struct NvAttributes {
+    pub bits: u32,
+}
+
+impl NvAttributes {
+    ghost use Rattle.tpm_types_nv.specs.NvAttributes.{has, index_type, is_of, nv_attributes_at, with_attribute, without_attribute};
+
+    /// Whether the index has this attribute.
+    #[tactic(auto, using(std::proofs::lemmas::Nat::Bits::shr_and_one))]
+    pub fn has(self, attribute: NvAttribute) -> bool
+        ensures { result ≡ has self attribute }
+    {
+        (self.bits >> attribute.bit()) & 1 == 1
+    }
+
+    /// With this attribute.
+    pub fn with(self, attribute: NvAttribute) -> NvAttributes
+        ensures { result ≡ with_attribute self attribute }
+    {
+        NvAttributes {
+            bits: self.bits | (1 << attribute.bit()),
+        }
+    }
+
+    /// Without this attribute.
+    pub fn without(self, attribute: NvAttribute) -> NvAttributes
+        ensures { result ≡ without_attribute self attribute }
+    {
+        NvAttributes {
+            bits: self.bits & !(1 << attribute.bit()),
+        }
+    }
+
+    /// The type of the index, if it is one that is served.
+    pub fn index_type(self) -> Option<NvType>
+        ensures { result ≡ index_type self }
+    {
+        NvType::named((self.bits >> 4) % 16)
+    }
+
+    /// Whether the index is of this type.
+    pub fn is_of(self, kind: NvType) -> bool
+        ensures { result ≡ is_of self kind }
+    {
+        (self.bits >> 4) % 16 == kind.number()
+    }
+
+    /// Reads attributes: INSUFFICIENT where they are cut, RESERVED_BITS where a bit is set that is
+    /// neither an attribute nor of the type.
+    #[tactic(auto, unfolding(crate::specs::NvAttributes::nv_attributes_at))]
+    pub fn read(text: &mut Cursor) -> Result<NvAttributes, Rc>
+        ensures { Reads (λ attributes. attributes) (nv_attributes_at text.old) text.old
+            result text.new }
+    {
+        let mut ahead = Cursor::new(text.rest());
+        let Ok(bits) = ahead.u32() else {
+            return Err(ResponseCode::Insufficient.anywhere());
+        };
+        if bits & RESERVED_BITS != 0 {
+            return Err(ResponseCode::ReservedBits.anywhere());
+        }
+        *text = ahead;
+        Ok(NvAttributes { bits })
+    }
+}

@@ -1,0 +1,175 @@
+ghost use Rattle.std.specs.Prelude.{◌≡◌, ℕ, ◌≤◌, List, ◌++◌, length, Ok, IfOk};
+ghost use Rattle.tpm_bytes.specs.Reading.{Reads};
+ghost use Rattle.tpm_bytes.specs.Writing.{Puts, sized_text};
+
+use crate::nv_attributes::NvAttributes;
+use tpm_bytes::{Cursor, Full, Readable, Sink};
+use tpm_mac::HashAlg;
+use tpm_name::Name;
+use tpm_types::{Handle, Octets, Rc, ResponseCode, bytes_fit, hash_number, read_hash};
+use tpm_types_object::read_filled;
+
+/// The highest byte of an NV index's handle.
+const NV_INDEX_BYTE: u32 = 0x01;
+
+/// The public area of an NV index: TPMS_NV_PUBLIC of TPM 2.0 Library, Part 2, section 13.5.
+#[derive(Drop)]
+pub struct NvPublic {
+    /// The handle of the index.
+    pub nv_index: Handle,
+    /// The hash algorithm of its Name and of its policy, and of what it extends.
+    pub name_alg: HashAlg,
+    pub attributes: NvAttributes,
+    pub auth_policy: Octets<32>,
+    /// How many bytes of data it has.
+    pub data_size: u16,
+}
+
+impl NvPublic {
+    ghost use Rattle.tpm_types_nv.specs.NvName.{nv_name};
+    ghost use Rattle.tpm_types_nv.specs.NvPublic.{IsNvPublic, nv_index_at, nv_public_at, nv_public_text};
+    ghost use Rattle.tpm_types_nv.specs.declared.nv_public.NvPublic.{NvPublic};
+    ghost use Rattle.tpm_types_object.specs.Filled.{filled_by};
+
+    /// Reads a public area: INSUFFICIENT where it is cut, and else the first fault of a field.
+    pub fn read(text: &mut Cursor) -> Result<NvPublic, Rc>
+        // Which value it is, or the first fault.
+        ensures exact { Reads (λ public. public) (nv_public_at text.old) text.old result text.new }
+        // What is read was spelled so.
+        ensures found { IfOk result (λ public. IsNvPublic public
+            × (text.old ≡ nv_public_text public ++ text.new)) }
+        // What is spelled so is read.
+        ensures only { (public : NvPublic) (rest : List ℕ) → IsNvPublic public
+            → text.old ≡ nv_public_text public ++ rest
+            → Reads (λ public. public) (Ok (public, rest)) text.old result text.new }
+    {
+        bytes_fit(text.rest());
+        NvPublic::read_fields(text)
+    }
+
+    /// Reads a public area that fills a sized buffer (TPM2B_NV_PUBLIC): as
+    /// [`tpm_types_object::read_filled`].
+    pub fn read_sized(text: &mut Cursor) -> Result<NvPublic, Rc>
+        ensures exact { Reads (λ public. public) (filled_by nv_public_at text.old) text.old
+            result text.new }
+        ensures found { IfOk result (λ public. IsNvPublic public
+            × (text.old ≡ sized_text (nv_public_text public) ++ text.new)) }
+        ensures only { (public : NvPublic) (rest : List ℕ) → IsNvPublic public
+            → text.old ≡ sized_text (nv_public_text public) ++ rest
+            → Reads (λ public. public) (Ok (public, rest)) text.old result text.new }
+    {
+        bytes_fit(text.rest());
+        read_filled(text)
+    }
+
+    /// Reads the handle of an index: INSUFFICIENT where it is cut, VALUE where it is not one of an
+    /// index.
+    #[tactic(auto, unfolding(crate::specs::NvPublic::nv_index_at))]
+    fn read_index(text: &mut Cursor) -> Result<Handle, Rc>
+        ensures { Reads (λ handle. handle) (nv_index_at text.old) text.old result text.new }
+    {
+        let mut ahead = Cursor::new(text.rest());
+        let Ok(number) = ahead.u32() else {
+            return Err(ResponseCode::Insufficient.anywhere());
+        };
+        let handle = Handle { number };
+        if handle.type_byte() != NV_INDEX_BYTE {
+            return Err(ResponseCode::Value.anywhere());
+        }
+        *text = ahead;
+        Ok(handle)
+    }
+
+    #[tactic(auto, unfolding(crate::specs::NvPublic::nv_public_at))]
+    fn read_fields(text: &mut Cursor) -> Result<NvPublic, Rc>
+        ensures { Reads (λ public. public) (nv_public_at text.old) text.old result text.new }
+    {
+        let mut ahead = Cursor::new(text.rest());
+        let nv_index = NvPublic::read_index(&mut ahead)?;
+        let name_alg = read_hash(&mut ahead)?;
+        let attributes = NvAttributes::read(&mut ahead)?;
+        let auth_policy = Octets::read(&mut ahead)?;
+        let Ok(data_size) = ahead.u16() else {
+            return Err(ResponseCode::Insufficient.anywhere());
+        };
+        *text = ahead;
+        Ok(NvPublic {
+            nv_index,
+            name_alg,
+            attributes,
+            auth_policy,
+            data_size,
+        })
+    }
+
+    /// The same public area.
+    pub fn copy(&self) -> NvPublic
+        ensures { result ≡ self.now }
+    {
+        NvPublic {
+            nv_index: self.nv_index,
+            name_alg: self.name_alg,
+            attributes: self.attributes,
+            auth_policy: self.auth_policy.copy(),
+            data_size: self.data_size,
+        }
+    }
+
+    /// The text of the public area, in the room for the longest.
+    #[tactic(auto, unfolding(crate::specs::NvPublic::nv_public_text))]
+    pub fn text(&self) -> Sink<46>
+        ensures { result ≡ nv_public_text self.now }
+    {
+        let mut text = Sink::new();
+        let _ = text.put_u32(self.nv_index.number);
+        let _ = text.put_u16(hash_number(self.name_alg));
+        let _ = text.put_u32(self.attributes.bits);
+        let _ = text.put_sized(self.auth_policy.as_slice());
+        let _ = text.put_u16(self.data_size);
+        text
+    }
+
+    /// The Name of its index: the algorithm of the Name, and the digest of this text by it.
+    #[tactic(auto, unfolding(crate::specs::NvName::nv_name))]
+    pub fn name(&self) -> Name
+        ensures { result ≡ nv_name self.now }
+    {
+        Name::hashed(self.name_alg, &[self.text().as_slice()])
+    }
+
+    /// Writes the public area at the end, at most 46 bytes, or nothing where it does not fit.
+    pub fn write<const N: usize>(&self, sink: &mut Sink<N>) -> Result<(), Full>
+        ensures written { Puts N (nv_public_text self.now) sink.old result sink.new }
+        ensures small { length (nv_public_text self.now) ≤ 46 }
+    {
+        let text = self.text();
+        sink.put(text.as_slice())
+    }
+
+    /// Writes the public area as a sized buffer (TPM2B_NV_PUBLIC) at the end, at most 48 bytes, or
+    /// nothing where it does not fit.
+    pub fn write_sized<const N: usize>(&self, sink: &mut Sink<N>) -> Result<(), Full>
+        ensures written { Puts N (sized_text (nv_public_text self.now)) sink.old result sink.new }
+        ensures small { length (sized_text (nv_public_text self.now)) ≤ 48 }
+    {
+        let text = self.text();
+        sink.put_sized(text.as_slice())
+    }
+}
+
+impl<'a> Readable<'a> for NvPublic {
+    ghost use Rattle.tpm_types_nv.specs.NvPublic.{nv_public_at};
+    ghost use Rattle.tpm_types_nv.specs.declared.nv_public.NvPublic.{NvPublic};
+
+    type Fault = Rc;
+
+    ghost Seen = { NvPublic };
+
+    ghost seen = { λ public. public };
+
+    ghost at = { nv_public_at };
+
+    fn read(text: &mut Cursor<'a>) -> Result<NvPublic, Rc> {
+        NvPublic::read(text)
+    }
+}

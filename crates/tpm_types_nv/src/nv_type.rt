@@ -1,0 +1,42 @@
+ghost use Rattle.std.specs.Prelude.{◌≡◌};
+ghost use Rattle.tpm_types_nv.specs.NvType.{nv_type_named, nv_type_number};
+
+/// What an NV index holds: TPM_NT of TPM 2.0 Library, Part 2, section 13.2.
+#[derive(Clone, Copy, Debug, PartialEq, Eq)]
+pub enum NvType {
+    /// Bytes that are written and read.
+    Ordinary,
+    /// A number of eight bytes that only grows.
+    Counter,
+    /// A number of eight bytes, bits of which are set.
+    Bits,
+    /// A digest, which is extended.
+    Extend,
+}
+
+impl NvType {
+    /// Its number.
+    pub fn number(self) -> u32
+        ensures { result ≡ nv_type_number self }
+    {
+        match self {
+            NvType::Ordinary => 0,
+            NvType::Counter => 1,
+            NvType::Bits => 2,
+            NvType::Extend => 4,
+        }
+    }
+
+    /// The type of this number, if it is one that is served.
+    pub fn named(number: u32) -> Option<NvType>
+        ensures { result ≡ nv_type_named number }
+    {
+        match number {
+            0 => Some(NvType::Ordinary),
+            1 => Some(NvType::Counter),
+            2 => Some(NvType::Bits),
+            4 => Some(NvType::Extend),
+            _ => None,
+        }
+    }
+}
