@@ -1,0 +1,12 @@
+pub mod Access
+pub mod NvWrite
+pub mod NvIncrement
+pub mod NvSetBits
+pub mod NvExtend
+pub mod NvRead
+pub mod NvWriteLock
+pub mod NvReadLock
+pub mod NvReadPublic
+pub mod NvDefineSpace
+pub mod NvUndefineSpace
+pub mod NvChangeAuth

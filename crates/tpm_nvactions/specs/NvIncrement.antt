@@ -1,0 +1,13 @@
+-- TPM2_NV_Increment. TPM 2.0 Library, Part 3, section 31.8.
+use Rattle.std.specs.Prelude.{Result}
+use Rattle.tpm_types.specs.declared.refused.Refused.{Refused}
+use Rattle.tpm_nv.specs.Access.{incremented}
+use Rattle.tpm_record.specs.Record.{Record}
+use Rattle.tpm_actions.specs.Request.{Request}
+use Rattle.tpm_actions.specs.Rows.{Success, all_read}
+use Rattle.tpm_nvactions.specs.Access.{write_row}
+
+-- authHandle, nvIndex. A1: it may not write; A2: locked; A3: no counter; A4: it is 2^64 - 1
+unfoldable pub nv_increment_row : Record → Request → Result Success Refused
+nv_increment_row r q =
+    write_row r q (all_read q.parameters) (λ ended handle. incremented r.nv handle)

@@ -1,0 +1,26 @@
+-- TPM2_NV_ReadPublic. TPM 2.0 Library, Part 3, section 31.6.
+use Rattle.std.specs.Prelude.{Result, Ok}
+use Rattle.tpm_bytes.specs.Reading.{◌>>=◌}
+use Rattle.tpm_bytes.specs.Writing.{sized_text}
+use Rattle.tpm_types.specs.declared.refused.Refused.{Refused}
+use Rattle.tpm_types_nv.specs.NvName.{nv_name}
+use Rattle.tpm_types_nv.specs.NvPublic.{nv_public_text}
+use Rattle.tpm_nv.specs.Index.{NvIndex}
+use Rattle.tpm_record.specs.Record.{Record}
+use Rattle.tpm_actions.specs.Answer.{Body, SizedFirst, answer_of}
+use Rattle.tpm_actions.specs.Request.{Request, first_handle}
+use Rattle.tpm_actions.specs.Rows.{Success, all_read, unchanged}
+use Rattle.tpm_nvactions.specs.Access.{index_of}
+
+-- the public area of an index, and its Name
+abbrev pub public_body : NvIndex → Body
+public_body index =
+    SizedFirst (nv_public_text index.public) (sized_text (nv_name index.public))
+
+-- nvIndex; answered: these of the index
+unfoldable pub nv_read_public_row : Record → Request → Result Success Refused
+nv_read_public_row r q = do
+  handle ← first_handle q.handles
+  index ← index_of r handle
+  ended ← all_read q.parameters
+  Ok (unchanged r (answer_of (public_body index)))

@@ -1,0 +1,18 @@
+-- TPM2_NV_SetBits. TPM 2.0 Library, Part 3, section 31.10.
+use Rattle.std.specs.Prelude.{Result}
+use Rattle.std.specs.Int.{w64}
+use Rattle.tpm_bytes.specs.Reading.{number_at, or_fault}
+use Rattle.tpm_types.specs.Rc.{plain}
+use Rattle.tpm_types.specs.declared.rc.ResponseCode.TheVariants as code
+use Rattle.tpm_types.specs.declared.refused.Refused.{Refused}
+use Rattle.tpm_nv.specs.Access.{bits_set}
+use Rattle.tpm_record.specs.Record.{Record}
+use Rattle.tpm_actions.specs.Request.{Request}
+use Rattle.tpm_actions.specs.Rows.{Success, only}
+use Rattle.tpm_nvactions.specs.Access.{write_row}
+
+-- authHandle, nvIndex; bits. A1: it may not write; A2: locked; A3: no field of bits
+unfoldable pub nv_set_bits_row : Record → Request → Result Success Refused
+nv_set_bits_row r q =
+    write_row r q (only (or_fault (number_at w64 q.parameters) (plain code.Insufficient)))
+    (λ bits handle. bits_set r.nv handle bits)

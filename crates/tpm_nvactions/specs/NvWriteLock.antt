@@ -1,0 +1,19 @@
+-- TPM2_NV_WriteLock. TPM 2.0 Library, Part 3, section 31.11.
+use Rattle.std.specs.Prelude.{Result, Ok}
+use Rattle.tpm_bytes.specs.Reading.{◌>>=◌}
+use Rattle.tpm_types.specs.declared.refused.Refused.{Refused}
+use Rattle.tpm_nv.specs.Access.{write_locked}
+use Rattle.tpm_record.specs.Record.{Record}
+use Rattle.tpm_actions.specs.Request.{Request}
+use Rattle.tpm_actions.specs.Rows.{Success, all_read}
+use Rattle.tpm_nvactions.specs.Access.{changed_nv, or_lock_refusal, writer_passes, target_of}
+
+-- authHandle, nvIndex. A1: it may not write; A2: the index has neither WRITEDEFINE nor
+-- WRITE_STCLEAR
+unfoldable pub nv_write_lock_row : Record → Request → Result Success Refused
+nv_write_lock_row r q = do
+  target ← target_of r q
+  ended ← all_read q.parameters
+  a1 ← writer_passes target.attributes target.authority target.handle
+  nv ← or_lock_refusal (write_locked r.nv target.handle)
+  Ok (changed_nv r nv)

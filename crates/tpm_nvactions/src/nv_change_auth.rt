@@ -1,0 +1,43 @@
+ghost use Rattle.std.specs.Prelude.{◌≡◌};
+ghost use Rattle.tpm_actions.specs.Answer.{IsEmpty};
+ghost use Rattle.tpm_actions.specs.Request.{request_of};
+ghost use Rattle.tpm_actions.specs.Rows.{Acts};
+ghost use Rattle.tpm_nvactions.specs.NvChangeAuth.{nv_change_auth_row};
+
+use crate::access::lock_refusal;
+use tpm_actions::answer::Answer;
+use tpm_actions::call::Call;
+use tpm_actions::reading::{end, parameter};
+use tpm_actions::refusals::{handle_refusal, parameter_fault};
+use tpm_bytes::Cursor;
+use tpm_nv::Indices;
+use tpm_record::Keep;
+use tpm_types::{AuthValue, Refused, ResponseCode};
+
+/// TPM2_NV_ChangeAuth: sets the authorization value of an index.
+#[tactic(auto, unfolding(crate::specs::NvChangeAuth::nv_change_auth_row))]
+pub fn nv_change_auth<K: Keep>(
+    keep: &mut K,
+    call: &Call,
+    _answer: &mut Answer,
+) -> Result<(), Refused>
+    requires { IsEmpty _answer.old }
+    ensures { Acts (nv_change_auth_row (K.record_of keep.old) (request_of call.now))
+        (K.record_of keep.old) result _answer.new (K.record_of keep.new) }
+{
+    let handle = call.first_handle()?;
+    let Some(head) = keep.nv().get(handle) else {
+        return Err(handle_refusal());
+    };
+    let most = head.public.name_alg.size();
+    let mut parameters = Cursor::new(call.parameters);
+    let value = parameter(1, AuthValue::read(&mut parameters))?;
+    end(&parameters)?;
+    if most < value.as_slice().len() {
+        return Err(parameter_fault(1, 1, ResponseCode::Size));
+    }
+    match keep.nv_mut().change_auth(handle, value) {
+        Ok(()) => Ok(()),
+        Err(fault) => Err(lock_refusal(fault)),
+    }
+}

@@ -1,0 +1,61 @@
+ghost use Rattle.std.specs.Prelude.{◌≡◌};
+ghost use Rattle.tpm_actions.specs.Answer.{IsEmpty};
+ghost use Rattle.tpm_actions.specs.Request.{request_of};
+ghost use Rattle.tpm_actions.specs.Rows.{Acts};
+ghost use Rattle.tpm_nvactions.specs.NvRead.{nv_read_row, parameters_in};
+
+use crate::access::{check_reader, read_refusal, target_of};
+use tpm_actions::answer::Answer;
+use tpm_actions::call::Call;
+use tpm_actions::reading::{end, number};
+use tpm_actions::refusals::parameter_fault;
+use tpm_bytes::Cursor;
+use tpm_nv::Indices;
+use tpm_record::Keep;
+use tpm_types::{Refused, ResponseCode};
+
+/// The most bytes that are read at a time.
+const MOST_BYTES: u16 = 1024;
+
+/// What is asked for.
+#[derive(Clone, Copy)]
+pub struct Asked {
+    size: u16,
+    offset: u16,
+}
+
+#[tactic(auto, unfolding(crate::specs::NvRead::parameters_in))]
+fn read_parameters(parameters: &[u8]) -> Result<Asked, Refused>
+    ensures { result ≡ parameters_in parameters.now }
+{
+    let mut text = Cursor::new(parameters);
+    let size = number(1, text.u16())?;
+    let offset = number(2, text.u16())?;
+    end(&text)?;
+    Ok(Asked { size, offset })
+}
+
+/// TPM2_NV_Read: data of an index.
+#[tactic(auto, using(crate::proofs::Reading::read_few), unfolding(crate::specs::NvRead::nv_read_row))]
+pub fn nv_read<K: Keep>(keep: &mut K, call: &Call, answer: &mut Answer) -> Result<(), Refused>
+    requires { IsEmpty answer.old }
+    ensures { Acts (nv_read_row (K.record_of keep.old) (request_of call.now))
+        (K.record_of keep.old) result answer.new (K.record_of keep.new) }
+{
+    let target = target_of(keep, call)?;
+    let asked = read_parameters(call.parameters)?;
+    check_reader(&target)?;
+    if let Err(fault) = keep.nv().check_readable(target.handle) {
+        return Err(read_refusal(fault));
+    }
+    if asked.size > MOST_BYTES {
+        return Err(parameter_fault(4, 1, ResponseCode::Value));
+    }
+    match keep.nv().read(target.handle, asked.offset, asked.size) {
+        Ok(bytes) => {
+            let _ = answer.parameters.put_sized(bytes);
+            Ok(())
+        }
+        Err(fault) => Err(read_refusal(fault)),
+    }
+}

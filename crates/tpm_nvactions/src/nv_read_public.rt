@@ -1,0 +1,35 @@
+ghost use Rattle.std.specs.Prelude.{◌≡◌};
+ghost use Rattle.tpm_actions.specs.Answer.{IsEmpty};
+ghost use Rattle.tpm_actions.specs.Request.{request_of};
+ghost use Rattle.tpm_actions.specs.Rows.{Acts};
+ghost use Rattle.tpm_nvactions.specs.NvReadPublic.{nv_read_public_row};
+
+use tpm_actions::answer::Answer;
+use tpm_actions::call::Call;
+use tpm_actions::reading::end;
+use tpm_actions::refusals::handle_refusal;
+use tpm_bytes::Cursor;
+use tpm_nv::Indices;
+use tpm_record::Keep;
+use tpm_types::Refused;
+
+/// TPM2_NV_ReadPublic: the public area of an index, and its Name.
+#[tactic(auto, unfolding(crate::specs::NvReadPublic::nv_read_public_row))]
+pub fn nv_read_public<K: Keep>(
+    keep: &mut K,
+    call: &Call,
+    answer: &mut Answer,
+) -> Result<(), Refused>
+    requires { IsEmpty answer.old }
+    ensures { Acts (nv_read_public_row (K.record_of keep.old) (request_of call.now))
+        (K.record_of keep.old) result answer.new (K.record_of keep.new) }
+{
+    let handle = call.first_handle()?;
+    let Some(head) = keep.nv().get(handle) else {
+        return Err(handle_refusal());
+    };
+    end(&Cursor::new(call.parameters))?;
+    let _ = answer.parameters.put_sized(head.public.text().as_slice());
+    let _ = answer.parameters.put_sized(head.public.name().as_slice());
+    Ok(())
+}

@@ -1,0 +1,32 @@
+ghost use Rattle.std.specs.Prelude.{◌≡◌};
+ghost use Rattle.tpm_actions.specs.Answer.{IsEmpty};
+ghost use Rattle.tpm_actions.specs.Request.{request_of};
+ghost use Rattle.tpm_actions.specs.Rows.{Acts};
+ghost use Rattle.tpm_nvactions.specs.NvSetBits.{nv_set_bits_row};
+
+use crate::access::{check_writer, target_of, write_refusal};
+use tpm_actions::answer::Answer;
+use tpm_actions::call::Call;
+use tpm_actions::reading::{end, number};
+use tpm_bytes::Cursor;
+use tpm_nv::Indices;
+use tpm_record::Keep;
+use tpm_types::Refused;
+
+/// TPM2_NV_SetBits: sets bits of a field of bits.
+#[tactic(auto, unfolding(crate::specs::NvSetBits::nv_set_bits_row))]
+pub fn nv_set_bits<K: Keep>(keep: &mut K, call: &Call, _answer: &mut Answer) -> Result<(), Refused>
+    requires { IsEmpty _answer.old }
+    ensures { Acts (nv_set_bits_row (K.record_of keep.old) (request_of call.now))
+        (K.record_of keep.old) result _answer.new (K.record_of keep.new) }
+{
+    let target = target_of(keep, call)?;
+    let mut parameters = Cursor::new(call.parameters);
+    let bits = number(1, parameters.u64())?;
+    end(&parameters)?;
+    check_writer(&target)?;
+    match keep.nv_mut().set_bits(target.handle, bits) {
+        Ok(()) => Ok(()),
+        Err(fault) => Err(write_refusal(fault)),
+    }
+}

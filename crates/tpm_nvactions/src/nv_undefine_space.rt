@@ -1,0 +1,42 @@
+ghost use Rattle.std.specs.Prelude.{◌≡◌};
+ghost use Rattle.tpm_actions.specs.Answer.{IsEmpty};
+ghost use Rattle.tpm_actions.specs.Request.{request_of};
+ghost use Rattle.tpm_actions.specs.Rows.{Acts};
+ghost use Rattle.tpm_nvactions.specs.NvUndefineSpace.{is_kept_from, nv_undefine_space_row};
+
+use crate::access::{Target, target_of};
+use tpm_actions::answer::Answer;
+use tpm_actions::call::Call;
+use tpm_actions::reading::end;
+use tpm_actions::refusals::action_refusal;
+use tpm_bytes::Cursor;
+use tpm_nv::Indices;
+use tpm_record::Keep;
+use tpm_types::{Handle, Refused, ResponseCode};
+use tpm_types_nv::NvAttribute;
+
+fn is_kept_from(target: &Target) -> bool
+    ensures { result ≡ is_kept_from target.now }
+{
+    target.authority == Handle::OWNER && target.attributes.has(NvAttribute::PlatformCreate)
+}
+
+/// TPM2_NV_UndefineSpace: removes an index.
+#[tactic(auto, unfolding(crate::specs::NvUndefineSpace::nv_undefine_space_row))]
+pub fn nv_undefine_space<K: Keep>(
+    keep: &mut K,
+    call: &Call,
+    _answer: &mut Answer,
+) -> Result<(), Refused>
+    requires { IsEmpty _answer.old }
+    ensures { Acts (nv_undefine_space_row (K.record_of keep.old) (request_of call.now))
+        (K.record_of keep.old) result _answer.new (K.record_of keep.new) }
+{
+    let target = target_of(keep, call)?;
+    end(&Cursor::new(call.parameters))?;
+    if is_kept_from(&target) {
+        return Err(action_refusal(1, ResponseCode::NvAuthorization.anywhere()));
+    }
+    keep.nv_mut().undefine(target.handle);
+    Ok(())
+}

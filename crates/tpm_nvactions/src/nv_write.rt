@@ -1,0 +1,54 @@
+ghost use Rattle.std.specs.Prelude.{◌≡◌};
+ghost use Rattle.tpm_actions.specs.Answer.{IsEmpty};
+ghost use Rattle.tpm_actions.specs.Request.{request_of};
+ghost use Rattle.tpm_actions.specs.Rows.{Acts};
+ghost use Rattle.tpm_nvactions.specs.NvWrite.{Asks, nv_write_row, parameters_in};
+
+use crate::access::{check_writer, target_of, write_refusal};
+use tpm_actions::answer::Answer;
+use tpm_actions::call::Call;
+use tpm_actions::reading::{end, number, parameter};
+use tpm_bytes::Cursor;
+use tpm_nv::Indices;
+use tpm_record::Keep;
+use tpm_types::{Refused, read_buffer};
+
+/// The most bytes of data.
+const MOST_BYTES: usize = 1024;
+
+/// What is asked for.
+#[derive(Clone, Copy)]
+pub struct Asked<'a> {
+    bytes: &'a [u8],
+    offset: u16,
+}
+
+#[tactic(auto, unfolding(crate::specs::NvWrite::parameters_in))]
+fn read_parameters(parameters: &[u8]) -> Result<Asked, Refused>
+    ensures { Asks (parameters_in parameters.now) result }
+{
+    let mut text = Cursor::new(parameters);
+    let bytes = parameter(1, read_buffer(&mut text, MOST_BYTES))?;
+    let offset = number(2, text.u16())?;
+    end(&text)?;
+    Ok(Asked { bytes, offset })
+}
+
+/// TPM2_NV_Write: writes data of an ordinary index.
+#[tactic(auto, unfolding(crate::specs::NvWrite::nv_write_row))]
+pub fn nv_write<K: Keep>(keep: &mut K, call: &Call, _answer: &mut Answer) -> Result<(), Refused>
+    requires { IsEmpty _answer.old }
+    ensures { Acts (nv_write_row (K.record_of keep.old) (request_of call.now))
+        (K.record_of keep.old) result _answer.new (K.record_of keep.new) }
+{
+    let target = target_of(keep, call)?;
+    let asked = read_parameters(call.parameters)?;
+    check_writer(&target)?;
+    match keep
+        .nv_mut()
+        .write(target.handle, asked.offset, asked.bytes)
+    {
+        Ok(()) => Ok(()),
+        Err(fault) => Err(write_refusal(fault)),
+    }
+}

@@ -1,0 +1,34 @@
+ghost use Rattle.std.specs.Prelude.{◌≡◌};
+ghost use Rattle.tpm_actions.specs.Answer.{IsEmpty};
+ghost use Rattle.tpm_actions.specs.Request.{request_of};
+ghost use Rattle.tpm_actions.specs.Rows.{Acts};
+ghost use Rattle.tpm_nvactions.specs.NvWriteLock.{nv_write_lock_row};
+
+use crate::access::{check_writer, lock_refusal, target_of};
+use tpm_actions::answer::Answer;
+use tpm_actions::call::Call;
+use tpm_actions::reading::end;
+use tpm_bytes::Cursor;
+use tpm_nv::Indices;
+use tpm_record::Keep;
+use tpm_types::Refused;
+
+/// TPM2_NV_WriteLock: locks an index against writing.
+#[tactic(auto, unfolding(crate::specs::NvWriteLock::nv_write_lock_row))]
+pub fn nv_write_lock<K: Keep>(
+    keep: &mut K,
+    call: &Call,
+    _answer: &mut Answer,
+) -> Result<(), Refused>
+    requires { IsEmpty _answer.old }
+    ensures { Acts (nv_write_lock_row (K.record_of keep.old) (request_of call.now))
+        (K.record_of keep.old) result _answer.new (K.record_of keep.new) }
+{
+    let target = target_of(keep, call)?;
+    end(&Cursor::new(call.parameters))?;
+    check_writer(&target)?;
+    match keep.nv_mut().lock_write(target.handle) {
+        Ok(()) => Ok(()),
+        Err(fault) => Err(lock_refusal(fault)),
+    }
+}
