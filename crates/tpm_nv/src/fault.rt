@@ -7,7 +7,7 @@ pub enum NvFault {
     Locked,
     /// The index is not of the type, or its attributes allow no lock.
     Attributes,
-    /// Past the data of the index, or not all of it, or past the largest count.
+    /// Past the data; not all of them, though the index has WRITEALL; or a counter at its end.
     Range,
     /// The index was not yet written.
     Uninitialized,

@@ -12,7 +12,7 @@ use tpm_bytes::Cursor;
 use tpm_mac::{Digest, HashAlg, digest_parts};
 use tpm_types_nv::{NvAttribute, NvAttributes};
 
-/// Whether an index of these attributes may be locked for writing.
+/// Whether an index of these attributes may be locked against writing.
 pub(crate) fn is_write_lockable(of: NvAttributes) -> bool
     ensures { result ≡ (has of attributes.WriteDefine || has of attributes.WriteStClear) }
 {
