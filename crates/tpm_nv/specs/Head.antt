@@ -1,5 +1,6 @@
--- How NV indices are kept, which no rule of the standard says: their heads by their handles, and the bytes of all in one row, in the
--- order of the handles, as many of each as its head says, whether it is written or not.
+-- How NV indices are kept, which no rule of the standard says: their heads by their handles, and the
+-- bytes of all in one row, in the order of the handles, as many of each as its head says, whether it
+-- is written or not.
 use Rattle.std.specs.Prelude.{◌≡◌, ℕ, ◌+◌, ◌≤◌, nat_le, true, List, [], ◌∷◌, length, take, drop, Some, if◌then◌else◌}
 use Rattle.tpm_ascending.specs.Ascending.{Ascends, Entries}
 use Rattle.tpm_types.specs.AuthValue.{IsAuthValue}
