@@ -1,8 +1,8 @@
 -- The assertions of policies. TPM 2.0 Library, Part 3, section 23, and Part 1, section 19.7: each
 -- changes the policy digest, and most record what is compared when the session authorizes. In a trial
--- session TPM2_PolicyPCR does not look at the PCRs, TPM2_PolicyOR not at the digest so far,
--- TPM2_PolicySecret not at nonceTPM and a recorded cpHash, and TPM2_PolicyNV not at the index. The
--- order of the checks is this device's own.
+-- session TPM2_PolicyPCR compares nothing with the PCRs, TPM2_PolicyOR nothing with the digest so
+-- far, TPM2_PolicySecret nothing with nonceTPM and a recorded cpHash, and TPM2_PolicyNV nothing with
+-- the index. The order of the checks is this device's own.
 use Rattle.std.specs.Prelude.{◌≡◌, ℕ, ◌==◌, ◌&&◌, ◌||◌, not, nat_lt, bit_and, if◌then◌else◌}
 use Rattle.std.specs.Prelude.{Bool, true, false, List, [], ◌∷◌, ◌++◌, length, replicate}
 use Rattle.std.specs.Prelude.{Option, Some, None, Result, Ok, Err}
