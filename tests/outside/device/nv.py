@@ -27,27 +27,27 @@ LARGEST = 2**64 - 1
 class Attribute(enum.IntFlag):
     """TPMA_NV (Part 2, section 13.4), but for the type."""
 
-    PP_WRITE = 1 << 0
-    OWNER_WRITE = 1 << 1
-    AUTH_WRITE = 1 << 2
-    POLICY_WRITE = 1 << 3
+    PPWRITE = 1 << 0
+    OWNERWRITE = 1 << 1
+    AUTHWRITE = 1 << 2
+    POLICYWRITE = 1 << 3
     POLICY_DELETE = 1 << 10
-    WRITE_LOCKED = 1 << 11
-    WRITE_ALL = 1 << 12
-    WRITE_DEFINE = 1 << 13
-    WRITE_ST_CLEAR = 1 << 14
-    GLOBAL_LOCK = 1 << 15
-    PP_READ = 1 << 16
-    OWNER_READ = 1 << 17
-    AUTH_READ = 1 << 18
-    POLICY_READ = 1 << 19
+    WRITELOCKED = 1 << 11
+    WRITEALL = 1 << 12
+    WRITEDEFINE = 1 << 13
+    WRITE_STCLEAR = 1 << 14
+    GLOBALLOCK = 1 << 15
+    PPREAD = 1 << 16
+    OWNERREAD = 1 << 17
+    AUTHREAD = 1 << 18
+    POLICYREAD = 1 << 19
     NO_DA = 1 << 25
     ORDERLY = 1 << 26
-    CLEAR_ST_CLEAR = 1 << 27
-    READ_LOCKED = 1 << 28
+    CLEAR_STCLEAR = 1 << 27
+    READLOCKED = 1 << 28
     WRITTEN = 1 << 29
-    PLATFORM_CREATE = 1 << 30
-    READ_ST_CLEAR = 1 << 31
+    PLATFORMCREATE = 1 << 30
+    READ_STCLEAR = 1 << 31
 
 
 class Type(enum.IntEnum):
@@ -63,17 +63,17 @@ TYPE_SHIFT, TYPE_MASK = 4, 0xF
 NAMED = sum(Attribute) | TYPE_MASK << TYPE_SHIFT
 
 WRITES = (
-    Attribute.PP_WRITE | Attribute.OWNER_WRITE | Attribute.AUTH_WRITE | Attribute.POLICY_WRITE
+    Attribute.PPWRITE | Attribute.OWNERWRITE | Attribute.AUTHWRITE | Attribute.POLICYWRITE
 )
-READS = Attribute.PP_READ | Attribute.OWNER_READ | Attribute.AUTH_READ | Attribute.POLICY_READ
+READS = Attribute.PPREAD | Attribute.OWNERREAD | Attribute.AUTHREAD | Attribute.POLICYREAD
 
 # What an index cannot be defined with: what only happens to it later, and what is not served.
 NOT_DEFINED = (
     Attribute.WRITTEN
-    | Attribute.READ_LOCKED
-    | Attribute.WRITE_LOCKED
+    | Attribute.READLOCKED
+    | Attribute.WRITELOCKED
     | Attribute.POLICY_DELETE
-    | Attribute.GLOBAL_LOCK
+    | Attribute.GLOBALLOCK
     | Attribute.ORDERLY
 )
 
@@ -155,9 +155,9 @@ def has_wrong_attributes(public, hierarchy):
     if not public.has(WRITES) or not public.has(READS):
         return True
     # A counter never goes back, and so is not cleared.
-    if public.kind == Type.COUNTER and public.has(Attribute.CLEAR_ST_CLEAR):
+    if public.kind == Type.COUNTER and public.has(Attribute.CLEAR_STCLEAR):
         return True
-    return public.has(Attribute.PLATFORM_CREATE) != (hierarchy == RH_PLATFORM)
+    return public.has(Attribute.PLATFORMCREATE) != (hierarchy == RH_PLATFORM)
 
 
 def has_wrong_size(public):
@@ -193,13 +193,13 @@ def check_definition(public, auth_value, hierarchy, indices):
 def takes_auth_value(public, code):
     if code == frames.NV_CHANGE_AUTH:
         return False
-    return public.has(Attribute.AUTH_READ if code in READING else Attribute.AUTH_WRITE)
+    return public.has(Attribute.AUTHREAD if code in READING else Attribute.AUTHWRITE)
 
 
 def takes_policy(public, code):
     if code == frames.NV_CHANGE_AUTH:
         return True
-    return public.has(Attribute.POLICY_READ if code in READING else Attribute.POLICY_WRITE)
+    return public.has(Attribute.POLICYREAD if code in READING else Attribute.POLICYWRITE)
 
 
 # Use.
@@ -218,17 +218,17 @@ def check_asker(public, asker, by_owner, by_platform):
 
 
 def check_writer(public, asker):
-    check_asker(public, asker, Attribute.OWNER_WRITE, Attribute.PP_WRITE)
+    check_asker(public, asker, Attribute.OWNERWRITE, Attribute.PPWRITE)
 
 
 def check_reader(public, asker):
-    check_asker(public, asker, Attribute.OWNER_READ, Attribute.PP_READ)
+    check_asker(public, asker, Attribute.OWNERREAD, Attribute.PPREAD)
 
 
 def check_writing(public, asker, kind):
     """Before every change of an index that is to be of some type."""
     check_writer(public, asker)
-    if public.has(Attribute.WRITE_LOCKED):
+    if public.has(Attribute.WRITELOCKED):
         raise Refusal("NV_LOCKED")
     if public.kind != kind:
         raise Refusal("ATTRIBUTES/h2")
@@ -236,7 +236,7 @@ def check_writing(public, asker, kind):
 
 def check_reading(public, asker):
     check_reader(public, asker)
-    if public.has(Attribute.READ_LOCKED):
+    if public.has(Attribute.READLOCKED):
         raise Refusal("NV_LOCKED")
     if not public.has(Attribute.WRITTEN):
         raise Refusal("NV_UNINITIALIZED")
@@ -250,13 +250,13 @@ def check_range(public, offset, size):
 def start_up(indices):
     """What TPM2_Startup(CLEAR) makes of the indices."""
     for index in indices.values():
-        if index.public.has(Attribute.CLEAR_ST_CLEAR):
+        if index.public.has(Attribute.CLEAR_STCLEAR):
             index.data = b""
             index.public = index.public.but(cleared=Attribute.WRITTEN)
-        index.public = index.public.but(cleared=Attribute.READ_LOCKED)
+        index.public = index.public.but(cleared=Attribute.READLOCKED)
         # What WRITEDEFINE locks stays locked, where there is something in it.
-        if not (index.public.has(Attribute.WRITE_DEFINE) and index.public.has(Attribute.WRITTEN)):
-            index.public = index.public.but(cleared=Attribute.WRITE_LOCKED)
+        if not (index.public.has(Attribute.WRITEDEFINE) and index.public.has(Attribute.WRITTEN)):
+            index.public = index.public.but(cleared=Attribute.WRITELOCKED)
 
 
 # The operations of TPM2_PolicyNV, each on the bytes of the index and the operand.
@@ -316,7 +316,7 @@ class Commands:
     def nv_undefine_space(self, handles, parameters, locality, random):
         parameters.end()
         hierarchy, handle = handles
-        if hierarchy == RH_OWNER and self.indices[handle].public.has(Attribute.PLATFORM_CREATE):
+        if hierarchy == RH_OWNER and self.indices[handle].public.has(Attribute.PLATFORMCREATE):
             raise Refusal("NV_AUTHORIZATION")
         del self.indices[handle]
         return Answer()
@@ -336,7 +336,7 @@ class Commands:
         size = index.public.data_size
         check_writing(index.public, asker, Type.ORDINARY)
         check_range(index.public, offset, len(data))
-        if index.public.has(Attribute.WRITE_ALL) and len(data) != size:
+        if index.public.has(Attribute.WRITEALL) and len(data) != size:
             raise Refusal("NV_RANGE")
         # What the first write leaves out is all ones.
         old = index.data if index.public.has(Attribute.WRITTEN) else b"\xff" * size
@@ -394,9 +394,9 @@ class Commands:
         asker, handle = handles
         index = self.indices[handle]
         check_writer(index.public, asker)
-        if not index.public.has(Attribute.WRITE_DEFINE | Attribute.WRITE_ST_CLEAR):
+        if not index.public.has(Attribute.WRITEDEFINE | Attribute.WRITE_STCLEAR):
             raise Refusal("ATTRIBUTES/h2")
-        index.mark(Attribute.WRITE_LOCKED)
+        index.mark(Attribute.WRITELOCKED)
         return Answer()
 
     def nv_read_lock(self, handles, parameters, locality, random):
@@ -404,9 +404,9 @@ class Commands:
         asker, handle = handles
         index = self.indices[handle]
         check_reader(index.public, asker)
-        if not index.public.has(Attribute.READ_ST_CLEAR):
+        if not index.public.has(Attribute.READ_STCLEAR):
             raise Refusal("ATTRIBUTES/h2")
-        index.mark(Attribute.READ_LOCKED)
+        index.mark(Attribute.READLOCKED)
         return Answer()
 
     def nv_change_auth(self, handles, parameters, locality, random):

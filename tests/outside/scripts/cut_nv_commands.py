@@ -18,8 +18,8 @@ HEAD = """\
 
 ORDINARY, COUNTER, BITS, EXTENDED = range(0x0100_0001, 0x0100_0005)
 SESSION = 0x0300_0000
-OWNERS = Attribute.OWNER_WRITE | Attribute.OWNER_READ
-LOCKS = Attribute.WRITE_ST_CLEAR | Attribute.READ_ST_CLEAR
+OWNERS = Attribute.OWNERWRITE | Attribute.OWNERREAD
+LOCKS = Attribute.WRITE_STCLEAR | Attribute.READ_STCLEAR
 CHANGING = policy.after_command_code(SHA256, bytes(32), frames.NV_CHANGE_AUTH)
 
 # Two handles, and the area with one empty password behind them.

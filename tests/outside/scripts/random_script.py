@@ -151,12 +151,12 @@ class Writer(random.Random):
         """Who may write and read, what may be locked, and the type."""
         some = self.getrandbits(32) & self.getrandbits(32) & nv.NAMED & ~nv.NOT_DEFINED
         attributes = some & ~nv.of_type(nv.TYPE_MASK) | self.choice((0, 0x000E_000E, 0x0006_0006))
-        attributes &= ~nv.Attribute.PLATFORM_CREATE
+        attributes &= ~nv.Attribute.PLATFORMCREATE
         if (hierarchy == frames.RH_PLATFORM) != self.happens():
-            attributes |= nv.Attribute.PLATFORM_CREATE
+            attributes |= nv.Attribute.PLATFORMCREATE
         kind = self.choice(TYPES)
         if kind == nv.Type.COUNTER and not self.happens():
-            attributes &= ~nv.Attribute.CLEAR_ST_CLEAR
+            attributes &= ~nv.Attribute.CLEAR_STCLEAR
         attributes |= nv.of_type(kind)
         return attributes ^ 1 << self.randrange(32) if self.happens() else attributes
 
@@ -193,7 +193,7 @@ class Writer(random.Random):
     def nv_undefine(self):
         handle = self.index()
         held = self.device.indices.get(handle)
-        is_platforms = held and held.public.has(nv.Attribute.PLATFORM_CREATE)
+        is_platforms = held and held.public.has(nv.Attribute.PLATFORMCREATE)
         return [ASKERS[1] if is_platforms and not self.happens(0.1) else self.choice(ASKERS), handle]
 
     def asked(self, kind=None, reads=False):
@@ -213,7 +213,7 @@ class Writer(random.Random):
         handles = self.asked(nv.Type.ORDINARY)
         held = self.device.indices.get(handles[1])
         size = held.public.data_size if held else 8
-        whole = held and held.public.has(nv.Attribute.WRITE_ALL) or self.happens(0.2)
+        whole = held and held.public.has(nv.Attribute.WRITEALL) or self.happens(0.2)
         offset = 0 if whole else self.randrange(size + 2)
         most = 1024 if self.happens() else min(1024, max(0, size - offset))
         data = self.randbytes(size) if whole else self.some_bytes(most)
