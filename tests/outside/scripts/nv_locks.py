@@ -3,6 +3,7 @@
 
 import paths
 
+import frames
 from frames import RH_OWNER
 from nv import Attribute
 from nv_caller import BY_OWNER, FIRST, SECOND, NvCaller, area, bits, extended
@@ -215,10 +216,10 @@ def power_cycles():
     script.startup()
     caller.is_now("After two power cycles and a start", FIRST, cleared=WRITTEN | WRITE_LOCKED)
     write()
-    caller.script.command(
+    script.command(
         "TPM2_Startup(CLEAR) on a device that is started",
         "INITIALIZE",
-        bytes.fromhex("80010000000c000001440000"),
+        frames.command(frames.STARTUP, frames.number(0, 2)),
     )
     caller.is_now("Changes nothing", FIRST)
     undefine()
