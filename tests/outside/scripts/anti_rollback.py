@@ -133,7 +133,9 @@ caller.does(
     "attributes, and so the Name that will be in policies",
     caller.incrementing(MINIMUM, by=RH_PLATFORM),
 )
-caller.read("TPM2_NV_Read by the index's empty value: the lowest version is 1", MINIMUM, number(1, 8))
+caller.read(
+    "TPM2_NV_Read by the index's empty value: the lowest version is 1", MINIMUM, number(1, 8)
+)
 caller.is_now("TPM2_NV_ReadPublic: the Name of now", MINIMUM)
 
 script.chapter("ENROLMENT of image 1, which is running.")
@@ -228,7 +230,9 @@ caller.fails("TPM2_PolicyNV: 2 is not less than or equal to 1", "POLICY", compar
 caller.fails("TPM2_Unseal without it", "POLICY_FAIL/s1", caller.unsealing(handle, session))
 caller.does("TPM2_PolicyNV with 2 as its version, which holds", compared(session, 2))
 caller.fails(
-    "TPM2_Unseal: but the version is in the digest", "POLICY_FAIL/s1", caller.unsealing(handle, session)
+    "TPM2_Unseal: but the version is in the digest", "POLICY_FAIL/s1", caller.unsealing(
+        handle, session
+    )
 )
 other = caller.load("TPM2_Load of the token of image 2", parent, token_2)
 caller.fails(
@@ -248,7 +252,9 @@ caller.does(
     "TPM2_NV_Increment: a new counter begins behind the largest that there ever was",
     caller.incrementing(MINIMUM, by=RH_PLATFORM),
 )
-caller.read("TPM2_NV_Read: it is 3, and no image can be started but a newer one", MINIMUM, number(3, 8))
+caller.read(
+    "TPM2_NV_Read: it is 3, and no image can be started but a newer one", MINIMUM, number(3, 8)
+)
 session = caller.policy("TPM2_StartAuthSession")
 says("TPM2_PolicyPCR of PCR 11", caller.pcrs(session, CHOSEN))
 caller.fails("TPM2_PolicyNV: 3 is not less than or equal to 2", "POLICY", compared(session, 2))

@@ -13,7 +13,8 @@ from nv import Attribute, Type
 
 HEAD = """\
 # The commands on NV indices, each cut to every shorter length: first as it is, and then with its
-# commandSize corrected. At last it comes whole. Written by tests/outside/scripts/cut_nv_commands.py.
+# commandSize corrected. At last it comes whole. Written by
+# tests/outside/scripts/cut_nv_commands.py.
 """
 
 ORDINARY, COUNTER, BITS, EXTENDED = range(0x0100_0001, 0x0100_0005)
@@ -23,7 +24,10 @@ LOCKS = Attribute.WRITE_STCLEAR | Attribute.READ_STCLEAR
 CHANGING = policy.after_command_code(SHA256, bytes(32), frames.NV_CHANGE_AUTH)
 
 # Two handles, and the area with one empty password behind them.
-NV_HANDLES = [(14, "within authHandle", "INSUFFICIENT/h1"), (18, "within nvIndex", "INSUFFICIENT/h2")]
+NV_HANDLES = [
+    (14, "within authHandle", "INSUFFICIENT/h1"),
+    (18, "within nvIndex", "INSUFFICIENT/h2"),
+]
 NV_AREA = (31, "within the authorization area", "AUTHSIZE")
 
 

@@ -7,7 +7,18 @@ import frames
 import nv
 from frames import RH_OWNER, RH_PLATFORM
 from nv import Attribute
-from nv_caller import BY_POLICY, BY_VALUE, FIRST, SECOND, THIRD, NvCaller, area, bits, counter, extended
+from nv_caller import (
+    BY_POLICY,
+    BY_VALUE,
+    FIRST,
+    SECOND,
+    THIRD,
+    NvCaller,
+    area,
+    bits,
+    counter,
+    extended,
+)
 from script import Script
 
 # What an index allows by one attribute for writing and one for reading, and who then may.
@@ -137,7 +148,9 @@ caller.does("The first is written", caller.writing(FIRST, b"x"))
 caller.fails("TPM2_NV_Read by the one", "AUTH_UNAVAILABLE", caller.reading(FIRST, 1, by=THIRD))
 caller.fails("TPM2_NV_Write by it", "AUTH_UNAVAILABLE", caller.writing(FIRST, b"x", by=THIRD))
 caller.fails(
-    "With its right value the other may not, either", "NV_AUTHORIZATION", caller.reading(FIRST, 1, by=SECOND)
+    "With its right value the other may not, either", "NV_AUTHORIZATION", caller.reading(
+        FIRST, 1, by=SECOND
+    )
 )
 caller.fails(
     "Nor with a wrong one", "AUTH_FAIL/s1", caller.reading(FIRST, 1, b"a", by=SECOND)

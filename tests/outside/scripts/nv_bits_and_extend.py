@@ -38,12 +38,16 @@ set_bits("Of 4 again", FIRST, 4, 5)
 set_bits("Of none", FIRST, 0, 5)
 set_bits("Of the highest one", FIRST, 1 << 63, 1 << 63 | 5)
 set_bits("Of all", FIRST, 2**64 - 1, 2**64 - 1)
-caller.define("Another, of SHA-1, that each start clears", bits(SECOND, BY_OWNER | CLEARED, algorithm=SHA1))
+caller.define(
+    "Another, of SHA-1, that each start clears", bits(SECOND, BY_OWNER | CLEARED, algorithm=SHA1)
+)
 set_bits("No bit is set, and it is written", SECOND, 0, 0)
 set_bits("TPM2_NV_SetBits of 8", SECOND, 8, 8)
 wrong = caller.setting(SECOND, 0, by=RH_OWNER)
 caller.fails(
-    "Seven bytes, and none", "INSUFFICIENT/p1", wrong.but(parameters=bytes(7)), wrong.but(parameters=b"")
+    "Seven bytes, and none", "INSUFFICIENT/p1", wrong.but(parameters=bytes(7)), wrong.but(
+        parameters=b""
+    )
 )
 caller.fails("Nine bytes", "SIZE", wrong.but(parameters=bytes(9)))
 
@@ -56,7 +60,9 @@ for index, (algorithm, name) in zip((THIRD, THIRD + 1), HASHES):
         extended(index, BY_OWNER, algorithm=algorithm),
     )
     caller.fails(
-        "TPM2_NV_Read before the first", "NV_UNINITIALIZED", caller.reading(index, size, by=RH_OWNER)
+        "TPM2_NV_Read before the first", "NV_UNINITIALIZED", caller.reading(
+            index, size, by=RH_OWNER
+        )
     )
     value = zeros
     for what, data in (

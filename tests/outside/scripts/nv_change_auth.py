@@ -110,7 +110,9 @@ caller.does(
 )
 says("TPM2_PolicyAuthValue", caller.auth_value_told(session))
 caller.fails(
-    "TPM2_NV_ChangeAuth", "POLICY_FAIL/s1", caller.changing_auth(FIRST, b"new", Use(session, demand=AUTH_VALUE))
+    "TPM2_NV_ChangeAuth", "POLICY_FAIL/s1", caller.changing_auth(
+        FIRST, b"new", Use(session, demand=AUTH_VALUE)
+    )
 )
 undefine(FIRST)
 caller.define(

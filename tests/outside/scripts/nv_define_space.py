@@ -108,12 +108,17 @@ def handles():
             "TPM_RH_ENDORSEMENT, TPM_RH_LOCKOUT, TPM_RH_NULL and TPM_RS_PW",
             (RH_ENDORSEMENT, RH_LOCKOUT, RH_NULL, frames.RS_PW),
         ),
-        ("PCR 0, an index, objects and sessions", (0, FIRST, 0x8000_0000, 0x8100_0000, 0x0200_0000)),
+        (
+            "PCR 0, an index, objects and sessions",
+            (0, FIRST, 0x8000_0000, 0x8100_0000, 0x0200_0000),
+        ),
     ):
         caller.fails(what, "VALUE/h1", *(caller.defining(area(), b"", by=it) for it in handles))
     caller.fails("Without sessions", "AUTH_MISSING", caller.defining(area()).but(entries=[]))
     fitting("By the owner", area())
-    fitting("By the platform, with PLATFORMCREATE", area(attributes=BY_OWNER | CREATED), by=RH_PLATFORM)
+    fitting(
+        "By the platform, with PLATFORMCREATE", area(attributes=BY_OWNER | CREATED), by=RH_PLATFORM
+    )
     unfitting("By the owner, with it", "ATTRIBUTES/p2", area(attributes=BY_OWNER | CREATED))
     unfitting("By the platform, without it", "ATTRIBUTES/p2", area(), by=RH_PLATFORM)
     caller.does('ownerAuth becomes "abc"', caller.change_auth(RH_OWNER, b"abc", b""))
@@ -191,7 +196,9 @@ def attributes():
         area(attributes=nv.WRITES),
     )
     clears = Attribute.CLEAR_STCLEAR
-    unfitting("A counter with CLEAR_STCLEAR", "ATTRIBUTES/p2", counter(attributes=BY_OWNER | clears))
+    unfitting(
+        "A counter with CLEAR_STCLEAR", "ATTRIBUTES/p2", counter(attributes=BY_OWNER | clears)
+    )
     for make, name in ((bits, "Bits"), (extended, "An index that is extended,")):
         fitting(f"{name} with it", make(attributes=BY_OWNER | clears))
     for each in Attribute:
@@ -224,7 +231,12 @@ def limit_of_numbers():
         by = RH_PLATFORM if index % 2 else RH_OWNER
         public = area(index, BY_OWNER | (CREATED if index % 2 else 0))
         caller.define("" if index > FIRST else "32 of them, of eight bytes", public, by=by)
-    unfitting("One more, of eight bytes or of none", "NV_SPACE", area(0x0100_0100), area(0x0100_0100, size=0))
+    unfitting(
+        "One more, of eight bytes or of none",
+        "NV_SPACE",
+        area(0x0100_0100),
+        area(0x0100_0100, size=0),
+    )
     unfitting("One that is there", "NV_DEFINED", area(FIRST + 1))
     script.power()
     script.startup()
@@ -263,7 +275,9 @@ def limit_of_bytes():
         if index == FIRST + 1:
             continue
         for half in (0, 1024):
-            what = "The first, third and fourth read as written" if (index, half) == (FIRST, 0) else ""
+            what = "The first, third and fourth read as written" if (index, half) == (
+                FIRST, 0
+            ) else ""
             caller.read(what, index, values[index][half : half + 1024], offset=half)
     caller.does("The last one is undefined", caller.undefining(FIRST + 5))
     unfitting("One of 1,025 bytes", "NV_SPACE", area(FIRST + 5, size=1025))

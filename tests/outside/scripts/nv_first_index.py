@@ -43,7 +43,9 @@ assert script.answers[-1] == bytes.fromhex(
 )
 caller.is_now("TPM2_NV_ReadPublic: it has WRITTEN now, and so another Name", FIRST)
 caller.fails(
-    "TPM2_NV_Write of eight bytes at offset 1", "NV_RANGE", caller.writing(FIRST, bytes(8), offset=1)
+    "TPM2_NV_Write of eight bytes at offset 1", "NV_RANGE", caller.writing(
+        FIRST, bytes(8), offset=1
+    )
 )
 caller.fails(
     "TPM2_NV_WriteLock, without WRITEDEFINE and WRITE_STCLEAR",
@@ -90,7 +92,11 @@ caller.fails(
 )
 
 script.chapter("Passwords, and the owner, who has neither OWNERWRITE nor OWNERREAD.")
-caller.fails("A wrong password of what is protected from guessing", "AUTH_FAIL/s1", caller.reading(FIRST, 8, b"b"))
+caller.fails(
+    "A wrong password of what is protected from guessing",
+    "AUTH_FAIL/s1",
+    caller.reading(FIRST, 8, b"b"),
+)
 caller.fails("The empty password", "AUTH_FAIL/s1", caller.writing(FIRST, b"x", b""))
 caller.read("The right one with zeros behind it", FIRST, WHOLE, b"a\0\0")
 caller.fails(

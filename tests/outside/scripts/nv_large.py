@@ -5,7 +5,6 @@ import hashlib
 
 import paths
 
-import frames
 from frames import RH_OWNER, number
 from nv import Attribute
 from nv_caller import BY_OWNER, FIRST, SECOND, THIRD, NvCaller, area

@@ -1,5 +1,5 @@
 #!/usr/bin/env python3
-"""Writes tests/nv_locks.tpm: TPM2_NV_WriteLock and TPM2_NV_ReadLock, and what starts make of them."""
+"""Writes tests/nv_locks.tpm: TPM2_NV_WriteLock, TPM2_NV_ReadLock, and what starts make of them."""
 
 import paths
 
@@ -18,7 +18,8 @@ DATA = b"8 bytes."
 script = Script(
     "tests/nv_locks.tpm",
     "Locks: WRITEDEFINE locks an index against writing for good, once it is written; WRITE_STCLEAR "
-    "and READ_STCLEAR lock it until the next start. CLEAR_STCLEAR has it not written at each start.",
+    "and READ_STCLEAR lock it until the next start. CLEAR_STCLEAR has it not written at each "
+    "start.",
 )
 caller = NvCaller(script)
 
@@ -206,7 +207,9 @@ def cleared():
 
 
 def power_cycles():
-    script.chapter("It is TPM2_Startup that opens, not the power; what is not started cannot be asked.")
+    script.chapter(
+        "It is TPM2_Startup that opens, not the power; what is not started cannot be asked."
+    )
     define(WRITE_CLEAR | READ_CLEAR | CLEARED)
     write()
     write_lock()

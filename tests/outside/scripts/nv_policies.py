@@ -3,7 +3,6 @@
 
 import paths
 
-import frames
 import nv
 import policy
 from caller import Use
@@ -19,7 +18,7 @@ from frames import (
     selection,
 )
 from nv import Attribute
-from nv_caller import BY_OWNER, BY_POLICY, BY_VALUE, FIRST, SECOND, THIRD, NvCaller, area
+from nv_caller import BY_OWNER, BY_POLICY, FIRST, SECOND, THIRD, NvCaller, area
 from policy import AUTH_VALUE, PASSWORD
 from policy_caller import HASHES, zeros
 from script import Script
@@ -53,7 +52,9 @@ def after_auth_value(algorithm=SHA256):
 def demands():
     for algorithm, name in HASHES:
         script.chapter(f"TPM2_PolicyAuthValue and TPM2_PolicyPassword, of {name}.")
-        public = area(FIRST, BY_POLICY, algorithm=algorithm, auth_policy=after_auth_value(algorithm))
+        public = area(
+            FIRST, BY_POLICY, algorithm=algorithm, auth_policy=after_auth_value(algorithm)
+        )
         caller.define("An index that a policy alone may use", public, auth=b"a")
         caller.fails(
             "TPM2_NV_Write by the password", "AUTH_UNAVAILABLE", caller.writing(FIRST, DATA)
@@ -102,6 +103,9 @@ COMMANDS = (
     ("TPM2_PolicySecret", True, lambda by: caller.secret(told, by, of=FIRST)),
 )
 
+LOCKING = tuple(it for it in COMMANDS if it[0].endswith("Lock"))
+USES = tuple(it for it in COMMANDS if it not in LOCKING)
+
 
 def availability():
     script.chapter("Which attribute lets what authorize: the others do not.")
@@ -126,7 +130,10 @@ def availability():
             else:
                 caller.fails(f"{name} by the password", "AUTH_UNAVAILABLE", prepare(b"a"))
                 caller.fails(
-                    "By a wrong one, or an HMAC session", "AUTH_UNAVAILABLE", prepare(b"x"), prepare(hmac)
+                    "By a wrong one, or an HMAC session",
+                    "AUTH_UNAVAILABLE",
+                    prepare(b"x"),
+                    prepare(hmac),
                 )
         undefine(FIRST)
 
@@ -134,7 +141,7 @@ def availability():
     caller.define("The index", area(FIRST, nv.WRITES | nv.READS | LOCKS), auth=b"a")
     for name, _, prepare in COMMANDS:
         caller.fails(f"{name} by a policy session", "AUTH_UNAVAILABLE", prepare(session))
-    for name, _, prepare in COMMANDS[:1] + COMMANDS[2:3] + COMMANDS[4:]:
+    for name, _, prepare in USES:
         caller.does(f"{name} by the password", prepare(b"a"))
     says("TPM2_PolicyRestart of the session that was told", caller.restart(told))
     undefine(FIRST)
@@ -142,7 +149,7 @@ def availability():
     script.chapter("With all attributes and a policy, each way is open.")
     public = area(FIRST, nv.WRITES | nv.READS | LOCKS, auth_policy=after_auth_value())
     caller.define("The index", public, auth=b"a")
-    for name, _, prepare in COMMANDS[:1] + COMMANDS[2:3] + COMMANDS[4:] + COMMANDS[1:2] + COMMANDS[3:4]:
+    for name, _, prepare in USES + LOCKING:
         says("TPM2_PolicyAuthValue", caller.auth_value_told(session))
         caller.does(f"{name} by the policy", prepare(Use(session, demand=AUTH_VALUE)))
     for each in (session, hmac):
@@ -152,8 +159,8 @@ def availability():
 
 def by_code_and_pcrs():
     script.chapter(
-        "One policy with two branches: who knows the value writes, and everybody reads while PCR 10 "
-        "has its value of now."
+        "One policy with two branches: who knows the value writes, and everybody reads while PCR "
+        "10 has its value of now."
     )
     chosen = [(SHA256, [10])]
     to_write = policy.after_command_code(SHA256, after_auth_value(), NV_WRITE)
@@ -179,10 +186,14 @@ def by_code_and_pcrs():
 
     by_value = lambda: Use(session, demand=AUTH_VALUE)
     writer()
-    caller.fails("TPM2_NV_Read by the writer's", "POLICY_CC/s1", caller.reading(FIRST, 8, by_value()))
+    caller.fails(
+        "TPM2_NV_Read by the writer's", "POLICY_CC/s1", caller.reading(FIRST, 8, by_value())
+    )
     caller.does("TPM2_NV_Write", caller.writing(FIRST, DATA, by_value()))
     reader()
-    caller.fails("TPM2_NV_Write by the reader's", "POLICY_CC/s1", caller.writing(FIRST, DATA, session))
+    caller.fails(
+        "TPM2_NV_Write by the reader's", "POLICY_CC/s1", caller.writing(FIRST, DATA, session)
+    )
     caller.read("TPM2_NV_Read", FIRST, DATA, session)
     reader()
     caller.does("PCR 10 is extended", caller.event(b"program", b"", pcr=10))
@@ -216,7 +227,9 @@ def by_locality():
 
 
 def bound_and_encrypting():
-    script.chapter("A policy session that is bound to the index. The first write ends no key of it.")
+    script.chapter(
+        "A policy session that is bound to the index. The first write ends no key of it."
+    )
     caller.define("The index", area(FIRST, BY_POLICY, auth_policy=after_auth_value()), auth=b"a")
     session = caller.policy("The session, with AES", bind=FIRST, aes=True)
     for what, attributes in (
@@ -240,24 +253,39 @@ def who_authorizes():
     script.chapter("The policy is that of the index that authorizes, and of no other entity.")
     auth_policy = after_auth_value()
     caller.define("An index", area(FIRST, BY_POLICY | BY_OWNER, auth_policy=auth_policy), auth=b"a")
-    caller.define("Another one with the same", area(SECOND, BY_POLICY, auth_policy=auth_policy), auth=b"a")
-    caller.define("A third one with another", area(THIRD, BY_POLICY, auth_policy=bytes(32)), auth=b"a")
+    caller.define(
+        "Another one with the same", area(SECOND, BY_POLICY, auth_policy=auth_policy), auth=b"a"
+    )
+    caller.define(
+        "A third one with another", area(THIRD, BY_POLICY, auth_policy=bytes(32)), auth=b"a"
+    )
     session = caller.policy("A policy session")
     by_value = lambda: Use(session, demand=AUTH_VALUE)
-    caller.does("The third, whose policy is zeros, asks for no assertion", caller.writing(THIRD, DATA, session))
+    caller.does(
+        "The third, whose policy is zeros, asks for no assertion",
+        caller.writing(THIRD, DATA, session),
+    )
     says("TPM2_PolicyAuthValue", caller.auth_value_told(session))
-    caller.fails("The third by another digest", "POLICY_FAIL/s1", caller.writing(THIRD, DATA, by_value()))
     caller.fails(
-        "The first, by the second", "NV_AUTHORIZATION", caller.writing(FIRST, DATA, by_value(), by=SECOND)
+        "The third by another digest", "POLICY_FAIL/s1", caller.writing(THIRD, DATA, by_value())
     )
     caller.fails(
-        "The first, by the owner", "AUTH_UNAVAILABLE", caller.writing(FIRST, DATA, by_value(), by=RH_OWNER)
+        "The first, by the second", "NV_AUTHORIZATION", caller.writing(
+            FIRST, DATA, by_value(), by=SECOND
+        )
+    )
+    caller.fails(
+        "The first, by the owner", "AUTH_UNAVAILABLE", caller.writing(
+            FIRST, DATA, by_value(), by=RH_OWNER
+        )
     )
     caller.does("The first, by itself", caller.writing(FIRST, DATA, by_value()))
     trial = caller.trial("A trial session")
     says("TPM2_PolicyAuthValue", caller.auth_value_told(trial))
     caller.fails("By it", "ATTRIBUTES/s1", caller.writing(FIRST, DATA, trial))
-    caller.fails("Also where nothing can", "ATTRIBUTES/s1", caller.writing(FIRST, DATA, trial, by=RH_OWNER))
+    caller.fails(
+        "Also where nothing can", "ATTRIBUTES/s1", caller.writing(FIRST, DATA, trial, by=RH_OWNER)
+    )
     caller.does("The first is undefined: its policy is nobody's", caller.undefining(FIRST))
     says("TPM2_PolicyAuthValue", caller.auth_value_told(session))
     caller.does("The second", caller.writing(SECOND, DATA, by_value()))

@@ -25,7 +25,10 @@ script.chapter("Each fact of a public area, in both hash algorithms.")
 for algorithm, name in HASHES:
     size = digest_bytes(algorithm)
     for what, public in (
-        (f"An index of {name} with a policy", area(FIRST, algorithm=algorithm, auth_policy=b"p" * size)),
+        (
+            f"An index of {name} with a policy",
+            area(FIRST, algorithm=algorithm, auth_policy=b"p" * size),
+        ),
         ("One of no bytes", area(0x01FF_FFFF, algorithm=algorithm, size=0)),
         ("A counter", counter(FIRST, algorithm=algorithm)),
         ("One that is extended", extended(FIRST, algorithm=algorithm)),

@@ -19,9 +19,9 @@ DECRYPTS, ENCRYPTS = CONTINUE_SESSION | DECRYPT, CONTINUE_SESSION | ENCRYPT
 
 script = Script(
     "examples/nv_secret.tpm",
-    "A secret of 32 bytes, such as the key of a disk, is kept in an NV index behind a password. The "
-    "boot loader asks for the password, reads the secret through a session that encrypts it, and "
-    "locks the index: nobody reads it again before the next start, whoever knows the password.",
+    "A secret of 32 bytes, such as the key of a disk, is kept in an NV index behind a password. "
+    "The boot loader asks for the password, reads the secret through a session that encrypts it, "
+    "and locks the index: nobody reads it again before the next start, whoever knows the password.",
 )
 caller = NvCaller(script)
 
@@ -105,9 +105,9 @@ session = bound_session(
 )
 read = caller.reading(SECRET_INDEX, len(SECRET), Use(session, ENCRYPTS))
 answer = caller.does(
-    "TPM2_NV_Read of 32 bytes, with the attributes continueSession and encrypt. What is answered is "
-    "0020 and 32 bytes that only the two sides can decrypt, and its hmac shows that the device sent "
-    "them",
+    "TPM2_NV_Read of 32 bytes, with the attributes continueSession and encrypt. What is answered "
+    "is 0020 and 32 bytes that only the two sides can decrypt, and its hmac shows that the device "
+    "sent them",
     read,
 )
 assert answer[2:] == SECRET and SECRET not in script.answers[-1]

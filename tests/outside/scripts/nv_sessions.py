@@ -5,7 +5,7 @@ import paths
 
 import frames
 from caller import Use, flipped
-from frames import CONTINUE_SESSION, DECRYPT, ENCRYPT, RH_NULL, RH_OWNER, SHA1, SHA256, sized
+from frames import CONTINUE_SESSION, DECRYPT, ENCRYPT, RH_NULL, RH_OWNER, SHA1, SHA256
 from nv import Attribute
 from nv_caller import (
     BY_OWNER,
@@ -36,12 +36,16 @@ caller = NvCaller(script)
 
 def flush(*held):
     for each in held:
-        caller.says("A session is flushed" if each is held[0] else "", "SUCCESS", caller.flush(each))
+        caller.says(
+            "A session is flushed" if each is held[0] else "", "SUCCESS", caller.flush(each)
+        )
 
 
 def undefine(*indices):
     for index in indices:
-        caller.does("An index is undefined" if index == indices[0] else "", caller.undefining(index))
+        caller.does(
+            "An index is undefined" if index == indices[0] else "", caller.undefining(index)
+        )
 
 
 def unbound():
@@ -55,12 +59,16 @@ def unbound():
             (FOURTH, extended, lambda: caller.extending(FOURTH, DATA, session)),
         ):
             public = make(index, BY_VALUE | LOCKS)
-            caller.define("TPM2_NV_DefineSpace by it, with its empty hmac", public, session, auth=b"a")
+            caller.define(
+                "TPM2_NV_DefineSpace by it, with its empty hmac", public, session, auth=b"a"
+            )
             caller.does("The first change", change())
             caller.does("The second", change())
             wrong = change()
             caller.fails(
-                "A wrong hmac", "AUTH_FAIL/s1", wrong.but_entry(1, hmac=flipped(wrong.entries[0].hmac))
+                "A wrong hmac", "AUTH_FAIL/s1", wrong.but_entry(
+                    1, hmac=flipped(wrong.entries[0].hmac)
+                )
             )
             caller.fails("None", "AUTH_FAIL/s1", wrong.but_entry(1, hmac=b""))
             caller.does("TPM2_NV_Read", caller.reading(index, 8, session))
@@ -116,7 +124,9 @@ def bound():
     caller.does("TPM2_NV_WriteLock", caller.write_locking(FIRST, session))
     script.power()
     script.startup()
-    caller.is_now("After the next start", FIRST, cleared=Attribute.WRITELOCKED | Attribute.READLOCKED)
+    caller.is_now(
+        "After the next start", FIRST, cleared=Attribute.WRITELOCKED | Attribute.READLOCKED
+    )
 
     script.chapter("A session that is bound to one index, and authorizes another.")
     caller.define("Another index", area(SECOND, BY_VALUE | Attribute.NO_DA), auth=b"b")
@@ -145,7 +155,9 @@ def bound():
         caller.undefining(FIRST, session).but_entry(1, hmac=bytes(32)),
     )
     caller.fails(
-        "And by the second", "BAD_AUTH/s1", caller.undefining(FIRST, other).but_entry(1, hmac=bytes(32))
+        "And by the second", "BAD_AUTH/s1", caller.undefining(FIRST, other).but_entry(
+            1, hmac=bytes(32)
+        )
     )
     caller.fails("A wrong password of the second", "BAD_AUTH/s1", caller.reading(SECOND, 1, b"x"))
     caller.fails("Of the first", "AUTH_FAIL/s1", caller.reading(FIRST, 1, b"x"))
@@ -156,12 +168,16 @@ def bound():
 def encryption():
     script.chapter("Parameters that are encrypted.")
     caller.does('ownerAuth becomes "owner"', caller.change_auth(RH_OWNER, b"owner", b""))
-    owner = caller.start("A session that is bound to TPM_RH_OWNER, with AES", bind=RH_OWNER, aes=True)
+    owner = caller.start(
+        "A session that is bound to TPM_RH_OWNER, with AES", bind=RH_OWNER, aes=True
+    )
     for index, make in ((FIRST, area), (SECOND, extended), (THIRD, bits), (FOURTH, counter)):
         what = "TPM2_NV_DefineSpace with auth encrypted" if index == FIRST else ""
         caller.define(what, make(index, BY_VALUE), Use(owner, DECRYPTS), auth=b"hidden")
     caller.does("The value is the one that was sent: TPM2_NV_Write", caller.writing(FIRST, b"x"))
-    session = caller.start("A session that is bound to the first index, with AES", bind=FIRST, aes=True)
+    session = caller.start(
+        "A session that is bound to the first index, with AES", bind=FIRST, aes=True
+    )
     plain = caller.start("One that is bound to nothing, with AES", aes=True)
     for name, use in (("the bound session", session), ("the other", plain)):
         caller.does(
@@ -178,12 +194,19 @@ def encryption():
         caller.writing(FIRST, b"8 others", b"hidden", Use(session, DECRYPTS)),
     )
     caller.read("So in TPM2_NV_Read", FIRST, b"8 others", b"hidden", Use(owner, ENCRYPTS))
-    caller.read("One session authorizes, another encrypts", FIRST, b"8 others", plain, Use(owner, ENCRYPTS))
+    caller.read(
+        "One session authorizes, another encrypts", FIRST, b"8 others", plain, Use(owner, ENCRYPTS)
+    )
     caller.does(
         "No bytes to encrypt", caller.writing(FIRST, b"", Use(session, DECRYPTS), offset=3)
     )
     whole = bytes(range(256)) * 4
-    caller.define("An index of 1,024 bytes", area(0x0100_0005, BY_VALUE, size=1024), Use(owner, DECRYPTS), auth=b"long")
+    caller.define(
+        "An index of 1,024 bytes",
+        area(0x0100_0005, BY_VALUE, size=1024),
+        Use(owner, DECRYPTS),
+        auth=b"long",
+    )
     caller.does(
         "TPM2_NV_Write of 1,024 bytes that are encrypted",
         caller.writing(0x0100_0005, whole, Use(session, DECRYPTS)),

@@ -52,7 +52,9 @@ caller.fails("The value of before", "AUTH_FAIL/s1", caller.writing(FIRST, b"x", 
 caller.fails("TPM2_NV_Read", "NV_UNINITIALIZED", caller.reading(FIRST, 8))
 caller.does("TPM2_NV_Write of a byte", caller.writing(FIRST, b"x"))
 caller.read("TPM2_NV_Read: nothing of before is in it", FIRST, b"x" + b"\xff" * 7)
-caller.does("The platform takes away what is the owner's, too", caller.undefining(FIRST, by=RH_PLATFORM))
+caller.does(
+    "The platform takes away what is the owner's, too", caller.undefining(FIRST, by=RH_PLATFORM)
+)
 
 script.chapter("Handles, and authorization values.")
 caller.define("An index of the owner's", area(FIRST, BY_OWNER | Attribute.AUTHREAD), auth=b"a")
@@ -70,7 +72,12 @@ caller.fails(
 caller.fails("An index that is not there", "HANDLE/h2", right.but(handles=[RH_OWNER, THIRD]))
 caller.fails("Without sessions", "AUTH_MISSING", right.but(entries=[]))
 caller.does('ownerAuth becomes "abc"', caller.change_auth(RH_OWNER, b"abc", b""))
-caller.fails("By the empty password, and by the index's", "BAD_AUTH/s1", right, caller.undefining(FIRST, b"a"))
+caller.fails(
+    "By the empty password, and by the index's",
+    "BAD_AUTH/s1",
+    right,
+    caller.undefining(FIRST, b"a"),
+)
 caller.fails("A byte behind the area", "SIZE", caller.undefining(FIRST).but(parameters=b"\0"))
 caller.does("By the right one", caller.undefining(FIRST))
 
@@ -86,7 +93,9 @@ caller.does(
     caller.undefining(FIRST, bound, of_index),
 )
 caller.does("The second is there yet, and only encrypts", caller.random(4, of_index))
-caller.define("The index is defined again, with the same value", area(FIRST, BY_VALUE), bound, auth=b"a")
+caller.define(
+    "The index is defined again, with the same value", area(FIRST, BY_VALUE), bound, auth=b"a"
+)
 caller.does("Its session is bound to it again, as Name and value are those of then",
     caller.writing(FIRST, b"x", of_index))
 script.write()

@@ -14,7 +14,6 @@ from frames import (
     RH_OWNER,
     RH_PLATFORM,
     SHA1,
-    SHA256,
     area as entries_area,
     command,
     number,
@@ -123,7 +122,12 @@ def changes(code, name, index, locked, parameters, faults=(), ranges=()):
         uses,
         *((what, outcome, [RH_OWNER, locked], text) for what, outcome, text in faults),
         ("A byte behind the rest", "SIZE", [RH_OWNER, locked], out + b"\0"),
-        ("By the owner, who may not, of a locked index", "NV_AUTHORIZATION", [RH_OWNER, locked], out),
+        (
+            "By the owner, who may not, of a locked index",
+            "NV_AUTHORIZATION",
+            [RH_OWNER, locked],
+            out,
+        ),
         ("By another index", "NV_AUTHORIZATION", [ORDINARY, locked], out),
         ("By the index itself", "NV_LOCKED", [locked, locked], out),
         ("One that is open, of another type", "ATTRIBUTES/h2", [open_one, open_one], out),
@@ -154,7 +158,9 @@ def define_space():
         case("nvIndex", "VALUE/p2", sized(number(RH_OWNER, 4) + number(0, 6)) + b"\0"),
         case("nameAlg", "HASH/p2", sized(everything[:4] + number(0, 2) + b"\xff" * 4) + b"\0"),
         case("Attributes", "RESERVED_BITS/p2", sized(everything[:6] + b"\xff" * 6) + b"\0"),
-        case("authPolicy of 33 bytes", "SIZE/p2", sized(everything[:10] + sized(bytes(33))) + b"\0"),
+        case(
+            "authPolicy of 33 bytes", "SIZE/p2", sized(everything[:10] + sized(bytes(33))) + b"\0"
+        ),
         case("dataSize is cut", "SIZE/p2", sized(everything[:-1]) + b"\0"),
         case("A byte behind publicInfo", "SIZE", sized(everything) + b"\0"),
         case("auth of 21 bytes, with SHA-1", "SIZE/p1", sized(everything)),
@@ -312,7 +318,9 @@ def change_auth():
     )
     refused("Both hmacs are wrong", "BAD_AUTH/s1", all_wrong())
     refused(
-        "The last one is", "BAD_AUTH/s2", wrong(prepared(cut, Use(told, shows_empty_key=True), hides), 2)
+        "The last one is", "BAD_AUTH/s2", wrong(
+            prepared(cut, Use(told, shows_empty_key=True), hides), 2
+        )
     )
     for what, outcome, parameters in (
         ("newAuth is cut", "INSUFFICIENT/p1", cut),

@@ -6,7 +6,6 @@ import hashlib
 import paths
 
 import frames
-import nv
 import policy
 from caller import Use
 from frames import POLICY_NV, RH_OWNER, RH_PLATFORM, SHA1, SHA256, number, sized
@@ -61,10 +60,14 @@ def restarted(session, what=""):
 
 
 def holds(what, session, operation, operand, offset=0, index=FIRST, by=RH_OWNER):
-    caller.does(what, caller.comparing(session, index, operand, offset=offset, operation=operation, by=by))
+    caller.does(
+        what, caller.comparing(session, index, operand, offset=offset, operation=operation, by=by)
+    )
 
 
-def fails(what, session, operation, *operands, offset=0, index=FIRST, by=RH_OWNER, outcome="POLICY"):
+def fails(
+    what, session, operation, *operands, offset=0, index=FIRST, by=RH_OWNER, outcome="POLICY"
+):
     caller.fails(
         what,
         outcome,
@@ -89,7 +92,13 @@ def digests():
             holds(what, session, operation, operand, offset)
             old = after(session, old, FIRST, operand, offset, operation)
             caller.digest_is("Its digest", session, old)
-        fails("What does not hold", session, EQ, b"9", outcome="SUCCESS" if is_trial(session) else "POLICY")
+        fails(
+            "What does not hold",
+            session,
+            EQ,
+            b"9",
+            outcome="SUCCESS" if is_trial(session) else "POLICY",
+        )
         if is_trial(session):
             old = after(session, old, FIRST, b"9", 0, EQ)
         caller.digest_is("Its digest", session, old)
@@ -103,7 +112,9 @@ def the_name_of_now():
     before = after(trial, zeros(trial), SECOND, bytes(8), 0, EQ)
     caller.digest_is("The digest is of its Name of now", trial, before)
     session = caller.policy("A policy session")
-    fails("A policy session does not", session, EQ, bytes(8), index=SECOND, outcome="NV_UNINITIALIZED")
+    fails(
+        "A policy session does not", session, EQ, bytes(8), index=SECOND, outcome="NV_UNINITIALIZED"
+    )
     caller.does("It is written", caller.writing(SECOND, bytes(8), by=RH_OWNER))
     holds("Now it does", session, EQ, bytes(8), index=SECOND)
     written = after(session, zeros(session), SECOND, bytes(8), 0, EQ)
@@ -155,7 +166,13 @@ COMPARISONS = {
 def both(what, session, operation, true, false, **more):
     """The operands for which a comparison holds, and those for which it does not."""
     for each in true:
-        holds(f"{what}: it holds of these operands" if each == true[0] else "", session, operation, each, **more)
+        holds(
+            f"{what}: it holds of these operands" if each == true[0] else "",
+            session,
+            operation,
+            each,
+            **more,
+        )
     if false:
         fails("Of these it does not", session, operation, *false, **more)
 
@@ -168,7 +185,14 @@ def numbers():
         for operation, compare in COMPARISONS.items():
             true = [number(it, 4) for it, how in operands.items() if compare(*how)]
             false = [number(it, 4) for it, how in operands.items() if not compare(*how)]
-            both(f"Operation {operation:X}, {NAMES[operation]}", session, operation, true, false, index=SECOND)
+            both(
+                f"Operation {operation:X}, {NAMES[operation]}",
+                session,
+                operation,
+                true,
+                false,
+                index=SECOND,
+            )
     script.chapter("Bits of A5A5A5A5.")
     caller.does("It is written", caller.writing(SECOND, b"\xa5" * 4, by=RH_OWNER))
     zero, one, all_bits = bytes(4), number(1, 4), b"\xff" * 4
@@ -200,7 +224,9 @@ def numbers():
 
 
 def sizes_and_offsets():
-    script.chapter("Operands of other sizes, and at other offsets: the sign is that of their first bit.")
+    script.chapter(
+        "Operands of other sizes, and at other offsets: the sign is that of their first bit."
+    )
     session = caller.policy("A policy session")
     data = bytes([0x80, 0x00, 0x7F, 0xFF]) + bytes(range(60))
     caller.define("An index of 64 bytes", area(THIRD, BY_OWNER, size=64))
@@ -214,12 +240,24 @@ def sizes_and_offsets():
     holds("80 is less than 7F, signed", session, SIGNED_LT, b"\x7f", 0, index=THIRD)
     fails("And not unsigned", session, LT, b"\x7f", index=THIRD)
     holds("8000 is less than 0000, signed", session, SIGNED_LT, b"\0\0", 0, index=THIRD)
-    holds("007FFF is less than 008000, signed or not", session, SIGNED_LT, b"\0\x80\0", 1, index=THIRD)
+    holds(
+        "007FFF is less than 008000, signed or not", session, SIGNED_LT, b"\0\x80\0", 1, index=THIRD
+    )
     holds("", session, LT, b"\0\x80\0", 1, index=THIRD)
     fails(
-        "Past the end", session, EQ, b"\x3b\0", bytes(32), offset=63, index=THIRD, outcome="NV_RANGE"
+        "Past the end", session, EQ, b"\x3b\0", bytes(
+            32
+        ), offset=63, index=THIRD, outcome="NV_RANGE"
     )
-    fails("One byte, and none, behind it", session, EQ, b"x", offset=64, index=THIRD, outcome="NV_RANGE")
+    fails(
+        "One byte, and none, behind it",
+        session,
+        EQ,
+        b"x",
+        offset=64,
+        index=THIRD,
+        outcome="NV_RANGE",
+    )
     fails("", session, EQ, b"", offset=65, index=THIRD, outcome="NV_RANGE")
     fails("At FFFF", session, EQ, bytes(32), b"", offset=0xFFFF, index=THIRD, outcome="NV_RANGE")
     caller.does("The index is undefined", caller.undefining(THIRD))
@@ -253,7 +291,9 @@ def types():
 
 
 def refusals():
-    script.chapter("Refusals. The index is not written, is locked, and only the platform may read it.")
+    script.chapter(
+        "Refusals. The index is not written, is locked, and only the platform may read it."
+    )
     session = caller.policy("A policy session")
     trial = caller.trial("A trial session")
     caller.define("An index", area(THIRD, BY_VALUE | BY_PLATFORM | READ_CLEAR), auth=b"a")
@@ -298,7 +338,9 @@ def refusals():
     caller.fails(
         "A wrong password", "AUTH_FAIL/s1", caller.comparing(trial, THIRD, b"x", b"wrong")
     )
-    caller.define("An index that its value cannot read", area(FOURTH, BY_OWNER | BY_POLICY), auth=b"a")
+    caller.define(
+        "An index that its value cannot read", area(FOURTH, BY_OWNER | BY_POLICY), auth=b"a"
+    )
     caller.fails("By it", "AUTH_UNAVAILABLE", caller.comparing(trial, FOURTH, b"x"))
     caller.fails("Without sessions", "AUTH_MISSING", right.but(entries=[]))
     for what, outcome, handles in (
@@ -331,7 +373,9 @@ def refusals():
 
 def sessions(session, trial):
     script.chapter("By sessions.")
-    hmac = caller.start("An HMAC session that is bound to the index, with AES", bind=FIRST, aes=True)
+    hmac = caller.start(
+        "An HMAC session that is bound to the index, with AES", bind=FIRST, aes=True
+    )
     restarted(session)
     caller.does("By it", caller.comparing(session, FIRST, b"8", hmac))
     hidden = Use(hmac, frames.CONTINUE_SESSION | frames.DECRYPT)

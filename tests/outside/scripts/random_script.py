@@ -194,7 +194,8 @@ class Writer(random.Random):
         handle = self.index()
         held = self.device.indices.get(handle)
         is_platforms = held and held.public.has(nv.Attribute.PLATFORMCREATE)
-        return [ASKERS[1] if is_platforms and not self.happens(0.1) else self.choice(ASKERS), handle]
+        by_platform = is_platforms and not self.happens(0.1)
+        return [frames.RH_PLATFORM if by_platform else self.choice(ASKERS), handle]
 
     def asked(self, kind=None, reads=False):
         """An index, mostly of a type, and who asks for it, who mostly may."""
@@ -202,12 +203,10 @@ class Writer(random.Random):
         held = self.device.indices.get(handle)
         if held is None or self.happens(0.1):
             return [self.choice((*ASKERS, self.index())), handle]
-        wanted = zip(
-            (frames.RH_PLATFORM, frames.RH_OWNER, handle, handle), sorted(
-                it for it in nv.Attribute if it & (nv.READS if reads else nv.WRITES)
-            )
-        )
-        return [self.choice([who for who, it in wanted if held.public.has(it)] or [handle]), handle]
+        who = frames.RH_PLATFORM, frames.RH_OWNER, handle, handle
+        allowing = [it for it in nv.Attribute if it & (nv.READS if reads else nv.WRITES)]
+        allowed = [asker for asker, it in zip(who, allowing) if held.public.has(it)]
+        return [self.choice(allowed or [handle]), handle]
 
     def nv_write(self):
         handles = self.asked(nv.Type.ORDINARY)
