@@ -9,12 +9,13 @@ from dataclasses import dataclass, replace
 import aes
 import frames
 import general
+import nv
 import objects
 import policy
 import sessions
 from frames import ALG_NULL, DECRYPT, ENCRYPT, KEYEDHASH, RH_ENDORSEMENT, RH_LOCKOUT, RH_NULL
 from frames import RH_OWNER, RH_PLATFORM, RS_PW, SHA1, SHA256, TRANSIENT, number, sized
-from general import PCRS, Fields, Refusal, Short
+from general import PCRS, Answer, Fields, Refusal, Short
 from objects import Attribute
 from parameters import DIGEST_BYTES, Parameters
 from sessions import HASHES, digest, digest_bytes, mac, trimmed
@@ -82,26 +83,18 @@ class Session:
         return self.kind == frames.SE_TRIAL
 
 
-@dataclass
-class Answer:
-    """What a command answers, and how many random bytes it drew."""
-
-    parameters: bytes = b""
-    handle: bytes = b""
-    drawn: int = 0
-
-
 def pieces(text):
     return [text[at : at + SEED_BYTES] for at in range(0, len(text), SEED_BYTES)]
 
 
-class Device:
+class Device(nv.Commands):
     """The PCRs in both banks and how often a value was written, the hierarchies' authorization
-    values, seeds and proofs, the transient objects, and the sessions.
+    values, seeds and proofs, the NV indices, the transient objects, and the sessions.
     """
 
     def __init__(self):
         self.auth_values = {}
+        self.indices, self.largest_counter = {}, 0
         seeds_and_proofs = pieces(MANUFACTURED)
         self.seeds = dict(zip(WITH_SEEDS, seeds_and_proofs))
         self.proofs = dict(zip(WITH_SEEDS, seeds_and_proofs[len(WITH_SEEDS) :]))
@@ -116,7 +109,9 @@ class Device:
     def execute(self, buffer, locality, random):
         """The response to a command, and the name of its refusal, or None for a success."""
         try:
-            command = general.decode(buffer, self.started, self.sessions, self.objects)
+            command = general.decode(
+                buffer, self.started, self.sessions, self.objects, self.indices
+            )
             self.authorize(command, locality)
             parameters = Parameters(self.plain_parameters(command))
             answer = ROWS[command.code](self, command.handles, parameters, locality, random)
@@ -130,6 +125,8 @@ class Device:
     def name(self, handle):
         if handle in self.objects:
             return self.objects[handle].name
+        if handle in self.indices:
+            return self.indices[handle].public.name
         return sessions.name_of(handle)
 
     def names(self, command):
@@ -139,25 +136,40 @@ class Device:
         """That of a PCR and of TPM_RH_NULL is empty, and so is that of no entity."""
         if handle in self.objects:
             return self.objects[handle].sensitive.auth_value
+        if handle in self.indices:
+            return self.indices[handle].auth_value
         return self.auth_values.get(handle, b"")
 
     def is_protected(self, handle):
         """Whether wrong authorization values are counted."""
         if handle in self.objects:
             return not self.objects[handle].public.has(Attribute.NO_DA)
+        if handle in self.indices:
+            return not self.indices[handle].public.has(nv.Attribute.NO_DA)
         return handle == RH_LOCKOUT
 
-    def takes_auth_value(self, handle):
-        """Whether it can be authorized without a policy."""
+    def takes_auth_value(self, handle, code):
+        """Whether it can be authorized without a policy, for a command."""
         if handle in self.objects:
             return self.objects[handle].public.has(Attribute.USER_WITH_AUTH)
+        if handle in self.indices:
+            return nv.takes_auth_value(self.indices[handle].public, code)
         return True
 
-    def policy_entity(self, handle):
-        """An entity that a policy can authorize: an object that has one."""
-        if handle not in self.objects or not self.objects[handle].public.auth_policy:
+    def policy_entity(self, handle, code):
+        """An entity that a policy can authorize for a command: an object or an index that has one.
+        Of an index the attributes too have to allow it.
+        """
+        if handle in self.objects:
+            public = self.objects[handle].public
+        elif handle in self.indices:
+            public = self.indices[handle].public
+            if not nv.takes_policy(public, code):
+                return None
+        else:
             return None
-        public = self.objects[handle].public
+        if not public.auth_policy:
+            return None
         return policy.Entity(public.name_algorithm, public.auth_policy)
 
     # Authorization.
@@ -232,16 +244,16 @@ class Device:
         cp_hash = sessions.command_hash(
             session.algorithm, command.code, self.names(command), command.parameters
         )
-        # No served command has a handle in the ADMIN role yet.
-        use = policy.Use(command.code, False, cp_hash, self.update_counter, locality)
-        policy.check_use(session, self.policy_entity(handle), use, place)
+        is_admin = command.shape.is_admin
+        use = policy.Use(command.code, is_admin, cp_hash, self.update_counter, locality)
+        policy.check_use(session, self.policy_entity(handle, command.code), use, place)
         entry.demand = session.policy.demand
 
     def authorize(self, command, locality):
         for place, entry, handle in command.places():
             if handle is not None and general.is_policy(entry.handle):
                 self.check_policy(command, place, entry, handle, locality)
-            elif handle is not None and not self.takes_auth_value(handle):
+            elif handle is not None and not self.takes_auth_value(handle, command.code):
                 raise Refusal("AUTH_UNAVAILABLE")
             if not self.accepts(command, place, entry, handle):
                 touches = self.touches_protected(entry, handle)
@@ -342,6 +354,7 @@ class Device:
         self.update_counter = 0
         self.auth_values.pop(RH_PLATFORM, None)
         self.seeds[RH_NULL], self.proofs[RH_NULL] = pieces(random)[:2]
+        nv.start_up(self.indices)
         return Answer()
 
     def get_random(self, handles, parameters, locality, random):
@@ -565,6 +578,21 @@ class Device:
         # Nothing expires, so there is no timeout.
         return Answer(sized(b"") + frames.NULL_TICKET)
 
+    def policy_nv(self, handles, parameters, locality, random):
+        operand, offset, operation = nv.read_policy_nv(parameters)
+        parameters.end()
+
+        asker, handle, told_to = handles
+        session, index = self.sessions[told_to], self.indices[handle]
+        if not session.is_trial:
+            nv.check_comparison(index, asker, operand, offset, operation)
+        arguments = operand + number(offset, 2) + number(operation, 2)
+        told = session.policy
+        told.digest = policy.after_nv(
+            session.algorithm, told.digest, arguments, index.public.name
+        )
+        return Answer()
+
     def policy_get_digest(self, handles, parameters, locality, random):
         parameters.end()
         return Answer(sized(self.sessions[handles[0]].policy.digest))
@@ -700,4 +728,16 @@ ROWS = {
     frames.READ_PUBLIC: Device.read_public,
     frames.UNSEAL: Device.unseal,
     frames.HMAC: Device.hmac,
+    frames.NV_DEFINE_SPACE: Device.nv_define_space,
+    frames.NV_UNDEFINE_SPACE: Device.nv_undefine_space,
+    frames.NV_READ_PUBLIC: Device.nv_read_public,
+    frames.NV_WRITE: Device.nv_write,
+    frames.NV_INCREMENT: Device.nv_increment,
+    frames.NV_SET_BITS: Device.nv_set_bits,
+    frames.NV_EXTEND: Device.nv_extend,
+    frames.NV_READ: Device.nv_read,
+    frames.NV_WRITE_LOCK: Device.nv_write_lock,
+    frames.NV_READ_LOCK: Device.nv_read_lock,
+    frames.NV_CHANGE_AUTH: Device.nv_change_auth,
+    frames.POLICY_NV: Device.policy_nv,
 }

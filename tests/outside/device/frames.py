@@ -10,6 +10,10 @@ POLICY_LOCALITY, POLICY_OR, POLICY_PCR = 0x16F, 0x171, 0x17F
 POLICY_RESTART, POLICY_GET_DIGEST, POLICY_PASSWORD = 0x180, 0x189, 0x18C
 CREATE_PRIMARY, CREATE, LOAD, READ_PUBLIC = 0x131, 0x153, 0x157, 0x173
 UNSEAL, HMAC = 0x15E, 0x155
+NV_DEFINE_SPACE, NV_UNDEFINE_SPACE, NV_READ_PUBLIC = 0x12A, 0x122, 0x169
+NV_WRITE, NV_INCREMENT, NV_SET_BITS, NV_EXTEND = 0x137, 0x134, 0x135, 0x136
+NV_READ, NV_WRITE_LOCK, NV_READ_LOCK = 0x14E, 0x138, 0x14F
+NV_CHANGE_AUTH, POLICY_NV = 0x13B, 0x149
 
 RH_OWNER, RH_NULL, RS_PW = 0x4000_0001, 0x4000_0007, 0x4000_0009
 RH_LOCKOUT, RH_ENDORSEMENT, RH_PLATFORM = 0x4000_000A, 0x4000_000B, 0x4000_000C
@@ -54,18 +58,26 @@ CODES = {
     "INITIALIZE": 0x100,
     "FAILURE": 0x101,
     "AUTH_MISSING": 0x125,
+    "POLICY": 0x126,
     "PCR_CHANGED": 0x128,
     "AUTH_UNAVAILABLE": 0x12F,
     "COMMAND_SIZE": 0x142,
     "COMMAND_CODE": 0x143,
     "AUTHSIZE": 0x144,
     "AUTH_CONTEXT": 0x145,
+    "NV_RANGE": 0x146,
+    "NV_LOCKED": 0x148,
+    "NV_AUTHORIZATION": 0x149,
+    "NV_UNINITIALIZED": 0x14A,
+    "NV_SPACE": 0x14B,
+    "NV_DEFINED": 0x14C,
     "CPHASH": 0x151,
     "OBJECT_MEMORY": 0x902,
     "SESSION_MEMORY": 0x903,
     "LOCALITY": 0x907,
     "REFERENCE_H0": 0x910,
     "REFERENCE_H1": 0x911,
+    "REFERENCE_H2": 0x912,
     "REFERENCE_S0": 0x918,
     "REFERENCE_S1": 0x919,
     "REFERENCE_S2": 0x91A,
@@ -105,10 +117,16 @@ def area(*entries, size=None):
     return number(len(text) if size is None else size, 4) + text
 
 
+def on_handles(code, handles, parameters=b"", entries=None):
+    """A command with handles, and the entries that authorize the first, or the empty password."""
+    text = b"".join(number(it, 4) for it in handles)
+    text += area(*([entry()] if entries is None else entries))
+    return command(code, text + parameters, SESSIONS)
+
+
 def on_handle(code, handle, parameters=b"", entries=None):
-    """A command with one handle, and the entries that authorize it, or the empty password."""
-    text = area(*([entry()] if entries is None else entries))
-    return command(code, number(handle, 4) + text + parameters, SESSIONS)
+    """A command with one handle."""
+    return on_handles(code, [handle], parameters, entries)
 
 
 def symmetric(aes):
@@ -148,6 +166,32 @@ def sized_list(*values, count=None):
 def policy_secret(nonce_tpm=b"", cp_hash=b"", policy_ref=b"", expiration=0):
     """The parameters of TPM2_PolicySecret."""
     return sized(nonce_tpm) + sized(cp_hash) + sized(policy_ref) + number(expiration, 4)
+
+
+def policy_nv(operand=b"", offset=0, operation=0):
+    """The parameters of TPM2_PolicyNV."""
+    return sized(operand) + number(offset, 2) + number(operation, 2)
+
+
+def nv_public_area(index, name_algorithm, attributes, auth_policy, data_size):
+    """A TPMS_NV_PUBLIC."""
+    head = number(index, 4) + number(name_algorithm, 2) + number(attributes, 4)
+    return head + sized(auth_policy) + number(data_size, 2)
+
+
+def nv_define_space(public, auth=b""):
+    """The parameters of TPM2_NV_DefineSpace, of a public area's text."""
+    return sized(auth) + sized(public)
+
+
+def nv_write(data, offset=0):
+    """The parameters of TPM2_NV_Write."""
+    return sized(data) + number(offset, 2)
+
+
+def nv_read(size, offset=0):
+    """The parameters of TPM2_NV_Read."""
+    return number(size, 2) + number(offset, 2)
 
 
 def sensitive_create(user_auth=b"", data=b""):

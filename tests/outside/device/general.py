@@ -94,14 +94,24 @@ def is_policy(handle):
     return first_byte(handle) == POLICY_SESSION
 
 
+def is_index(handle):
+    """The handle of an NV index, whether that is defined or not."""
+    return first_byte(handle) == NV
+
+
+def defines_indices(handle):
+    """A hierarchy that defines NV indices, and takes them away."""
+    return handle in (RH_OWNER, RH_PLATFORM)
+
+
+def uses_indices(handle):
+    """Who can ask for an NV index: a hierarchy that defines them, or the index itself."""
+    return defines_indices(handle) or is_index(handle)
+
+
 def is_authorized_entity(handle):
     """What has an authorization value of its own."""
-    return (
-        is_pcr(handle)
-        or is_hierarchy(handle)
-        or is_object(handle)
-        or first_byte(handle) == NV
-    )
+    return is_pcr(handle) or is_hierarchy(handle) or is_object(handle) or is_index(handle)
 
 
 def is_entity(handle):
@@ -112,7 +122,8 @@ def is_entity(handle):
 @dataclass(frozen=True)
 class Shape:
     """The kinds of a command's handles, how many of them need authorization, whether it may have
-    sessions, and whether its first parameter and its first answer are sized buffers.
+    sessions, whether its first parameter and its first answer are sized buffers, and whether its
+    handle is authorized in the ADMIN role.
     """
 
     handles: tuple = ()
@@ -120,6 +131,7 @@ class Shape:
     sessions: bool = True
     sized_parameter: bool = False
     sized_answer: bool = False
+    is_admin: bool = False
 
 
 SHAPES = {
@@ -151,6 +163,18 @@ SHAPES = {
     frames.READ_PUBLIC: Shape((is_object,), sized_answer=True),
     frames.UNSEAL: Shape((is_object,), 1, sized_answer=True),
     frames.HMAC: Shape((is_object,), 1, sized_parameter=True, sized_answer=True),
+    frames.NV_DEFINE_SPACE: Shape((defines_indices,), 1, sized_parameter=True),
+    frames.NV_UNDEFINE_SPACE: Shape((defines_indices, is_index), 1),
+    frames.NV_READ_PUBLIC: Shape((is_index,), sized_answer=True),
+    frames.NV_WRITE: Shape((uses_indices, is_index), 1, sized_parameter=True),
+    frames.NV_INCREMENT: Shape((uses_indices, is_index), 1),
+    frames.NV_SET_BITS: Shape((uses_indices, is_index), 1),
+    frames.NV_EXTEND: Shape((uses_indices, is_index), 1, sized_parameter=True),
+    frames.NV_READ: Shape((uses_indices, is_index), 1, sized_answer=True),
+    frames.NV_WRITE_LOCK: Shape((uses_indices, is_index), 1),
+    frames.NV_READ_LOCK: Shape((uses_indices, is_index), 1),
+    frames.NV_CHANGE_AUTH: Shape((is_index,), 1, sized_parameter=True, is_admin=True),
+    frames.POLICY_NV: Shape((uses_indices, is_index, is_policy), 1, sized_parameter=True),
 }
 
 
@@ -194,6 +218,15 @@ class Command:
         return None
 
 
+@dataclass
+class Answer:
+    """What a command answers, and how many random bytes it drew."""
+
+    parameters: bytes = b""
+    handle: bytes = b""
+    drawn: int = 0
+
+
 def read_header(fields, length):
     if not HEADER_BYTES <= length <= COMMAND_BYTES:
         raise Refusal("COMMAND_SIZE")
@@ -207,7 +240,7 @@ def read_header(fields, length):
     return tag, code
 
 
-def read_handles(fields, kinds, sessions, objects):
+def read_handles(fields, kinds, sessions, objects, indices):
     handles = []
     for place, is_of_kind in enumerate(kinds, 1):
         try:
@@ -220,8 +253,10 @@ def read_handles(fields, kinds, sessions, objects):
             raise Refusal(f"REFERENCE_H{place - 1}")
         if first_byte(handle) == TRANSIENT and handle not in objects:
             raise Refusal(f"REFERENCE_H{place - 1}")
-        # There are no persistent objects and no NV indices yet.
-        if first_byte(handle) in (NV, PERSISTENT):
+        if is_index(handle) and handle not in indices:
+            raise Refusal(f"HANDLE/h{place}")
+        # There are no persistent objects yet.
+        if first_byte(handle) == PERSISTENT:
             raise Refusal(f"HANDLE/h{place}")
         handles.append(handle)
     return handles
@@ -273,14 +308,14 @@ def check_entry(command, place, entry, handle, sessions):
         raise Refusal(f"SYMMETRIC/s{place}")
 
 
-def decode(buffer, started, sessions, objects):
+def decode(buffer, started, sessions, objects, indices):
     """The command of a buffer, or its first refusal that no authorization value decides."""
     fields = Fields(buffer)
     tag, code = read_header(fields, len(buffer))
     shape = SHAPES[code]
     if started == (code == frames.STARTUP):
         raise Refusal("INITIALIZE")
-    handles = read_handles(fields, shape.handles, sessions, objects)
+    handles = read_handles(fields, shape.handles, sessions, objects, indices)
     if tag == frames.SESSIONS and not shape.sessions:
         raise Refusal("AUTH_CONTEXT")
     if tag == frames.NO_SESSIONS and shape.authorized:

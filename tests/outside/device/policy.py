@@ -10,6 +10,7 @@ from frames import (
     POLICY_AUTH_VALUE,
     POLICY_COMMAND_CODE,
     POLICY_LOCALITY,
+    POLICY_NV,
     POLICY_OR,
     POLICY_PCR,
     POLICY_SECRET,
@@ -85,6 +86,14 @@ def after_secret(algorithm, old, name, policy_ref):
     """Of the Name of authHandle. Two hashes, also where policyRef is empty."""
     named = digest(algorithm, old + number(POLICY_SECRET, 4) + name)
     return digest(algorithm, named + policy_ref)
+
+
+def after_nv(algorithm, old, arguments, name):
+    """`arguments` are the operand, the offset and the operation, as they are compared; the Name is
+    that of the index.
+    """
+    compared = digest(algorithm, arguments)
+    return digest(algorithm, old + number(POLICY_NV, 4) + compared + name)
 
 
 # A policy that authorizes.

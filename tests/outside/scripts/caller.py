@@ -39,8 +39,20 @@ ON_A_HANDLE = (
     frames.LOAD,
     frames.UNSEAL,
     frames.HMAC,
+    frames.NV_DEFINE_SPACE,
+    frames.NV_UNDEFINE_SPACE,
+    frames.NV_WRITE,
+    frames.NV_INCREMENT,
+    frames.NV_SET_BITS,
+    frames.NV_EXTEND,
+    frames.NV_READ,
+    frames.NV_WRITE_LOCK,
+    frames.NV_READ_LOCK,
+    frames.NV_CHANGE_AUTH,
+    frames.POLICY_NV,
 )
 ANSWERING_A_HANDLE = (frames.START_AUTH_SESSION, frames.CREATE_PRIMARY, frames.LOAD)
+CHANGING_AN_AUTH_VALUE = (frames.HIERARCHY_CHANGE_AUTH, frames.NV_CHANGE_AUTH)
 
 
 @dataclass
@@ -258,8 +270,7 @@ class Caller:
         assert (size, code) == (len(response), 0)
         assert tag == (frames.SESSIONS if prepared.entries else frames.NO_SESSIONS)
         handle = fields.number(4) if prepared.code in ANSWERING_A_HANDLE else None
-        if prepared.code == frames.HIERARCHY_CHANGE_AUTH:
-            self.note_new_auth_value(prepared)
+        self.note_effect(prepared)
         if not prepared.entries:
             return handle, fields.data
         parameters = fields.take(fields.number(4))
@@ -267,6 +278,11 @@ class Caller:
             self.check_answer(prepared, place, parameters, fields)
         assert not fields.data
         return handle, self.plain(prepared, parameters)
+
+    def note_effect(self, prepared):
+        """What of the caller's knowledge a command changes that was accepted."""
+        if prepared.code in CHANGING_AN_AUTH_VALUE:
+            self.note_new_auth_value(prepared)
 
     def note_new_auth_value(self, prepared):
         (handle,) = prepared.handles

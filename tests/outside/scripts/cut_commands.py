@@ -1,7 +1,8 @@
 #!/usr/bin/env python3
 """Writes tests/cut_commands.tpm: each command that succeeds, cut to every shorter length.
 
-Those of objects are in tests/cut_object_commands.tpm.
+Those of objects are in tests/cut_object_commands.tpm, and those on NV indices in
+tests/cut_nv_commands.tpm.
 """
 
 import paths

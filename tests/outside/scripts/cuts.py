@@ -39,6 +39,9 @@ def with_size(buffer):
 
 
 def cuts(name, whole, pieces, outcome):
+    """A command that is cut; where there are no pieces, it comes whole alone."""
+    if not pieces:
+        return "\n" + comment(name, outcome) + line(whole)
     text = f"\n# {name}.\n" + comment("Cut, with commandSize as it was", "COMMAND_SIZE")
     text += "".join(line(whole[:length]) for length in range(len(whole)))
     start = HEADER_BYTES

@@ -16,6 +16,7 @@ import paths
 
 import frames
 import general
+import nv
 import policy
 import sessions
 from device import Device
@@ -31,6 +32,14 @@ KINDS = frames.SE_HMAC, frames.SE_HMAC, frames.SE_POLICY, frames.SE_POLICY, fram
 OPEN = Attribute.FIXED_TPM | Attribute.FIXED_PARENT | Attribute.USER_WITH_AUTH
 STORES = OPEN | Attribute.RESTRICTED | Attribute.DECRYPT | Attribute.SENSITIVE_DATA_ORIGIN
 USES = frames.UNSEAL, frames.HMAC, frames.CREATE, frames.LOAD, frames.POLICY_SECRET
+NV_USES = (
+    *(frames.NV_WRITE, frames.NV_INCREMENT, frames.NV_SET_BITS, frames.NV_EXTEND, frames.NV_READ),
+    *(frames.NV_WRITE_LOCK, frames.NV_READ_LOCK, frames.POLICY_NV),
+    *(frames.NV_CHANGE_AUTH,) * 6,
+)
+INDEX_NUMBERS = range(12)
+TYPES = *(nv.Type.ORDINARY,) * 2, *nv.Type
+ASKERS = frames.RH_OWNER, frames.RH_PLATFORM
 RANDOM_BYTES = 256
 
 
@@ -77,8 +86,20 @@ class Writer(random.Random):
 
     def entity(self):
         return self.choice(
-            (*general.HIERARCHIES, self.choice(PCR_NUMBERS), self.object(), self.object())
+            (
+                *general.HIERARCHIES,
+                *(self.choice(PCR_NUMBERS), self.object(), self.object()),
+                *(self.index(), self.index()),
+            )
         )
+
+    def index(self, test=lambda it: True):
+        """The handle of an index that is defined, if any; seldom of one that is not."""
+        indices = self.device.indices
+        fitting = [it for it in indices if test(indices[it].public) or self.happens()]
+        if self.happens(0.02) or not indices:
+            return self.choice((*(0x01000000 + it for it in INDEX_NUMBERS), 0x01FFFFFF, RH_NULL))
+        return self.choice(fitting or list(indices))
 
     def selection(self):
         banks = self.sample((SHA1, SHA256), self.randrange(3))
@@ -123,6 +144,106 @@ class Writer(random.Random):
         return frames.creation(
             sensitive, sized(public.text), self.some_bytes(34), self.selection()
         )
+
+    # NV indices.
+
+    def nv_attributes(self, hierarchy):
+        """Who may write and read, what may be locked, and the type."""
+        some = self.getrandbits(32) & self.getrandbits(32) & nv.NAMED & ~nv.NOT_DEFINED
+        attributes = some & ~nv.of_type(nv.TYPE_MASK) | self.choice((0, 0x000E_000E, 0x0006_0006))
+        attributes &= ~nv.Attribute.PLATFORMCREATE
+        if (hierarchy == frames.RH_PLATFORM) != self.happens():
+            attributes |= nv.Attribute.PLATFORMCREATE
+        kind = self.choice(TYPES)
+        if kind == nv.Type.COUNTER and not self.happens():
+            attributes &= ~nv.Attribute.CLEAR_STCLEAR
+        attributes |= nv.of_type(kind)
+        return attributes ^ 1 << self.randrange(32) if self.happens() else attributes
+
+    def nv_size(self, kind, algorithm):
+        if self.happens():
+            return self.randrange(2050)
+        if kind == nv.Type.ORDINARY:
+            return self.choice((0, 1, 8, 16, 32, 64, self.randrange(100), 1200, 2048))
+        return (20 if algorithm == SHA1 else 32) if kind == nv.Type.EXTEND else nv.NUMBER_BYTES
+
+    def nv_policy(self, algorithm):
+        """A digest that a session has now, one that a session will have, or one of before."""
+        held = self.device.sessions.values()
+        told = [it.policy for it in held if it.algorithm == algorithm and not it.is_trial]
+        digests = [it.digest for it in told if it.code == frames.NV_CHANGE_AUTH or self.happens()]
+        if digests and self.happens(0.8):
+            return self.choice(digests)
+        if algorithm in sessions.HASHES and self.happens(0.5):
+            zeros = bytes(sessions.digest_bytes(algorithm))
+            return policy.after_command_code(algorithm, zeros, frames.NV_CHANGE_AUTH)
+        digest = self.choice(self.digests)
+        fits = len(digest) in (0, 20 if algorithm == SHA1 else 32)
+        return digest if fits or self.happens(0.1) else b""
+
+    def nv_define(self):
+        hierarchy, algorithm = self.choice(ASKERS), self.hash()
+        attributes = self.nv_attributes(hierarchy)
+        index = self.choice(INDEX_NUMBERS) + (0x02000000 if self.happens() else 0x01000000)
+        public = nv.Public(index, algorithm, attributes, self.nv_policy(algorithm))
+        public = replace(public, data_size=self.nv_size(public.kind, algorithm))
+        auth = self.choice(AUTH_VALUES) + bytes(self.randrange(2)) + self.happens(0.02) * b"a" * 25
+        return [hierarchy], frames.nv_define_space(public.text, auth)
+
+    def nv_undefine(self):
+        handle = self.index()
+        held = self.device.indices.get(handle)
+        is_platforms = held and held.public.has(nv.Attribute.PLATFORMCREATE)
+        by_platform = is_platforms and not self.happens(0.1)
+        return [frames.RH_PLATFORM if by_platform else self.choice(ASKERS), handle]
+
+    def asked(self, kind=None, reads=False):
+        """An index, mostly of a type, and who asks for it, who mostly may."""
+        handle = self.index(lambda it: kind in (None, it.kind))
+        held = self.device.indices.get(handle)
+        if held is None or self.happens(0.1):
+            return [self.choice((*ASKERS, self.index())), handle]
+        who = frames.RH_PLATFORM, frames.RH_OWNER, handle, handle
+        allowing = [it for it in nv.Attribute if it & (nv.READS if reads else nv.WRITES)]
+        allowed = [asker for asker, it in zip(who, allowing) if held.public.has(it)]
+        return [self.choice(allowed or [handle]), handle]
+
+    def nv_write(self):
+        handles = self.asked(nv.Type.ORDINARY)
+        held = self.device.indices.get(handles[1])
+        size = held.public.data_size if held else 8
+        whole = held and held.public.has(nv.Attribute.WRITEALL) or self.happens(0.2)
+        offset = 0 if whole else self.randrange(size + 2)
+        most = 1024 if self.happens() else min(1024, max(0, size - offset))
+        data = self.randbytes(size) if whole else self.some_bytes(most)
+        return handles, frames.nv_write(data, offset)
+
+    def nv_read(self):
+        handles = self.asked(reads=True)
+        held = self.device.indices.get(handles[1])
+        size = held.public.data_size if held else 8
+        offset = self.choice((0, self.randrange(size + 2)))
+        return handles, frames.nv_read(self.choice((size, max(0, size - offset), 1)), offset)
+
+    def nv_change_auth(self):
+        """Mostly of an index that a session's policy can authorize now."""
+        told = [it.policy for it in self.device.sessions.values()]
+        digests = [it.digest for it in told if it.code == frames.NV_CHANGE_AUTH]
+        handle = self.index(lambda it: it.auth_policy in digests)
+        return [handle], sized(self.choice(AUTH_VALUES) + bytes(self.randrange(33)))
+
+    def policy_nv(self):
+        handles = self.asked(reads=True)
+        held = self.device.indices.get(handles[1])
+        data = held.data if held and held.data else bytes(8)
+        offset = self.randrange(len(data) + 1)
+        operand = data[offset : offset + self.choice((0, 1, 2, 8, 32))]
+        if operand and self.happens(0.4):
+            operand = self.bent(operand)
+        operand += self.happens() * bytes(30)
+        operation = self.randrange(len(nv.OPERATIONS) + self.happens())
+        (session,), _ = self.told()
+        return [*handles, session], frames.policy_nv(operand, offset, operation)
 
     # The commands: handles and parameters.
 
@@ -207,7 +328,10 @@ class Writer(random.Random):
         frames.POLICY_OR: (3, policy_or),
         frames.POLICY_AUTH_VALUE: (4, told),
         frames.POLICY_PASSWORD: (4, told),
-        frames.POLICY_COMMAND_CODE: (4, lambda w: w.told(number(w.choice((*USES, 0x999)), 4))),
+        frames.POLICY_COMMAND_CODE: (
+            6,
+            lambda w: w.told(number(w.choice((*USES, *NV_USES, 0x999)), 4)),
+        ),
         frames.POLICY_LOCALITY: (3, lambda w: w.told(number(w.choice((0, 1, 3, 31, 31, 32)), 1))),
         frames.POLICY_SECRET: (6, policy_secret),
         frames.POLICY_GET_DIGEST: (3, told),
@@ -217,6 +341,24 @@ class Writer(random.Random):
         frames.READ_PUBLIC: (4, lambda w: ([w.object()], b"")),
         frames.UNSEAL: (12, lambda w: ([w.keyed(signs=False)], b"")),
         frames.HMAC: (10, hmac),
+        frames.NV_DEFINE_SPACE: (14, nv_define),
+        frames.NV_UNDEFINE_SPACE: (4, lambda w: (w.nv_undefine(), b"")),
+        frames.NV_READ_PUBLIC: (4, lambda w: ([w.index()], b"")),
+        frames.NV_WRITE: (14, nv_write),
+        frames.NV_INCREMENT: (6, lambda w: (w.asked(nv.Type.COUNTER), b"")),
+        frames.NV_SET_BITS: (
+            4,
+            lambda w: (w.asked(nv.Type.BITS), number(1 << w.randrange(64), 8)),
+        ),
+        frames.NV_EXTEND: (
+            4,
+            lambda w: (w.asked(nv.Type.EXTEND), sized(w.some_bytes(w.choice((4, 64, 1024))))),
+        ),
+        frames.NV_READ: (12, nv_read),
+        frames.NV_WRITE_LOCK: (2, lambda w: (w.asked(), b"")),
+        frames.NV_READ_LOCK: (2, lambda w: (w.asked(reads=True), b"")),
+        frames.NV_CHANGE_AUTH: (6, nv_change_auth),
+        frames.POLICY_NV: (10, policy_nv),
     }
 
     # Entries.
@@ -227,15 +369,15 @@ class Writer(random.Random):
         """
         shape, found = general.SHAPES[code], []
         if shape.authorized and not self.happens(0.01):
-            found.append(self.authorizing(handles[0]))
+            found.append(self.authorizing(handles[0], code))
         while shape.sessions and self.device.sessions and self.happens(0.15):
             found.append(Entry(self.choice([*self.device.sessions]), b"", 0, b""))
         for entry in found:
             self.describe(entry, shape)
         return found
 
-    def authorizing(self, handle):
-        held, entity = self.device.sessions, self.device.policy_entity(handle)
+    def authorizing(self, handle, code):
+        held, entity = self.device.sessions, self.device.policy_entity(handle, code)
         fits = [RS_PW, *(it for it in held if held[it].kind == frames.SE_HMAC or self.happens())]
         for it in held:
             if entity and held[it].policy.digest == entity.auth_policy and not held[it].is_trial:

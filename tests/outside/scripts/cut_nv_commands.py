@@ -1,0 +1,152 @@
+#!/usr/bin/env python3
+"""Writes tests/cut_nv_commands.tpm: the commands on NV indices, cut to every shorter length."""
+
+import paths
+
+import cuts
+import frames
+import nv
+import policy
+from cuts import AREA, HANDLE
+from frames import RH_OWNER, SHA256, command, entry, number, on_handle, on_handles, sized
+from nv import Attribute, Type
+
+HEAD = """\
+# The commands on NV indices, each cut to every shorter length: first as it is, and then with its
+# commandSize corrected. At last it comes whole. Written by
+# tests/outside/scripts/cut_nv_commands.py.
+"""
+
+ORDINARY, COUNTER, BITS, EXTENDED = range(0x0100_0001, 0x0100_0005)
+SESSION = 0x0300_0000
+OWNERS = Attribute.OWNERWRITE | Attribute.OWNERREAD
+LOCKS = Attribute.WRITE_STCLEAR | Attribute.READ_STCLEAR
+CHANGING = policy.after_command_code(SHA256, bytes(32), frames.NV_CHANGE_AUTH)
+
+# Two handles, and the area with one empty password behind them.
+NV_HANDLES = [
+    (14, "within authHandle", "INSUFFICIENT/h1"),
+    (18, "within nvIndex", "INSUFFICIENT/h2"),
+]
+NV_AREA = (31, "within the authorization area", "AUTHSIZE")
+
+
+def defining(index, kind, size=nv.NUMBER_BYTES, attributes=OWNERS, auth_policy=b""):
+    """TPM2_NV_DefineSpace, and its pieces."""
+    public = nv.Public(index, SHA256, attributes | nv.of_type(kind), auth_policy, size)
+    parameters = frames.nv_define_space(public.text, b"a")
+    pieces = [
+        (AREA[0] + 3, "within auth", "INSUFFICIENT/p1"),
+        (AREA[0] + len(parameters), "within publicInfo", "INSUFFICIENT/p2"),
+    ]
+    buffer = on_handle(frames.NV_DEFINE_SPACE, RH_OWNER, parameters)
+    return buffer, [HANDLE, AREA, *pieces], "SUCCESS"
+
+
+def by_owner(code, index, parameters=b"", *pieces):
+    """A command on an index, authorized by the owner, and its pieces."""
+    buffer = on_handles(code, [RH_OWNER, index], parameters)
+    return buffer, [*NV_HANDLES, NV_AREA, *pieces], "SUCCESS"
+
+
+def session_start():
+    handles, parameters = frames.start_auth_session(bytes(16), kind=frames.SE_POLICY)
+    return command(
+        frames.START_AUTH_SESSION, b"".join(number(it, 4) for it in handles) + parameters
+    )
+
+
+COMMANDS = [
+    cuts.STARTUP,
+    (
+        "TPM2_NV_DefineSpace of an ordinary index with a policy",
+        *defining(ORDINARY, Type.ORDINARY, 8, OWNERS | LOCKS, CHANGING),
+    ),
+    ("Of a counter", *defining(COUNTER, Type.COUNTER)),
+    ("Of bits", *defining(BITS, Type.BITS)),
+    ("Of an index that is extended", *defining(EXTENDED, Type.EXTEND, 32)),
+    (
+        "TPM2_NV_ReadPublic",
+        command(frames.NV_READ_PUBLIC, number(ORDINARY, 4)),
+        [(14, "within nvIndex", "INSUFFICIENT/h1")],
+        "SUCCESS",
+    ),
+    (
+        "TPM2_NV_Write",
+        *by_owner(
+            frames.NV_WRITE,
+            ORDINARY,
+            frames.nv_write(b"abc", 2),
+            (36, "within data", "INSUFFICIENT/p1"),
+            (38, "within offset", "INSUFFICIENT/p2"),
+        ),
+    ),
+    (
+        "TPM2_NV_Read",
+        *by_owner(
+            frames.NV_READ,
+            ORDINARY,
+            frames.nv_read(8),
+            (33, "within size", "INSUFFICIENT/p1"),
+            (35, "within offset", "INSUFFICIENT/p2"),
+        ),
+    ),
+    ("TPM2_NV_Increment", *by_owner(frames.NV_INCREMENT, COUNTER)),
+    (
+        "TPM2_NV_SetBits",
+        *by_owner(
+            frames.NV_SET_BITS, BITS, number(5, 8), (39, "within bits", "INSUFFICIENT/p1")
+        ),
+    ),
+    (
+        "TPM2_NV_Extend",
+        *by_owner(
+            frames.NV_EXTEND, EXTENDED, sized(b"abc"), (36, "within data", "INSUFFICIENT/p1")
+        ),
+    ),
+    ("TPM2_StartAuthSession of a policy session", session_start(), [], "SUCCESS"),
+    (
+        "TPM2_PolicyNV: the index is FFFF616263FFFFFF",
+        on_handles(
+            frames.POLICY_NV, [RH_OWNER, ORDINARY, SESSION], frames.policy_nv(b"abc", 2, 0)
+        ),
+        [
+            *NV_HANDLES,
+            (22, "within policySession", "INSUFFICIENT/h3"),
+            (35, "within the authorization area", "AUTHSIZE"),
+            (40, "within operandB", "INSUFFICIENT/p1"),
+            (42, "within offset", "INSUFFICIENT/p2"),
+            (44, "within operation", "INSUFFICIENT/p3"),
+        ],
+        "SUCCESS",
+    ),
+    (
+        "TPM2_PolicyRestart",
+        command(frames.POLICY_RESTART, number(SESSION, 4)),
+        [],
+        "SUCCESS",
+    ),
+    (
+        "TPM2_PolicyCommandCode of TPM2_NV_ChangeAuth",
+        command(frames.POLICY_COMMAND_CODE, number(SESSION, 4) + number(frames.NV_CHANGE_AUTH, 4)),
+        [],
+        "SUCCESS",
+    ),
+    (
+        "TPM2_NV_ChangeAuth by the session, which is bound to nothing and has no hmac",
+        on_handle(
+            frames.NV_CHANGE_AUTH, ORDINARY, sized(b"abc"), [entry(SESSION, nonce=bytes(16))]
+        ),
+        [
+            (14, "within nvIndex", "INSUFFICIENT/h1"),
+            (43, "within the authorization area", "AUTHSIZE"),
+            (48, "within newAuth", "INSUFFICIENT/p1"),
+        ],
+        "SUCCESS",
+    ),
+    ("TPM2_NV_WriteLock", *by_owner(frames.NV_WRITE_LOCK, ORDINARY)),
+    ("TPM2_NV_ReadLock", *by_owner(frames.NV_READ_LOCK, ORDINARY)),
+    ("TPM2_NV_UndefineSpace", *by_owner(frames.NV_UNDEFINE_SPACE, ORDINARY)),
+]
+
+cuts.write("cut_nv_commands.tpm", HEAD, COMMANDS)

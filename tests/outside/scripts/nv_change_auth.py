@@ -1,0 +1,258 @@
+#!/usr/bin/env python3
+"""Writes tests/nv_change_auth.tpm: the authorization value of an index, changed by a policy."""
+
+import paths
+
+import policy
+from caller import Use
+from frames import (
+    CONTINUE_SESSION,
+    DECRYPT,
+    NV_CHANGE_AUTH,
+    NV_WRITE,
+    RH_OWNER,
+    RH_PLATFORM,
+    SHA1,
+    SHA256,
+    number,
+    sized,
+)
+from nv import Attribute
+from nv_caller import BY_OWNER, BY_POLICY, BY_VALUE, FIRST, SECOND, THIRD, NvCaller, area
+from policy import AUTH_VALUE, PASSWORD
+from policy_caller import HASHES, zeros
+from script import Script
+from sessions import digest_bytes
+
+script = Script(
+    "tests/nv_change_auth.tpm",
+    "TPM2_NV_ChangeAuth: an index is authorized in the ADMIN role, which takes a policy with "
+    "TPM2_PolicyCommandCode of this very command.",
+)
+caller = NvCaller(script)
+
+
+def changing_policy(algorithm=SHA256, before=None):
+    """The digest of TPM2_PolicyCommandCode, behind what was asserted before."""
+    old = before or bytes(digest_bytes(algorithm))
+    return policy.after_command_code(algorithm, old, NV_CHANGE_AUTH)
+
+
+def says(what, prepared):
+    caller.says(what, "SUCCESS", prepared)
+
+
+def told(session, what="TPM2_PolicyCommandCode of TPM2_NV_ChangeAuth"):
+    says(what, caller.command_code(session, NV_CHANGE_AUTH))
+
+
+def undefine(*indices):
+    for index in indices:
+        caller.does("It is undefined" if index == indices[0] else "", caller.undefining(index))
+
+
+script.startup()
+AFTER_AUTH_VALUE = policy.after_auth_value(SHA256, bytes(32))
+
+script.chapter("Without the policy.")
+caller.define(
+    "An index with this policy, that can be used by its value",
+    area(FIRST, BY_VALUE, auth_policy=changing_policy()),
+    auth=b"old",
+)
+caller.fails("By the password", "AUTH_UNAVAILABLE", caller.changing_auth(FIRST, b"new"))
+caller.fails("By a wrong one", "AUTH_UNAVAILABLE", caller.changing_auth(FIRST, b"new", b"x"))
+plain = caller.start("An HMAC session that is bound to it", bind=FIRST)
+caller.fails("By the session", "AUTH_UNAVAILABLE", caller.changing_auth(FIRST, b"new", plain))
+session = caller.policy("A policy session")
+caller.fails(
+    "Before TPM2_PolicyCommandCode", "POLICY_FAIL/s1", caller.changing_auth(FIRST, b"new", session)
+)
+trial = caller.trial("A trial session")
+told(trial)
+caller.fails("By it", "ATTRIBUTES/s1", caller.changing_auth(FIRST, b"new", trial))
+says("TPM2_PolicyCommandCode of TPM2_NV_Write", caller.command_code(session, NV_WRITE))
+caller.fails("By this session", "POLICY_CC/s1", caller.changing_auth(FIRST, b"new", session))
+says("TPM2_PolicyRestart", caller.restart(session))
+caller.does("The value is as it was: TPM2_NV_Write by it", caller.writing(FIRST, b"x"))
+
+script.chapter("By the policy.")
+told(session)
+caller.does('TPM2_NV_ChangeAuth to "new"', caller.changing_auth(FIRST, b"new", session))
+caller.digest_is("The policy counts once", session, zeros(session))
+caller.fails("Again", "POLICY_FAIL/s1", caller.changing_auth(FIRST, b"newer", session))
+caller.fails("TPM2_NV_Write by the old value", "AUTH_FAIL/s1", caller.writing(FIRST, b"y", b"old"))
+caller.does("By the new one", caller.writing(FIRST, b"y"))
+caller.is_now("Its Name is as it was, as no value is in it", FIRST)
+told(session)
+caller.does("To the empty one", caller.changing_auth(FIRST, b"", session))
+caller.read("TPM2_NV_Read by the empty password", FIRST, b"y")
+told(session)
+caller.does('To "a" and zeros behind it', caller.changing_auth(FIRST, b"a" + bytes(31), session))
+caller.read("They do not count", FIRST, b"y", b"a")
+script.power()
+script.startup()
+caller.read("It outlives a power cycle", FIRST, b"y", b"a")
+undefine(FIRST)
+
+script.chapter("A digest that is right, and no TPM2_PolicyCommandCode in it.")
+caller.define(
+    "An index whose policy is TPM2_PolicyAuthValue",
+    area(FIRST, BY_POLICY, auth_policy=AFTER_AUTH_VALUE),
+    auth=b"old",
+)
+session = caller.policy("A policy session")
+says("TPM2_PolicyAuthValue", caller.auth_value_told(session))
+by_value = Use(session, demand=AUTH_VALUE)
+caller.does(
+    "TPM2_NV_Write by it: what is no ADMIN role asks for no code",
+    caller.writing(FIRST, b"x", by_value),
+)
+says("TPM2_PolicyAuthValue", caller.auth_value_told(session))
+caller.fails(
+    "TPM2_NV_ChangeAuth", "POLICY_FAIL/s1", caller.changing_auth(
+        FIRST, b"new", Use(session, demand=AUTH_VALUE)
+    )
+)
+undefine(FIRST)
+caller.define(
+    "One whose policy is TPM2_PolicyCommandCode of TPM2_NV_Write",
+    area(
+        FIRST,
+        BY_POLICY,
+        auth_policy=policy.after_command_code(SHA256, bytes(32), NV_WRITE),
+    ),
+)
+says("TPM2_PolicyRestart", caller.restart(session))
+says("TPM2_PolicyCommandCode of TPM2_NV_Write", caller.command_code(session, NV_WRITE))
+caller.fails("TPM2_NV_ChangeAuth", "POLICY_CC/s1", caller.changing_auth(FIRST, b"new", session))
+caller.does("TPM2_NV_Write", caller.writing(FIRST, b"x", session))
+undefine(FIRST)
+caller.define("One without a policy", area(FIRST, BY_VALUE))
+told(session)
+caller.fails(
+    "TPM2_NV_ChangeAuth", "AUTH_UNAVAILABLE", caller.changing_auth(FIRST, b"new", session)
+)
+says("TPM2_PolicyRestart", caller.restart(session))
+undefine(FIRST)
+
+script.chapter("No attribute has to allow it, and no lock forbids it.")
+locks = Attribute.WRITE_STCLEAR | Attribute.READ_STCLEAR
+caller.define(
+    "An index that the owner alone uses",
+    area(FIRST, BY_OWNER | locks, auth_policy=changing_policy()),
+    auth=b"old",
+)
+for what, prepared in (
+    ("TPM2_NV_Write", caller.writing(FIRST, b"x", by=RH_OWNER)),
+    ("TPM2_NV_WriteLock", caller.write_locking(FIRST, by=RH_OWNER)),
+    ("TPM2_NV_ReadLock", caller.read_locking(FIRST, by=RH_OWNER)),
+):
+    caller.does(what, prepared)
+told(session)
+caller.does("TPM2_NV_ChangeAuth", caller.changing_auth(FIRST, b"new", session))
+undefine(FIRST)
+created = area(SECOND, BY_OWNER | Attribute.PLATFORMCREATE, auth_policy=changing_policy())
+caller.define("One of the platform's", created, by=RH_PLATFORM)
+told(session)
+caller.does("TPM2_NV_ChangeAuth", caller.changing_auth(SECOND, b"new", session))
+caller.does("It is undefined", caller.undefining(SECOND, by=RH_PLATFORM))
+
+for algorithm, name in HASHES:
+    size = digest_bytes(algorithm)
+    script.chapter(f"With {name}: sizes of the new value.")
+    public = area(FIRST, BY_VALUE, algorithm=algorithm, auth_policy=changing_policy(algorithm))
+    caller.define("An index", public)
+    session = caller.policy("A policy session", algorithm=algorithm)
+    told(session)
+    wrong = caller.changing_auth(FIRST, b"", session)
+    caller.fails(
+        "No size, half of one, and a size that is cut",
+        "INSUFFICIENT/p1",
+        *(wrong.but(parameters=it) for it in (b"", b"\0", b"\0\1", b"\0\x20" + bytes(31))),
+    )
+    caller.fails(
+        "33 bytes, whole or cut",
+        "SIZE/p1",
+        wrong.but(parameters=sized(bytes(33))),
+        wrong.but(parameters=number(33, 2)),
+    )
+    caller.fails("A byte behind it", "SIZE", wrong.but(parameters=sized(b"a") + b"\0"))
+    if algorithm == SHA1:
+        caller.fails(
+            "21 and 32 bytes",
+            "SIZE/p1",
+            caller.changing_auth(FIRST, b"a" * 21, session),
+            caller.changing_auth(FIRST, b"a" * 32, session),
+        )
+    caller.does(f"{size} bytes", caller.changing_auth(FIRST, b"a" * size, session))
+    caller.does("TPM2_NV_Write by it", caller.writing(FIRST, b"x"))
+    told(session)
+    caller.does("32 zeros", caller.changing_auth(FIRST, bytes(32), session))
+    caller.does("TPM2_NV_Write by the empty password", caller.writing(FIRST, b"x", b""))
+    undefine(FIRST)
+
+script.chapter("A policy that asks for the old value too. The response shows the new one.")
+BOTH = changing_policy(before=AFTER_AUTH_VALUE)
+caller.define("An index", area(FIRST, BY_VALUE, auth_policy=BOTH), auth=b"old")
+aes = caller.policy("A policy session with AES", aes=True)
+
+
+def both_told(demand):
+    prepare = caller.auth_value_told if demand == AUTH_VALUE else caller.password_told
+    name = "TPM2_PolicyAuthValue" if demand == AUTH_VALUE else "TPM2_PolicyPassword"
+    says(name, prepare(aes))
+    told(aes)
+
+
+both_told(AUTH_VALUE)
+caller.fails(
+    "A wrong hmac",
+    "AUTH_FAIL/s1",
+    caller.changing_auth(FIRST, b"new", Use(aes, demand=AUTH_VALUE)).but_entry(1, hmac=bytes(32)),
+)
+caller.does(
+    "By an hmac, whose key has the old value; that of the response has the new one",
+    caller.changing_auth(FIRST, b"new", Use(aes, demand=AUTH_VALUE)),
+)
+both_told(AUTH_VALUE)
+caller.does(
+    "With the new value encrypted",
+    caller.changing_auth(FIRST, b"hidden", Use(aes, CONTINUE_SESSION | DECRYPT, demand=AUTH_VALUE)),
+)
+caller.does("TPM2_NV_Write by it", caller.writing(FIRST, b"x"))
+both_told(PASSWORD)
+caller.fails(
+    "By a wrong password",
+    "AUTH_FAIL/s1",
+    caller.changing_auth(FIRST, b"new", Use(aes, demand=PASSWORD)).but_entry(1, hmac=b"x"),
+)
+caller.does("By the right one", caller.changing_auth(FIRST, b"open", Use(aes, demand=PASSWORD)))
+caller.does("TPM2_NV_Write by it", caller.writing(FIRST, b"x"))
+
+script.chapter("A session that was bound to the index is so while it has the value of then.")
+bound = caller.start("An HMAC session that is bound to it", bind=FIRST)
+caller.does("TPM2_NV_Write by it", caller.writing(FIRST, b"y", bound))
+both_told(AUTH_VALUE)
+caller.does(
+    "TPM2_NV_ChangeAuth, with this session beside the one that authorizes",
+    caller.changing_auth(FIRST, b"another", Use(aes, demand=AUTH_VALUE), bound),
+)
+caller.does("TPM2_NV_Write: the new value is in the hmac's key", caller.writing(FIRST, b"z", bound))
+both_told(AUTH_VALUE)
+caller.does(
+    "Back to the value of then", caller.changing_auth(FIRST, b"open", Use(aes, demand=AUTH_VALUE))
+)
+caller.does("TPM2_NV_Write: it is bound again", caller.writing(FIRST, b"x", bound))
+
+script.chapter("Handles.")
+told(session)
+right = caller.changing_auth(FIRST, b"new", b"")
+caller.fails(
+    "What is no index: the owner, PCR 0, an object and a session",
+    "VALUE/h1",
+    *(right.but(handles=[it]) for it in (RH_OWNER, 0, 0x8000_0000, 0x8100_0000, aes.handle)),
+)
+caller.fails("An index that is not defined", "HANDLE/h1", right.but(handles=[THIRD]))
+caller.fails("Without sessions", "AUTH_MISSING", right.but(entries=[]))
+script.write()

@@ -1,0 +1,130 @@
+#!/usr/bin/env python3
+"""Writes tests/nv_large.tpm: indices that are larger than a buffer."""
+
+import hashlib
+
+import paths
+
+from frames import RH_OWNER, number
+from nv import Attribute
+from nv_caller import BY_OWNER, FIRST, SECOND, THIRD, NvCaller, area
+from script import Script
+
+script = Script(
+    "tests/nv_large.tpm",
+    "1,024 bytes are written and read at once; an index of 2,048 takes two commands.",
+)
+caller = NvCaller(script)
+
+
+def some(size, seed=b""):
+    """So many bytes, no two pieces of which are the same."""
+    digests = (hashlib.sha256(seed + number(it, 4)).digest() for it in range(size // 32 + 1))
+    return b"".join(digests)[:size]
+
+
+def write(what, index, data, offset=0):
+    caller.does(what, caller.writing(index, data, offset=offset, by=RH_OWNER))
+
+
+def read(what, index, data, offset=0):
+    caller.read(what, index, data, offset=offset, by=RH_OWNER)
+
+
+script.startup()
+script.chapter("An index of 1,024 bytes.")
+caller.define("TPM2_NV_DefineSpace", area(FIRST, BY_OWNER, size=1024))
+data = some(1024)
+write("TPM2_NV_Write of all", FIRST, data)
+read("TPM2_NV_Read of all", FIRST, data)
+read("Of the second half", FIRST, data[512:], 512)
+
+script.chapter("An index of 2,048 bytes.")
+caller.define("TPM2_NV_DefineSpace", area(SECOND, BY_OWNER, size=2048))
+whole = some(2048, b"large")
+write("TPM2_NV_Write of the second half", SECOND, whole[1024:], 1024)
+read("TPM2_NV_Read of the first, which is FF", SECOND, b"\xff" * 1024)
+write("TPM2_NV_Write of the first half", SECOND, whole[:1024])
+read("TPM2_NV_Read of the first half", SECOND, whole[:1024])
+read("Of the second half", SECOND, whole[1024:], 1024)
+read("Across the middle", SECOND, whole[512:1536], 512)
+read("The last byte", SECOND, whole[2047:], 2047)
+write("TPM2_NV_Write across the middle", SECOND, data, 512)
+whole = whole[:512] + data + whole[1536:]
+read("TPM2_NV_Read of the first half", SECOND, whole[:1024])
+read("Of the second half", SECOND, whole[1024:], 1024)
+
+script.chapter("More than 1,024 bytes at once.")
+caller.fails(
+    "TPM2_NV_Write of 1,025 bytes",
+    "SIZE/p1",
+    caller.writing(SECOND, bytes(1025), by=RH_OWNER),
+    caller.writing(FIRST, bytes(1025), by=RH_OWNER),
+)
+caller.fails(
+    "TPM2_NV_Read of 1,025, of 2,048 and of FFFF bytes, also past the end",
+    "VALUE/p1",
+    *(caller.reading(SECOND, it, by=RH_OWNER) for it in (1025, 2048, 0xFFFF)),
+    caller.reading(SECOND, 1025, offset=2000, by=RH_OWNER),
+    caller.reading(FIRST, 1025, by=RH_OWNER),
+)
+caller.fails(
+    "TPM2_NV_Read of 1,024 bytes past the end",
+    "NV_RANGE",
+    caller.reading(SECOND, 1024, offset=1025, by=RH_OWNER),
+    caller.reading(FIRST, 1024, offset=1, by=RH_OWNER),
+)
+caller.fails(
+    "TPM2_NV_Write of 1,024 bytes past the end",
+    "NV_RANGE",
+    caller.writing(SECOND, bytes(1024), offset=1025, by=RH_OWNER),
+    caller.writing(FIRST, bytes(1024), offset=1, by=RH_OWNER),
+)
+read("The first is as it was", FIRST, data)
+
+script.chapter("WRITEALL: all bytes at once.")
+public = area(THIRD, BY_OWNER | Attribute.WRITEALL, size=1024)
+caller.define("TPM2_NV_DefineSpace of 1,024 bytes", public)
+caller.fails(
+    "TPM2_NV_Write of fewer bytes, and at another offset",
+    "NV_RANGE",
+    *(caller.writing(THIRD, bytes(size), by=RH_OWNER) for size in (0, 1, 1023)),
+    caller.writing(THIRD, bytes(1023), offset=1, by=RH_OWNER),
+    caller.writing(THIRD, bytes(1024), offset=1, by=RH_OWNER),
+    caller.writing(THIRD, b"", offset=1024, by=RH_OWNER),
+)
+caller.fails("It is not written", "NV_UNINITIALIZED", caller.reading(THIRD, 8, by=RH_OWNER))
+write("TPM2_NV_Write of all", THIRD, data)
+read("A piece of it can be read", THIRD, data[100:200], 100)
+caller.fails(
+    "TPM2_NV_Write of fewer bytes", "NV_RANGE", caller.writing(THIRD, b"x", by=RH_OWNER)
+)
+write("TPM2_NV_Write of all again", THIRD, data[::-1])
+read("TPM2_NV_Read", THIRD, data[::-1])
+caller.does("It is undefined", caller.undefining(THIRD))
+caller.define(
+    "One of 1,025 bytes, which cannot be written at all",
+    area(THIRD, BY_OWNER | Attribute.WRITEALL, size=1025),
+)
+caller.fails(
+    "TPM2_NV_Write of 1,024 bytes", "NV_RANGE", caller.writing(THIRD, bytes(1024), by=RH_OWNER)
+)
+caller.does("It is undefined", caller.undefining(THIRD))
+caller.define(
+    "One of no bytes", area(THIRD, BY_OWNER | Attribute.WRITEALL, size=0)
+)
+caller.fails("TPM2_NV_Read", "NV_UNINITIALIZED", caller.reading(THIRD, 0, by=RH_OWNER))
+caller.fails("TPM2_NV_Write of a byte", "NV_RANGE", caller.writing(THIRD, b"x", by=RH_OWNER))
+write("TPM2_NV_Write of no bytes, which are all", THIRD, b"")
+caller.is_now("It is written", THIRD)
+read("TPM2_NV_Read of no bytes", THIRD, b"")
+caller.fails("Of one", "NV_RANGE", caller.reading(THIRD, 1, by=RH_OWNER))
+
+script.chapter("After the next start.")
+script.power()
+script.startup()
+read("The first", FIRST, data)
+read("The second", SECOND, whole[:1024])
+read("Its second half", SECOND, whole[1024:], 1024)
+read("The third", THIRD, b"")
+script.write()

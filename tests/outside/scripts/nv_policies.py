@@ -1,0 +1,306 @@
+#!/usr/bin/env python3
+"""Writes tests/nv_policies.tpm: indices that are written and read by policy sessions."""
+
+import paths
+
+import nv
+import policy
+from caller import Use
+from frames import (
+    CONTINUE_SESSION,
+    DECRYPT,
+    ENCRYPT,
+    NV_READ,
+    NV_WRITE,
+    RH_OWNER,
+    SHA1,
+    SHA256,
+    selection,
+)
+from nv import Attribute
+from nv_caller import BY_OWNER, BY_POLICY, FIRST, SECOND, THIRD, NvCaller, area
+from policy import AUTH_VALUE, PASSWORD
+from policy_caller import HASHES, zeros
+from script import Script
+from sessions import digest, digest_bytes
+
+DATA = b"8 bytes."
+POLICYWRITE, POLICYREAD = Attribute.POLICYWRITE, Attribute.POLICYREAD
+LOCKS = Attribute.WRITE_STCLEAR | Attribute.READ_STCLEAR
+
+script = Script(
+    "tests/nv_policies.tpm",
+    "Indices and policy sessions: POLICYWRITE and POLICYREAD let the policy of an index authorize "
+    "what is asked of it.",
+)
+caller = NvCaller(script)
+
+
+def says(what, prepared):
+    caller.says(what, "SUCCESS", prepared)
+
+
+def undefine(*indices):
+    for index in indices:
+        caller.does("It is undefined" if index == indices[0] else "", caller.undefining(index))
+
+
+def after_auth_value(algorithm=SHA256):
+    return policy.after_auth_value(algorithm, bytes(digest_bytes(algorithm)))
+
+
+def demands():
+    for algorithm, name in HASHES:
+        script.chapter(f"TPM2_PolicyAuthValue and TPM2_PolicyPassword, of {name}.")
+        public = area(
+            FIRST, BY_POLICY, algorithm=algorithm, auth_policy=after_auth_value(algorithm)
+        )
+        caller.define("An index that a policy alone may use", public, auth=b"a")
+        caller.fails(
+            "TPM2_NV_Write by the password", "AUTH_UNAVAILABLE", caller.writing(FIRST, DATA)
+        )
+        caller.fails(
+            "By the owner", "NV_AUTHORIZATION", caller.writing(FIRST, DATA, by=RH_OWNER)
+        )
+        session = caller.policy("A policy session", algorithm=algorithm)
+        caller.fails("Without an assertion", "POLICY_FAIL/s1", caller.writing(FIRST, DATA, session))
+        for demand, name, prepare in (
+            (AUTH_VALUE, "TPM2_PolicyAuthValue", caller.auth_value_told),
+            (PASSWORD, "TPM2_PolicyPassword", caller.password_told),
+        ):
+            use = lambda: Use(session, demand=demand)
+            says(name, prepare(session))
+            wrong = caller.writing(FIRST, DATA, use())
+            caller.fails(
+                "TPM2_NV_Write by a wrong value", "AUTH_FAIL/s1", wrong.but_entry(1, hmac=b"wrong")
+            )
+            caller.does("TPM2_NV_Write", caller.writing(FIRST, DATA, use()))
+            caller.digest_is("It counts once", session, zeros(session))
+            caller.fails("TPM2_NV_Read", "POLICY_FAIL/s1", caller.reading(FIRST, 8, use()))
+            says(name, prepare(session))
+            caller.read("TPM2_NV_Read", FIRST, DATA, use())
+        undefine(FIRST)
+        other = caller.policy("A session of the other hash", algorithm=SHA1 + SHA256 - algorithm)
+        caller.define("The index again", public, auth=b"a")
+        says("TPM2_PolicyAuthValue", caller.auth_value_told(other))
+        caller.fails(
+            "TPM2_NV_Write by it",
+            "POLICY_FAIL/s1",
+            caller.writing(FIRST, DATA, Use(other, demand=AUTH_VALUE)),
+        )
+        undefine(FIRST)
+        for each in (session, other):
+            says("A session is flushed", caller.flush(each))
+
+
+# Every command that an index can authorize, on itself, and whether it asks for what allows to read.
+COMMANDS = (
+    ("TPM2_NV_Write", False, lambda by: caller.writing(FIRST, DATA, by)),
+    ("TPM2_NV_WriteLock", False, lambda by: caller.write_locking(FIRST, by)),
+    ("TPM2_NV_Read", True, lambda by: caller.reading(FIRST, 8, by)),
+    ("TPM2_NV_ReadLock", True, lambda by: caller.read_locking(FIRST, by)),
+    ("TPM2_PolicyNV", True, lambda by: caller.comparing(told, FIRST, DATA, by)),
+    ("TPM2_PolicySecret", True, lambda by: caller.secret(told, by, of=FIRST)),
+)
+
+LOCKING = tuple(it for it in COMMANDS if it[0].endswith("Lock"))
+USES = tuple(it for it in COMMANDS if it not in LOCKING)
+
+
+def availability():
+    script.chapter("Which attribute lets what authorize: the others do not.")
+    session = caller.policy("A policy session")
+    hmac = caller.start("An HMAC session")
+    for what, attributes in (
+        ("POLICYWRITE and what allows all others to read", POLICYWRITE | nv.READS & ~POLICYREAD),
+        ("POLICYREAD and what allows all others to write", POLICYREAD | nv.WRITES & ~POLICYWRITE),
+    ):
+        writes = bool(attributes & POLICYWRITE)
+        public = area(FIRST, attributes | LOCKS, auth_policy=after_auth_value())
+        caller.define(what, public, auth=b"a")
+        for name, is_reading, prepare in COMMANDS:
+            if is_reading == writes:
+                says("TPM2_PolicyAuthValue", caller.auth_value_told(session))
+                caller.fails(
+                    f"{name} by the policy",
+                    "AUTH_UNAVAILABLE",
+                    prepare(Use(session, demand=AUTH_VALUE)),
+                )
+                says("TPM2_PolicyRestart", caller.restart(session))
+            else:
+                caller.fails(f"{name} by the password", "AUTH_UNAVAILABLE", prepare(b"a"))
+                caller.fails(
+                    "By a wrong one, or an HMAC session",
+                    "AUTH_UNAVAILABLE",
+                    prepare(b"x"),
+                    prepare(hmac),
+                )
+        undefine(FIRST)
+
+    script.chapter("With all attributes and without a policy.")
+    caller.define("The index", area(FIRST, nv.WRITES | nv.READS | LOCKS), auth=b"a")
+    for name, _, prepare in COMMANDS:
+        caller.fails(f"{name} by a policy session", "AUTH_UNAVAILABLE", prepare(session))
+    for name, _, prepare in USES:
+        caller.does(f"{name} by the password", prepare(b"a"))
+    says("TPM2_PolicyRestart of the session that was told", caller.restart(told))
+    undefine(FIRST)
+
+    script.chapter("With all attributes and a policy, each way is open.")
+    public = area(FIRST, nv.WRITES | nv.READS | LOCKS, auth_policy=after_auth_value())
+    caller.define("The index", public, auth=b"a")
+    for name, _, prepare in USES + LOCKING:
+        says("TPM2_PolicyAuthValue", caller.auth_value_told(session))
+        caller.does(f"{name} by the policy", prepare(Use(session, demand=AUTH_VALUE)))
+    for each in (session, hmac):
+        says("A session is flushed", caller.flush(each))
+    undefine(FIRST)
+
+
+def by_code_and_pcrs():
+    script.chapter(
+        "One policy with two branches: who knows the value writes, and everybody reads while PCR "
+        "10 has its value of now."
+    )
+    chosen = [(SHA256, [10])]
+    to_write = policy.after_command_code(SHA256, after_auth_value(), NV_WRITE)
+    values = digest(SHA256, bytes(32))
+    to_read = policy.after_pcr(SHA256, bytes(32), selection(*chosen), values)
+    to_read = policy.after_command_code(SHA256, to_read, NV_READ)
+    either = policy.after_or(SHA256, [to_write, to_read])
+    caller.define("The index", area(FIRST, BY_POLICY, auth_policy=either), auth=b"a")
+    session = caller.policy("A policy session")
+
+    def or_told():
+        says("TPM2_PolicyOR of both", caller.branches(session, to_write, to_read))
+
+    def writer():
+        says("TPM2_PolicyAuthValue", caller.auth_value_told(session))
+        says("TPM2_PolicyCommandCode of TPM2_NV_Write", caller.command_code(session, NV_WRITE))
+        or_told()
+
+    def reader():
+        says("TPM2_PolicyPCR of PCR 10", caller.pcrs(session, chosen))
+        says("TPM2_PolicyCommandCode of TPM2_NV_Read", caller.command_code(session, NV_READ))
+        or_told()
+
+    by_value = lambda: Use(session, demand=AUTH_VALUE)
+    writer()
+    caller.fails(
+        "TPM2_NV_Read by the writer's", "POLICY_CC/s1", caller.reading(FIRST, 8, by_value())
+    )
+    caller.does("TPM2_NV_Write", caller.writing(FIRST, DATA, by_value()))
+    reader()
+    caller.fails(
+        "TPM2_NV_Write by the reader's", "POLICY_CC/s1", caller.writing(FIRST, DATA, session)
+    )
+    caller.read("TPM2_NV_Read", FIRST, DATA, session)
+    reader()
+    caller.does("PCR 10 is extended", caller.event(b"program", b"", pcr=10))
+    caller.fails("TPM2_NV_Read", "PCR_CHANGED", caller.reading(FIRST, 8, session))
+    says("TPM2_PolicyRestart", caller.restart(session))
+    says("TPM2_PolicyPCR of PCR 10", caller.pcrs(session, chosen))
+    says("TPM2_PolicyCommandCode of TPM2_NV_Read", caller.command_code(session, NV_READ))
+    caller.says("TPM2_PolicyOR", "VALUE/p1", caller.branches(session, to_write, to_read))
+    caller.fails("TPM2_NV_Read", "POLICY_FAIL/s1", caller.reading(FIRST, 8, session))
+    says("TPM2_PolicyRestart", caller.restart(session))
+    writer()
+    caller.does("TPM2_NV_Write is as before", caller.writing(FIRST, DATA[::-1], by_value()))
+    undefine(FIRST)
+    says("The session is flushed", caller.flush(session))
+
+
+def by_locality():
+    script.chapter("TPM2_PolicyLocality: written from locality 1 alone.")
+    auth_policy = policy.after_locality(SHA256, bytes(32), 0b10)
+    public = area(FIRST, POLICYWRITE | Attribute.OWNERREAD, auth_policy=auth_policy)
+    caller.define("The index", public)
+    session = caller.policy("A policy session")
+    says("TPM2_PolicyLocality", caller.locality(session, 0b10))
+    caller.fails("TPM2_NV_Write at locality 0", "LOCALITY", caller.writing(FIRST, DATA, session))
+    script.locality_is(1)
+    caller.does("At locality 1", caller.writing(FIRST, DATA, session))
+    script.locality_is(0)
+    caller.read("TPM2_NV_Read by the owner", FIRST, DATA, by=RH_OWNER)
+    undefine(FIRST)
+    says("The session is flushed", caller.flush(session))
+
+
+def bound_and_encrypting():
+    script.chapter(
+        "A policy session that is bound to the index. The first write ends no key of it."
+    )
+    caller.define("The index", area(FIRST, BY_POLICY, auth_policy=after_auth_value()), auth=b"a")
+    session = caller.policy("The session, with AES", bind=FIRST, aes=True)
+    for what, attributes in (
+        ("TPM2_NV_Write, with the value in both keys", CONTINUE_SESSION),
+        ("Once more, with its data encrypted", CONTINUE_SESSION | DECRYPT),
+    ):
+        says("TPM2_PolicyAuthValue", caller.auth_value_told(session))
+        caller.does(what, caller.writing(FIRST, DATA, Use(session, attributes, demand=AUTH_VALUE)))
+    says("TPM2_PolicyPassword", caller.password_told(session))
+    use = Use(session, CONTINUE_SESSION | ENCRYPT, demand=PASSWORD)
+    caller.read("TPM2_NV_Read by the password, with what is read encrypted", FIRST, DATA, use)
+    says("TPM2_PolicyAuthValue", caller.auth_value_told(session))
+    caller.does(
+        "It ends with the command", caller.writing(FIRST, DATA, Use(session, 0, demand=AUTH_VALUE))
+    )
+    caller.says("It is no more", "REFERENCE_H0", caller.get_digest(session))
+    undefine(FIRST)
+
+
+def who_authorizes():
+    script.chapter("The policy is that of the index that authorizes, and of no other entity.")
+    auth_policy = after_auth_value()
+    caller.define("An index", area(FIRST, BY_POLICY | BY_OWNER, auth_policy=auth_policy), auth=b"a")
+    caller.define(
+        "Another one with the same", area(SECOND, BY_POLICY, auth_policy=auth_policy), auth=b"a"
+    )
+    caller.define(
+        "A third one with another", area(THIRD, BY_POLICY, auth_policy=bytes(32)), auth=b"a"
+    )
+    session = caller.policy("A policy session")
+    by_value = lambda: Use(session, demand=AUTH_VALUE)
+    caller.does(
+        "The third, whose policy is zeros, asks for no assertion",
+        caller.writing(THIRD, DATA, session),
+    )
+    says("TPM2_PolicyAuthValue", caller.auth_value_told(session))
+    caller.fails(
+        "The third by another digest", "POLICY_FAIL/s1", caller.writing(THIRD, DATA, by_value())
+    )
+    caller.fails(
+        "The first, by the second", "NV_AUTHORIZATION", caller.writing(
+            FIRST, DATA, by_value(), by=SECOND
+        )
+    )
+    caller.fails(
+        "The first, by the owner", "AUTH_UNAVAILABLE", caller.writing(
+            FIRST, DATA, by_value(), by=RH_OWNER
+        )
+    )
+    caller.does("The first, by itself", caller.writing(FIRST, DATA, by_value()))
+    trial = caller.trial("A trial session")
+    says("TPM2_PolicyAuthValue", caller.auth_value_told(trial))
+    caller.fails("By it", "ATTRIBUTES/s1", caller.writing(FIRST, DATA, trial))
+    caller.fails(
+        "Also where nothing can", "ATTRIBUTES/s1", caller.writing(FIRST, DATA, trial, by=RH_OWNER)
+    )
+    caller.does("The first is undefined: its policy is nobody's", caller.undefining(FIRST))
+    says("TPM2_PolicyAuthValue", caller.auth_value_told(session))
+    caller.does("The second", caller.writing(SECOND, DATA, by_value()))
+    caller.does(
+        "TPM2_NV_Write through the session, which then returns to its start",
+        caller.writing(THIRD, DATA, session),
+    )
+
+
+script.startup()
+told = caller.policy("A session that TPM2_PolicyNV and TPM2_PolicySecret are told to")
+demands()
+availability()
+by_code_and_pcrs()
+by_locality()
+bound_and_encrypting()
+who_authorizes()
+script.write()

@@ -1,0 +1,154 @@
+#!/usr/bin/env python3
+"""Writes examples/nv_secret.tpm: a secret behind a password, that is read once at each start."""
+
+import hashlib
+
+import paths
+
+import frames
+from caller import Use
+from frames import CONTINUE_SESSION, DECRYPT, ENCRYPT, RH_OWNER
+from nv import Attribute
+from nv_caller import NvCaller, area
+from script import Script
+
+SECRET_INDEX = 0x0100_0020
+SECRET = hashlib.sha256(b"the volume key of a disk").digest()
+PASSWORD = b"correct horse"
+DECRYPTS, ENCRYPTS = CONTINUE_SESSION | DECRYPT, CONTINUE_SESSION | ENCRYPT
+
+script = Script(
+    "examples/nv_secret.tpm",
+    "A secret of 32 bytes, such as the key of a disk, is kept in an NV index behind a password. "
+    "The boot loader asks for the password, reads the secret through a session that encrypts it, "
+    "and locks the index: nobody reads it again before the next start, whoever knows the password.",
+)
+caller = NvCaller(script)
+
+
+def start():
+    script.power()
+    script.startup()
+    caller.publics[SECRET_INDEX] = caller.publics[SECRET_INDEX].but(cleared=Attribute.READLOCKED)
+
+
+def bound_session(what):
+    return caller.start(what, bind=SECRET_INDEX, aes=True)
+
+
+script.chapter("PROVISIONING, once.")
+script.startup()
+caller.does(
+    'In a place where nobody listens ownerAuth becomes "cradle" (TPM2_HierarchyChangeAuth by the '
+    "empty password)",
+    caller.change_auth(RH_OWNER, b"cradle", b""),
+)
+owner = caller.start(
+    "TPM2_StartAuthSession: an HMAC session that is bound to TPM_RH_OWNER, with AES-128 in mode "
+    "CFB. Its key is made of ownerAuth and of both nonces, and ownerAuth is not sent",
+    bind=RH_OWNER,
+    aes=True,
+)
+public = area(
+    SECRET_INDEX,
+    Attribute.OWNERWRITE | Attribute.AUTHREAD | Attribute.WRITEALL | Attribute.READ_STCLEAR,
+    size=len(SECRET),
+)
+assert public.attributes == 0x8004_1002
+caller.define(
+    "TPM2_NV_DefineSpace of 01000020 with OWNERWRITE, AUTHREAD, WRITEALL and READ_STCLEAR "
+    "(attributes 80041002), 32 bytes, and the password as its authorization value, which the "
+    "session encrypts: the owner writes it, and the password reads it",
+    public,
+    Use(owner, DECRYPTS),
+    auth=PASSWORD,
+)
+caller.does(
+    "TPM2_NV_Write of the secret by the owner, encrypted too. From now on the index has WRITTEN in "
+    "its attributes, and so another Name",
+    caller.writing(SECRET_INDEX, SECRET, Use(owner, DECRYPTS), by=RH_OWNER),
+)
+caller.fails(
+    "TPM2_NV_Write of a part, as WRITEALL asks for the whole",
+    "NV_RANGE",
+    caller.writing(SECRET_INDEX, SECRET[:16], Use(owner, DECRYPTS), by=RH_OWNER),
+)
+caller.fails(
+    "TPM2_NV_Read by the owner, who has no OWNERREAD",
+    "NV_AUTHORIZATION",
+    caller.reading(SECRET_INDEX, len(SECRET), owner, by=RH_OWNER),
+)
+caller.says("TPM2_FlushContext of the session", "SUCCESS", caller.flush(owner))
+
+script.chapter("THE NEXT START. The boot loader asks for the password.")
+start()
+caller.is_now(
+    "TPM2_NV_ReadPublic: from the public area the boot loader computes the Name, which is in the "
+    "hmacs",
+    SECRET_INDEX,
+)
+caller.auth_values[SECRET_INDEX] = b"battery staple"
+session = bound_session(
+    "Somebody mistypes the password. TPM2_StartAuthSession takes it, as the device does not learn "
+    "it: its session's key is made of the right one",
+)
+caller.fails(
+    "TPM2_NV_Read: the hmac is wrong. As the index has no NO_DA, it is protected from guessing",
+    "AUTH_FAIL/s1",
+    caller.reading(SECRET_INDEX, len(SECRET), Use(session, ENCRYPTS)),
+)
+caller.says("TPM2_FlushContext of the session", "SUCCESS", caller.flush(session))
+caller.auth_values[SECRET_INDEX] = PASSWORD
+session = bound_session(
+    "With the right password. TPM2_StartAuthSession of a session that is bound to the index, with "
+    "AES: 02000000"
+)
+read = caller.reading(SECRET_INDEX, len(SECRET), Use(session, ENCRYPTS))
+answer = caller.does(
+    "TPM2_NV_Read of 32 bytes, with the attributes continueSession and encrypt. What is answered "
+    "is 0020 and 32 bytes that only the two sides can decrypt, and its hmac shows that the device "
+    "sent them",
+    read,
+)
+assert answer[2:] == SECRET and SECRET not in script.answers[-1]
+caller.fails("Somebody who listened sends the same buffer again", "AUTH_FAIL/s1", read)
+caller.does(
+    "TPM2_NV_ReadLock by the session. It sets READLOCKED, so the Name is another, the session is "
+    "not bound to the index any more, and the password is in the key of the response's hmac",
+    caller.read_locking(SECRET_INDEX, session),
+)
+
+script.chapter("BEHIND THE BOOT LOADER nobody reads the secret.")
+caller.fails(
+    "TPM2_NV_Read by the session", "NV_LOCKED", caller.reading(SECRET_INDEX, len(SECRET), session)
+)
+caller.fails(
+    "By the right password", "NV_LOCKED", caller.reading(SECRET_INDEX, len(SECRET), PASSWORD)
+)
+caller.fails("Of one byte", "NV_LOCKED", caller.reading(SECRET_INDEX, 1, PASSWORD))
+caller.is_now("TPM2_NV_ReadPublic: the attributes have READLOCKED", SECRET_INDEX)
+script.command(
+    "TPM2_Startup without a power cycle does not open it",
+    "INITIALIZE",
+    frames.command(frames.STARTUP, frames.number(0, 2)),
+)
+caller.fails(
+    "Nor does anybody write it or take it away who does not know ownerAuth (TPM2_NV_Write and "
+    "TPM2_NV_UndefineSpace by the empty password)",
+    "BAD_AUTH/s1",
+    caller.writing(SECRET_INDEX, bytes(32), b"", by=RH_OWNER),
+    caller.undefining(SECRET_INDEX, b""),
+)
+
+script.chapter("ANOTHER START. READ_STCLEAR has opened it.")
+start()
+caller.is_now("TPM2_NV_ReadPublic", SECRET_INDEX)
+session = bound_session("TPM2_StartAuthSession, bound to the index")
+caller.read("TPM2_NV_Read of the secret", SECRET_INDEX, SECRET, Use(session, ENCRYPTS))
+caller.does(
+    "TPM2_NV_ReadLock, and the session ends with it",
+    caller.read_locking(SECRET_INDEX, Use(session, 0)),
+)
+caller.fails("It is no more", "REFERENCE_S0", caller.reading(SECRET_INDEX, 32, session))
+caller.fails("And the index is locked", "NV_LOCKED", caller.reading(SECRET_INDEX, 32, PASSWORD))
+script.write()

@@ -1,0 +1,82 @@
+#!/usr/bin/env python3
+"""Writes tests/nv_types.tpm: indices of each type, and the commands that do not fit it."""
+
+import paths
+
+from frames import RH_OWNER, number
+from nv_caller import BY_OWNER, FIRST, NvCaller, area, bits, counter, extended
+from script import Script
+from sessions import digest
+
+SECRET = b"8 bytes."
+
+script = Script(
+    "tests/nv_types.tpm",
+    "An ordinary index is written, a counter incremented, bits are set, and what is extended is "
+    "extended. Every other change is refused, before the first one and after it.",
+)
+caller = NvCaller(script)
+
+
+def writing(index):
+    return caller.writing(index, SECRET, by=RH_OWNER)
+
+
+def incrementing(index):
+    return caller.incrementing(index, by=RH_OWNER)
+
+
+def setting(index):
+    return caller.setting(index, 5, by=RH_OWNER)
+
+
+def extending(index):
+    return caller.extending(index, SECRET, by=RH_OWNER)
+
+
+CHANGES = (
+    ("TPM2_NV_Write", writing),
+    ("TPM2_NV_Increment", incrementing),
+    ("TPM2_NV_SetBits", setting),
+    ("TPM2_NV_Extend", extending),
+)
+
+# Each type with the only change that fits, and what is read behind it.
+TYPES = (
+    ("An ordinary index", area, writing, SECRET),
+    ("A counter", counter, incrementing, number(1, 8)),
+    ("Bits", bits, setting, number(5, 8)),
+    ("An index that is extended", extended, extending, digest(0x000B, bytes(32) + SECRET)),
+)
+
+
+def others(index, change):
+    for what, each in CHANGES:
+        if each != change:
+            caller.fails(what, "ATTRIBUTES/h2", each(index))
+
+
+script.startup()
+for index, (name, make, change, value) in enumerate(TYPES, FIRST):
+    script.chapter(f"{name}.")
+    caller.define("TPM2_NV_DefineSpace", make(index, BY_OWNER))
+    others(index, change)
+    caller.fails(
+        "TPM2_NV_Read: it is not written yet",
+        "NV_UNINITIALIZED",
+        caller.reading(index, len(value), by=RH_OWNER),
+    )
+    caller.is_now("It has none of the attributes of later", index)
+    (fitting,) = (what for what, each in CHANGES if each == change)
+    caller.does(fitting, change(index))
+    caller.read("TPM2_NV_Read", index, value, by=RH_OWNER)
+    caller.is_now("It has WRITTEN", index)
+    others(index, change)
+    caller.read("It is as it was", index, value, by=RH_OWNER)
+    caller.fails(
+        "TPM2_NV_WriteLock, which none of the attributes allows",
+        "ATTRIBUTES/h2",
+        caller.write_locking(index, by=RH_OWNER),
+    )
+    caller.fails("Nor TPM2_NV_ReadLock", "ATTRIBUTES/h2", caller.read_locking(index, by=RH_OWNER))
+script.write()
