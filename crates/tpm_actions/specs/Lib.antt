@@ -2,6 +2,7 @@ pub mod Request
 pub mod Answer
 pub mod Refusals
 pub mod Rows
+pub mod Target
 pub mod PcrChange
 pub mod Startup
 pub mod GetRandom

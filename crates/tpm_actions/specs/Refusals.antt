@@ -1,6 +1,6 @@
 -- The refusals by which a row answers, its parameters' apart (Rows). TPM 2.0 Library, Part 3: the
 -- response codes of each command.
-use Rattle.std.specs.Prelude.{ℕ}
+use Rattle.std.specs.Prelude.{ℕ, Result, Ok, Err}
 use Rattle.tpm_types.specs.ActionCheck.{action_named}
 use Rattle.tpm_types.specs.Rc.{at, plain}
 use Rattle.tpm_types.specs.Refused.{refusal}
@@ -27,3 +27,8 @@ parameter_fault n parameter fault = action_refusal n (at (place.Parameter parame
 -- want of memory, M
 abbrev pub memory_refusal : Refused
 memory_refusal = refusal check.Memory (plain code.Memory)
+
+-- a fault of a part of the device, by the refusal of this command
+abbrev pub or_refusal : {X F : Type 0} → (F → Refused) → Result X F → Result X Refused
+or_refusal refusal (Ok x) = Ok x
+or_refusal refusal (Err fault) = Err (refusal fault)

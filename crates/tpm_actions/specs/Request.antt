@@ -31,3 +31,8 @@ first_handle (handle ∷ handles) = Ok handle
 abbrev pub second_handle : List Handle → Result Handle Refused
 second_handle (first ∷ handle ∷ handles) = Ok handle
 second_handle handles = Err handle_refusal
+
+-- and the third of one that has three
+abbrev pub third_handle : List Handle → Result Handle Refused
+third_handle (first ∷ second ∷ handle ∷ handles) = Ok handle
+third_handle handles = Err handle_refusal

@@ -16,7 +16,7 @@ pub struct Call<'a> {
 }
 
 impl Call<'_> {
-    ghost use Rattle.tpm_actions.specs.Request.{first_handle, second_handle};
+    ghost use Rattle.tpm_actions.specs.Request.{first_handle, second_handle, third_handle};
 
     /// The first handle of a command that has one.
     pub fn first_handle(&self) -> Result<Handle, Refused>
@@ -34,6 +34,15 @@ impl Call<'_> {
     {
         match self.handles {
             [_, second, ..] => Ok(*second),
+            _ => Err(handle_refusal()),
+        }
+    }
+    /// The third handle of a command that has three.
+    pub fn third_handle(&self) -> Result<Handle, Refused>
+        ensures { result ≡ third_handle self.now.handles.now }
+    {
+        match self.handles {
+            [_, _, third, ..] => Ok(*third),
             _ => Err(handle_refusal()),
         }
     }

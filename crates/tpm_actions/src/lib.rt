@@ -21,3 +21,4 @@ pub mod reading;
 pub mod refusals;
 pub mod start_auth_session;
 pub mod startup;
+pub mod target;

@@ -11,7 +11,7 @@ use Rattle.tpm_types_object.specs.declared.public.Public.{Public}
 use Rattle.tpm_types_object.specs.SensitiveCreate.{SensitiveValues}
 use Rattle.tpm_types.specs.declared.rc.ResponseCode.TheVariants as code
 use Rattle.tpm_types.specs.declared.refused.Refused.{Refused}
-use Rattle.tpm_actions.specs.Refusals.{parameter_fault}
+use Rattle.tpm_actions.specs.Refusals.{or_refusal, parameter_fault}
 
 -- the refusal of a template, or of a public area to be loaded, by its checks; so many of the
 -- command's checks come before them. It is the second parameter
@@ -26,11 +26,6 @@ abbrev pub creation_refusal : (before : ℕ) → CreationFault → Refused
 creation_refusal before creation.AuthValueSize = parameter_fault (before + 1) 1 code.Size
 creation_refusal before creation.Attributes = parameter_fault (before + 2) 2 code.Attributes
 creation_refusal before creation.DataSize = parameter_fault (before + 3) 1 code.Size
-
--- a check that refuses by its own fault
-abbrev pub or_refusal : {X F : Type 0} → (F → Refused) → Result X F → Result X Refused
-or_refusal refusal (Ok x) = Ok x
-or_refusal refusal (Err fault) = Err (refusal fault)
 
 -- the checks of a public area, and of what is given beside a template
 abbrev pub public_passes : (before : ℕ)

@@ -8,10 +8,13 @@ use Rattle.tpm_types.specs.DigestList.{digests_of}
 use Rattle.tpm_record.specs.Entity.{name_of}
 use Rattle.tpm_record.specs.Record.{Record}
 use Rattle.tpm_types.specs.declared.refused.Refused.{Refused}
+use Rattle.tpm_actions.specs.declared.target.Target.{Target}
+use Rattle.tpm_actions_policy.specs.PolicyNv.{Parameters as NvParameters, nv_parts_of}
 use Rattle.tpm_actions_policy.specs.PolicyPcr.{Parameters as PcrParameters, pcr_parts_of}
 use Rattle.tpm_actions_policy.specs.PolicySecret.{Parameters as SecretParameters, secret_of}
 use Rattle.tpm_actions_policy.specs.declared.assertions.Asked.{Asked}
 use Rattle.tpm_actions_policy.specs.declared.assertions.Asked.TheVariants as asked
+use Rattle.tpm_actions_policy.specs.declared.compared_index.ComparedIndex.{ComparedIndex}
 use Rattle.tpm_actions_policy.specs.declared.policy_pcr.ComparedPcrs.{ComparedPcrs}
 use Rattle.tpm_actions_policy.specs.declared.policy_secret.ShownSecret.{ShownSecret}
 
@@ -26,11 +29,24 @@ secret_asked secret = record {
   expiration = secret.expiration;
 }
 
+abbrev pub nv_asked : ComparedIndex → NvParameters
+nv_asked index = record {
+  operand = index.operand.now;
+  offset = index.offset;
+  operation = index.operation;
+}
+
 -- The code's reading of the parameters stands for the definition's, with this entity.
 abbrev pub Asks : Handle
     → Result SecretParameters Refused → Result ShownSecret Refused → Type 0
 Asks entity read (Ok secret) = (read ≡ Ok (secret_asked secret)) × (secret.entity ≡ entity)
 Asks entity read (Err e) = read ≡ Err e
+
+-- And with this index.
+abbrev pub AsksNv : Target
+    → Result NvParameters Refused → Result ComparedIndex Refused → Type 0
+AsksNv target read (Ok index) = (read ≡ Ok (nv_asked index)) × (index.target ≡ target)
+AsksNv target read (Err e) = read ≡ Err e
 
 -- the assertion that is asked for, on a session of this record
 abbrev pub assertion_of : Record → Asked → Session → Assertion
@@ -42,3 +58,5 @@ assertion_of r (asked.CommandCode number) s = assertion.CommandCode number
 assertion_of r (asked.Locality localities) s = assertion.Locality localities
 assertion_of r (asked.Secret secret) s =
     assertion.Secret (secret_of (secret_asked secret) (name_of r secret.entity) s)
+assertion_of r (asked.Nv index) s =
+    assertion.Nv (nv_parts_of r index.target (nv_asked index))

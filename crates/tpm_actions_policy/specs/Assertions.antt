@@ -18,11 +18,12 @@ use Rattle.tpm_types.specs.declared.refused.Refused.{Refused}
 use Rattle.tpm_types.specs.Refused.{refusal}
 use Rattle.tpm_actions.specs.Answer.{Body, Plain, answer_of}
 use Rattle.tpm_actions.specs.Refusals.{handle_refusal}
-use Rattle.tpm_actions.specs.Request.{Request, first_handle, second_handle}
+use Rattle.tpm_actions.specs.Request.{Request, first_handle, second_handle, third_handle}
 use Rattle.tpm_actions.specs.Rows.{Success}
 use Rattle.tpm_actions_policy.specs.PolicyAuthValue.{auth_value_assertion}
 use Rattle.tpm_actions_policy.specs.PolicyCommandCode.{command_code_assertion}
 use Rattle.tpm_actions_policy.specs.PolicyLocality.{locality_assertion}
+use Rattle.tpm_actions_policy.specs.PolicyNv.{nv_assertion}
 use Rattle.tpm_actions_policy.specs.PolicyOr.{or_assertion}
 use Rattle.tpm_actions_policy.specs.PolicyPassword.{password_assertion}
 use Rattle.tpm_actions_policy.specs.PolicyPcr.{pcr_assertion}
@@ -37,11 +38,14 @@ asserts command.PolicyPassword = true
 asserts command.PolicyCommandCode = true
 asserts command.PolicyLocality = true
 asserts command.PolicySecret = true
+asserts command.PolicyNv = true
 asserts _ = false
 
--- the handle of the session on which it does: behind that of an entity where it authorizes one
+-- the handle of the session on which it does: behind those of the entity that it authorizes, and of
+-- the index that it compares
 abbrev pub session_handle : CommandCode → List Handle → Result Handle Refused
 session_handle command.PolicySecret handles = second_handle handles
+session_handle command.PolicyNv handles = third_handle handles
 session_handle _ handles = first_handle handles
 
 -- what is asserted; every other command has another row
@@ -54,6 +58,7 @@ assertion_in command.PolicyPassword r q = password_assertion q.parameters
 assertion_in command.PolicyCommandCode r q = command_code_assertion q.parameters
 assertion_in command.PolicyLocality r q = locality_assertion q.parameters
 assertion_in command.PolicySecret r q = secret_assertion r q
+assertion_in command.PolicyNv r q = nv_assertion r q
 assertion_in _ r q = Err handle_refusal
 
 -- what is answered

@@ -5,6 +5,7 @@ pub mod PolicyPassword
 pub mod PolicyCommandCode
 pub mod PolicyLocality
 pub mod PolicySecret
+pub mod PolicyNv
 pub mod Assertions
 pub mod Asked
 pub mod PolicyRestart

@@ -5,6 +5,7 @@ ghost use Rattle.tpm_actions_policy.specs.Asked.{assertion_of};
 ghost use Rattle.tpm_actions_policy.specs.Assertions.{IsMade, IsSession, by_its_check};
 ghost use Rattle.tpm_actions_policy.specs.Assertions.{policy_session, with_assertion};
 
+use crate::compared_index::ComparedIndex;
 use crate::policy_pcr::ComparedPcrs;
 use crate::policy_secret::ShownSecret;
 use tpm_actions::refusals::handle_refusal;
@@ -23,6 +24,7 @@ pub enum Asked<'a> {
     CommandCode(u32),
     Locality(u8),
     Secret(ShownSecret<'a>),
+    Nv(ComparedIndex<'a>),
 }
 
 impl Asked<'_> {
@@ -53,6 +55,7 @@ impl Asked<'_> {
             Asked::CommandCode(number) => policy.command_code(hash, number),
             Asked::Locality(localities) => policy.locality(hash, localities),
             Asked::Secret(secret) => secret.assert_on(keep, session, policy),
+            Asked::Nv(index) => index.assert_on(keep, session, policy),
         }
     }
 }

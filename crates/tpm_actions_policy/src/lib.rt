@@ -3,15 +3,17 @@
 //! What each policy command does: a file a command, as in tpm_actions, on which it stands (TPM 2.0
 //! Library, Part 3, section 23).
 //!
-//! Seven commands assert something. Each reads what, and `assertions::make_assertion` asserts it on
+//! Eight commands assert something. Each reads what, and `assertions::make_assertion` asserts it on
 //! a copy of the session's policy, which the session takes where the assertion is not refused. What
 //! an assertion is stands in tpm_policy.
 
 mod assertions;
+mod compared_index;
 pub mod policy_auth_value;
 pub mod policy_command_code;
 pub mod policy_get_digest;
 pub mod policy_locality;
+pub mod policy_nv;
 pub mod policy_or;
 pub mod policy_password;
 pub mod policy_pcr;

@@ -1,6 +1,6 @@
 -- What the entries of a command authorize. TPM 2.0 Library, Part 1, section 19 (authorizations),
 -- and Part 3, section 5.6 (authorization checks).
-use Rattle.std.specs.Prelude.{◌≡◌, ℕ, ◌+◌, ◌&&◌, not, nat_lt, Bool, false, List, [], ◌∷◌, ◌++◌, length, take, Option, Some, None, option_map, slice_get, Result, Ok, Err}
+use Rattle.std.specs.Prelude.{◌≡◌, ℕ, ◌+◌, ◌-◌, ◌&&◌, not, nat_lt, Bool, false, List, [], ◌∷◌, ◌++◌, length, take, Option, Some, None, option_map, slice_get, Result, Ok, Err}
 use Rattle.std.specs.List.{list_any}
 use Rattle.std.specs.Option.{option_map_or}
 use Rattle.tpm_bytes.specs.Reading.{◌>>=◌, refused_if}
@@ -15,7 +15,8 @@ use Rattle.tpm_types.specs.declared.rc.ResponseCode.TheVariants as code
 use Rattle.tpm_types.specs.declared.rc.Place.TheVariants as place
 use Rattle.tpm_types_command.specs.AuthEntry.{Entry}
 use Rattle.tpm_types_command.specs.Command.{Whole}
-use Rattle.tpm_types_command.specs.CommandCode.{authorized_handles}
+use Rattle.tpm_types_command.specs.declared.command_code.CommandCode.{CommandCode}
+use Rattle.tpm_types_command.specs.CommandCode.{authorized_handles, nv_use_at}
 use Rattle.tpm_types.specs.Handle.{session_kind}
 use Rattle.tpm_types.specs.Rc.{at, entry_fault, plain}
 use Rattle.tpm_record.specs.declared.entity.Means.TheVariants as means
@@ -34,16 +35,18 @@ use Rattle.tpm_auth.specs.declared.session_grant.Grant.{Grant}
 abbrev pub undemanding : Handle → Grant
 undemanding handle = record { handle = handle; demand = demand.None }
 
--- whether what an entry is to authorize cannot be authorized by its authorization value
-abbrev pub is_unavailable : Record → Option Handle → Bool
-is_unavailable r used =
-    option_map_or (λ handle. not (is_available r handle means.AuthValue)) used false
+-- whether what entry n is to authorize cannot be authorized by its authorization value
+abbrev pub is_unavailable : Record → CommandCode → (n : ℕ) → Option Handle → Bool
+is_unavailable r c n used =
+    option_map_or (λ handle. not (is_available r handle means.AuthValue (nv_use_at c (n - 1))))
+    used false
 
 -- entry n is a password for what it authorizes, which must be available by its authorization value
-unfoldable pub password_grant : Record → ℕ → Option Handle → Entry → Result (Option Grant) Refused
-password_grant r n used e = do
+unfoldable pub password_grant : Record
+    → CommandCode → (n : ℕ) → Option Handle → Entry → Result (Option Grant) Refused
+password_grant r c n used e = do
   let grant : Option Grant = option_map undemanding used
-  available ← refused_if (is_unavailable r used)
+  available ← refused_if (is_unavailable r c n used)
       (refusal check.Authorization (plain code.AuthUnavailable))
   compared ← refused_if (not (is_password_of (granted_value r grant) e.hmac))
       (failure (check_of grant) n (option_map_or (protection_of r) used protection.None))
@@ -56,7 +59,7 @@ session_grant_if r c locality n used e (Some s) = session_grant r c locality n u
 
 abbrev pub grant_by : SessionKind → Record
     → Whole → (locality n : ℕ) → Option Handle → Entry → Result (Option Grant) Refused
-grant_by kind.Password r c locality n used e = password_grant r n used e
+grant_by kind.Password r c locality n used e = password_grant r c.code n used e
 grant_by kind.Session r c locality n used e =
     session_grant_if r c locality n used e (session_of r e)
 grant_by kind.Other r c locality n used e = Err (refusal check.Entries (entry_fault n code.Value))

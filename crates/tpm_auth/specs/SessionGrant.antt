@@ -20,7 +20,7 @@ use Rattle.tpm_types.specs.declared.session_type.SessionType.{SessionType}
 use Rattle.tpm_types.specs.declared.session_type.SessionType.TheVariants as type
 use Rattle.tpm_types_command.specs.AuthEntry.{Entry}
 use Rattle.tpm_types_command.specs.Command.{Whole}
-use Rattle.tpm_types_command.specs.CommandCode.{authorized_handles, code_number, role_at}
+use Rattle.tpm_types_command.specs.CommandCode.{authorized_handles, code_number, nv_use_at, role_at}
 use Rattle.tpm_types.specs.Rc.{plain}
 use Rattle.tpm_record.specs.declared.entity.Means.TheVariants as means
 use Rattle.tpm_record.specs.Entity.{auth_value_of, is_available, name_of, policy_of, protection_of}
@@ -149,7 +149,7 @@ use_of r c locality n handle s = record {
   entry = n;
   kind = s.kind;
   hash = s.hash;
-  available = is_available r handle means.Policy;
+  available = is_available r handle means.Policy (nv_use_at c.code (n - 1));
   update_count = r.fixed.banks.update_count;
   command = code_number c.code;
   role = role_at c.code (n - 1);
@@ -160,9 +160,9 @@ use_of r c locality n handle s = record {
 
 -- what stands before the comparison of an entry that authorizes a handle, and what its policy
 -- demands of that: an HMAC session authorizes what is available by its authorization value
-abbrev by_value : Record → Handle → Result Demand Refused
-by_value r handle = do
-  available ← refused_if (not (is_available r handle means.AuthValue))
+abbrev by_value : Record → Whole → (n : ℕ) → Handle → Result Demand Refused
+by_value r c n handle = do
+  available ← refused_if (not (is_available r handle means.AuthValue (nv_use_at c.code (n - 1))))
       (refusal check.Authorization (plain code.AuthUnavailable))
   Ok demand.None
 
@@ -173,7 +173,7 @@ by_policy r c locality n handle s =
 
 abbrev pub demand_by : SessionType
     → Record → Whole → (locality n : ℕ) → Handle → Session → Result Demand Refused
-demand_by type.Hmac r c locality n handle s = by_value r handle
+demand_by type.Hmac r c locality n handle s = by_value r c n handle
 demand_by type.Policy r c locality n handle s = by_policy r c locality n handle s
 demand_by type.Trial r c locality n handle s = by_policy r c locality n handle s
 

@@ -16,7 +16,7 @@ use tpm_policy::Demand;
 use tpm_record::{Keep, Means, auth_value_of, is_available, name_of, protection_of};
 use tpm_session::{HashedParameters, ParameterHashes, Protection, first_size};
 use tpm_types::{Check, Handle, Locality, Refused, ResponseCode, SessionKind};
-use tpm_types_command::{AuthEntry, Command};
+use tpm_types_command::{AuthEntry, Command, CommandCode};
 
 /// What the entries of a command authorize, each a handle or nothing.
 #[derive(Drop)]
@@ -24,12 +24,17 @@ pub struct Grants {
     pub entries: ArrayVec<Option<Grant>, 3>,
 }
 
-/// Whether what an entry is to authorize cannot be authorized by its authorization value.
-fn is_unavailable<K: Keep>(keep: &K, used: Option<Handle>) -> bool
-    ensures { result ≡ is_unavailable (K.record_of keep.now) used }
+/// Whether what the entry of this number is to authorize cannot be authorized by its authorization
+/// value.
+fn is_unavailable<K: Keep>(keep: &K, code: CommandCode, number: u8, used: Option<Handle>) -> bool
+    requires { 1 ≤ number }
+    ensures { result ≡ is_unavailable (K.record_of keep.now) code number used }
 {
     match used {
-        Some(handle) => !is_available(keep, handle, Means::AuthValue),
+        Some(handle) => {
+            let nv_use = code.nv_use_at(usize::from(number) - 1);
+            !is_available(keep, handle, Means::AuthValue, nv_use)
+        }
         None => false,
     }
 }
@@ -38,13 +43,16 @@ fn is_unavailable<K: Keep>(keep: &K, used: Option<Handle>) -> bool
 #[tactic(auto, unfolding(crate::specs::Grant::password_grant))]
 fn check_password<K: Keep>(
     keep: &K,
+    code: CommandCode,
     number: u8,
     used: Option<Handle>,
     entry: &AuthEntry,
 ) -> Result<Option<Grant>, Refused>
-    ensures { result ≡ password_grant (K.record_of keep.now) number used (entry_of entry.now) }
+    requires { 1 ≤ number }
+    ensures { result
+        ≡ password_grant (K.record_of keep.now) code number used (entry_of entry.now) }
 {
-    if is_unavailable(keep, used) {
+    if is_unavailable(keep, code, number, used) {
         let rc = ResponseCode::AuthUnavailable.anywhere();
         return Err(Refused::by(Check::Authorization, rc));
     }
@@ -86,7 +94,7 @@ fn check_grant<K: Keep>(
     ensures same { hashes.new ≡ hashes.old }
 {
     match entry.session.session_kind() {
-        SessionKind::Password => check_password(keep, number, used, entry),
+        SessionKind::Password => check_password(keep, sent.command.code, number, used, entry),
         SessionKind::Session => match keep.sessions().get(entry.session) {
             Some(session) => check_session(keep, sent, hashes, number, used, entry, session),
             None => Err(Refused::by(Check::Entries, reference_of(number))),

@@ -209,14 +209,15 @@ fn use_of<'a, K: Keep>(
         (locality_number sent.entry.locality) number handle session.now }
 {
     let code = sent.command.code;
+    let place = usize::from(number) - 1;
     Use {
         entry: number,
         kind: session.kind,
         hash: session.hash,
-        available: is_available(keep, handle, Means::Policy),
+        available: is_available(keep, handle, Means::Policy, code.nv_use_at(place)),
         update_count: keep.fixed().banks.update_count(),
         command: code.number(),
-        role: code.role_at(usize::from(number) - 1),
+        role: code.role_at(place),
         cp_hash,
         locality: sent.locality,
         entity: policy_of(keep, handle),
@@ -264,8 +265,11 @@ fn demand_of<K: Keep>(
         (locality_number sent.entry.locality) number handle session.now }
     ensures same { hashes.new ≡ hashes.old }
 {
+    let nv_use = sent.command.code.nv_use_at(usize::from(number) - 1);
     match session.kind {
-        SessionType::Hmac if is_available(keep, handle, Means::AuthValue) => Ok(Demand::None),
+        SessionType::Hmac if is_available(keep, handle, Means::AuthValue, nv_use) => {
+            Ok(Demand::None)
+        }
         SessionType::Hmac => {
             let rc = ResponseCode::AuthUnavailable.anywhere();
             Err(Refused::by(Check::Authorization, rc))

@@ -35,6 +35,7 @@ use tpm_actions_policy::policy_auth_value::policy_auth_value;
 use tpm_actions_policy::policy_command_code::policy_command_code;
 use tpm_actions_policy::policy_get_digest::policy_get_digest;
 use tpm_actions_policy::policy_locality::policy_locality;
+use tpm_actions_policy::policy_nv::policy_nv;
 use tpm_actions_policy::policy_or::policy_or;
 use tpm_actions_policy::policy_password::policy_password;
 use tpm_actions_policy::policy_pcr::policy_pcr;
@@ -42,6 +43,17 @@ use tpm_actions_policy::policy_restart::policy_restart;
 use tpm_actions_policy::policy_secret::policy_secret;
 use tpm_auth::{Grant, Grants, any_decrypts};
 use tpm_machine_step::Direction;
+use tpm_nvactions::nv_change_auth::nv_change_auth;
+use tpm_nvactions::nv_define_space::nv_define_space;
+use tpm_nvactions::nv_extend::nv_extend;
+use tpm_nvactions::nv_increment::nv_increment;
+use tpm_nvactions::nv_read::nv_read;
+use tpm_nvactions::nv_read_lock::nv_read_lock;
+use tpm_nvactions::nv_read_public::nv_read_public;
+use tpm_nvactions::nv_set_bits::nv_set_bits;
+use tpm_nvactions::nv_undefine_space::nv_undefine_space;
+use tpm_nvactions::nv_write::nv_write;
+use tpm_nvactions::nv_write_lock::nv_write_lock;
 use tpm_record::Keep;
 use tpm_types::{Locality, Refused};
 use tpm_types_command::{AuthEntry, Command, CommandCode};
@@ -64,17 +76,29 @@ fn act<K: Keep>(
         (K.record_of keep.old) result answer.new (K.record_of keep.new) }
 {
     match code {
+        CommandCode::NvUndefineSpace => nv_undefine_space(keep, call, answer),
         CommandCode::HierarchyChangeAuth => hierarchy_change_auth(keep, call, answer),
+        CommandCode::NvDefineSpace => nv_define_space(keep, call, answer),
         CommandCode::CreatePrimary => create_primary(keep, call, answer),
+        CommandCode::NvIncrement => nv_increment(keep, call, answer),
+        CommandCode::NvSetBits => nv_set_bits(keep, call, answer),
+        CommandCode::NvExtend => nv_extend(keep, call, answer),
+        CommandCode::NvWrite => nv_write(keep, call, answer),
+        CommandCode::NvWriteLock => nv_write_lock(keep, call, answer),
+        CommandCode::NvChangeAuth => nv_change_auth(keep, call, answer),
         CommandCode::PcrEvent => pcr_event(keep, call, answer),
         CommandCode::PcrReset => pcr_reset(keep, call, answer),
         CommandCode::Startup => startup(keep, call, answer),
+        CommandCode::PolicyNv => policy_nv(keep, call, answer),
+        CommandCode::NvRead => nv_read(keep, call, answer),
+        CommandCode::NvReadLock => nv_read_lock(keep, call, answer),
         CommandCode::PolicySecret => policy_secret(keep, call, answer),
         CommandCode::Create => create(keep, call, answer),
         CommandCode::Hmac => hmac(keep, call, answer),
         CommandCode::Load => load(keep, call, answer),
         CommandCode::Unseal => unseal(keep, call, answer),
         CommandCode::FlushContext => flush_context(keep, call, answer),
+        CommandCode::NvReadPublic => nv_read_public(keep, call, answer),
         CommandCode::PolicyAuthValue => policy_auth_value(keep, call, answer),
         CommandCode::PolicyCommandCode => policy_command_code(keep, call, answer),
         CommandCode::PolicyLocality => policy_locality(keep, call, answer),

@@ -75,3 +75,8 @@ ok_in_command P c (Err e) h = tt
 -- what was asked for holds where a step did not refuse for want of it
 pub asked : {E : Type 0} (b : Bool) (fault : E) (u : Unit {0}) → refused_if (not b) fault ≡ Ok u → b ≡ true
 asked b fault u is = not-false b (passed (not b) fault u is)
+
+-- two steps and what stands behind them
+pub bind_assoc : {A B C E : Type 0} (x : Result A E) (f : A → Result B E) (g : B → Result C E) → ((x >>= f) >>= g) ≡ (x >>= λ a. f a >>= g)
+bind_assoc (Ok a) f g = refl
+bind_assoc (Err e) f g = refl

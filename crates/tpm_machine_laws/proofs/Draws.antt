@@ -44,6 +44,17 @@ use Rattle.tpm_actions_policy.specs.Assertions.{assertion_row}
 use Rattle.tpm_actions_policy.specs.PolicyGetDigest.{policy_get_digest_row}
 use Rattle.tpm_actions_policy.specs.PolicyRestart.{policy_restart_row}
 use Rattle.tpm_machine_step.specs.General.{body_of, both_or_neither, general, in_header, is_startup, present_handles_at, sessions_pass}
+use Rattle.tpm_nvactions.specs.NvChangeAuth.{nv_change_auth_row}
+use Rattle.tpm_nvactions.specs.NvDefineSpace.{nv_define_space_row}
+use Rattle.tpm_nvactions.specs.NvExtend.{nv_extend_row}
+use Rattle.tpm_nvactions.specs.NvIncrement.{nv_increment_row}
+use Rattle.tpm_nvactions.specs.NvRead.{nv_read_row}
+use Rattle.tpm_nvactions.specs.NvReadLock.{nv_read_lock_row}
+use Rattle.tpm_nvactions.specs.NvReadPublic.{nv_read_public_row}
+use Rattle.tpm_nvactions.specs.NvSetBits.{nv_set_bits_row}
+use Rattle.tpm_nvactions.specs.NvUndefineSpace.{nv_undefine_space_row}
+use Rattle.tpm_nvactions.specs.NvWrite.{nv_write_row}
+use Rattle.tpm_nvactions.specs.NvWriteLock.{nv_write_lock_row}
 use Rattle.tpm_machine_step.specs.Table.{row_of}
 use Rattle.tpm_types.specs.Refused.{checked}
 use Rattle.tpm_machine_laws.proofs.Binding.{ok_bind, ok_bind_is, ok_checked, ok_in_command, ok_then}
@@ -123,7 +134,7 @@ start_draws r q =
 ruleset draws = (rules, ok_bind, none_drawn, secrets_drawn, answer_drawn, object_drawn)
 
 pub row_draws : (r : Record) (c : CommandCode) (q : Request) → IfOk (row_of r c q) (λ s. s.answer.drawn ≤ 96)
-unfolding row_of startup_row get_random_row pcr_read_row pcr_extend_row pcr_event_row pcr_reset_row flush_context_row hierarchy_change_auth_row create_row create_primary_row hmac_row load_row read_public_row unseal_row assertion_row policy_get_digest_row policy_restart_row
+unfolding row_of startup_row get_random_row pcr_read_row pcr_extend_row pcr_event_row pcr_reset_row flush_context_row hierarchy_change_auth_row create_row create_primary_row hmac_row load_row read_public_row unseal_row assertion_row policy_get_digest_row policy_restart_row nv_change_auth_row nv_define_space_row nv_extend_row nv_increment_row nv_read_row nv_read_lock_row nv_read_public_row nv_set_bits_row nv_undefine_space_row nv_write_row nv_write_lock_row
 row_draws r command.StartAuthSession q = start_draws r q
 row_draws r command.Startup q = search draws
 row_draws r _ q = search draws

@@ -17,6 +17,7 @@ use Rattle.tpm_types.specs.declared.session_type.SessionType.{SessionType}
 use Rattle.tpm_types.specs.declared.session_type.SessionType.TheVariants as type
 use Rattle.tpm_types.specs.Handle.{session_kind}
 use Rattle.tpm_types.specs.Refused.{checked}
+use Rattle.tpm_types_command.specs.declared.command_code.CommandCode.{CommandCode}
 use Rattle.tpm_types_command.specs.AuthEntry.{Entry}
 use Rattle.tpm_types_command.specs.Command.{Whole}
 use Rattle.tpm_types_command.specs.CommandCode.{authorized_handles}
@@ -40,9 +41,9 @@ IsAuthorization e = (e.check ≡ check.Authorization) ⊎ (e.check ≡ check.Oth
 failure_is : (granted : Option Grant) (n : ℕ) (p : Protection) → IsAuthorization (failure (check_of granted) n p)
 failure_is granted n p = grind arith
 
-password_refuses : (r : Record) (n : ℕ) (used : Option Handle) (e : Entry) → RefusesAuthorization (password_grant r n used e)
+password_refuses : (r : Record) (c : CommandCode) (n : ℕ) (used : Option Handle) (e : Entry) → RefusesAuthorization (password_grant r c n used e)
 unfolding password_grant
-password_refuses r n used e = search (rules, err_bind, err_if, failure_is)
+password_refuses r c n used e = search (rules, err_bind, err_if, failure_is)
 
 demand_refuses : (k : SessionType) (r : Record) (c : Whole) (locality n : ℕ) (handle : Handle) (s : Session) → RefusesAuthorization (demand_by k r c locality n handle s)
 demand_refuses type.Hmac r c locality n handle s = search (rules, err_bind, err_if)
@@ -61,7 +62,7 @@ there_refuses r c locality n used e (Some s) there = session_refuses r c localit
 kind_refuses : (k : SessionKind) (r : Record) (c : Whole) (locality n : ℕ) (used : Option Handle) (e : Entry) → HasSession k r e → RefusesAuthorization (grant_by k r c locality n used e)
 kind_refuses kind.Other r c locality n used e has = absurd has
 kind_refuses kind.Session r c locality n used e has = there_refuses r c locality n used e (session_of r e) has
-kind_refuses kind.Password r c locality n used e has = password_refuses r n used e
+kind_refuses kind.Password r c locality n used e has = password_refuses r c.code n used e
 
 grant_refuses : (r : Record) (c : Whole) (locality n : ℕ) (used : Option Handle) (e : Entry) → HasSession (session_kind e.session) r e → RefusesAuthorization (grant r c locality n used e)
 unfolding grant
@@ -87,9 +88,9 @@ Grants used result = IfOk result (λ granted. handle_in granted ≡ used)
 same_handle : (used : Option Handle) → handle_in (option_map undemanding used) ≡ used
 same_handle used = grind arith
 
-password_grants : (r : Record) (n : ℕ) (used : Option Handle) (e : Entry) → Grants used (password_grant r n used e)
+password_grants : (r : Record) (c : CommandCode) (n : ℕ) (used : Option Handle) (e : Entry) → Grants used (password_grant r c n used e)
 unfolding password_grant
-password_grants r n used e = search (rules, ok_bind, same_handle)
+password_grants r c n used e = search (rules, ok_bind, same_handle)
 
 session_grants : (r : Record) (c : Whole) (locality n : ℕ) (used : Option Handle) (e : Entry) (s : Session) → Grants used (session_grant r c locality n used e s)
 unfolding session_grant
@@ -103,7 +104,7 @@ there_grants r c locality n used e (Some s) = session_grants r c locality n used
 kind_grants : (k : SessionKind) (r : Record) (c : Whole) (locality n : ℕ) (used : Option Handle) (e : Entry) → Grants used (grant_by k r c locality n used e)
 kind_grants kind.Other r c locality n used e = tt
 kind_grants kind.Session r c locality n used e = there_grants r c locality n used e (session_of r e)
-kind_grants kind.Password r c locality n used e = password_grants r n used e
+kind_grants kind.Password r c locality n used e = password_grants r c.code n used e
 
 grant_grants : (r : Record) (c : Whole) (locality n : ℕ) (used : Option Handle) (e : Entry) → Grants used (grant r c locality n used e)
 unfolding grant

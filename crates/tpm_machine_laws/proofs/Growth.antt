@@ -21,8 +21,28 @@ use Rattle.tpm_actions_object.specs.Checks.{given_passes, public_passes}
 use Rattle.tpm_actions_object.specs.Loaded.{is_fixed, loaded_at, parent_passes, place_for}
 use Rattle.tpm_actions_policy.specs.Assertions.{assertion_in, assertion_row, policy_after, policy_session, session_handle, with_assertion}
 use Rattle.tpm_actions_policy.specs.PolicyRestart.{policy_restart_row}
+use Rattle.tpm_ascending.proofs.AscendingLaws.{changed_length, put_length, removed_few}
+use Rattle.tpm_nv.specs.Access.{bits_set, extended, incremented, read_locked, with_auth_value, write_locked, written}
+use Rattle.tpm_nv.specs.Index.{NvContents, NvIndex, with_index, without_index}
+use Rattle.tpm_nv.specs.Startup.{started}
+use Rattle.tpm_nv.specs.declared.fault.NvFault.{NvFault}
+use Rattle.tpm_actions.specs.Refusals.{or_refusal}
+use Rattle.tpm_nvactions.specs.Access.{changed_nv}
+use Rattle.tpm_nvactions.specs.NvChangeAuth.{nv_change_auth_row}
+use Rattle.tpm_nvactions.specs.NvDefineSpace.{nv_define_space_row}
+use Rattle.tpm_nvactions.specs.NvExtend.{nv_extend_row}
+use Rattle.tpm_nvactions.specs.NvIncrement.{nv_increment_row}
+use Rattle.tpm_nvactions.specs.NvReadLock.{nv_read_lock_row}
+use Rattle.tpm_nvactions.specs.NvSetBits.{nv_set_bits_row}
+use Rattle.tpm_nvactions.specs.NvUndefineSpace.{nv_undefine_space_row}
+use Rattle.tpm_nvactions.specs.NvWrite.{nv_write_row}
+use Rattle.tpm_nvactions.specs.NvWriteLock.{nv_write_lock_row}
+use Rattle.tpm_types.specs.declared.refused.Refused.{Refused}
+use Rattle.tpm_bytes.specs.Reading.{◌>>=◌}
+use Rattle.std.specs.Prelude.{Result, Err, length}
+use Rattle.std.proofs.lemmas.List.{length-map}
 use Rattle.tpm_machine_step.specs.Table.{row_of}
-use Rattle.tpm_machine_laws.specs.Footprint.{Part, Nothing, Sessions, Objects, SessionsAndObjects, AuthValues, Banks, Beginning, Touches, part_of}
+use Rattle.tpm_machine_laws.specs.Footprint.{Part, Nothing, Sessions, Objects, SessionsAndObjects, Nv, AuthValues, Banks, Beginning, Touches, part_of}
 use Rattle.tpm_machine_laws.proofs.Binding.{ok_bind, ok_bind_is, ok_then, ok_weaker, some_is}
 use Rattle.tpm_machine_laws.proofs.Footprint.{row_touches}
 use Rattle.tpm_places.specs.Places.{taken_count}
@@ -108,11 +128,106 @@ restart_grows r q =
     ok_bind _ (policy_session r.sessions handle) _ (λ s.
     same_sessions r (with_session_policy r.sessions handle (starting s.hash)) (policy_same r.sessions handle (starting s.hash)))))
 
--- whether a part is neither the sessions nor the objects
+-- ---- NV indices
+
+-- As many indices are defined.
+abbrev SameCount : NvContents → NvContents → Type 0
+SameCount old new = length new.indices ≡ length old.indices
+
+started_count : (nv : NvContents) → SameCount nv (started nv)
+unfolding started
+started_count nv = length-map nv.indices _
+
+same_indices : (r : Record) (nv : NvContents) → SameCount r.nv nv → Grows false r (record r { nv = nv })
+same_indices r nv same = omega (arith, same)
+
+ruleset counts = (rules, ok_bind, changed_length)
+
+written_count : (nv : NvContents) (h : Handle) (offset : ℕ) (bytes : List ℕ) → IfOk (written nv h offset bytes) (SameCount nv)
+unfolding written
+written_count nv h offset bytes = search counts
+
+incremented_count : (nv : NvContents) (h : Handle) → IfOk (incremented nv h) (SameCount nv)
+unfolding incremented
+incremented_count nv h = search counts
+
+bits_count : (nv : NvContents) (h : Handle) (bits : ℕ) → IfOk (bits_set nv h bits) (SameCount nv)
+unfolding bits_set
+bits_count nv h bits = search counts
+
+extended_count : (nv : NvContents) (h : Handle) (bytes : List ℕ) → IfOk (extended nv h bytes) (SameCount nv)
+unfolding extended
+extended_count nv h bytes = search counts
+
+write_locked_count : (nv : NvContents) (h : Handle) → IfOk (write_locked nv h) (SameCount nv)
+unfolding write_locked
+write_locked_count nv h = search counts
+
+read_locked_count : (nv : NvContents) (h : Handle) → IfOk (read_locked nv h) (SameCount nv)
+unfolding read_locked
+read_locked_count nv h = search counts
+
+auth_value_count : (nv : NvContents) (h : Handle) (value : List ℕ) → IfOk (with_auth_value nv h value) (SameCount nv)
+unfolding with_auth_value
+auth_value_count nv h value = search counts
+
+-- a change that leaves the count, and what it refuses
+changed_grows : (r : Record) (refusal : NvFault → Refused) (x : Result NvContents NvFault) → IfOk x (SameCount r.nv) → IfOk (or_refusal refusal x >>= λ nv. Ok (changed_nv r nv)) (λ s. Grows false r s.after)
+changed_grows r refusal (Ok nv) same = same_indices r nv same
+changed_grows r refusal (Err fault) same = tt
+
+undefined_grows : (r : Record) (h : Handle) → Grows false r (record r { nv = without_index r.nv h })
+undefined_grows r h = let fewer = removed_few r.nv.indices h.number in omega (arith, fewer)
+
+defined_grows : (r : Record) (h : Handle) (i : NvIndex) → Grows true r (record r { nv = with_index r.nv h i })
+defined_grows r h i = let more = put_length r.nv.indices h.number i in omega (arith, more)
+
+ruleset nv_counts = (rules, ok_bind, changed_grows, undefined_grows, defined_grows, written_count, incremented_count, bits_count, extended_count, write_locked_count, read_locked_count, auth_value_count)
+
+define_grows : (r : Record) (q : Request) → IfOk (nv_define_space_row r q) (λ s. Grows true r s.after)
+unfolding nv_define_space_row
+define_grows r q = search nv_counts
+
+undefine_grows : (r : Record) (q : Request) → IfOk (nv_undefine_space_row r q) (λ s. Grows false r s.after)
+unfolding nv_undefine_space_row
+undefine_grows r q = search nv_counts
+
+write_grows : (r : Record) (q : Request) → IfOk (nv_write_row r q) (λ s. Grows false r s.after)
+unfolding nv_write_row
+write_grows r q = search nv_counts
+
+increment_grows : (r : Record) (q : Request) → IfOk (nv_increment_row r q) (λ s. Grows false r s.after)
+unfolding nv_increment_row
+increment_grows r q = search nv_counts
+
+set_bits_grows : (r : Record) (q : Request) → IfOk (nv_set_bits_row r q) (λ s. Grows false r s.after)
+unfolding nv_set_bits_row
+set_bits_grows r q = search nv_counts
+
+extend_grows : (r : Record) (q : Request) → IfOk (nv_extend_row r q) (λ s. Grows false r s.after)
+unfolding nv_extend_row
+extend_grows r q = search nv_counts
+
+write_lock_grows : (r : Record) (q : Request) → IfOk (nv_write_lock_row r q) (λ s. Grows false r s.after)
+unfolding nv_write_lock_row
+write_lock_grows r q = search nv_counts
+
+read_lock_grows : (r : Record) (q : Request) → IfOk (nv_read_lock_row r q) (λ s. Grows false r s.after)
+unfolding nv_read_lock_row
+read_lock_grows r q = search nv_counts
+
+change_auth_grows : (r : Record) (q : Request) → IfOk (nv_change_auth_row r q) (λ s. Grows false r s.after)
+unfolding nv_change_auth_row
+change_auth_grows r q = search nv_counts
+
+-- ---- all others
+
+-- whether a part is none of the sessions, the objects and the NV indices
 abbrev pub keeps_places : Part → Bool
 keeps_places Sessions = false
 keeps_places Objects = false
 keeps_places SessionsAndObjects = false
+keeps_places Nv = false
 keeps_places _ = true
 
 touched_grows : (p : Part) (old new : Record) → keeps_places p ≡ true → Touches p old new → Grows false old new
@@ -120,9 +235,13 @@ touched_grows Nothing old new fixed touches = let same = ap (λ (r : Record). ta
 touched_grows Sessions old new fixed touches = absurd cc
 touched_grows Objects old new fixed touches = absurd cc
 touched_grows SessionsAndObjects old new fixed touches = absurd cc
+touched_grows Nv old new fixed touches = absurd cc
 touched_grows AuthValues old new fixed touches = let same = ap (λ (r : Record). taken_in r) touches.0 in omega (arith, same)
 touched_grows Banks old new fixed touches = let same = ap (λ (r : Record). taken_in r) touches in omega (arith, same)
-touched_grows Beginning old new fixed touches = let same = ap (λ (r : Record). taken_in r) touches in omega (arith, same)
+touched_grows Beginning old new fixed touches =
+    let same = ap (λ (r : Record). taken_in r) touches in
+    let indices = started_count old.nv in
+    omega (arith, same, indices)
 
 fixed_grows : (r : Record) (c : CommandCode) (q : Request) → keeps_places (part_of c) ≡ true → IfOk (row_of r c q) (λ s. Grows false r s.after)
 fixed_grows r c q fixed = ok_weaker (λ s. Touches (part_of c) r s.after) _ (row_of r c q) (row_touches r c q) (λ s touches. touched_grows (part_of c) r s.after fixed touches)
@@ -140,7 +259,19 @@ row_grows r command.PolicyPassword q = assertion_grows r command.PolicyPassword 
 row_grows r command.PolicyCommandCode q = assertion_grows r command.PolicyCommandCode q
 row_grows r command.PolicyLocality q = assertion_grows r command.PolicyLocality q
 row_grows r command.PolicySecret q = assertion_grows r command.PolicySecret q
+row_grows r command.PolicyNv q = assertion_grows r command.PolicyNv q
 row_grows r command.PolicyRestart q = restart_grows r q
+row_grows r command.NvDefineSpace q = define_grows r q
+row_grows r command.NvUndefineSpace q = undefine_grows r q
+row_grows r command.NvWrite q = write_grows r q
+row_grows r command.NvIncrement q = increment_grows r q
+row_grows r command.NvSetBits q = set_bits_grows r q
+row_grows r command.NvExtend q = extend_grows r q
+row_grows r command.NvWriteLock q = write_lock_grows r q
+row_grows r command.NvReadLock q = read_lock_grows r q
+row_grows r command.NvChangeAuth q = change_auth_grows r q
+row_grows r command.NvRead q = fixed_grows r command.NvRead q refl
+row_grows r command.NvReadPublic q = fixed_grows r command.NvReadPublic q refl
 row_grows r command.Startup q = fixed_grows r command.Startup q refl
 row_grows r command.GetRandom q = fixed_grows r command.GetRandom q refl
 row_grows r command.PcrRead q = fixed_grows r command.PcrRead q refl

@@ -18,7 +18,7 @@ use Rattle.tpm_actions.specs.StartAuthSession.{parameters_in, parameters_pass, s
 use Rattle.tpm_actions_policy.specs.Assertions.{assertion_in, assertion_row, policy_after, policy_session, session_handle, with_assertion}
 use Rattle.tpm_actions_policy.specs.PolicyRestart.{policy_restart_row}
 use Rattle.tpm_machine_step.specs.Table.{row_of}
-use Rattle.tpm_machine_laws.specs.Footprint.{Part, Nothing, Sessions, Objects, SessionsAndObjects, AuthValues, Banks, Beginning, Touches, part_of}
+use Rattle.tpm_machine_laws.specs.Footprint.{Part, Nothing, Sessions, Objects, SessionsAndObjects, Nv, AuthValues, Banks, Beginning, Touches, part_of}
 use Rattle.tpm_machine_laws.proofs.Binding.{ok_bind, ok_bind_is, ok_then, ok_weaker, some_is}
 use Rattle.tpm_machine_laws.proofs.Footprint.{row_touches}
 use Rattle.tpm_bytes.proofs.Fields.{bind_ok, passed}
@@ -108,6 +108,7 @@ touched_stays Nothing old new leaves touches = sessions_same old new (ap (λ (r 
 touched_stays Sessions old new leaves touches = absurd cc
 touched_stays Objects old new leaves touches = sessions_same old new (ap (λ (r : Record). r.sessions) touches)
 touched_stays SessionsAndObjects old new leaves touches = absurd cc
+touched_stays Nv old new leaves touches = sessions_same old new (ap (λ (r : Record). r.sessions) touches)
 touched_stays AuthValues old new leaves touches = sessions_same old new (ap (λ (r : Record). r.sessions) touches.0)
 touched_stays Banks old new leaves touches = sessions_same old new (ap (λ (r : Record). r.sessions) touches)
 touched_stays Beginning old new leaves touches = sessions_same old new (ap (λ (r : Record). r.sessions) touches)
@@ -126,7 +127,19 @@ row_stays r command.PolicyPassword q may = assertion_stays r command.PolicyPassw
 row_stays r command.PolicyCommandCode q may = assertion_stays r command.PolicyCommandCode q
 row_stays r command.PolicyLocality q may = assertion_stays r command.PolicyLocality q
 row_stays r command.PolicySecret q may = assertion_stays r command.PolicySecret q
+row_stays r command.PolicyNv q may = assertion_stays r command.PolicyNv q
 row_stays r command.PolicyRestart q may = restart_stays r q
+row_stays r command.NvDefineSpace q may = other_stays r command.NvDefineSpace q refl
+row_stays r command.NvUndefineSpace q may = other_stays r command.NvUndefineSpace q refl
+row_stays r command.NvWrite q may = other_stays r command.NvWrite q refl
+row_stays r command.NvIncrement q may = other_stays r command.NvIncrement q refl
+row_stays r command.NvSetBits q may = other_stays r command.NvSetBits q refl
+row_stays r command.NvExtend q may = other_stays r command.NvExtend q refl
+row_stays r command.NvWriteLock q may = other_stays r command.NvWriteLock q refl
+row_stays r command.NvReadLock q may = other_stays r command.NvReadLock q refl
+row_stays r command.NvChangeAuth q may = other_stays r command.NvChangeAuth q refl
+row_stays r command.NvRead q may = other_stays r command.NvRead q refl
+row_stays r command.NvReadPublic q may = other_stays r command.NvReadPublic q refl
 row_stays r command.Startup q may = other_stays r command.Startup q refl
 row_stays r command.GetRandom q may = other_stays r command.GetRandom q refl
 row_stays r command.PcrRead q may = other_stays r command.PcrRead q refl

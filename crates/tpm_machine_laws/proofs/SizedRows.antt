@@ -1,5 +1,5 @@
 -- A success keeps the sizes of sessions and objects.
-use Rattle.std.proofs.Common.{rules, ◌≡◌, ◌≤◌, ℕ, Bool, true, List, length, take, Option, Some, Result, Ok, Err, IfOk, refl, sym, subst}
+use Rattle.std.proofs.Common.{false, rules, ◌≡◌, ◌≤◌, ℕ, Bool, true, List, length, take, Option, Some, Result, Ok, Err, IfOk, refl, sym, subst}
 use Rattle.std.specs.Prelude.{IfSome, not}
 use Rattle.tpm_bytes.specs.Reading.{refused_if}
 use Rattle.tpm_bytes.proofs.Fields.{bind_ok}
@@ -36,12 +36,11 @@ use Rattle.tpm_actions_object.specs.Loaded.{is_fixed, loaded_at, parent_passes, 
 use Rattle.tpm_actions_policy.specs.Assertions.{assertion_in, assertion_row, by_its_check, policy_after, policy_session, session_handle, with_assertion}
 use Rattle.tpm_actions_policy.specs.PolicyRestart.{policy_restart_row}
 use Rattle.tpm_machine_step.specs.Table.{row_of}
-use Rattle.tpm_machine_laws.specs.Footprint.{Part, Nothing, Sessions, Objects, SessionsAndObjects, AuthValues, Banks, Beginning, Touches, part_of}
+use Rattle.tpm_machine_laws.specs.Footprint.{Part, Nothing, Sessions, Objects, SessionsAndObjects, Nv, AuthValues, Banks, Beginning, Touches, part_of}
 use Rattle.tpm_machine_laws.specs.Sizes.{AreSized, IsSized, IsWhole}
 use Rattle.tpm_machine_laws.proofs.AllPlaces.{all_changed, all_found, all_set, all_without}
 use Rattle.tpm_machine_laws.proofs.Binding.{asked, ok_bind, ok_bind_is, ok_then, ok_weaker, some_is}
 use Rattle.tpm_machine_laws.proofs.Footprint.{row_touches}
-use Rattle.tpm_machine_laws.proofs.Growth.{keeps_places}
 use Rattle.tpm_machine_laws.proofs.SizedParts.{asserted_sized, key_sized, nonce_taken, starting_sized}
 use Rattle.tpm_machine_laws.proofs.WholeAreas.{loaded_whole, primary_whole, template_whole}
 
@@ -169,16 +168,24 @@ same_places old new sessions objects sized =
 same_record : (old like new : Record) → like.sessions ≡ old.sessions → like.objects ≡ old.objects → new ≡ like → AreSized old → AreSized new
 same_record old like new sessions objects is sized = subst AreSized (sym is) (same_places old like sessions objects sized)
 
-touched_sized : (p : Part) (old new : Record) → keeps_places p ≡ true → Touches p old new → AreSized old → AreSized new
+-- whether a part is neither the sessions nor the objects
+abbrev keeps_sized : Part → Bool
+keeps_sized Sessions = false
+keeps_sized Objects = false
+keeps_sized SessionsAndObjects = false
+keeps_sized _ = true
+
+touched_sized : (p : Part) (old new : Record) → keeps_sized p ≡ true → Touches p old new → AreSized old → AreSized new
 touched_sized Nothing old new keeps touches sized = same_record old _ new refl refl touches sized
 touched_sized Sessions old new keeps touches sized = absurd cc
 touched_sized Objects old new keeps touches sized = absurd cc
 touched_sized SessionsAndObjects old new keeps touches sized = absurd cc
+touched_sized Nv old new keeps touches sized = same_record old _ new refl refl touches sized
 touched_sized AuthValues old new keeps touches sized = same_record old _ new refl refl touches.0 sized
 touched_sized Banks old new keeps touches sized = same_record old _ new refl refl touches sized
 touched_sized Beginning old new keeps touches sized = same_record old _ new refl refl touches sized
 
-fixed_sized : (r : Record) (c : CommandCode) (q : Request) → keeps_places (part_of c) ≡ true → AreSized r → IfOk (row_of r c q) (λ s. AreSized s.after)
+fixed_sized : (r : Record) (c : CommandCode) (q : Request) → keeps_sized (part_of c) ≡ true → AreSized r → IfOk (row_of r c q) (λ s. AreSized s.after)
 fixed_sized r c q keeps sized = ok_weaker (λ s. Touches (part_of c) r s.after) _ (row_of r c q) (row_touches r c q) (λ s touches. touched_sized (part_of c) r s.after keeps touches sized)
 
 ruleset kept_rows = (rules, assertion_sized, fixed_sized)

@@ -9,29 +9,43 @@ use Rattle.tpm_record.specs.declared.hierarchy.Hierarchies.{Hierarchies}
 use Rattle.tpm_record.specs.Hierarchy.{secrets_of}
 use Rattle.tpm_record.specs.Record.{Record}
 
--- the parts of a record: none of it; the sessions; the objects; both; the authorization values of
--- the hierarchies and of lockout; the banks; and what a startup begins, the NV indices too
+-- the parts of a record: none of it; the sessions; the objects; both; the NV indices; the
+-- authorization values of the hierarchies and of lockout; the banks; and what a startup begins, the
+-- NV indices too
 pub data Part : Type 0 where
   Nothing : Part
   Sessions : Part
   Objects : Part
   SessionsAndObjects : Part
+  Nv : Part
   AuthValues : Part
   Banks : Part
   Beginning : Part
 
 abbrev pub part_of : CommandCode → Part
+part_of command.NvUndefineSpace = Nv
 part_of command.HierarchyChangeAuth = AuthValues
+part_of command.NvDefineSpace = Nv
 part_of command.CreatePrimary = Objects
+part_of command.NvIncrement = Nv
+part_of command.NvSetBits = Nv
+part_of command.NvExtend = Nv
+part_of command.NvWrite = Nv
+part_of command.NvWriteLock = Nv
+part_of command.NvChangeAuth = Nv
 part_of command.PcrEvent = Banks
 part_of command.PcrReset = Banks
 part_of command.Startup = Beginning
+part_of command.PolicyNv = Sessions
+part_of command.NvRead = Nothing
+part_of command.NvReadLock = Nv
 part_of command.PolicySecret = Sessions
 part_of command.Create = Nothing
 part_of command.Hmac = Nothing
 part_of command.Load = Objects
 part_of command.Unseal = Nothing
 part_of command.FlushContext = SessionsAndObjects
+part_of command.NvReadPublic = Nothing
 part_of command.PolicyAuthValue = Sessions
 part_of command.PolicyCommandCode = Sessions
 part_of command.PolicyLocality = Sessions
@@ -73,6 +87,7 @@ Touches Nothing old new = new ≡ old
 Touches Sessions old new = new ≡ record old { sessions = new.sessions }
 Touches Objects old new = new ≡ record old { objects = new.objects }
 Touches SessionsAndObjects old new = new ≡ record old { sessions = new.sessions; objects = new.objects }
+Touches Nv old new = new ≡ record old { nv = new.nv }
 Touches AuthValues old new =
     (new ≡ record old { fixed = record old.fixed { hierarchies = new.fixed.hierarchies } })
     × KeepsSecrets old.fixed.hierarchies new.fixed.hierarchies

@@ -1,6 +1,6 @@
 -- What a command's shape says of its success, of its growth and of its parameters.
-use Rattle.std.specs.Prelude.{◌≡◌, ◌≤◌, ◌⊎◌, ℕ, ◌+◌, Bool, true, false, List, [], ◌∷◌, is_some, Result, Ok, Err}
-use Rattle.std.specs.Int.{w8, w16, w32}
+use Rattle.std.specs.Prelude.{◌≡◌, ◌≤◌, ◌⊎◌, ℕ, ◌+◌, Bool, true, false, List, [], ◌∷◌, length, is_some, Result, Ok, Err}
+use Rattle.std.specs.Int.{w8, w16, w32, w64}
 use Rattle.tpm_bytes.specs.Reading.{◌>>=◌, number_at, or_fault}
 use Rattle.tpm_places.specs.Places.{taken_count}
 use Rattle.tpm_types_command.specs.declared.command_code.CommandCode.{CommandCode}
@@ -16,6 +16,8 @@ use Rattle.tpm_types.specs.DigestValues.{digest_values_at}
 use Rattle.tpm_types_object.specs.Filled.{filled_by}
 use Rattle.tpm_types.specs.PcrSelection.{selection_at}
 use Rattle.tpm_types_object.specs.Public.{public_at}
+use Rattle.tpm_types_nv.specs.NvPublic.{nv_public_at}
+use Rattle.tpm_types.specs.Operation.{operation_at}
 use Rattle.tpm_types.specs.Rc.{plain}
 use Rattle.tpm_types_object.specs.SensitiveCreate.{sensitive_create_at}
 use Rattle.tpm_types.specs.SessionType.{session_type_at}
@@ -35,9 +37,9 @@ AnswersItsShape c s =
     (is_some s.answer.handle ≡ (shape_of c).answers_handle)
     × (begins_sized s.answer.body ≡ (shape_of c).sized_answer)
 
--- how many places are taken, by sessions and by objects
+-- how many places are taken, by sessions, by objects and by NV indices
 abbrev pub taken_in : Record → ℕ
-taken_in r = taken_count r.sessions + taken_count r.objects
+taken_in r = taken_count r.sessions + taken_count r.objects + length r.nv.indices
 
 -- One place more is taken where a command grows; else no more are.
 abbrev pub Grows : Bool → Record → Record → Type 0
@@ -56,6 +58,7 @@ behind_kind kind.SessionType text = behind (session_type_at text)
 behind_kind kind.U8 text = behind (or_fault (number_at w8 text) (plain code.Insufficient))
 behind_kind kind.U16 text = behind (or_fault (number_at w16 text) (plain code.Insufficient))
 behind_kind kind.U32 text = behind (or_fault (number_at w32 text) (plain code.Insufficient))
+behind_kind kind.U64 text = behind (or_fault (number_at w64 text) (plain code.Insufficient))
 behind_kind kind.Hash text = behind (hash_at text)
 behind_kind kind.HashOrNull text = behind (hash_or_null_at text)
 behind_kind kind.Symmetric text = behind (symmetric_at text)
@@ -65,6 +68,8 @@ behind_kind kind.DigestList text = behind (digest_list_at text)
 behind_kind (kind.Buffer most) text = behind (buffer_at most text)
 behind_kind kind.SensitiveCreate text = behind (filled_by sensitive_create_at text)
 behind_kind kind.Public text = behind (filled_by public_at text)
+behind_kind kind.NvPublic text = behind (filled_by nv_public_at text)
+behind_kind kind.Operation text = behind (operation_at text)
 
 -- parameters of these kinds, the first of them of this number, and nothing behind them; or the first
 -- fault

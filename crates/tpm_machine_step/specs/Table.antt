@@ -24,20 +24,43 @@ use Rattle.tpm_actions_object.specs.Unseal.{unseal_row}
 use Rattle.tpm_actions_policy.specs.Assertions.{assertion_row}
 use Rattle.tpm_actions_policy.specs.PolicyGetDigest.{policy_get_digest_row}
 use Rattle.tpm_actions_policy.specs.PolicyRestart.{policy_restart_row}
+use Rattle.tpm_nvactions.specs.NvChangeAuth.{nv_change_auth_row}
+use Rattle.tpm_nvactions.specs.NvDefineSpace.{nv_define_space_row}
+use Rattle.tpm_nvactions.specs.NvExtend.{nv_extend_row}
+use Rattle.tpm_nvactions.specs.NvIncrement.{nv_increment_row}
+use Rattle.tpm_nvactions.specs.NvRead.{nv_read_row}
+use Rattle.tpm_nvactions.specs.NvReadLock.{nv_read_lock_row}
+use Rattle.tpm_nvactions.specs.NvReadPublic.{nv_read_public_row}
+use Rattle.tpm_nvactions.specs.NvSetBits.{nv_set_bits_row}
+use Rattle.tpm_nvactions.specs.NvUndefineSpace.{nv_undefine_space_row}
+use Rattle.tpm_nvactions.specs.NvWrite.{nv_write_row}
+use Rattle.tpm_nvactions.specs.NvWriteLock.{nv_write_lock_row}
 
 -- what a command does to a record
 unfoldable pub row_of : Record → CommandCode → Request → Result Success Refused
+row_of r command.NvUndefineSpace q = nv_undefine_space_row r q
 row_of r command.HierarchyChangeAuth q = hierarchy_change_auth_row r q
+row_of r command.NvDefineSpace q = nv_define_space_row r q
 row_of r command.CreatePrimary q = create_primary_row r q
+row_of r command.NvIncrement q = nv_increment_row r q
+row_of r command.NvSetBits q = nv_set_bits_row r q
+row_of r command.NvExtend q = nv_extend_row r q
+row_of r command.NvWrite q = nv_write_row r q
+row_of r command.NvWriteLock q = nv_write_lock_row r q
+row_of r command.NvChangeAuth q = nv_change_auth_row r q
 row_of r command.PcrEvent q = pcr_event_row r q
 row_of r command.PcrReset q = pcr_reset_row r q
 row_of r command.Startup q = startup_row r q
+row_of r command.PolicyNv q = assertion_row command.PolicyNv r q
+row_of r command.NvRead q = nv_read_row r q
+row_of r command.NvReadLock q = nv_read_lock_row r q
 row_of r command.PolicySecret q = assertion_row command.PolicySecret r q
 row_of r command.Create q = create_row r q
 row_of r command.Hmac q = hmac_row r q
 row_of r command.Load q = load_row r q
 row_of r command.Unseal q = unseal_row r q
 row_of r command.FlushContext q = flush_context_row r q
+row_of r command.NvReadPublic q = nv_read_public_row r q
 row_of r command.PolicyAuthValue q = assertion_row command.PolicyAuthValue r q
 row_of r command.PolicyCommandCode q = assertion_row command.PolicyCommandCode r q
 row_of r command.PolicyLocality q = assertion_row command.PolicyLocality r q

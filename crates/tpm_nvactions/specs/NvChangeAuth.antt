@@ -7,19 +7,20 @@ use Rattle.tpm_types.specs.declared.rc.ResponseCode.TheVariants as code
 use Rattle.tpm_types.specs.declared.refused.Refused.{Refused}
 use Rattle.tpm_nv.specs.Access.{with_auth_value}
 use Rattle.tpm_record.specs.Record.{Record}
-use Rattle.tpm_actions.specs.Refusals.{parameter_fault}
+use Rattle.tpm_actions.specs.Refusals.{or_refusal, parameter_fault}
 use Rattle.tpm_actions.specs.Request.{Request, first_handle}
 use Rattle.tpm_actions.specs.Rows.{Success, only}
-use Rattle.tpm_nvactions.specs.Access.{changed_nv, index_of, or_lock_refusal}
+use Rattle.tpm_actions.specs.Target.{index_or_refusal}
+use Rattle.tpm_nvactions.specs.Access.{changed_nv, lock_refusal}
 
 -- nvIndex, authorized in the role of the administrator; newAuth, at most 32 bytes, whose trailing
 -- zeros do not count. A1: it has more bytes than a digest of nameAlg
 unfoldable pub nv_change_auth_row : Record → Request → Result Success Refused
 nv_change_auth_row r q = do
   handle ← first_handle q.handles
-  index ← index_of r handle
+  index ← index_or_refusal r handle
   value ← only (auth_value_at q.parameters)
   a1 ← refused_if (nat_lt (digest_size index.public.name_alg) (length value))
       (parameter_fault 1 1 code.Size)
-  nv ← or_lock_refusal (with_auth_value r.nv handle value)
+  nv ← or_refusal lock_refusal (with_auth_value r.nv handle value)
   Ok (changed_nv r nv)

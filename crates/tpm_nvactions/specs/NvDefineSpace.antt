@@ -14,7 +14,7 @@ use Rattle.tpm_nv.specs.Index.{has_room, index_at, with_index}
 use Rattle.tpm_nv.specs.declared.definition.DefinitionFault.{DefinitionFault}
 use Rattle.tpm_nv.specs.declared.definition.DefinitionFault.TheVariants as fault
 use Rattle.tpm_record.specs.Record.{Record}
-use Rattle.tpm_actions.specs.Refusals.{action_refusal, parameter_fault}
+use Rattle.tpm_actions.specs.Refusals.{action_refusal, or_refusal, parameter_fault}
 use Rattle.tpm_actions.specs.Request.{Request, first_handle}
 use Rattle.tpm_actions.specs.Rows.{Success, all_read, parameter}
 use Rattle.tpm_nvactions.specs.declared.nv_define_space.Asked.{Asked}
@@ -47,17 +47,13 @@ definition_refusal fault.AuthPolicySize = parameter_fault 2 2 code.Size
 definition_refusal fault.Attributes = parameter_fault 3 2 code.Attributes
 definition_refusal fault.DataSize = parameter_fault 4 2 code.Size
 
-abbrev pub or_definition_refusal : Result (Unit {0}) DefinitionFault → Result (Unit {0}) Refused
-or_definition_refusal (Ok u) = Ok u
-or_definition_refusal (Err fault) = Err (definition_refusal fault)
-
 -- authHandle, the owner or the platform. A1: auth is longer than a digest of nameAlg; A2: the policy
 -- is no digest; A3: the attributes; A4: the size; A5: there is such an index; A6: there is no room
 unfoldable pub nv_define_space_row : Record → Request → Result Success Refused
 nv_define_space_row r q = do
   authority ← first_handle q.handles
   p ← parameters_in q.parameters
-  passed ← or_definition_refusal (definition_passes
+  passed ← or_refusal definition_refusal (definition_passes
       (authority.number == platform_handle.number) p.public (length p.auth_value))
   a5 ← refused_if (is_some (index_at r.nv p.public.nv_index))
       (action_refusal 5 (plain code.NvDefined))

@@ -8,11 +8,12 @@ use Rattle.tpm_types.specs.declared.refused.Refused.{Refused}
 use Rattle.tpm_nv.specs.Access.{check_readable, read_at}
 use Rattle.tpm_record.specs.Record.{Record}
 use Rattle.tpm_actions.specs.Answer.{Sized, answer_of}
-use Rattle.tpm_actions.specs.Refusals.{parameter_fault}
+use Rattle.tpm_actions.specs.Refusals.{or_refusal, parameter_fault}
 use Rattle.tpm_actions.specs.Request.{Request}
 use Rattle.tpm_actions.specs.Rows.{Success, all_read, parameter, unchanged}
 use Rattle.tpm_nvactions.specs.declared.nv_read.Asked.{Asked}
-use Rattle.tpm_nvactions.specs.Access.{or_read_refusal, reader_passes, target_of}
+use Rattle.tpm_actions.specs.Target.{target_of}
+use Rattle.tpm_nvactions.specs.Access.{read_refusal, reader_passes}
 
 -- size, offset
 unfoldable pub parameters_in : List ℕ → Result Asked Refused
@@ -28,8 +29,8 @@ unfoldable pub nv_read_row : Record → Request → Result Success Refused
 nv_read_row r q = do
   target ← target_of r q
   p ← parameters_in q.parameters
-  a1 ← reader_passes target.attributes target.authority target.handle
-  readable ← or_read_refusal (check_readable r.nv target.handle)
+  a1 ← reader_passes target
+  readable ← or_refusal read_refusal (check_readable r.nv target.handle)
   a4 ← refused_if (nat_lt 1024 p.size) (parameter_fault 4 1 code.Value)
-  bytes ← or_read_refusal (read_at r.nv target.handle p.offset p.size)
+  bytes ← or_refusal read_refusal (read_at r.nv target.handle p.offset p.size)
   Ok (unchanged r (answer_of (Sized bytes)))

@@ -4,15 +4,17 @@ use Rattle.tpm_bytes.specs.Reading.{◌>>=◌}
 use Rattle.tpm_types.specs.declared.refused.Refused.{Refused}
 use Rattle.tpm_nv.specs.Access.{read_locked}
 use Rattle.tpm_record.specs.Record.{Record}
+use Rattle.tpm_actions.specs.Refusals.{or_refusal}
 use Rattle.tpm_actions.specs.Request.{Request}
 use Rattle.tpm_actions.specs.Rows.{Success, all_read}
-use Rattle.tpm_nvactions.specs.Access.{changed_nv, or_lock_refusal, reader_passes, target_of}
+use Rattle.tpm_actions.specs.Target.{target_of}
+use Rattle.tpm_nvactions.specs.Access.{changed_nv, lock_refusal, reader_passes}
 
 -- authHandle, nvIndex. A1: it may not read; A2: the index has no READ_STCLEAR
 unfoldable pub nv_read_lock_row : Record → Request → Result Success Refused
 nv_read_lock_row r q = do
   target ← target_of r q
   ended ← all_read q.parameters
-  a1 ← reader_passes target.attributes target.authority target.handle
-  nv ← or_lock_refusal (read_locked r.nv target.handle)
+  a1 ← reader_passes target
+  nv ← or_refusal lock_refusal (read_locked r.nv target.handle)
   Ok (changed_nv r nv)

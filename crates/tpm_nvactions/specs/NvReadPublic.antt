@@ -10,7 +10,7 @@ use Rattle.tpm_record.specs.Record.{Record}
 use Rattle.tpm_actions.specs.Answer.{Body, SizedFirst, answer_of}
 use Rattle.tpm_actions.specs.Request.{Request, first_handle}
 use Rattle.tpm_actions.specs.Rows.{Success, all_read, unchanged}
-use Rattle.tpm_nvactions.specs.Access.{index_of}
+use Rattle.tpm_actions.specs.Target.{index_or_refusal}
 
 -- the public area of an index, and its Name
 abbrev pub public_body : NvIndex → Body
@@ -21,6 +21,6 @@ public_body index =
 unfoldable pub nv_read_public_row : Record → Request → Result Success Refused
 nv_read_public_row r q = do
   handle ← first_handle q.handles
-  index ← index_of r handle
+  index ← index_or_refusal r handle
   ended ← all_read q.parameters
   Ok (unchanged r (answer_of (public_body index)))

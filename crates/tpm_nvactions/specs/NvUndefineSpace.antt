@@ -12,8 +12,9 @@ use Rattle.tpm_record.specs.Record.{Record}
 use Rattle.tpm_actions.specs.Refusals.{action_refusal}
 use Rattle.tpm_actions.specs.Request.{Request}
 use Rattle.tpm_actions.specs.Rows.{Success, all_read}
-use Rattle.tpm_nvactions.specs.declared.access.Target.{Target}
-use Rattle.tpm_nvactions.specs.Access.{changed_nv, target_of}
+use Rattle.tpm_actions.specs.declared.target.Target.{Target}
+use Rattle.tpm_actions.specs.Target.{target_of}
+use Rattle.tpm_nvactions.specs.Access.{changed_nv}
 
 -- whether the owner would remove what the platform defined
 abbrev pub is_kept_from : Target → Bool

@@ -1,67 +1,16 @@
 ghost use Rattle.std.specs.Prelude.{◌≡◌};
-ghost use Rattle.tpm_actions.specs.Request.{request_of};
-ghost use Rattle.tpm_nvactions.specs.Access.{attributes_of, lock_refusal, may, may_read, may_write, read_refusal, reader_passes, target_of, write_refusal, writer_passes};
+ghost use Rattle.tpm_nvactions.specs.Access.{lock_refusal, read_refusal, reader_passes, write_refusal, writer_passes};
 
-use tpm_actions::call::Call;
 use tpm_actions::refusals::{action_refusal, handle_refusal};
-use tpm_nv::{Indices, NvFault};
-use tpm_record::Keep;
-use tpm_types::{Handle, Refused, ResponseCode};
-use tpm_types_nv::{NvAttribute, NvAttributes};
-
-/// What authorizes a command on an NV index, the index, and its attributes.
-#[derive(Clone, Copy)]
-pub struct Target {
-    pub authority: Handle,
-    pub handle: Handle,
-    pub attributes: NvAttributes,
-}
-
-/// The attributes of an index.
-pub fn attributes_of<K: Keep>(keep: &K, handle: Handle) -> Result<NvAttributes, Refused>
-    ensures { result ≡ attributes_of (K.record_of keep.now) handle }
-{
-    match keep.nv().get(handle) {
-        Some(head) => Ok(head.public.attributes),
-        None => Err(handle_refusal()),
-    }
-}
-
-/// What a command's two handles name.
-pub fn target_of<K: Keep>(keep: &K, call: &Call) -> Result<Target, Refused>
-    ensures { result ≡ target_of (K.record_of keep.now) (request_of call.now) }
-{
-    let authority = call.first_handle()?;
-    let handle = call.second_handle()?;
-    let attributes = attributes_of(keep, handle)?;
-    Ok(Target {
-        authority,
-        handle,
-        attributes,
-    })
-}
-
-/// Whether the authority may do with the index what these attributes let the owner and the platform
-/// do.
-fn may(target: &Target, owner: NvAttribute, platform: NvAttribute) -> bool
-    ensures { result ≡ may owner platform target.now.attributes target.now.authority
-        target.now.handle }
-{
-    if target.authority == Handle::OWNER {
-        target.attributes.has(owner)
-    } else if target.authority == Handle::PLATFORM {
-        target.attributes.has(platform)
-    } else {
-        target.authority == target.handle
-    }
-}
+use tpm_actions::target::Target;
+use tpm_nv::NvFault;
+use tpm_types::{Refused, ResponseCode};
 
 /// Refuses an authority that may not write the index.
 pub fn check_writer(target: &Target) -> Result<(), Refused>
-    ensures { result
-        ≡ writer_passes target.now.attributes target.now.authority target.now.handle }
+    ensures { result ≡ writer_passes target.now }
 {
-    if may(target, NvAttribute::OwnerWrite, NvAttribute::PpWrite) {
+    if target.may_write() {
         Ok(())
     } else {
         Err(action_refusal(1, ResponseCode::NvAuthorization.anywhere()))
@@ -70,10 +19,9 @@ pub fn check_writer(target: &Target) -> Result<(), Refused>
 
 /// Refuses an authority that may not read the index.
 pub fn check_reader(target: &Target) -> Result<(), Refused>
-    ensures { result
-        ≡ reader_passes target.now.attributes target.now.authority target.now.handle }
+    ensures { result ≡ reader_passes target.now }
 {
-    if may(target, NvAttribute::OwnerRead, NvAttribute::PpRead) {
+    if target.may_read() {
         Ok(())
     } else {
         Err(action_refusal(1, ResponseCode::NvAuthorization.anywhere()))

@@ -4,11 +4,12 @@ ghost use Rattle.tpm_actions.specs.Request.{request_of};
 ghost use Rattle.tpm_actions.specs.Rows.{Acts};
 ghost use Rattle.tpm_nvactions.specs.NvRead.{nv_read_row, parameters_in};
 
-use crate::access::{check_reader, read_refusal, target_of};
+use crate::access::{check_reader, read_refusal};
 use tpm_actions::answer::Answer;
 use tpm_actions::call::Call;
 use tpm_actions::reading::{end, number};
 use tpm_actions::refusals::parameter_fault;
+use tpm_actions::target::target_of;
 use tpm_bytes::Cursor;
 use tpm_nv::Indices;
 use tpm_record::Keep;

@@ -4,10 +4,11 @@ ghost use Rattle.tpm_actions.specs.Request.{request_of};
 ghost use Rattle.tpm_actions.specs.Rows.{Acts};
 ghost use Rattle.tpm_nvactions.specs.NvSetBits.{nv_set_bits_row};
 
-use crate::access::{check_writer, target_of, write_refusal};
+use crate::access::{check_writer, write_refusal};
 use tpm_actions::answer::Answer;
 use tpm_actions::call::Call;
 use tpm_actions::reading::{end, number};
+use tpm_actions::target::target_of;
 use tpm_bytes::Cursor;
 use tpm_nv::Indices;
 use tpm_record::Keep;

@@ -4,11 +4,11 @@ ghost use Rattle.tpm_actions.specs.Request.{request_of};
 ghost use Rattle.tpm_actions.specs.Rows.{Acts};
 ghost use Rattle.tpm_nvactions.specs.NvUndefineSpace.{is_kept_from, nv_undefine_space_row};
 
-use crate::access::{Target, target_of};
 use tpm_actions::answer::Answer;
 use tpm_actions::call::Call;
 use tpm_actions::reading::end;
 use tpm_actions::refusals::action_refusal;
+use tpm_actions::target::{Target, target_of};
 use tpm_bytes::Cursor;
 use tpm_nv::Indices;
 use tpm_record::Keep;

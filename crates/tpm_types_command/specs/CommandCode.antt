@@ -8,22 +8,36 @@ use Rattle.tpm_types_command.specs.declared.shape.HandleKind.TheVariants as kind
 use Rattle.tpm_types_command.specs.declared.shape.HandleRule.{HandleRule}
 use Rattle.tpm_types_command.specs.declared.shape.ParameterKind.{ParameterKind}
 use Rattle.tpm_types_command.specs.declared.shape.ParameterKind.TheVariants as parameter
+use Rattle.tpm_types.specs.declared.nv_use.NvUse.{NvUse}
+use Rattle.tpm_types.specs.declared.nv_use.NvUse.TheVariants as does
 use Rattle.tpm_types.specs.declared.role.Role.{Role}
 use Rattle.tpm_types.specs.declared.role.Role.TheVariants as role
-use Rattle.tpm_types_command.specs.Shape.{Facts, is_sized, shape_with, unauthorized, user}
+use Rattle.tpm_types_command.specs.Shape.{Facts, admin, is_sized, shape_with, unauthorized, user}
 
 abbrev pub code_number : CommandCode → ℕ
+code_number code.NvUndefineSpace = 0x122
 code_number code.HierarchyChangeAuth = 0x129
+code_number code.NvDefineSpace = 0x12a
 code_number code.CreatePrimary = 0x131
+code_number code.NvIncrement = 0x134
+code_number code.NvSetBits = 0x135
+code_number code.NvExtend = 0x136
+code_number code.NvWrite = 0x137
+code_number code.NvWriteLock = 0x138
+code_number code.NvChangeAuth = 0x13b
 code_number code.PcrEvent = 0x13c
 code_number code.PcrReset = 0x13d
 code_number code.Startup = 0x144
+code_number code.PolicyNv = 0x149
+code_number code.NvRead = 0x14e
+code_number code.NvReadLock = 0x14f
 code_number code.PolicySecret = 0x151
 code_number code.Create = 0x153
 code_number code.Hmac = 0x155
 code_number code.Load = 0x157
 code_number code.Unseal = 0x15e
 code_number code.FlushContext = 0x165
+code_number code.NvReadPublic = 0x169
 code_number code.PolicyAuthValue = 0x16b
 code_number code.PolicyCommandCode = 0x16c
 code_number code.PolicyLocality = 0x16f
@@ -41,17 +55,29 @@ code_number code.PolicyPassword = 0x18c
 -- all of them
 abbrev pub all_codes : List CommandCode
 all_codes =
-    code.HierarchyChangeAuth
+    code.NvUndefineSpace
+    ∷ code.HierarchyChangeAuth
+    ∷ code.NvDefineSpace
     ∷ code.CreatePrimary
+    ∷ code.NvIncrement
+    ∷ code.NvSetBits
+    ∷ code.NvExtend
+    ∷ code.NvWrite
+    ∷ code.NvWriteLock
+    ∷ code.NvChangeAuth
     ∷ code.PcrEvent
     ∷ code.PcrReset
     ∷ code.Startup
+    ∷ code.PolicyNv
+    ∷ code.NvRead
+    ∷ code.NvReadLock
     ∷ code.PolicySecret
     ∷ code.Create
     ∷ code.Hmac
     ∷ code.Load
     ∷ code.Unseal
     ∷ code.FlushContext
+    ∷ code.NvReadPublic
     ∷ code.PolicyAuthValue
     ∷ code.PolicyCommandCode
     ∷ code.PolicyLocality
@@ -100,20 +126,57 @@ secret_parameters =
 abbrev pub on_policy : List ParameterKind → Facts
 on_policy parameters = shape_with (unauthorized kind.PolicySession ∷ []) parameters
 
+-- authHandle, nvIndex
+abbrev pub nv_handles : List HandleRule
+nv_handles = user kind.NvAuth ∷ unauthorized kind.NvIndex ∷ []
+
+-- the shape of a command on an NV index that its authHandle may use
+abbrev pub on_nv : List ParameterKind → Facts
+on_nv parameters = shape_with nv_handles parameters
+
+-- and of one that reads the index
+abbrev pub on_read_nv : List ParameterKind → Facts
+on_read_nv parameters = record (on_nv parameters) { reads_nv = true }
+
+-- authHandle, nvIndex, policySession; operandB, offset, operation
+abbrev pub compared_handles : List HandleRule
+compared_handles =
+    user kind.NvAuth ∷ unauthorized kind.NvIndex ∷ unauthorized kind.PolicySession ∷ []
+
+abbrev pub compared_parameters : List ParameterKind
+compared_parameters = parameter.Buffer 32 ∷ parameter.U16 ∷ parameter.Operation ∷ []
+
 -- every other fact of a command
 unfoldable pub shape_of : CommandCode → Facts
+shape_of code.NvUndefineSpace =
+    shape_with (user kind.Provision ∷ unauthorized kind.NvIndex ∷ []) []
 shape_of code.HierarchyChangeAuth = shape_with (user kind.HierarchyAuth ∷ []) (parameter.Buffer 32 ∷ [])
+shape_of code.NvDefineSpace =
+    record (shape_with (user kind.Provision ∷ []) (parameter.Buffer 32 ∷ parameter.NvPublic ∷ [])) {
+      grows = true;
+    }
 shape_of code.CreatePrimary =
     record (shape_with (user kind.Hierarchy ∷ []) create_parameters) {
       sized_answer = true;
       answers_handle = true;
       grows = true;
     }
+shape_of code.NvIncrement = on_nv []
+shape_of code.NvSetBits = on_nv (parameter.U64 ∷ [])
+shape_of code.NvExtend = on_nv (parameter.Buffer 1024 ∷ [])
+shape_of code.NvWrite = on_nv (parameter.Buffer 1024 ∷ parameter.U16 ∷ [])
+shape_of code.NvWriteLock = on_nv []
+shape_of code.NvChangeAuth = shape_with (admin kind.NvIndex ∷ []) (parameter.Buffer 32 ∷ [])
 shape_of code.PcrEvent = shape_with (user kind.PcrOrNull ∷ []) (parameter.Buffer 1024 ∷ [])
 shape_of code.PcrReset = shape_with (user kind.Pcr ∷ []) []
 shape_of code.Startup = record (shape_with [] (parameter.StartupType ∷ [])) { forbids_sessions = true }
+shape_of code.PolicyNv =
+    record (shape_with compared_handles compared_parameters) { reads_nv = true }
+shape_of code.NvRead =
+    record (on_read_nv (parameter.U16 ∷ parameter.U16 ∷ [])) { sized_answer = true }
+shape_of code.NvReadLock = on_read_nv []
 shape_of code.PolicySecret =
-    record (shape_with secret_handles secret_parameters) { sized_answer = true }
+    record (shape_with secret_handles secret_parameters) { sized_answer = true; reads_nv = true }
 shape_of code.Create = on_object create_parameters
 shape_of code.Hmac = on_object (parameter.Buffer 1024 ∷ parameter.HashOrNull ∷ [])
 shape_of code.Load =
@@ -123,6 +186,8 @@ shape_of code.Load =
     }
 shape_of code.Unseal = on_object []
 shape_of code.FlushContext = record (shape_with [] (parameter.U32 ∷ [])) { forbids_sessions = true }
+shape_of code.NvReadPublic =
+    record (shape_with (unauthorized kind.NvIndex ∷ []) []) { sized_answer = true }
 shape_of code.PolicyAuthValue = on_policy []
 shape_of code.PolicyCommandCode = on_policy (parameter.U32 ∷ [])
 shape_of code.PolicyLocality = on_policy (parameter.U8 ∷ [])
@@ -155,6 +220,15 @@ abbrev pub role_at : CommandCode → ℕ → Role
 role_at code place =
     option_map_or (λ (rule : HandleRule). unwrap_or rule.role role.User)
     (slice_get (shape_of code).handles place) role.User
+
+-- what it does to an NV index that authorizes it in the place of a handle, from 0
+abbrev pub nv_use : Role → (reads : Bool) → NvUse
+nv_use role.Admin reads = does.Administer
+nv_use role.User true = does.Read
+nv_use role.User false = does.Write
+
+abbrev pub nv_use_at : CommandCode → ℕ → NvUse
+nv_use_at code place = nv_use (role_at code place) (shape_of code).reads_nv
 
 -- whether its first parameter is a sized buffer, which a session can encrypt
 abbrev first_is_sized : List ParameterKind → Bool

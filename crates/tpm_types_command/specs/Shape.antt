@@ -10,7 +10,7 @@ use Rattle.tpm_types_command.specs.declared.shape.ParameterKind.{ParameterKind}
 use Rattle.tpm_types_command.specs.declared.shape.ParameterKind.TheVariants as parameter
 use Rattle.tpm_types.specs.declared.role.Role.TheVariants as role
 use Rattle.tpm_types_command.specs.declared.shape.Shape.{Shape}
-use Rattle.tpm_types.specs.Handle.{handle_type, hierarchy_auth_of, hierarchy_of, null_handle, pcr_of}
+use Rattle.tpm_types.specs.Handle.{handle_type, hierarchy_auth_of, hierarchy_of, null_handle, owner_handle, pcr_of, platform_handle}
 
 -- whether a handle is one of what has an authorization value, there or not: a hierarchy or lockout,
 -- a PCR, an NV index (01), a transient object (80) or a persistent one (81); or TPM_RH_NULL
@@ -20,11 +20,18 @@ is_entity handle =
     handle.number == null_handle.number || is_some (hierarchy_auth_of handle) || is_some (pcr_of handle)
     || handle_type handle == 0x01 || handle_type handle == 0x80 || handle_type handle == 0x81
 
+-- whether a handle is that of the owner or of the platform (TPMI_RH_PROVISION)
+abbrev pub is_provision : Handle → Bool
+is_provision handle =
+    handle.number == owner_handle.number || handle.number == platform_handle.number
+
 -- whether a handle is of a kind, after Part 2, section 9: a PCR (TPMI_DH_PCR), or that or
 -- TPM_RH_NULL; TPM_RH_NULL alone, where the standard has a key too; a hierarchy or lockout
 -- (TPMI_RH_HIERARCHY_AUTH); a hierarchy or TPM_RH_NULL (TPMI_RH_HIERARCHY+); an entity as above,
 -- with TPM_RH_NULL or without; a transient object or a persistent one, there or not
--- (TPMI_DH_OBJECT); a policy session, which a trial session is too (03: TPMI_SH_POLICY)
+-- (TPMI_DH_OBJECT); a policy session, which a trial session is too (03: TPMI_SH_POLICY); the owner
+-- or the platform; one of these or an NV index (TPMI_RH_NV_AUTH); an NV index, there or not
+-- (TPMI_RH_NV_INDEX)
 abbrev pub is_of_kind : HandleKind → Handle → Bool
 is_of_kind kind.Pcr handle = is_some (pcr_of handle)
 is_of_kind kind.PcrOrNull handle = is_some (pcr_of handle) || handle.number == null_handle.number
@@ -36,27 +43,35 @@ is_of_kind kind.EntityNotNull handle =
     is_entity handle && not (handle.number == null_handle.number)
 is_of_kind kind.Object handle = handle_type handle == 0x80 || handle_type handle == 0x81
 is_of_kind kind.PolicySession handle = handle_type handle == 0x03
+is_of_kind kind.Provision handle = is_provision handle
+is_of_kind kind.NvAuth handle = is_provision handle || handle_type handle == 0x01
+is_of_kind kind.NvIndex handle = handle_type handle == 0x01
 
 -- whether a parameter is a sized buffer (TPM2B of Part 2, section 10.4)
 abbrev pub is_sized : ParameterKind → Bool
 is_sized (parameter.Buffer most) = true
 is_sized parameter.SensitiveCreate = true
 is_sized parameter.Public = true
+is_sized parameter.NvPublic = true
 is_sized parameter.StartupType = false
 is_sized parameter.SessionType = false
 is_sized parameter.U8 = false
 is_sized parameter.U16 = false
 is_sized parameter.U32 = false
+is_sized parameter.U64 = false
 is_sized parameter.Hash = false
 is_sized parameter.HashOrNull = false
 is_sized parameter.Symmetric = false
 is_sized parameter.Selection = false
 is_sized parameter.Digests = false
 is_sized parameter.DigestList = false
+is_sized parameter.Operation = false
 
 -- a shape, wherever its lists lie in memory: its handles and who authorizes each, its parameters,
 -- whether the first parameter of its answer is a sized buffer, whether a handle stands before
--- these, whether it may have no sessions, and whether it may want memory
+-- these, whether it may have no sessions, whether it may want memory, and whether it reads the NV
+-- index that authorizes it, where one does: any other command writes it, or administers it in that
+-- role
 pub record Facts : Type 0 where
   pub handles : List HandleRule
   pub parameters : List ParameterKind
@@ -64,6 +79,7 @@ pub record Facts : Type 0 where
   pub answers_handle : Bool
   pub forbids_sessions : Bool
   pub grows : Bool
+  pub reads_nv : Bool
 
 abbrev pub facts_of : Shape → Facts
 facts_of s = record {
@@ -73,11 +89,16 @@ facts_of s = record {
   answers_handle = s.answers_handle;
   forbids_sessions = s.forbids_sessions;
   grows = s.grows;
+  reads_nv = s.reads_nv;
 }
 
 -- a handle that is authorized in the role of the user
 abbrev pub user : HandleKind → HandleRule
 user kind = record { kind = kind; role = Some role.User }
+
+-- one that is authorized in the role of the administrator
+abbrev pub admin : HandleKind → HandleRule
+admin kind = record { kind = kind; role = Some role.Admin }
 
 -- one that needs no authorization
 abbrev pub unauthorized : HandleKind → HandleRule
@@ -92,4 +113,5 @@ shape_with handles parameters = record {
   answers_handle = false;
   forbids_sessions = false;
   grows = false;
+  reads_nv = false;
 }

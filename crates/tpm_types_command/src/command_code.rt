@@ -2,27 +2,39 @@ ghost use Rattle.std.specs.Prelude.{◌≡◌, ◌≤◌, ◌==◌, IfSome, leng
 ghost use Rattle.tpm_types.specs.CommandNumber.{is_command_number};
 
 use crate::shape::ParameterKind::{
-    Buffer, DigestList, Digests, Hash, HashOrNull, Public, Selection, SensitiveCreate, SessionType,
-    StartupType, Symmetric, U8, U16, U32,
+    Buffer, DigestList, Digests, Hash, HashOrNull, NvPublic, Operation, Public, Selection,
+    SensitiveCreate, SessionType, StartupType, Symmetric, U8, U16, U32, U64,
 };
 use crate::shape::{HandleKind, HandleRule, ParameterKind, Shape};
-use tpm_types::Role;
+use tpm_types::{NvUse, Role};
 
 /// The commands that are served, ascending by number: TPM_CC of TPM 2.0 Library, Part 2, section
 /// 6.5.2.
 #[derive(Clone, Copy, Debug, PartialEq, Eq)]
 pub enum CommandCode {
+    NvUndefineSpace = 0x122,
     HierarchyChangeAuth = 0x129,
+    NvDefineSpace = 0x12a,
     CreatePrimary = 0x131,
+    NvIncrement = 0x134,
+    NvSetBits = 0x135,
+    NvExtend = 0x136,
+    NvWrite = 0x137,
+    NvWriteLock = 0x138,
+    NvChangeAuth = 0x13b,
     PcrEvent = 0x13c,
     PcrReset = 0x13d,
     Startup = 0x144,
+    PolicyNv = 0x149,
+    NvRead = 0x14e,
+    NvReadLock = 0x14f,
     PolicySecret = 0x151,
     Create = 0x153,
     Hmac = 0x155,
     Load = 0x157,
     Unseal = 0x15e,
     FlushContext = 0x165,
+    NvReadPublic = 0x169,
     PolicyAuthValue = 0x16b,
     PolicyCommandCode = 0x16c,
     PolicyLocality = 0x16f,
@@ -83,6 +95,26 @@ const OBJECT: HandleRule = HandleRule {
     role: None,
 };
 
+const USER_PROVISION: HandleRule = HandleRule {
+    kind: HandleKind::Provision,
+    role: Some(Role::User),
+};
+
+const USER_NV_AUTH: HandleRule = HandleRule {
+    kind: HandleKind::NvAuth,
+    role: Some(Role::User),
+};
+
+const ADMIN_NV_INDEX: HandleRule = HandleRule {
+    kind: HandleKind::NvIndex,
+    role: Some(Role::Admin),
+};
+
+const NV_INDEX: HandleRule = HandleRule {
+    kind: HandleKind::NvIndex,
+    role: None,
+};
+
 const POLICY_SESSION: HandleRule = HandleRule {
     kind: HandleKind::PolicySession,
     role: None,
@@ -97,6 +129,9 @@ const LOAD: &[ParameterKind] = &[Buffer(256), Public];
 /// nonceTPM, cpHashA, policyRef, expiration.
 const SECRET: &[ParameterKind] = &[Buffer(32), Buffer(32), Buffer(32), U32];
 
+/// operandB, offset, operation.
+const COMPARED: &[ParameterKind] = &[Buffer(32), U16, Operation];
+
 /// nonceCaller, encryptedSalt, sessionType, symmetric, authHash.
 const START: &[ParameterKind] = &[Buffer(32), Buffer(32), SessionType, Symmetric, Hash];
 
@@ -110,6 +145,7 @@ macro_rules! shape {
             answers_handle: false,
             forbids_sessions: false,
             grows: false,
+            reads_nv: false,
         };
         $(shape.$fact = true;)*
         shape
@@ -117,22 +153,34 @@ macro_rules! shape {
 }
 
 impl CommandCode {
-    ghost use Rattle.tpm_types_command.specs.CommandCode.{authorized_handles, code_named, code_number, handle_count, has_sized_parameter, role_at, shape_of};
+    ghost use Rattle.tpm_types_command.specs.CommandCode.{authorized_handles, code_named, code_number, handle_count, has_sized_parameter, nv_use_at, role_at, shape_of};
     ghost use Rattle.tpm_types_command.specs.Shape.{facts_of};
 
     /// All of them, ascending by number.
-    pub const ALL: [CommandCode; 24] = [
+    pub const ALL: [CommandCode; 36] = [
+        CommandCode::NvUndefineSpace,
         CommandCode::HierarchyChangeAuth,
+        CommandCode::NvDefineSpace,
         CommandCode::CreatePrimary,
+        CommandCode::NvIncrement,
+        CommandCode::NvSetBits,
+        CommandCode::NvExtend,
+        CommandCode::NvWrite,
+        CommandCode::NvWriteLock,
+        CommandCode::NvChangeAuth,
         CommandCode::PcrEvent,
         CommandCode::PcrReset,
         CommandCode::Startup,
+        CommandCode::PolicyNv,
+        CommandCode::NvRead,
+        CommandCode::NvReadLock,
         CommandCode::PolicySecret,
         CommandCode::Create,
         CommandCode::Hmac,
         CommandCode::Load,
         CommandCode::Unseal,
         CommandCode::FlushContext,
+        CommandCode::NvReadPublic,
         CommandCode::PolicyAuthValue,
         CommandCode::PolicyCommandCode,
         CommandCode::PolicyLocality,
@@ -180,7 +228,9 @@ impl CommandCode {
         ensures few { length result.handles.now ≤ 3 }
     {
         match self {
+            CommandCode::NvUndefineSpace => shape!([USER_PROVISION, NV_INDEX], &[]),
             CommandCode::HierarchyChangeAuth => shape!([USER_HIERARCHY_AUTH], &[Buffer(32)]),
+            CommandCode::NvDefineSpace => shape!([USER_PROVISION], &[Buffer(32), NvPublic], grows),
             CommandCode::CreatePrimary => shape!(
                 [USER_HIERARCHY],
                 CREATE,
@@ -188,19 +238,39 @@ impl CommandCode {
                 answers_handle,
                 grows
             ),
+            CommandCode::NvIncrement => shape!([USER_NV_AUTH, NV_INDEX], &[]),
+            CommandCode::NvSetBits => shape!([USER_NV_AUTH, NV_INDEX], &[U64]),
+            CommandCode::NvExtend => shape!([USER_NV_AUTH, NV_INDEX], &[Buffer(1024)]),
+            CommandCode::NvWrite => shape!([USER_NV_AUTH, NV_INDEX], &[Buffer(1024), U16]),
+            CommandCode::NvWriteLock => shape!([USER_NV_AUTH, NV_INDEX], &[]),
+            CommandCode::NvChangeAuth => shape!([ADMIN_NV_INDEX], &[Buffer(32)]),
             CommandCode::PcrEvent => shape!([USER_PCR_OR_NULL], &[Buffer(1024)]),
             CommandCode::PcrReset => shape!([USER_PCR], &[]),
             CommandCode::Startup => shape!([], &[StartupType], forbids_sessions),
+            CommandCode::PolicyNv => shape!(
+                [USER_NV_AUTH, NV_INDEX, POLICY_SESSION],
+                COMPARED,
+                reads_nv
+            ),
+            CommandCode::NvRead => shape!(
+                [USER_NV_AUTH, NV_INDEX],
+                &[U16, U16],
+                sized_answer,
+                reads_nv
+            ),
+            CommandCode::NvReadLock => shape!([USER_NV_AUTH, NV_INDEX], &[], reads_nv),
             CommandCode::PolicySecret => shape!(
                 [USER_ENTITY, POLICY_SESSION],
                 SECRET,
-                sized_answer
+                sized_answer,
+                reads_nv
             ),
             CommandCode::Create => shape!([USER_OBJECT], CREATE, sized_answer),
             CommandCode::Hmac => shape!([USER_OBJECT], &[Buffer(1024), HashOrNull], sized_answer),
             CommandCode::Load => shape!([USER_OBJECT], LOAD, sized_answer, answers_handle, grows),
             CommandCode::Unseal => shape!([USER_OBJECT], &[], sized_answer),
             CommandCode::FlushContext => shape!([], &[U32], forbids_sessions),
+            CommandCode::NvReadPublic => shape!([NV_INDEX], &[], sized_answer),
             CommandCode::PolicyAuthValue => shape!([POLICY_SESSION], &[]),
             CommandCode::PolicyCommandCode => shape!([POLICY_SESSION], &[U32]),
             CommandCode::PolicyLocality => shape!([POLICY_SESSION], &[U8]),
@@ -250,6 +320,17 @@ impl CommandCode {
         match self.shape().handles.get(place) {
             Some(rule) => rule.role.unwrap_or(Role::User),
             None => Role::User,
+        }
+    }
+
+    /// What it does to an NV index that authorizes it in the place of a handle, from 0.
+    pub fn nv_use_at(self, place: usize) -> NvUse
+        ensures { result ≡ nv_use_at self place }
+    {
+        match self.role_at(place) {
+            Role::Admin => NvUse::Administer,
+            Role::User if self.shape().reads_nv => NvUse::Read,
+            Role::User => NvUse::Write,
         }
     }
 

@@ -1,5 +1,5 @@
 ghost use Rattle.std.specs.Prelude.{◌≡◌};
-ghost use Rattle.tpm_types_command.specs.Shape.{is_entity};
+ghost use Rattle.tpm_types_command.specs.Shape.{is_entity, is_provision};
 
 use tpm_types::{Handle, Role};
 
@@ -24,6 +24,12 @@ pub enum HandleKind {
     Object,
     /// TPMI_SH_POLICY: a policy session, a trial one too.
     PolicySession,
+    /// TPMI_RH_PROVISION: the owner or the platform.
+    Provision,
+    /// TPMI_RH_NV_AUTH: the owner, the platform, or an NV index.
+    NvAuth,
+    /// TPMI_RH_NV_INDEX: an NV index.
+    NvIndex,
 }
 
 /// Whether the handle is one of an entity that has an authorization value, or TPM_RH_NULL.
@@ -33,6 +39,13 @@ fn is_entity(handle: Handle) -> bool
     let is_permanent = handle == Handle::NULL || handle.hierarchy_auth().is_some();
     let kind = handle.type_byte();
     is_permanent || handle.pcr().is_some() || kind == 0x01 || kind == 0x80 || kind == 0x81
+}
+
+/// Whether the handle is that of the owner or of the platform.
+fn is_provision(handle: Handle) -> bool
+    ensures { result ≡ is_provision handle }
+{
+    handle == Handle::OWNER || handle == Handle::PLATFORM
 }
 
 impl HandleKind {
@@ -52,6 +65,9 @@ impl HandleKind {
             HandleKind::EntityNotNull => is_entity(handle) && handle != Handle::NULL,
             HandleKind::Object => handle.type_byte() == 0x80 || handle.type_byte() == 0x81,
             HandleKind::PolicySession => handle.type_byte() == 0x03,
+            HandleKind::Provision => is_provision(handle),
+            HandleKind::NvAuth => is_provision(handle) || handle.type_byte() == 0x01,
+            HandleKind::NvIndex => handle.type_byte() == 0x01,
         }
     }
 }
@@ -77,6 +93,8 @@ pub enum ParameterKind {
     U16,
     /// UINT32.
     U32,
+    /// UINT64.
+    U64,
     /// TPMI_ALG_HASH.
     Hash,
     /// TPMI_ALG_HASH+: that, or NULL.
@@ -95,6 +113,10 @@ pub enum ParameterKind {
     SensitiveCreate,
     /// TPM2B_PUBLIC.
     Public,
+    /// TPM2B_NV_PUBLIC.
+    NvPublic,
+    /// TPM_EO.
+    Operation,
 }
 
 impl ParameterKind {
@@ -105,19 +127,23 @@ impl ParameterKind {
         ensures { result ≡ is_sized self }
     {
         match self {
-            ParameterKind::Buffer(_) | ParameterKind::SensitiveCreate | ParameterKind::Public =>
-                true,
+            ParameterKind::Buffer(_)
+            | ParameterKind::SensitiveCreate
+            | ParameterKind::Public
+            | ParameterKind::NvPublic => true,
             ParameterKind::StartupType
             | ParameterKind::SessionType
             | ParameterKind::U8
             | ParameterKind::U16
             | ParameterKind::U32
+            | ParameterKind::U64
             | ParameterKind::Hash
             | ParameterKind::HashOrNull
             | ParameterKind::Symmetric
             | ParameterKind::Selection
             | ParameterKind::Digests
-            | ParameterKind::DigestList => false,
+            | ParameterKind::DigestList
+            | ParameterKind::Operation => false,
         }
     }
 }
@@ -135,4 +161,7 @@ pub struct Shape {
     pub forbids_sessions: bool,
     /// Whether the command may want memory that is not there.
     pub grows: bool,
+    /// Whether it reads the NV index that authorizes it, where one does; any other command writes
+    /// it, or administers it in that role.
+    pub reads_nv: bool,
 }

@@ -1,0 +1,49 @@
+-- What a command on an NV index names: what authorizes it, the index, and whether the one may read
+-- and write the other. TPM 2.0 Library, Part 3, section 31 (non-volatile storage), and Part 2,
+-- section 13.4 (TPMA_NV).
+use Rattle.std.specs.Prelude.{◌==◌, Bool, Result, Ok, ok_or, if◌then◌else◌}
+use Rattle.tpm_bytes.specs.Reading.{◌>>=◌}
+use Rattle.tpm_types.specs.Handle.{owner_handle, platform_handle}
+use Rattle.tpm_types.specs.declared.handle.Handle.{Handle}
+use Rattle.tpm_types.specs.declared.refused.Refused.{Refused}
+use Rattle.tpm_types_nv.specs.NvAttributes.{has}
+use Rattle.tpm_types_nv.specs.declared.nv_attributes.NvAttribute.{NvAttribute}
+use Rattle.tpm_types_nv.specs.declared.nv_attributes.NvAttribute.TheVariants as attribute
+use Rattle.tpm_types_nv.specs.declared.nv_attributes.NvAttributes.{NvAttributes}
+use Rattle.tpm_nv.specs.Index.{NvIndex, index_at}
+use Rattle.tpm_record.specs.Record.{Record}
+use Rattle.tpm_actions.specs.Refusals.{handle_refusal}
+use Rattle.tpm_actions.specs.Request.{Request, first_handle, second_handle}
+use Rattle.tpm_actions.specs.declared.target.Target.{Target}
+
+-- the index of a handle, which the general checks have found
+abbrev pub index_or_refusal : Record → Handle → Result NvIndex Refused
+index_or_refusal r handle = ok_or (index_at r.nv handle) handle_refusal
+
+-- and its attributes
+abbrev pub attributes_of : Record → Handle → Result NvAttributes Refused
+attributes_of r handle = do
+  index ← index_or_refusal r handle
+  Ok index.public.attributes
+
+-- authHandle, nvIndex, and the attributes of that
+abbrev pub target_of : Record → Request → Result Target Refused
+target_of r q = do
+  authority ← first_handle q.handles
+  handle ← second_handle q.handles
+  attributes ← attributes_of r handle
+  Ok (record { authority = authority; handle = handle; attributes = attributes })
+
+-- whether authHandle may do something with the index: the owner and the platform where that has the
+-- attribute that lets them, and else the index itself alone
+abbrev pub may : (owner platform : NvAttribute) → Target → Bool
+may owner platform target =
+    if target.authority.number == owner_handle.number then has target.attributes owner
+    else (if target.authority.number == platform_handle.number then has target.attributes platform
+    else target.authority.number == target.handle.number)
+
+abbrev pub may_write : Target → Bool
+may_write target = may attribute.OwnerWrite attribute.PpWrite target
+
+abbrev pub may_read : Target → Bool
+may_read target = may attribute.OwnerRead attribute.PpRead target

@@ -1,0 +1,75 @@
+-- TPM2_PolicyNV. TPM 2.0 Library, Part 3, section 23.9. The order of the checks is this device's
+-- own.
+use Rattle.std.specs.Prelude.{ℕ, not, List, length, Result, Ok, Err}
+use Rattle.std.specs.Int.{w16}
+use Rattle.tpm_bytes.specs.Reading.{◌>>=◌, number_at, or_fault, refused_if}
+use Rattle.tpm_nv.specs.Access.{read_at}
+use Rattle.tpm_nv.specs.declared.fault.NvFault.{NvFault}
+use Rattle.tpm_nv.specs.declared.fault.NvFault.TheVariants as fault
+use Rattle.tpm_policy.specs.Assertion.{Assertion, Nv, NvParts, fault_of}
+use Rattle.tpm_policy.specs.declared.fault.PolicyFault.{PolicyFault}
+use Rattle.tpm_session.specs.declared.session.Session.{Session}
+use Rattle.tpm_types.specs.Buffer.{buffer_at}
+use Rattle.tpm_types.specs.Operation.{operation_at}
+use Rattle.tpm_types.specs.Rc.{plain}
+use Rattle.tpm_types.specs.declared.action_check.ActionCheck.TheVariants as action
+use Rattle.tpm_types.specs.declared.operation.Operation.{Operation}
+use Rattle.tpm_types.specs.declared.rc.ResponseCode.TheVariants as code
+use Rattle.tpm_types.specs.declared.refused.Refused.{Refused}
+use Rattle.tpm_record.specs.Entity.{name_of}
+use Rattle.tpm_record.specs.Record.{Record}
+use Rattle.tpm_actions.specs.Request.{Request}
+use Rattle.tpm_actions.specs.Rows.{all_read, parameter}
+use Rattle.tpm_actions.specs.Target.{may_read, target_of}
+use Rattle.tpm_actions.specs.declared.target.Target.{Target}
+
+-- operandB, at most 32 bytes; offset; operation
+pub record Parameters : Type 0 where
+  pub operand : List ℕ
+  pub offset : ℕ
+  pub operation : Operation
+
+unfoldable pub nv_parameters : List ℕ → Result Parameters Refused
+nv_parameters text = do
+  operand ← parameter 1 (buffer_at 32 text)
+  offset ← parameter 2 (or_fault (number_at w16 operand.1) (plain code.Insufficient))
+  operation ← parameter 3 (operation_at offset.1)
+  ended ← all_read operation.1
+  Ok (record { operand = operand.0; offset = offset.0; operation = operation.0 })
+
+-- what refuses the reading of an index behind A1. A2: it is locked against reading; A3: it is not
+-- written; A4: what would be read is past its data. The last two do not occur
+abbrev pub read_fault : NvFault → PolicyFault
+read_fault fault.Locked = fault_of action.Second (plain code.NvLocked)
+read_fault fault.Uninitialized = fault_of action.Third (plain code.NvUninitialized)
+read_fault fault.Range = fault_of action.Fourth (plain code.NvRange)
+read_fault fault.Attributes = fault_of action.First (plain code.Failure)
+read_fault fault.Undefined = fault_of action.First (plain code.Failure)
+
+abbrev pub or_read_fault : {X : Type 0} → Result X NvFault → Result X PolicyFault
+or_read_fault (Ok x) = Ok x
+or_read_fault (Err fault) = Err (read_fault fault)
+
+-- what is compared with the operand: as many bytes of the index from the offset on; A1: authHandle
+-- may not read it
+abbrev pub compared : Record → Target → Parameters → Result (List ℕ) PolicyFault
+compared r target p = do
+  a1 ← refused_if (not (may_read target)) (fault_of action.First (plain code.NvAuthorization))
+  or_read_fault (read_at r.nv target.handle p.offset (length p.operand))
+
+-- the index is asserted by its Name
+abbrev pub nv_parts_of : Record → Target → Parameters → NvParts
+nv_parts_of r target p = record {
+  name = name_of r target.handle;
+  operand = p.operand;
+  offset = p.offset;
+  operation = p.operation;
+  compared = compared r target p;
+}
+
+-- authHandle, nvIndex, policySession
+abbrev pub nv_assertion : Record → Request → Result (Session → Assertion) Refused
+nv_assertion r q = do
+  target ← target_of r q
+  p ← nv_parameters q.parameters
+  Ok (λ s. Nv (nv_parts_of r target p))
