@@ -1,6 +1,6 @@
 -- The checks of a template and of a creation among a command's own. TPM 2.0 Library, Part 3,
 -- section 12 (object commands); which code refuses what, and in which order, is this device's own.
-use Rattle.std.specs.Prelude.{ℕ, ◌+◌, Bool, Result, Ok, Err}
+use Rattle.std.specs.Prelude.{ℕ, ◌+◌, Bool, Result}
 use Rattle.tpm_object.specs.declared.creation.CreationFault.{CreationFault}
 use Rattle.tpm_object.specs.declared.creation.CreationFault.TheVariants as creation
 use Rattle.tpm_object.specs.declared.template.TemplateFault.{TemplateFault}

@@ -1,8 +1,10 @@
-ghost use Rattle.std.specs.Prelude.{◌≡◌, ◌+◌, ◌≤◌, [], length, map, not};
+ghost use Rattle.std.specs.Prelude.{◌≡◌, ◌+◌, ◌≤◌, [], ◌∷◌, length, map, not};
 ghost use Rattle.tpm_session.specs.FirstBuffer.{has_first_buffer};
 ghost use Rattle.tpm_types_command.specs.AuthEntry.{entry_of};
 ghost use Rattle.tpm_types_command.specs.Command.{whole_of};
+ghost use Rattle.tpm_types.specs.Handle.{session_kind};
 ghost use Rattle.tpm_types.specs.Locality.{locality_number};
+ghost use Rattle.tpm_types.specs.declared.handle.SessionKind.TheVariants as kind;
 ghost use Rattle.tpm_record.specs.Entity.{name_of};
 ghost use Rattle.tpm_auth.specs.Grant.{AreGranted, IsGranted, authorize, authorized, grant, grants_pass, is_unavailable, password_grant};
 ghost use Rattle.tpm_auth.specs.SessionGrant.{hashed_command};
@@ -159,27 +161,56 @@ fn names_of<K: Keep>(keep: &K, handles: &[Handle]) -> ArrayVec<Name, 3>
 }
 
 /// Checks each handle by the entry of its place, and the other entries, and tells what each
-/// authorizes. Nothing is hashed where there are none.
-fn check_all<K: Keep>(keep: &K, sent: Sent) -> Result<Grants, Refused>
+/// authorizes.
+fn check_sessions<K: Keep>(keep: &K, sent: Sent) -> Result<Grants, Refused>
     ensures { IsGranted (grants_pass (K.record_of keep.now) (whole_of sent.entry.command.now)
         (locality_number sent.entry.locality) [] (whole_of sent.entry.command.now).entries) result }
 {
     let command = sent.command;
+    let names = names_of(keep, command.handles.as_slice());
+    let code = command.code.number();
+    let hashed = HashedParameters::Command(code, names.as_slice(), command.parameters);
+    let mut hashes = ParameterHashes::new(hashed);
     let mut entries = ArrayVec::new();
-    if !command.entries.is_empty() {
-        let names = names_of(keep, command.handles.as_slice());
-        let code = command.code.number();
-        let hashed = HashedParameters::Command(code, names.as_slice(), command.parameters);
-        let mut hashes = ParameterHashes::new(hashed);
-        check_grants(
-            keep,
-            sent,
-            &mut hashes,
-            command.entries.as_slice(),
-            &mut entries,
-        )?;
-    }
+    check_grants(
+        keep,
+        sent,
+        &mut hashes,
+        command.entries.as_slice(),
+        &mut entries,
+    )?;
     Ok(Grants { entries })
+}
+
+/// The same of one entry that is a password.
+#[tactic(auto, unfolding(crate::specs::Grant::grant))]
+fn check_one_password<K: Keep>(keep: &K, sent: Sent, entry: &AuthEntry) -> Result<Grants, Refused>
+    requires { session_kind entry.now.session ≡ kind.Password }
+    ensures { IsGranted (grants_pass (K.record_of keep.now) (whole_of sent.entry.command.now)
+        (locality_number sent.entry.locality) [] (entry_of entry.now ∷ [])) result }
+{
+    let used = authorized(sent.command).first().copied();
+    let grant = check_password(keep, sent.command.code, 1, used, entry)?;
+    let mut entries = ArrayVec::new();
+    entries.push(grant);
+    Ok(Grants { entries })
+}
+
+/// The same of all entries. Nothing is hashed where there are none, or where there is a password
+/// alone.
+fn check_all<K: Keep>(keep: &K, sent: Sent) -> Result<Grants, Refused>
+    ensures { IsGranted (grants_pass (K.record_of keep.now) (whole_of sent.entry.command.now)
+        (locality_number sent.entry.locality) [] (whole_of sent.entry.command.now).entries) result }
+{
+    match sent.command.entries.as_slice() {
+        [] => Ok(Grants {
+            entries: ArrayVec::new(),
+        }),
+        [entry] if entry.session.session_kind() == SessionKind::Password => {
+            check_one_password(keep, sent, entry)
+        }
+        _ => check_sessions(keep, sent),
+    }
 }
 
 /// Checks the entries of a command, and by them the handles that need authorization: first each

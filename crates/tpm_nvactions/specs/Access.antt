@@ -1,7 +1,7 @@
 -- What the commands of NV indices have in common: how they refuse who may not read or write, and
 -- what may not be read, written or locked. TPM 2.0 Library, Part 3, section 31 (non-volatile
 -- storage). Which code refuses what, and in which order, is this device's own.
-use Rattle.std.specs.Prelude.{not, Result, Ok, Err}
+use Rattle.std.specs.Prelude.{not, Result, Ok}
 use Rattle.tpm_bytes.specs.Reading.{◌>>=◌, refused_if}
 use Rattle.tpm_types.specs.Rc.{at, plain}
 use Rattle.tpm_types.specs.declared.handle.Handle.{Handle}

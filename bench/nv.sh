@@ -1,0 +1,56 @@
+#!/bin/sh
+# Counts the instructions that TPM2_NV_Read, TPM2_NV_Write and TPM2_NV_Increment take, with one NV
+# index and with 32: the difference of two lengths of a script under callgrind, so that start and end
+# do not count. Needs valgrind, python3, and rt where the program is not built yet. Not part of the
+# gate.
+#
+# The device's is what `Machine::execute_into` and all that it calls take; the rest is the text.
+set -eu
+
+top=$(CDPATH='' cd "$(dirname "$0")/.." && pwd -P)
+program=$top/crates/tpmsim/out/tpmsim
+folder=$(mktemp -d)
+trap 'rm -rf "$folder"' EXIT
+
+# The C library clears and copies blocks of these lengths by vectors, as it does shorter ones. Else
+# it uses one repeated instruction, which callgrind counts again for each byte.
+limits=glibc.cpu.x86_rep_stosb_threshold=1000000:glibc.cpu.x86_rep_movsb_threshold=1000000
+
+# counts COMMAND SIZE INDICES LINES: the instructions of such a script: all, and those of
+# `Machine::execute_into` with what it calls.
+counts() {
+    python3 "$top/bench/nv_script.py" "$@" >"$folder/script"
+    GLIBC_TUNABLES=$limits valgrind --tool=callgrind --callgrind-out-file="$folder/calls" \
+        "$program" run "$folder/script" >"$folder/answers" 2>"$folder/log" || {
+        cat "$folder/log" >&2
+        exit 1
+    }
+    if grep -qv '^........[0-9a-f]*00000000' "$folder/answers"; then
+        echo "$0: the program did not accept each command" >&2
+        exit 1
+    fi
+    callgrind_annotate --threshold=100 --inclusive=yes "$folder/calls" | awk '
+        { gsub(",", "", $1) }
+        / PROGRAM TOTALS/ { all = $1 }
+        /:tpm_machine::machine::Machine::execute_into[ :]/ && !/ > / && !device { device = $1 }
+        END { print all + 0, device + 0 }'
+}
+
+# measure COMMAND SIZE INDICES NAME
+measure() {
+    short=$(counts "$1" "$2" "$3" 500)
+    long=$(counts "$1" "$2" "$3" 1500)
+    echo "$short $long" | awk -v name="$4" -v indices="$3" '{
+        printf "%-26s of %2d: %6d instructions, %5d of them the device'"'"'s\n",
+            name, indices, ($3 - $1) / 1000 + 0.5, ($4 - $2) / 1000 + 0.5
+    }'
+}
+
+"$top/tpmsim" run /dev/null # builds the program where it is not built
+for indices in 1 32; do
+    measure read 64 "$indices" "NV_Read of 64 bytes"
+    measure read 1024 "$indices" "NV_Read of 1,024 bytes"
+    measure write 64 "$indices" "NV_Write of 64 bytes"
+    measure write 1024 "$indices" "NV_Write of 1,024 bytes"
+    measure increment 8 "$indices" "NV_Increment"
+done
