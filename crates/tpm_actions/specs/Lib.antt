@@ -11,5 +11,7 @@ pub mod PcrExtend
 pub mod PcrEvent
 pub mod PcrReset
 pub mod HierarchyChangeAuth
+pub mod DictionaryAttackLockReset
+pub mod DictionaryAttackParameters
 pub mod FlushContext
 pub mod StartAuthSession

@@ -1,5 +1,7 @@
 -- TPM2_Startup. TPM 2.0 Library, Part 3, section 9.3.
-use Rattle.std.specs.Prelude.{ℕ, ◌+◌, ◌-◌, ◌^◌, min, true, Bool, false, List, [], take, drop, Result, Ok}
+use Rattle.std.specs.Prelude.{ℕ, ◌+◌, ◌-◌, ◌^◌, ◌==◌, min, true, Bool, false, List, [], take, drop, if◌then◌else◌, Result, Ok}
+use Rattle.tpm_lockout.specs.Lockout.{LockoutState}
+use Rattle.tpm_lockout.specs.Recovery.{with_closed}
 use Rattle.tpm_nv.specs.Startup.{started}
 use Rattle.tpm_bytes.specs.Reading.{◌>>=◌, refused_if}
 use Rattle.tpm_types.specs.declared.rc.ResponseCode.TheVariants as code
@@ -31,6 +33,10 @@ reset_hierarchies h random = record (with_hierarchy_auth h auth.Platform []) {
   null = record { seed = take 32 random; proof = take 32 (drop 32 random) };
 }
 
+-- lockoutAuth after a TPM Reset: it is open where a lockoutRecovery of 0 lets no time open it
+abbrev pub reset_lockout : LockoutState → LockoutState
+reset_lockout s = if s.fields.lockout_recovery == 0 then with_closed false s else s
+
 -- after a TPM Reset there is one more of these, and none of the other startups since. The update
 -- counter begins at 0, and the count of resets stops at 2^32 - 1
 abbrev pub reset_fixed : Fixed → List ℕ → Fixed
@@ -38,6 +44,7 @@ reset_fixed f random = record f {
   started = true;
   saved = Nothing;
   hierarchies = reset_hierarchies f.hierarchies random;
+  lockout = reset_lockout f.lockout;
   banks = record f.banks { update_count = 0 };
   reset_count = min (f.reset_count + 1) (2 ^ 32 - 1);
   restart_count = 0;

@@ -9,6 +9,8 @@
 
 pub mod answer;
 pub mod call;
+pub mod dictionary_attack_lock_reset;
+pub mod dictionary_attack_parameters;
 pub mod flush_context;
 pub mod get_random;
 pub mod hierarchy_change_auth;

@@ -2,13 +2,14 @@ ghost use Rattle.std.specs.Prelude.{◌≡◌};
 ghost use Rattle.tpm_actions.specs.Answer.{IsEmpty};
 ghost use Rattle.tpm_actions.specs.Request.{request_of};
 ghost use Rattle.tpm_actions.specs.Rows.{Acts};
-ghost use Rattle.tpm_actions.specs.Startup.{lacks_state, reset_hierarchies, startup_row};
+ghost use Rattle.tpm_actions.specs.Startup.{lacks_state, reset_hierarchies, reset_lockout, startup_row};
 
 use crate::answer::Answer;
 use crate::call::Call;
 use crate::reading::{end, parameter};
 use crate::refusals::parameter_fault;
 use tpm_bytes::Cursor;
+use tpm_lockout::Lockout;
 use tpm_nv::Indices;
 use tpm_record::{Hierarchies, Keep, Saved, Secrets};
 use tpm_types::{AuthValue, HierarchyAuth, Refused, ResponseCode, StartupType};
@@ -25,6 +26,15 @@ fn reset_hierarchies(hierarchies: &mut Hierarchies, random: &[u8; 256])
     seed.copy_from_slice(&random[..32]);
     proof.copy_from_slice(&random[32..64]);
     hierarchies.null = Secrets { seed, proof };
+}
+
+/// Opens lockoutAuth where no time opens it.
+fn reset_lockout(lockout: &mut Lockout)
+    ensures { lockout.new ≡ reset_lockout lockout.old }
+{
+    if lockout.fields().lockout_recovery == 0 {
+        lockout.lockout_open();
+    }
 }
 
 fn lacks_state(kind: StartupType, saved: Saved) -> bool
@@ -53,6 +63,7 @@ pub fn startup<K: Keep>(keep: &mut K, call: &Call, answer: &mut Answer) -> Resul
     fixed.started = true;
     fixed.saved = Saved::Nothing;
     reset_hierarchies(&mut fixed.hierarchies, call.random);
+    reset_lockout(&mut fixed.lockout);
     fixed.banks.restart_update_count();
     fixed.reset_count = fixed.reset_count.saturating_add(1);
     fixed.restart_count = 0;

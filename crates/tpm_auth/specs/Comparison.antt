@@ -1,12 +1,15 @@
 -- Comparisons of authorization values, and how they fail. TPM 2.0 Library, Part 1, sections 19.4
 -- (password authorizations) and 19.8 (dictionary attacks).
-use Rattle.std.specs.Prelude.{ℕ, Bool, List, Option, Some, None}
+use Rattle.std.specs.Prelude.{ℕ, Bool, false, List, Option, Some, None, Result}
 use Rattle.std.specs.Str.{bytes_eq}
+use Rattle.tpm_bytes.specs.Reading.{refused_if}
+use Rattle.tpm_lockout.specs.Lockout.{LockoutState}
+use Rattle.tpm_lockout.specs.Tries.{is_locked}
 use Rattle.tpm_session.specs.declared.session.Protection.{Protection}
 use Rattle.tpm_session.specs.declared.session.Protection.TheVariants as protection
 use Rattle.tpm_types.specs.AuthValue.{trimmed}
 use Rattle.tpm_types.specs.declared.rc.ResponseCode.TheVariants as code
-use Rattle.tpm_types.specs.Rc.{entry_fault}
+use Rattle.tpm_types.specs.Rc.{entry_fault, plain}
 use Rattle.tpm_types.specs.Refused.{refusal}
 use Rattle.tpm_types.specs.declared.check.Check.{Check}
 use Rattle.tpm_types.specs.declared.check.Check.TheVariants as check
@@ -31,3 +34,14 @@ failure check n protection.Lockout =
 abbrev pub check_of : Option Grant → Check
 check_of (Some grant) = check.Authorization
 check_of None = check.Others
+
+-- whether what is protected so is locked out: by too many failed tries, or as lockoutAuth is closed
+abbrev pub is_locked_out : LockoutState → Protection → Bool
+is_locked_out lockout protection.None = false
+is_locked_out lockout protection.Tries = is_locked lockout.fields
+is_locked_out lockout protection.Lockout = lockout.fields.closed
+
+-- what is locked out is not compared, and that counts nothing (TPM_RC_LOCKOUT)
+abbrev pub may_be_tried : LockoutState → Option Grant → Protection → Result (Unit {0}) Refused
+may_be_tried lockout grant protection =
+    refused_if (is_locked_out lockout protection) (refusal (check_of grant) (plain code.Lockout))

@@ -6,6 +6,7 @@ use Rattle.std.specs.Option.{option_map_or}
 use Rattle.tpm_bytes.specs.Reading.{◌>>=◌, refused_if}
 use Rattle.tpm_policy.specs.declared.state.Demand.TheVariants as demand
 use Rattle.tpm_session.specs.FirstBuffer.{has_first_buffer}
+use Rattle.tpm_session.specs.declared.session.Protection.{Protection}
 use Rattle.tpm_session.specs.declared.session.Protection.TheVariants as protection
 use Rattle.tpm_session.specs.declared.session.Session.{Session}
 use Rattle.tpm_types.specs.declared.handle.Handle.{Handle}
@@ -22,7 +23,7 @@ use Rattle.tpm_types.specs.Rc.{at, entry_fault, plain}
 use Rattle.tpm_record.specs.declared.entity.Means.TheVariants as means
 use Rattle.tpm_record.specs.Entity.{is_available, protection_of}
 use Rattle.tpm_record.specs.Record.{Record}
-use Rattle.tpm_auth.specs.Comparison.{check_of, failure, is_password_of}
+use Rattle.tpm_auth.specs.Comparison.{check_of, failure, is_password_of, may_be_tried}
 use Rattle.tpm_auth.specs.Entries.{decrypts, entries_pass, reference_of, session_of}
 use Rattle.tpm_types.specs.Refused.{checked, refusal}
 use Rattle.tpm_auth.specs.SessionGrant.{granted_value, session_grant}
@@ -41,15 +42,21 @@ is_unavailable r c n used =
     option_map_or (λ handle. not (is_available r handle means.AuthValue (nv_use_at c (n - 1))))
     used false
 
--- entry n is a password for what it authorizes, which must be available by its authorization value
+-- how what entry n is to authorize is protected
+abbrev pub used_protection : Record → Option Handle → Protection
+used_protection r used = option_map_or (protection_of r) used protection.None
+
+-- entry n is a password for what it authorizes, which must be available by its authorization value,
+-- and not locked out
 unfoldable pub password_grant : Record
     → CommandCode → (n : ℕ) → Option Handle → Entry → Result (Option Grant) Refused
 password_grant r c n used e = do
   let grant : Option Grant = option_map undemanding used
   available ← refused_if (is_unavailable r c n used)
       (refusal check.Authorization (plain code.AuthUnavailable))
+  tried ← may_be_tried r.fixed.lockout grant (used_protection r used)
   compared ← refused_if (not (is_password_of (granted_value r grant) e.hmac))
-      (failure (check_of grant) n (option_map_or (protection_of r) used protection.None))
+      (failure (check_of grant) n (used_protection r used))
   Ok grant
 
 abbrev pub session_grant_if : Record → Whole

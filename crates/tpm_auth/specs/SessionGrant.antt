@@ -25,7 +25,7 @@ use Rattle.tpm_types.specs.Rc.{plain}
 use Rattle.tpm_record.specs.declared.entity.Means.TheVariants as means
 use Rattle.tpm_record.specs.Entity.{auth_value_of, is_available, name_of, policy_of, protection_of}
 use Rattle.tpm_record.specs.Record.{Record}
-use Rattle.tpm_auth.specs.Comparison.{check_of, failure, is_password_of}
+use Rattle.tpm_auth.specs.Comparison.{check_of, failure, is_password_of, may_be_tried}
 use Rattle.tpm_auth.specs.Entries.{decrypts, encrypts, session_of}
 use Rattle.tpm_types.specs.Refused.{checked, refusal}
 use Rattle.tpm_types.specs.declared.check.Check.TheVariants as check
@@ -181,10 +181,11 @@ unfoldable pub demanded : Record
     → Whole → (locality n : ℕ) → Handle → Session → Result Demand Refused
 demanded r c locality n handle s = demand_by s.kind r c locality n handle s
 
--- entry n is compared
+-- entry n is compared, unless what it comes up against is locked out
 abbrev pub comparison : Record
     → Whole → ℕ → Option Grant → Entry → Session → Result (Option Grant) Refused
 comparison r c n grant e s = do
+  tried ← may_be_tried r.fixed.lockout grant (touched r s grant)
   compared ← refused_if (not (comparison_holds r c n grant e s))
       (failure (check_of grant) n (touched r s grant))
   Ok grant

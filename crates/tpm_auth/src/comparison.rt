@@ -1,7 +1,11 @@
 ghost use Rattle.std.specs.Prelude.{◌≡◌};
-ghost use Rattle.tpm_auth.specs.Comparison.{check_of, failure, is_password_of};
+ghost use Rattle.tpm_types.specs.Rc.{plain};
+ghost use Rattle.tpm_types.specs.Refused.{refusal};
+ghost use Rattle.tpm_types.specs.declared.rc.ResponseCode.TheVariants as code;
+ghost use Rattle.tpm_auth.specs.Comparison.{check_of, failure, is_locked_out, is_password_of};
 
 use crate::session_grant::Grant;
+use tpm_lockout::Lockout;
 use tpm_session::Protection;
 use tpm_types::{Check, Counted, Refused, ResponseCode, trimmed};
 
@@ -27,6 +31,24 @@ pub fn failure(check: Check, number: u8, protection: Protection) -> Refused
         check,
         counted,
     }
+}
+
+/// Whether what is protected so is locked out.
+pub fn is_locked_out(lockout: &Lockout, protection: Protection) -> bool
+    ensures { result ≡ is_locked_out lockout.now protection }
+{
+    match protection {
+        Protection::None => false,
+        Protection::Tries => lockout.is_locked(),
+        Protection::Lockout => lockout.lockout_closed(),
+    }
+}
+
+/// The refusal of an entry, that authorizes so, or nothing, by what is locked out.
+pub fn lockout_refusal(grant: Option<Grant>) -> Refused
+    ensures { result ≡ refusal (check_of grant) (plain code.Lockout) }
+{
+    Refused::by(check_of(grant), ResponseCode::Lockout.anywhere())
 }
 
 /// The check of an entry that authorizes so, or nothing.

@@ -9,7 +9,7 @@ ghost use Rattle.tpm_record.specs.Entity.{name_of};
 ghost use Rattle.tpm_auth.specs.Grant.{AreGranted, IsGranted, authorize, authorized, grant, grants_pass, is_unavailable, password_grant};
 ghost use Rattle.tpm_auth.specs.SessionGrant.{hashed_command};
 
-use crate::comparison::{check_of, failure, is_password_of};
+use crate::comparison::{check_of, failure, is_locked_out, is_password_of, lockout_refusal};
 use crate::entries::{any_decrypts, check_entries, reference_of};
 use crate::session_grant::{Grant, Sent, check_session};
 use arrayvec::ArrayVec;
@@ -70,6 +70,9 @@ fn check_password<K: Keep>(
         }
         None => (None, &[][..], Protection::None),
     };
+    if is_locked_out(&keep.fixed().lockout, protection) {
+        return Err(lockout_refusal(grant));
+    }
     if is_password_of(value, entry.hmac) {
         Ok(grant)
     } else {

@@ -6,10 +6,11 @@ ghost use Rattle.tpm_auth.specs.Entries.{decrypts};
 ghost use Rattle.tpm_types.specs.Locality.{locality_number};
 ghost use Rattle.tpm_policy.specs.Use.{parts_of};
 ghost use Rattle.tpm_session.specs.ParameterHash.{parameter_hash_of};
+ghost use Rattle.tpm_auth.specs.Comparison.{is_locked_out};
 ghost use Rattle.tpm_auth.specs.EmptyHmac.{EmptyHmacHasNoKey};
 ghost use Rattle.tpm_auth.specs.SessionGrant.{binding_protection, by_policy, comparison_holds, demanded, entry_nonce, granted_value, hashed_command, is_authentic, is_bound_to, nonce_where, only_encrypts, or_protection, other_entries, session_grant, takes_value, touched, use_of, used_auth_value};
 
-use crate::comparison::{check_of, failure, is_password_of};
+use crate::comparison::{check_of, failure, is_locked_out, is_password_of, lockout_refusal};
 use crate::entries::{decrypts, encrypts};
 use tpm_policy::{Demand, Use};
 use tpm_record::{Keep, Means, auth_value_of, is_available, name_of, policy_of, protection_of};
@@ -192,6 +193,17 @@ fn touched<K: Keep>(keep: &K, session: &Session, grant: Option<Grant>) -> Protec
     }
 }
 
+/// Whether what an entry of a session comes up against is locked out. Where nothing is, that is not
+/// looked for.
+fn comes_up_against_lockout<K: Keep>(keep: &K, session: &Session, grant: Option<Grant>) -> bool
+    ensures { result ≡ is_locked_out (K.record_of keep.now).fixed.lockout
+        (touched (K.record_of keep.now) session.now grant) }
+{
+    let lockout = &keep.fixed().lockout;
+    (lockout.is_locked() || lockout.lockout_closed())
+        && is_locked_out(lockout, touched(keep, session, grant))
+}
+
 /// What is to be authorized by the entry of this number, of a policy session.
 #[tactic(auto, unfolding(crate::specs::SessionGrant::use_of))]
 fn use_of<'a, K: Keep>(
@@ -342,6 +354,9 @@ pub fn check_session<K: Keep>(
         }
         None => None,
     };
+    if comes_up_against_lockout(keep, session, grant) {
+        return Err(lockout_refusal(grant));
+    }
     if comparison_holds(keep, sent.command, hashes, number, grant, entry, session) {
         Ok(grant)
     } else {

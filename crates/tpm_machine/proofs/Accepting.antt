@@ -81,3 +81,7 @@ pub command_refused : (can : Bool) (r : Record) (buffer : List ℕ) (locality : 
 unfolding accepted
 command_refused can r buffer locality random c e x decoded is seen =
     rw (decoded, seen) (refused_answers can r random c (acceptance r c locality random) e is)
+
+-- an authorized command whose row refuses, or is refused memory
+pub row_refused : (can : Bool) (r : Record) (random : List ℕ) (c : Whole) (a : Result Accepted Refused) (e : Refused) (x : Stepped) → RefusesOrStarves can c a e → x ≡ refusal_step r (record { code = code_number c.code; refused = e }) → Answers can r random (in_command c.code a) x
+row_refused can r random c a e x is seen = rw seen (refused_answers can r random c a e is)

@@ -17,7 +17,7 @@ use tpm_auth::{Grants, authorize};
 use tpm_machine_step::{Event, Outcome, Refusal, Response, Row};
 use tpm_record::tick::tick;
 use tpm_record::{Fixed, Keep, NoMemory, power_cycle, read_widths};
-use tpm_types::Locality;
+use tpm_types::{Counted, Locality};
 use tpm_types_command::Command;
 
 /// The device, by a way of keeping its state.
@@ -176,11 +176,11 @@ impl<K: Keep> Machine<K> {
     {
         let command = match decode(&self.keep, buffer) {
             Ok(command) => command,
-            Err(refusal) => return refuse(refusal, text),
+            Err(refusal) => return refuse(&mut self.keep, refusal, text),
         };
         match authorize(&self.keep, &command, locality) {
             Ok(grants) => self.act(&command, &grants, locality, random, text),
-            Err(refused) => refuse(Refusal::of(command.code, refused), text),
+            Err(refused) => refuse(&mut self.keep, Refusal::of(command.code, refused), text),
         }
     }
 
@@ -227,12 +227,13 @@ impl<K: Keep> Machine<K> {
                     check: 0,
                 }
             }
-            Err(refused) => refuse(Refusal::of(command.code, refused), text),
+            Err(refused) => refuse(keep, Refusal::of(command.code, refused), text),
         }
     }
 }
 
 ghost use Rattle.tpm_types.specs.Check.{check_number};
+ghost use Rattle.tpm_machine_step.specs.Step.{counted_in};
 ghost use Rattle.tpm_machine_step.specs.Answer.{refusal_text};
 ghost use Rattle.tpm_types.specs.Locality.{locality_number};
 
@@ -246,14 +247,29 @@ fn read_command(locality: Locality, elapsed_ms: u32, random: &[u8; 256])
     let _first = random[0];
 }
 
-/// Writes the response to a command that is refused, and gives the row.
-fn refuse(refusal: Refusal, text: &mut Response) -> Row
+/// Counts against dictionary attacks what a refusal counts.
+fn count<K: Keep>(keep: &mut K, counted: Counted)
+    ensures { K.record_of keep.new ≡ counted_in counted (K.record_of keep.old) }
+{
+    let lockout = &mut keep.fixed_mut().lockout;
+    match counted {
+        Counted::None => {}
+        Counted::Try => lockout.failed(),
+        Counted::Lockout => lockout.lockout_failed(),
+    }
+}
+
+/// Counts what the refusal of a command counts, writes the response to it, and gives the row.
+fn refuse<K: Keep>(keep: &mut K, refusal: Refusal, text: &mut Response) -> Row
     requires { text.old.items ≡ [] }
+    ensures counted { K.record_of keep.new
+        ≡ counted_in refusal.refused.counted (K.record_of keep.old) }
     ensures text { text.new.items ≡ refusal_text refusal.refused }
     ensures row { result ≡
         record { code = refusal.code; check = check_number refusal.refused.check } }
     ensures size { length text.new.items ≡ 10 }
 {
+    count(keep, refusal.refused.counted);
     write_refusal(refusal.refused, text);
     Row {
         code: refusal.code,

@@ -16,6 +16,8 @@ use crate::parameters::pass_parameters;
 use arrayvec::ArrayVec;
 use tpm_actions::answer::Answer;
 use tpm_actions::call::Call;
+use tpm_actions::dictionary_attack_lock_reset::dictionary_attack_lock_reset;
+use tpm_actions::dictionary_attack_parameters::dictionary_attack_parameters;
 use tpm_actions::flush_context::flush_context;
 use tpm_actions::get_random::get_random;
 use tpm_actions::hierarchy_change_auth::hierarchy_change_auth;
@@ -85,6 +87,8 @@ fn act<K: Keep>(
         CommandCode::NvExtend => nv_extend(keep, call, answer),
         CommandCode::NvWrite => nv_write(keep, call, answer),
         CommandCode::NvWriteLock => nv_write_lock(keep, call, answer),
+        CommandCode::DictionaryAttackLockReset => dictionary_attack_lock_reset(keep, call, answer),
+        CommandCode::DictionaryAttackParameters => dictionary_attack_parameters(keep, call, answer),
         CommandCode::NvChangeAuth => nv_change_auth(keep, call, answer),
         CommandCode::PcrEvent => pcr_event(keep, call, answer),
         CommandCode::PcrReset => pcr_reset(keep, call, answer),

@@ -42,7 +42,7 @@ use Rattle.tpm_bytes.specs.Reading.{◌>>=◌}
 use Rattle.std.specs.Prelude.{Result, Err, length}
 use Rattle.std.proofs.lemmas.List.{length-map}
 use Rattle.tpm_machine_step.specs.Table.{row_of}
-use Rattle.tpm_machine_laws.specs.Footprint.{Part, Nothing, Sessions, Objects, SessionsAndObjects, Nv, AuthValues, Banks, Beginning, Touches, part_of}
+use Rattle.tpm_machine_laws.specs.Footprint.{Part, Nothing, Sessions, Objects, SessionsAndObjects, Nv, AuthValues, Lockout, Banks, Beginning, Touches, part_of}
 use Rattle.tpm_machine_laws.proofs.Binding.{ok_bind, ok_bind_is, ok_then, ok_weaker, some_is}
 use Rattle.tpm_machine_laws.proofs.Footprint.{row_touches}
 use Rattle.tpm_places.specs.Places.{taken_count}
@@ -237,6 +237,7 @@ touched_grows Objects old new fixed touches = absurd cc
 touched_grows SessionsAndObjects old new fixed touches = absurd cc
 touched_grows Nv old new fixed touches = absurd cc
 touched_grows AuthValues old new fixed touches = let same = ap (λ (r : Record). taken_in r) touches.0 in omega (arith, same)
+touched_grows Lockout old new fixed touches = let same = ap (λ (r : Record). taken_in r) touches in omega (arith, same)
 touched_grows Banks old new fixed touches = let same = ap (λ (r : Record). taken_in r) touches in omega (arith, same)
 touched_grows Beginning old new fixed touches =
     let same = ap (λ (r : Record). taken_in r) touches in
@@ -279,6 +280,8 @@ row_grows r command.PcrExtend q = fixed_grows r command.PcrExtend q refl
 row_grows r command.PcrEvent q = fixed_grows r command.PcrEvent q refl
 row_grows r command.PcrReset q = fixed_grows r command.PcrReset q refl
 row_grows r command.HierarchyChangeAuth q = fixed_grows r command.HierarchyChangeAuth q refl
+row_grows r command.DictionaryAttackLockReset q = fixed_grows r command.DictionaryAttackLockReset q refl
+row_grows r command.DictionaryAttackParameters q = fixed_grows r command.DictionaryAttackParameters q refl
 row_grows r command.Create q = fixed_grows r command.Create q refl
 row_grows r command.Hmac q = fixed_grows r command.Hmac q refl
 row_grows r command.ReadPublic q = fixed_grows r command.ReadPublic q refl

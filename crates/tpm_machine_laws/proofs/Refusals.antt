@@ -33,6 +33,8 @@ use Rattle.tpm_types.specs.declared.check.Check.TheVariants as check
 use Rattle.tpm_types.specs.declared.refused.Refused.{Refused}
 use Rattle.tpm_actions.specs.FlushContext.{flush_context_row}
 use Rattle.tpm_actions.specs.GetRandom.{get_random_row}
+use Rattle.tpm_actions.specs.DictionaryAttackLockReset.{dictionary_attack_lock_reset_row}
+use Rattle.tpm_actions.specs.DictionaryAttackParameters.{dictionary_attack_parameters_row, lockout_parameters}
 use Rattle.tpm_actions.specs.HierarchyChangeAuth.{hierarchy_change_auth_row}
 use Rattle.tpm_actions.specs.PcrEvent.{pcr_event_row}
 use Rattle.tpm_actions.specs.PcrExtend.{pcr_extend_row}
@@ -384,7 +386,7 @@ nv_public_orders r q =
     behind_reading r _ q.handles _ q.parameters (all_read q.parameters) _ (all_read_outcome (all_read q.parameters)) (λ ended. tt)))
 
 row_orders : (r : Record) (c : CommandCode) (q : Request) → Orders r (shape_of c).handles q.handles (shape_of c).parameters q.parameters (row_of r c q)
-unfolding row_of shape_of startup_row get_random_row pcr_read_row pcr_extend_row pcr_event_row pcr_reset_row flush_context_row hierarchy_change_auth_row start_auth_session_row create_row create_primary_row hmac_row load_row read_public_row unseal_row assertion_row policy_get_digest_row policy_restart_row start_parameters creation_parameters hmac_parameters load_parameters secret_parameters parameters_pass nv_define_space_row nv_extend_row nv_increment_row nv_read_row nv_read_lock_row nv_set_bits_row nv_undefine_space_row nv_write_row nv_write_lock_row nv_read_parameters nv_write_parameters nv_parameters
+unfolding row_of shape_of startup_row get_random_row pcr_read_row pcr_extend_row pcr_event_row pcr_reset_row dictionary_attack_lock_reset_row dictionary_attack_parameters_row flush_context_row hierarchy_change_auth_row start_auth_session_row create_row create_primary_row hmac_row load_row read_public_row unseal_row assertion_row policy_get_digest_row policy_restart_row start_parameters creation_parameters hmac_parameters load_parameters secret_parameters parameters_pass nv_define_space_row nv_extend_row nv_increment_row nv_read_row nv_read_lock_row nv_set_bits_row nv_undefine_space_row nv_write_row nv_write_lock_row nv_read_parameters nv_write_parameters nv_parameters lockout_parameters
 row_orders r command.Startup q = search (handle_steps, reading_steps, late_steps) depth 16
 row_orders r command.NvDefineSpace q = search (behind_first, behind_reading, define_reads, rules, err_bind, err_if, late_definition) depth 16
 row_orders r command.NvChangeAuth q = change_auth_orders r q

@@ -18,7 +18,7 @@ use Rattle.tpm_actions.specs.StartAuthSession.{parameters_in, parameters_pass, s
 use Rattle.tpm_actions_policy.specs.Assertions.{assertion_in, assertion_row, policy_after, policy_session, session_handle, with_assertion}
 use Rattle.tpm_actions_policy.specs.PolicyRestart.{policy_restart_row}
 use Rattle.tpm_machine_step.specs.Table.{row_of}
-use Rattle.tpm_machine_laws.specs.Footprint.{Part, Nothing, Sessions, Objects, SessionsAndObjects, Nv, AuthValues, Banks, Beginning, Touches, part_of}
+use Rattle.tpm_machine_laws.specs.Footprint.{Part, Nothing, Sessions, Objects, SessionsAndObjects, Nv, AuthValues, Lockout, Banks, Beginning, Touches, part_of}
 use Rattle.tpm_machine_laws.proofs.Binding.{ok_bind, ok_bind_is, ok_then, ok_weaker, some_is}
 use Rattle.tpm_machine_laws.proofs.Footprint.{row_touches}
 use Rattle.tpm_bytes.proofs.Fields.{bind_ok, passed}
@@ -110,6 +110,7 @@ touched_stays Objects old new leaves touches = sessions_same old new (ap (λ (r 
 touched_stays SessionsAndObjects old new leaves touches = absurd cc
 touched_stays Nv old new leaves touches = sessions_same old new (ap (λ (r : Record). r.sessions) touches)
 touched_stays AuthValues old new leaves touches = sessions_same old new (ap (λ (r : Record). r.sessions) touches.0)
+touched_stays Lockout old new leaves touches = sessions_same old new (ap (λ (r : Record). r.sessions) touches)
 touched_stays Banks old new leaves touches = sessions_same old new (ap (λ (r : Record). r.sessions) touches)
 touched_stays Beginning old new leaves touches = sessions_same old new (ap (λ (r : Record). r.sessions) touches)
 
@@ -147,6 +148,8 @@ row_stays r command.PcrExtend q may = other_stays r command.PcrExtend q refl
 row_stays r command.PcrEvent q may = other_stays r command.PcrEvent q refl
 row_stays r command.PcrReset q may = other_stays r command.PcrReset q refl
 row_stays r command.HierarchyChangeAuth q may = other_stays r command.HierarchyChangeAuth q refl
+row_stays r command.DictionaryAttackLockReset q may = other_stays r command.DictionaryAttackLockReset q refl
+row_stays r command.DictionaryAttackParameters q may = other_stays r command.DictionaryAttackParameters q refl
 row_stays r command.Create q may = other_stays r command.Create q refl
 row_stays r command.CreatePrimary q may = other_stays r command.CreatePrimary q refl
 row_stays r command.Hmac q may = other_stays r command.Hmac q refl

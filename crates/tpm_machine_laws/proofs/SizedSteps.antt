@@ -17,6 +17,7 @@ use Rattle.tpm_types_command.specs.AuthEntry.{Entry}
 use Rattle.tpm_types_object.specs.Public.{IsPublic}
 use Rattle.tpm_types_command.specs.Command.{Whole}
 use Rattle.tpm_types_command.specs.CommandCode.{shape_of}
+use Rattle.tpm_lockout.specs.Lockout.{LockoutState}
 use Rattle.tpm_record.specs.Cycle.{cycled}
 use Rattle.tpm_record.specs.Record.{Record, manufactured}
 use Rattle.tpm_record.specs.IsRecord.{IsRecord}
@@ -37,6 +38,7 @@ use Rattle.std.specs.List.{AllByRecursion}
 use Rattle.std.specs.Fn.{Mut}
 use Rattle.tpm_machine_step.specs.Execution.{Executes}
 use Rattle.tpm_machine_step.specs.declared.event.Outcome.{Outcome}
+use Rattle.tpm_actions.specs.DictionaryAttackLockReset.{with_lockout}
 use Rattle.tpm_actions.specs.Request.{Request}
 use Rattle.tpm_actions.specs.Rows.{Success}
 use Rattle.tpm_types_command.specs.declared.command_code.CommandCode.{CommandCode}
@@ -160,14 +162,18 @@ success_sized : (a : Accepted) (random : List ℕ) → 256 ≤ length random →
 success_sized a random enough fits =
     answer_sized a.command a.grants (written_of a.success.answer) a.success.after random (omega (arith, enough, fits.1)) fits.0
 
+-- what a refusal counts is neither a session nor an object
+counted_sized : (r : Record) (lockout : LockoutState) → AreSized r → AreSized (with_lockout r lockout)
+counted_sized r lockout sized = record { sessions = sized.sessions; objects = sized.objects }
+
 answer_where_sized : (refused : Bool) (r : Record) (random : List ℕ) (a : Result Accepted Refusal) → 256 ≤ length random → AreSized r → IfOk a Fits → AreSized (answer_where refused r random a).after
 answer_where_sized false r random (Ok a) enough sized fits = success_sized a random enough fits
-answer_where_sized false r random (Err e) enough sized fits = sized
-answer_where_sized true r random (Err e) enough sized fits = sized
+answer_where_sized false r random (Err e) enough sized fits = counted_sized r _ sized
+answer_where_sized true r random (Err e) enough sized fits = counted_sized r _ sized
 answer_where_sized true r random (Ok a) enough sized fits = by (shape_of a.command.code).grows
   where
     by : (grows : Bool) → AreSized (cond grows (starved r a.command) (success_step a random)).after
-    by true = sized
+    by true = counted_sized r _ sized
     by false = success_sized a random enough fits
 
 pub step_sized : (refused : Bool) (r : Record) (event : Happening) → IsEvent event → AreSized r → AreSized (step_where refused r event).after

@@ -10,8 +10,8 @@ use Rattle.tpm_record.specs.Hierarchy.{secrets_of}
 use Rattle.tpm_record.specs.Record.{Record}
 
 -- the parts of a record: none of it; the sessions; the objects; both; the NV indices; the
--- authorization values of the hierarchies and of lockout; the banks; and what a startup begins, the
--- NV indices too
+-- authorization values of the hierarchies and of lockout; what protects against dictionary attacks;
+-- the banks; and what a startup begins, the NV indices too
 pub data Part : Type 0 where
   Nothing : Part
   Sessions : Part
@@ -19,6 +19,7 @@ pub data Part : Type 0 where
   SessionsAndObjects : Part
   Nv : Part
   AuthValues : Part
+  Lockout : Part
   Banks : Part
   Beginning : Part
 
@@ -32,6 +33,8 @@ part_of command.NvSetBits = Nv
 part_of command.NvExtend = Nv
 part_of command.NvWrite = Nv
 part_of command.NvWriteLock = Nv
+part_of command.DictionaryAttackLockReset = Lockout
+part_of command.DictionaryAttackParameters = Lockout
 part_of command.NvChangeAuth = Nv
 part_of command.PcrEvent = Banks
 part_of command.PcrReset = Banks
@@ -65,7 +68,8 @@ abbrev pub KeepsSecrets : Hierarchies → Hierarchies → Type 0
 KeepsSecrets old new = (h : HierarchyHandle) → secrets_of new h ≡ secrets_of old h
 
 -- f with the fields that a startup sets, as they are after it: whether it is started, what is saved,
--- the counts, platformAuth and the null hierarchy; and no changes of PCRs are counted yet
+-- the counts, platformAuth and the null hierarchy, whether lockoutAuth is closed; and no changes of
+-- PCRs are counted yet
 abbrev pub begun : Fixed → Fixed → Fixed
 begun f after = record f {
   started = after.started;
@@ -75,6 +79,9 @@ begun f after = record f {
       auth_value = after.hierarchies.platform.auth_value;
     };
     null = after.hierarchies.null;
+  };
+  lockout = record f.lockout {
+    fields = record f.lockout.fields { closed = after.lockout.fields.closed };
   };
   banks = record f.banks { update_count = 0 };
   reset_count = after.reset_count;
@@ -91,6 +98,7 @@ Touches Nv old new = new ≡ record old { nv = new.nv }
 Touches AuthValues old new =
     (new ≡ record old { fixed = record old.fixed { hierarchies = new.fixed.hierarchies } })
     × KeepsSecrets old.fixed.hierarchies new.fixed.hierarchies
+Touches Lockout old new = new ≡ record old { fixed = record old.fixed { lockout = new.fixed.lockout } }
 Touches Banks old new = new ≡ record old { fixed = record old.fixed { banks = new.fixed.banks } }
 Touches Beginning old new =
     new ≡ record old { fixed = begun old.fixed new.fixed; nv = started old.nv }

@@ -10,14 +10,13 @@ use Rattle.tpm_machine_step.specs.Entries.{DrawsFew}
 use Rattle.tpm_machine_step.specs.Events.{Happening, Given, Cycled}
 use Rattle.tpm_machine_step.specs.Step.{Accepted, Stepped, accepted, counted_in}
 
--- the record after Time and Clock have gone on by a command's elapsed time, and nothing else
+-- the record after a command's elapsed time, and nothing else
 abbrev pub only_ticked : Record → Happening → Record
 only_ticked r (Given buffer locality elapsed random) = ticked r elapsed
 only_ticked r Cycled = r
 
--- A refusal is the ten bytes of its text, reports its check, and changes nothing but Time and Clock
--- and what it counts; which command the row names is not said here, and no refusal counts anything
--- yet.
+-- A refusal is the ten bytes of its text, reports its check, and changes nothing but what time
+-- changes and what it counts; which command the row names is not said here.
 abbrev pub IsHarmless : Record → Happening → Stepped → Type 0
 IsHarmless r event x = x.row.check ≢ 0
     → (length x.response ≡ 10)

@@ -11,7 +11,12 @@ use Rattle.tpm_record.specs.Tick.{ticked}
 use Rattle.tpm_types.specs.Check.{check_number}
 use Rattle.tpm_auth.specs.Grant.{authorize}
 use Rattle.tpm_auth.specs.declared.session_grant.Grant.{Grant}
+use Rattle.tpm_lockout.specs.Lockout.{LockoutState}
+use Rattle.tpm_lockout.specs.Recovery.{closed_by_failure}
+use Rattle.tpm_lockout.specs.Tries.{after_failure}
 use Rattle.tpm_types.specs.declared.refused.Counted.{Counted}
+use Rattle.tpm_types.specs.declared.refused.Counted.TheVariants as counted
+use Rattle.tpm_actions.specs.DictionaryAttackLockReset.{with_lockout}
 use Rattle.tpm_types.specs.declared.refused.Refused.{Refused}
 use Rattle.tpm_actions.specs.Answer.{IsAnswer}
 use Rattle.tpm_actions.specs.Request.{Request}
@@ -87,9 +92,15 @@ accepted r buffer locality random = do
   command ← general r buffer
   in_command command.code (acceptance r command locality random)
 
--- what a refusal counts against dictionary attacks; nothing yet
+-- what a refusal counts against dictionary attacks: a failed try at what is protected, or at
+-- lockoutAuth, which closes it
+abbrev pub lockout_counted : Counted → LockoutState → LockoutState
+lockout_counted counted.None s = s
+lockout_counted counted.Try s = after_failure s
+lockout_counted counted.Lockout s = closed_by_failure s
+
 abbrev pub counted_in : Counted → Record → Record
-counted_in counted r = r
+counted_in counted r = with_lockout r (lockout_counted counted r.fixed.lockout)
 
 -- a refusal leaves the record, but for what it counts
 abbrev pub refusal_step : Record → Refusal → Stepped

@@ -13,6 +13,8 @@ use Rattle.tpm_actions.specs.PcrExtend.{pcr_extend_row}
 use Rattle.tpm_actions.specs.PcrEvent.{pcr_event_row}
 use Rattle.tpm_actions.specs.PcrReset.{pcr_reset_row}
 use Rattle.tpm_actions.specs.FlushContext.{flush_context_row}
+use Rattle.tpm_actions.specs.DictionaryAttackLockReset.{dictionary_attack_lock_reset_row}
+use Rattle.tpm_actions.specs.DictionaryAttackParameters.{dictionary_attack_parameters_row}
 use Rattle.tpm_actions.specs.HierarchyChangeAuth.{hierarchy_change_auth_row}
 use Rattle.tpm_actions.specs.StartAuthSession.{start_auth_session_row}
 use Rattle.tpm_actions_object.specs.Create.{create_row}
@@ -47,6 +49,8 @@ row_of r command.NvSetBits q = nv_set_bits_row r q
 row_of r command.NvExtend q = nv_extend_row r q
 row_of r command.NvWrite q = nv_write_row r q
 row_of r command.NvWriteLock q = nv_write_lock_row r q
+row_of r command.DictionaryAttackLockReset q = dictionary_attack_lock_reset_row r q
+row_of r command.DictionaryAttackParameters q = dictionary_attack_parameters_row r q
 row_of r command.NvChangeAuth q = nv_change_auth_row r q
 row_of r command.PcrEvent q = pcr_event_row r q
 row_of r command.PcrReset q = pcr_reset_row r q

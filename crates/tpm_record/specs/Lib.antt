@@ -6,6 +6,9 @@ pub mod Tick
 pub mod Cycle
 pub mod Entity
 pub mod Kept
+pub use Rattle.tpm_lockout.specs.Lockout
+pub use Rattle.tpm_lockout.specs.Tries
+pub use Rattle.tpm_lockout.specs.Recovery
 pub use Rattle.tpm_pcr.specs.Values
 pub use Rattle.tpm_pcr.specs.Banks
 pub use Rattle.tpm_session.specs.Sessions

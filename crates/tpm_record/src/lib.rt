@@ -7,7 +7,7 @@
 //! there can be, which takes no memory. [`fixed::Fixed`] is the part that does not grow,
 //! [`objects::Objects`] are the loaded objects; NV indices are tpm_nv's. [`tick::tick`] and
 //! [`cycle::power_cycle`] are what happens to a record whatever the command, [`entity`] what a
-//! handle's entity is. It stands on `tpm_pcr`, `tpm_session`, `tpm_object` and `tpm_nv`, and on
+//! handle's entity is. It stands on `tpm_lockout`, `tpm_pcr`, `tpm_session`, `tpm_object` and `tpm_nv`, and on
 //! `tpm_places` for the places of sessions and objects. It promises for each keep the equations of
 //! `specs/` on its record.
 

@@ -15,6 +15,8 @@ mod ciphers;
 #[cfg(test)]
 mod digests;
 #[cfg(test)]
+mod lockout;
+#[cfg(test)]
 mod nv_indices;
 #[cfg(test)]
 mod nv_public;

@@ -3,7 +3,7 @@ ghost use Rattle.std.specs.Prelude.{◌≡◌};
 use crate::check::Check;
 use crate::rc::Rc;
 
-/// What a refusal counts against dictionary attacks. Nothing is counted yet.
+/// What a refusal counts against dictionary attacks (TPM 2.0 Library, Part 1, section 19.8).
 #[derive(Clone, Copy, Debug, PartialEq, Eq)]
 pub enum Counted {
     None,

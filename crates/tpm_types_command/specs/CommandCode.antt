@@ -24,6 +24,8 @@ code_number code.NvSetBits = 0x135
 code_number code.NvExtend = 0x136
 code_number code.NvWrite = 0x137
 code_number code.NvWriteLock = 0x138
+code_number code.DictionaryAttackLockReset = 0x139
+code_number code.DictionaryAttackParameters = 0x13a
 code_number code.NvChangeAuth = 0x13b
 code_number code.PcrEvent = 0x13c
 code_number code.PcrReset = 0x13d
@@ -64,6 +66,8 @@ all_codes =
     ∷ code.NvExtend
     ∷ code.NvWrite
     ∷ code.NvWriteLock
+    ∷ code.DictionaryAttackLockReset
+    ∷ code.DictionaryAttackParameters
     ∷ code.NvChangeAuth
     ∷ code.PcrEvent
     ∷ code.PcrReset
@@ -126,6 +130,10 @@ secret_parameters =
 abbrev pub on_policy : List ParameterKind → Facts
 on_policy parameters = shape_with (unauthorized kind.PolicySession ∷ []) parameters
 
+-- the shape of a command that lockoutAuth authorizes: lockHandle
+abbrev pub on_lockout : List ParameterKind → Facts
+on_lockout parameters = shape_with (user kind.Lockout ∷ []) parameters
+
 -- authHandle, nvIndex
 abbrev pub nv_handles : List HandleRule
 nv_handles = user kind.NvAuth ∷ unauthorized kind.NvIndex ∷ []
@@ -166,6 +174,9 @@ shape_of code.NvSetBits = on_nv (parameter.U64 ∷ [])
 shape_of code.NvExtend = on_nv (parameter.Buffer 1024 ∷ [])
 shape_of code.NvWrite = on_nv (parameter.Buffer 1024 ∷ parameter.U16 ∷ [])
 shape_of code.NvWriteLock = on_nv []
+shape_of code.DictionaryAttackLockReset = on_lockout []
+shape_of code.DictionaryAttackParameters =
+    on_lockout (parameter.U32 ∷ parameter.U32 ∷ parameter.U32 ∷ [])
 shape_of code.NvChangeAuth = shape_with (admin kind.NvIndex ∷ []) (parameter.Buffer 32 ∷ [])
 shape_of code.PcrEvent = shape_with (user kind.PcrOrNull ∷ []) (parameter.Buffer 1024 ∷ [])
 shape_of code.PcrReset = shape_with (user kind.Pcr ∷ []) []

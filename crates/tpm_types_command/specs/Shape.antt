@@ -10,7 +10,7 @@ use Rattle.tpm_types_command.specs.declared.shape.ParameterKind.{ParameterKind}
 use Rattle.tpm_types_command.specs.declared.shape.ParameterKind.TheVariants as parameter
 use Rattle.tpm_types.specs.declared.role.Role.TheVariants as role
 use Rattle.tpm_types_command.specs.declared.shape.Shape.{Shape}
-use Rattle.tpm_types.specs.Handle.{handle_type, hierarchy_auth_of, hierarchy_of, null_handle, owner_handle, pcr_of, platform_handle}
+use Rattle.tpm_types.specs.Handle.{handle_type, hierarchy_auth_of, hierarchy_of, lockout_handle, null_handle, owner_handle, pcr_of, platform_handle}
 
 -- whether a handle is one of what has an authorization value, there or not: a hierarchy or lockout,
 -- a PCR, an NV index (01), a transient object (80) or a persistent one (81); or TPM_RH_NULL
@@ -30,8 +30,8 @@ is_provision handle =
 -- (TPMI_RH_HIERARCHY_AUTH); a hierarchy or TPM_RH_NULL (TPMI_RH_HIERARCHY+); an entity as above,
 -- with TPM_RH_NULL or without; a transient object or a persistent one, there or not
 -- (TPMI_DH_OBJECT); a policy session, which a trial session is too (03: TPMI_SH_POLICY); the owner
--- or the platform; one of these or an NV index (TPMI_RH_NV_AUTH); an NV index, there or not
--- (TPMI_RH_NV_INDEX)
+-- or the platform; lockout (TPMI_RH_LOCKOUT); the owner, the platform or an NV index
+-- (TPMI_RH_NV_AUTH); an NV index, there or not (TPMI_RH_NV_INDEX)
 abbrev pub is_of_kind : HandleKind → Handle → Bool
 is_of_kind kind.Pcr handle = is_some (pcr_of handle)
 is_of_kind kind.PcrOrNull handle = is_some (pcr_of handle) || handle.number == null_handle.number
@@ -44,6 +44,7 @@ is_of_kind kind.EntityNotNull handle =
 is_of_kind kind.Object handle = handle_type handle == 0x80 || handle_type handle == 0x81
 is_of_kind kind.PolicySession handle = handle_type handle == 0x03
 is_of_kind kind.Provision handle = is_provision handle
+is_of_kind kind.Lockout handle = handle.number == lockout_handle.number
 is_of_kind kind.NvAuth handle = is_provision handle || handle_type handle == 0x01
 is_of_kind kind.NvIndex handle = handle_type handle == 0x01
 

@@ -21,6 +21,8 @@ pub enum CommandCode {
     NvExtend = 0x136,
     NvWrite = 0x137,
     NvWriteLock = 0x138,
+    DictionaryAttackLockReset = 0x139,
+    DictionaryAttackParameters = 0x13a,
     NvChangeAuth = 0x13b,
     PcrEvent = 0x13c,
     PcrReset = 0x13d,
@@ -62,6 +64,11 @@ const USER_PCR_OR_NULL: HandleRule = HandleRule {
 
 const USER_HIERARCHY_AUTH: HandleRule = HandleRule {
     kind: HandleKind::HierarchyAuth,
+    role: Some(Role::User),
+};
+
+const USER_LOCKOUT: HandleRule = HandleRule {
+    kind: HandleKind::Lockout,
     role: Some(Role::User),
 };
 
@@ -157,7 +164,7 @@ impl CommandCode {
     ghost use Rattle.tpm_types_command.specs.Shape.{facts_of};
 
     /// All of them, ascending by number.
-    pub const ALL: [CommandCode; 36] = [
+    pub const ALL: [CommandCode; 38] = [
         CommandCode::NvUndefineSpace,
         CommandCode::HierarchyChangeAuth,
         CommandCode::NvDefineSpace,
@@ -167,6 +174,8 @@ impl CommandCode {
         CommandCode::NvExtend,
         CommandCode::NvWrite,
         CommandCode::NvWriteLock,
+        CommandCode::DictionaryAttackLockReset,
+        CommandCode::DictionaryAttackParameters,
         CommandCode::NvChangeAuth,
         CommandCode::PcrEvent,
         CommandCode::PcrReset,
@@ -243,6 +252,8 @@ impl CommandCode {
             CommandCode::NvExtend => shape!([USER_NV_AUTH, NV_INDEX], &[Buffer(1024)]),
             CommandCode::NvWrite => shape!([USER_NV_AUTH, NV_INDEX], &[Buffer(1024), U16]),
             CommandCode::NvWriteLock => shape!([USER_NV_AUTH, NV_INDEX], &[]),
+            CommandCode::DictionaryAttackLockReset => shape!([USER_LOCKOUT], &[]),
+            CommandCode::DictionaryAttackParameters => shape!([USER_LOCKOUT], &[U32, U32, U32]),
             CommandCode::NvChangeAuth => shape!([ADMIN_NV_INDEX], &[Buffer(32)]),
             CommandCode::PcrEvent => shape!([USER_PCR_OR_NULL], &[Buffer(1024)]),
             CommandCode::PcrReset => shape!([USER_PCR], &[]),

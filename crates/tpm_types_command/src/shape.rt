@@ -26,6 +26,8 @@ pub enum HandleKind {
     PolicySession,
     /// TPMI_RH_PROVISION: the owner or the platform.
     Provision,
+    /// TPMI_RH_LOCKOUT: TPM_RH_LOCKOUT alone.
+    Lockout,
     /// TPMI_RH_NV_AUTH: the owner, the platform, or an NV index.
     NvAuth,
     /// TPMI_RH_NV_INDEX: an NV index.
@@ -66,6 +68,7 @@ impl HandleKind {
             HandleKind::Object => handle.type_byte() == 0x80 || handle.type_byte() == 0x81,
             HandleKind::PolicySession => handle.type_byte() == 0x03,
             HandleKind::Provision => is_provision(handle),
+            HandleKind::Lockout => handle == Handle::LOCKOUT,
             HandleKind::NvAuth => is_provision(handle) || handle.type_byte() == 0x01,
             HandleKind::NvIndex => handle.type_byte() == 0x01,
         }

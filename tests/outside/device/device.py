@@ -1,42 +1,40 @@
 """The device once more, in plain Python: what it answers to each event, and what it then is.
 
-It knows nothing of the product's code, and its rules are those of docs/table. What no command
-shows yet is left out: time, and the counting of tries.
+It knows nothing of the product's code, and its rules are those of docs/table.
 """
 
-from dataclasses import dataclass, replace
+from dataclasses import dataclass
 
 import aes
+import capability
 import frames
 import general
 import nv
-import objects
+import object_commands
+import pcrs
+import persistent
 import policy
+import policy_commands
+import protection
 import sessions
-from frames import ALG_NULL, DECRYPT, ENCRYPT, KEYEDHASH, RH_ENDORSEMENT, RH_LOCKOUT, RH_NULL
-from frames import RH_OWNER, RH_PLATFORM, RS_PW, SHA1, SHA256, TRANSIENT, number, sized
-from general import PCRS, Answer, Fields, Refusal, Short
+import state
+from frames import DECRYPT, ENCRYPT, RH_ENDORSEMENT, RH_LOCKOUT, RH_NULL, RH_OWNER, RH_PLATFORM
+from frames import RS_PW, TRANSIENT, number, sized
+from general import Answer, Fields, Refusal, Short
 from objects import Attribute
 from parameters import DIGEST_BYTES, Parameters
-from sessions import HASHES, digest, digest_bytes, mac, trimmed
+from sessions import digest_bytes, trimmed
 
-DYNAMIC_PCRS = range(17, 23)
-LOCALITIES = range(5)
-
-# How many values TPM2_PCR_Read gives at once, how many digests a list may have, how many bytes
-# TPM2_GetRandom gives, and how many TPM2_PCR_Event and TPM2_HMAC take.
-VALUES_AT_ONCE, MOST_DIGESTS = 8, 2
+# How many bytes TPM2_GetRandom gives.
 RANDOM_AT_ONCE = 32
-EVENT_BYTES = 1024
 
-# How many sessions and transient objects there may be, and the least size of a nonce.
-SESSIONS, OBJECTS = 16, 8
+# How many sessions there may be, and the least size of a nonce.
+SESSIONS = 16
 LEAST_NONCE = 16
 
 # The device is manufactured with the bytes 00 to ff: the seeds of these, and then their proofs.
 WITH_SEEDS = RH_OWNER, RH_ENDORSEMENT, RH_PLATFORM, RH_NULL
-SEED_BYTES = 32
-MANUFACTURED = bytes(range(2 * len(WITH_SEEDS) * SEED_BYTES))
+MANUFACTURED = bytes(range(256))
 
 # What the handle of a session of each kind begins with; the rest of it is its place.
 HANDLE_KINDS = {
@@ -46,26 +44,31 @@ HANDLE_KINDS = {
 }
 PLACE_BITS = 0xFF_FFFF
 
-
-def starting_value(algorithm, pcr):
-    """All ones for the PCRs of a dynamic launch, and zeros for the others."""
-    byte = b"\xff" if pcr in DYNAMIC_PCRS else b"\x00"
-    return byte * digest_bytes(algorithm)
-
-
-def extended_from(pcr):
-    return range(2, 5) if pcr in DYNAMIC_PCRS else LOCALITIES
-
-
-def reset_from(pcr):
-    return LOCALITIES if pcr in (16, 23) else (4,) if pcr in DYNAMIC_PCRS else ()
+# The successful commands that leave a saved state as it is, beside TPM2_Startup and TPM2_Shutdown,
+# which say themselves what becomes of it: those that only look, and those that only answer.
+KEEPING_SAVED = {
+    frames.STARTUP,
+    frames.SHUTDOWN,
+    frames.SELF_TEST,
+    frames.GET_CAPABILITY,
+    frames.GET_RANDOM,
+    frames.READ_CLOCK,
+    frames.PCR_READ,
+    frames.POLICY_GET_DIGEST,
+    frames.CREATE,
+    frames.READ_PUBLIC,
+    frames.UNSEAL,
+    frames.HMAC,
+    frames.NV_READ_PUBLIC,
+    frames.NV_READ,
+}
 
 
 @dataclass
 class Session:
-    """A session, with what it was bound to: the Name, the authorization value, and whether wrong
-    values were counted, all of them at the start. `policy` is what a policy or a trial session was
-    told.
+    """A session, with what it was bound to: the Name, the authorization value, and what wrong
+    values of it counted at, all of them at the start. `policy` is what a policy or a trial session
+    was told.
     """
 
     kind: int
@@ -75,7 +78,7 @@ class Session:
     key: bytes
     bind: bytes
     bind_auth: bytes
-    bind_is_protected: bool
+    bind_protection: str
     policy: policy.State
 
     @property
@@ -83,31 +86,49 @@ class Session:
         return self.kind == frames.SE_TRIAL
 
 
-def pieces(text):
-    return [text[at : at + SEED_BYTES] for at in range(0, len(text), SEED_BYTES)]
-
-
-class Device(nv.Commands):
+class Device(
+    pcrs.Commands,
+    policy_commands.Commands,
+    object_commands.Commands,
+    nv.Commands,
+    persistent.Commands,
+    protection.Commands,
+    state.Commands,
+    capability.Commands,
+):
     """The PCRs in both banks and how often a value was written, the hierarchies' authorization
-    values, seeds and proofs, the NV indices, the transient objects, and the sessions.
+    values, seeds and proofs, dictionary attack protection, the NV indices, the objects, transient
+    and persistent ones, the sessions, the times, and what was saved for the next start.
     """
 
     def __init__(self):
         self.auth_values = {}
-        self.indices, self.largest_counter = {}, 0
-        seeds_and_proofs = pieces(MANUFACTURED)
+        self.disable_clear = False
+        self.lockout = protection.Lockout()
+        self.clock = self.reset_count = self.restart_count = 0
+        self.saved, self.saved_banks = state.Saved.NONE, {}
+        self.objects, self.indices, self.largest_counter = {}, {}, 0
+        seeds_and_proofs = state.secrets(MANUFACTURED, 2 * len(WITH_SEEDS))
         self.seeds = dict(zip(WITH_SEEDS, seeds_and_proofs))
         self.proofs = dict(zip(WITH_SEEDS, seeds_and_proofs[len(WITH_SEEDS) :]))
         self.power_cycle()
 
     def power_cycle(self):
         self.started = False
-        self.banks = {alg: [starting_value(alg, pcr) for pcr in PCRS] for alg in HASHES}
+        self.banks = pcrs.starting_banks()
         self.update_counter = 0
-        self.objects, self.sessions = {}, {}
+        self.objects = {
+            handle: it for handle, it in self.objects.items() if persistent.is_persistent(handle)
+        }
+        self.sessions = {}
+        self.time = 0
+        self.lockout.power_cycle()
 
-    def execute(self, buffer, locality, random):
-        """The response to a command, and the name of its refusal, or None for a success."""
+    def execute(self, buffer, locality, random, elapsed=0):
+        """The response to a command, so many milliseconds after the one before, and the name of its
+        refusal, or None for a success.
+        """
+        self.tick(elapsed)
         try:
             command = general.decode(
                 buffer, self.started, self.sessions, self.objects, self.indices
@@ -116,8 +137,11 @@ class Device(nv.Commands):
             parameters = Parameters(self.plain_parameters(command))
             answer = ROWS[command.code](self, command.handles, parameters, locality, random)
         except Refusal as refusal:
+            self.lockout.count(refusal.touched)
             (name,) = refusal.args
             return frames.refusal(frames.code_of(name)), name
+        if command.code not in KEEPING_SAVED:
+            self.saved = state.Saved.NONE
         return self.success(command, answer, random), None
 
     # Entities.
@@ -140,13 +164,16 @@ class Device(nv.Commands):
             return self.indices[handle].auth_value
         return self.auth_values.get(handle, b"")
 
-    def is_protected(self, handle):
-        """Whether wrong authorization values are counted."""
+    def protection(self, handle):
+        """What wrong authorization values count at, if at anything."""
+        if handle == RH_LOCKOUT:
+            return protection.LOCKOUT_AUTH
+        is_protected = False
         if handle in self.objects:
-            return not self.objects[handle].public.has(Attribute.NO_DA)
+            is_protected = not self.objects[handle].public.has(Attribute.NO_DA)
         if handle in self.indices:
-            return not self.indices[handle].public.has(nv.Attribute.NO_DA)
-        return handle == RH_LOCKOUT
+            is_protected = not self.indices[handle].public.has(nv.Attribute.NO_DA)
+        return protection.TRIES if is_protected else None
 
     def takes_auth_value(self, handle, code):
         """Whether it can be authorized without a policy, for a command."""
@@ -198,14 +225,14 @@ class Device(nv.Commands):
         """That of parameters has the authorization value whether the session is bound or not."""
         return session.key + self.auth_value(handle)
 
-    def touches_protected(self, entry, handle):
-        """Whether a wrong entry was a try at a protected value: where that counts as the key or the
-        password, and else where the session's key was made of it.
+    def touched(self, entry, handle):
+        """What an entry is a try at, if it is wrong: at a protected value that is the password or
+        in the key, and else at the one that the session's key was made of.
         """
-        if self.uses_auth_value(entry, handle) and self.is_protected(handle):
-            return True
+        if self.uses_auth_value(entry, handle) and self.protection(handle):
+            return self.protection(handle)
         session = self.sessions.get(entry.handle)
-        return session is not None and session.bind_is_protected
+        return session.bind_protection if session else None
 
     def nonces_of_others(self, command, place, handle):
         """The nonces of the sessions that decrypt and encrypt, for the first entry alone."""
@@ -255,9 +282,11 @@ class Device(nv.Commands):
                 self.check_policy(command, place, entry, handle, locality)
             elif handle is not None and not self.takes_auth_value(handle, command.code):
                 raise Refusal("AUTH_UNAVAILABLE")
+            touched = self.touched(entry, handle)
+            if self.lockout.refuses(touched):
+                raise Refusal("LOCKOUT")
             if not self.accepts(command, place, entry, handle):
-                touches = self.touches_protected(entry, handle)
-                raise Refusal(f"{'AUTH_FAIL' if touches else 'BAD_AUTH'}/s{place}")
+                raise Refusal(f"{'AUTH_FAIL' if touched else 'BAD_AUTH'}/s{place}", touched)
 
     def plain_parameters(self, command):
         """The parameters, with the bytes of the first one decrypted where a session asks for it."""
@@ -345,79 +374,10 @@ class Device(nv.Commands):
 
     # The commands: their parameters, their own checks, and then what changes.
 
-    def startup(self, handles, parameters, locality, random):
-        state = parameters.next().one_of(2, (0, 1), "VALUE")
-        parameters.end()
-        if state:
-            raise Refusal("VALUE/p1")
-        self.started = True
-        self.update_counter = 0
-        self.auth_values.pop(RH_PLATFORM, None)
-        self.seeds[RH_NULL], self.proofs[RH_NULL] = pieces(random)[:2]
-        nv.start_up(self.indices)
-        return Answer()
-
     def get_random(self, handles, parameters, locality, random):
         count = min(parameters.next().number(2), RANDOM_AT_ONCE)
         parameters.end()
         return Answer(sized(random[:count]), drawn=count)
-
-    def values(self, selection):
-        """The values of all selected PCRs, in the selection's order."""
-        return b"".join(self.banks[bank][pcr] for bank, pcrs in selection for pcr in pcrs)
-
-    def pcr_read(self, handles, parameters, locality, random):
-        """The update counter, the selection of the values that follow, and these."""
-        asked = parameters.next().selection()
-        parameters.end()
-
-        selection, values = [], []
-        for algorithm, pcrs in asked:
-            room = VALUES_AT_ONCE - len(values)
-            pcrs = pcrs[:room]
-            selection.append((algorithm, pcrs))
-            values += [sized(self.banks[algorithm][pcr]) for pcr in pcrs]
-        counter = number(self.update_counter % 2**32, 4)
-        listed = number(len(values), 4) + b"".join(values)
-        return Answer(counter + frames.selection(*selection) + listed)
-
-    def extend(self, handle, values, locality):
-        """Folds each digest into the PCR's value in its bank; on TPM_RH_NULL nothing is done."""
-        if handle == RH_NULL:
-            return
-        if locality not in extended_from(handle):
-            raise Refusal("LOCALITY")
-        for algorithm, value in values:
-            bank = self.banks[algorithm]
-            bank[handle] = digest(algorithm, bank[handle] + value)
-            self.update_counter += 1
-
-    def pcr_extend(self, handles, parameters, locality, random):
-        parameters.next()
-        values = []
-        for _ in range(parameters.count(MOST_DIGESTS)):
-            algorithm = parameters.hash()
-            values.append((algorithm, parameters.take(digest_bytes(algorithm))))
-        parameters.end()
-        self.extend(handles[0], values, locality)
-        return Answer()
-
-    def pcr_event(self, handles, parameters, locality, random):
-        data = parameters.next().sized(EVENT_BYTES)
-        parameters.end()
-        values = [(algorithm, digest(algorithm, data)) for algorithm in (SHA1, SHA256)]
-        self.extend(handles[0], values, locality)
-        return Answer(frames.digests(*values))
-
-    def pcr_reset(self, handles, parameters, locality, random):
-        parameters.end()
-        (pcr,) = handles
-        if locality not in reset_from(pcr):
-            raise Refusal("LOCALITY")
-        for algorithm, bank in self.banks.items():
-            bank[pcr] = bytes(digest_bytes(algorithm))
-            self.update_counter += 1
-        return Answer()
 
     def hierarchy_change_auth(self, handles, parameters, locality, random):
         new = parameters.next().sized(DIGEST_BYTES)
@@ -469,238 +429,10 @@ class Device(nv.Commands):
             key,
             self.name(bind),
             bind_auth,
-            self.is_protected(bind),
+            self.protection(bind),
             told,
         )
         return Answer(sized(nonce_tpm), number(handle, 4), drawn=size)
-
-    # Policies. A trial session is told what need not be so.
-
-    def policy_restart(self, handles, parameters, locality, random):
-        parameters.end()
-        session = self.sessions[handles[0]]
-        session.policy = policy.starting_state(session.algorithm)
-        return Answer()
-
-    def policy_pcr(self, handles, parameters, locality, random):
-        given = parameters.next().sized(DIGEST_BYTES)
-        selection = parameters.next().selection()
-        parameters.end()
-
-        session = self.sessions[handles[0]]
-        told, algorithm = session.policy, session.algorithm
-        values_digest = digest(algorithm, self.values(selection))
-        if not session.is_trial and told.update_counter not in (None, self.update_counter):
-            raise Refusal("PCR_CHANGED")
-        if not session.is_trial and given not in (b"", values_digest):
-            raise Refusal("VALUE/p1")
-        told.digest = policy.after_pcr(
-            algorithm, told.digest, frames.selection(*selection), given or values_digest
-        )
-        told.update_counter = self.update_counter
-        return Answer()
-
-    def policy_or(self, handles, parameters, locality, random):
-        branches = parameters.next().sized_list(policy.LEAST_BRANCHES, policy.MOST_BRANCHES)
-        parameters.end()
-
-        session = self.sessions[handles[0]]
-        if not session.is_trial and session.policy.digest not in branches:
-            raise Refusal("VALUE/p1")
-        session.policy.digest = policy.after_or(session.algorithm, branches)
-        return Answer()
-
-    def demanding(self, handles, parameters, demand):
-        """What the policy's use has to show beside the session, the last demand alone."""
-        parameters.end()
-        session = self.sessions[handles[0]]
-        told = session.policy
-        told.digest = policy.after_auth_value(session.algorithm, told.digest)
-        told.demand = demand
-        return Answer()
-
-    def policy_auth_value(self, handles, parameters, locality, random):
-        return self.demanding(handles, parameters, policy.AUTH_VALUE)
-
-    def policy_password(self, handles, parameters, locality, random):
-        return self.demanding(handles, parameters, policy.PASSWORD)
-
-    def policy_command_code(self, handles, parameters, locality, random):
-        code = parameters.next().number(4)
-        parameters.end()
-
-        session = self.sessions[handles[0]]
-        told = session.policy
-        if told.code not in (None, code):
-            raise Refusal("VALUE/p1")
-        if code not in policy.COMMANDS:
-            raise Refusal("POLICY_CC/p1")
-        told.digest = policy.after_command_code(session.algorithm, told.digest, code)
-        told.code = code
-        return Answer()
-
-    def policy_locality(self, handles, parameters, locality, random):
-        """The parameter has a bit for each locality; the event's own locality does not matter."""
-        localities = parameters.next().number(1)
-        parameters.end()
-
-        session = self.sessions[handles[0]]
-        told = session.policy
-        if localities > policy.ALL_LOCALITIES or not localities & told.localities:
-            raise Refusal("RANGE/p1")
-        told.digest = policy.after_locality(session.algorithm, told.digest, localities)
-        told.localities &= localities
-        return Answer()
-
-    def policy_secret(self, handles, parameters, locality, random):
-        nonce_tpm = parameters.next().sized(DIGEST_BYTES)
-        cp_hash = parameters.next().sized(DIGEST_BYTES)
-        policy_ref = parameters.next().sized(DIGEST_BYTES)
-        expiration = parameters.next().number(4)
-        parameters.end()
-
-        entity, handle = handles
-        session = self.sessions[handle]
-        told, algorithm = session.policy, session.algorithm
-        if expiration:
-            raise Refusal("VALUE/p4")
-        if len(cp_hash) not in (0, digest_bytes(algorithm)):
-            raise Refusal("SIZE/p2")
-        if not session.is_trial and nonce_tpm not in (b"", session.nonce_tpm):
-            raise Refusal("NONCE/p1")
-        other = cp_hash and told.cp_hash not in (None, cp_hash)
-        if not session.is_trial and other:
-            raise Refusal("CPHASH")
-        told.digest = policy.after_secret(
-            algorithm, told.digest, self.name(entity), policy_ref
-        )
-        told.cp_hash = cp_hash or told.cp_hash
-        # Nothing expires, so there is no timeout.
-        return Answer(sized(b"") + frames.NULL_TICKET)
-
-    def policy_nv(self, handles, parameters, locality, random):
-        operand, offset, operation = nv.read_policy_nv(parameters)
-        parameters.end()
-
-        asker, handle, told_to = handles
-        session, index = self.sessions[told_to], self.indices[handle]
-        if not session.is_trial:
-            nv.check_comparison(index, asker, operand, offset, operation)
-        arguments = operand + number(offset, 2) + number(operation, 2)
-        told = session.policy
-        told.digest = policy.after_nv(
-            session.algorithm, told.digest, arguments, index.public.name
-        )
-        return Answer()
-
-    def policy_get_digest(self, handles, parameters, locality, random):
-        parameters.end()
-        return Answer(sized(self.sessions[handles[0]].policy.digest))
-
-    # Objects.
-
-    def free_object(self):
-        """The lowest number that is free, as a transient object's handle."""
-        taken = [it & PLACE_BITS for it in self.objects]
-        free = [it for it in range(OBJECTS) if it not in taken]
-        if not free:
-            raise Refusal("OBJECT_MEMORY")
-        return TRANSIENT << 24 | free[0]
-
-    def parent(self, handle):
-        parent = self.objects[handle]
-        if not parent.public.is_parent:
-            raise Refusal("TYPE/h1")
-        return parent
-
-    def creation(self, template, public, parent, hierarchy, locality):
-        """What both commands answer of a creation: the public area, the creation data, their hash,
-        and the ticket.
-        """
-        values = self.values(template.pcrs)
-        data = objects.creation_data(template, parent, hierarchy, values, locality)
-        data_hash = digest(public.name_algorithm, data)
-        proof = self.proofs[hierarchy]
-        made_here = objects.creation_ticket(hierarchy, proof, public.name, data_hash)
-        return sized(public.text) + sized(data) + sized(data_hash) + made_here
-
-    def create_primary(self, handles, parameters, locality, random):
-        template = objects.read_template(parameters)
-        parameters.end()
-
-        objects.check_public(template.public, parent=None)
-        objects.check_sensitive(template)
-        handle = self.free_object()
-
-        (hierarchy,) = handles
-        primary = objects.primary(template, hierarchy, self.seeds[hierarchy])
-        self.objects[handle] = primary
-        creation = self.creation(template, primary.public, None, hierarchy, locality)
-        return Answer(creation + sized(primary.name), number(handle, 4))
-
-    def create(self, handles, parameters, locality, random):
-        template = objects.read_template(parameters)
-        parameters.end()
-
-        parent = self.parent(handles[0])
-        objects.check_public(template.public, parent)
-        objects.check_sensitive(template)
-
-        public, sensitive, drawn = objects.created(template, random)
-        iv = random[drawn : drawn + aes.BLOCK]
-        private = objects.wrapped(parent, public.name, sensitive, iv)
-        creation = self.creation(template, public, parent, parent.hierarchy, locality)
-        return Answer(sized(private) + creation, drawn=drawn + aes.BLOCK)
-
-    def load(self, handles, parameters, locality, random):
-        private = parameters.next().sized(objects.PRIVATE_BYTES)
-        public = parameters.next().structure(objects.read_public)
-        parameters.end()
-
-        parent = self.parent(handles[0])
-        objects.check_public(public, parent)
-        sensitive = objects.unwrapped(parent, public, private)
-        handle = self.free_object()
-
-        sensitive = replace(sensitive, auth_value=trimmed(sensitive.auth_value))
-        self.objects[handle] = objects.loaded(
-            public, sensitive, parent.hierarchy, parent.qualified_name
-        )
-        return Answer(sized(public.name), number(handle, 4))
-
-    def read_public(self, handles, parameters, locality, random):
-        parameters.end()
-        asked = self.objects[handles[0]]
-        return Answer(sized(asked.public.text) + sized(asked.name) + sized(asked.qualified_name))
-
-    def unseal(self, handles, parameters, locality, random):
-        parameters.end()
-        sealed = self.objects[handles[0]]
-        if sealed.public.kind != KEYEDHASH:
-            raise Refusal("TYPE/h1")
-        if sealed.public.has(Attribute.SIGN):
-            raise Refusal("ATTRIBUTES/h1")
-        return Answer(sized(sealed.sensitive.data))
-
-    def hmac(self, handles, parameters, locality, random):
-        data = parameters.next().sized(EVENT_BYTES)
-        asked = parameters.next().one_of(2, (ALG_NULL, *HASHES), "HASH")
-        parameters.end()
-
-        key = self.objects[handles[0]]
-        scheme = key.public.scheme
-        if key.public.kind != KEYEDHASH:
-            raise Refusal("TYPE/h1")
-        if key.public.has(Attribute.RESTRICTED):
-            raise Refusal("ATTRIBUTES/h1")
-        if not key.public.has(Attribute.SIGN):
-            raise Refusal("KEY/h1")
-        # The scheme's hash algorithm is the key's; with scheme NULL its user names one.
-        chosen = {scheme, asked} - {ALG_NULL}
-        if len(chosen) != 1:
-            raise Refusal("VALUE/p2")
-        (algorithm,) = chosen
-        return Answer(sized(mac(algorithm, key.sensitive.data, data)))
 
 
 ROWS = {
@@ -740,4 +472,13 @@ ROWS = {
     frames.NV_READ_LOCK: Device.nv_read_lock,
     frames.NV_CHANGE_AUTH: Device.nv_change_auth,
     frames.POLICY_NV: Device.policy_nv,
+    frames.DICTIONARY_ATTACK_LOCK_RESET: Device.dictionary_attack_lock_reset,
+    frames.DICTIONARY_ATTACK_PARAMETERS: Device.dictionary_attack_parameters,
+    frames.SHUTDOWN: Device.shutdown,
+    frames.SELF_TEST: Device.self_test,
+    frames.GET_CAPABILITY: Device.get_capability,
+    frames.READ_CLOCK: Device.read_clock,
+    frames.EVICT_CONTROL: Device.evict_control,
+    frames.CLEAR: Device.clear,
+    frames.CLEAR_CONTROL: Device.clear_control,
 }

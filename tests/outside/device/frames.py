@@ -14,6 +14,9 @@ NV_DEFINE_SPACE, NV_UNDEFINE_SPACE, NV_READ_PUBLIC = 0x12A, 0x122, 0x169
 NV_WRITE, NV_INCREMENT, NV_SET_BITS, NV_EXTEND = 0x137, 0x134, 0x135, 0x136
 NV_READ, NV_WRITE_LOCK, NV_READ_LOCK = 0x14E, 0x138, 0x14F
 NV_CHANGE_AUTH, POLICY_NV = 0x13B, 0x149
+DICTIONARY_ATTACK_LOCK_RESET, DICTIONARY_ATTACK_PARAMETERS = 0x139, 0x13A
+SHUTDOWN, SELF_TEST, GET_CAPABILITY, READ_CLOCK = 0x145, 0x143, 0x17A, 0x181
+EVICT_CONTROL, CLEAR, CLEAR_CONTROL = 0x120, 0x126, 0x127
 
 RH_OWNER, RH_NULL, RS_PW = 0x4000_0001, 0x4000_0007, 0x4000_0009
 RH_LOCKOUT, RH_ENDORSEMENT, RH_PLATFORM = 0x4000_000A, 0x4000_000B, 0x4000_000C
@@ -39,6 +42,7 @@ CODES = {
     "ATTRIBUTES": 0x082,
     "HASH": 0x083,
     "VALUE": 0x084,
+    "HIERARCHY": 0x085,
     "MODE": 0x089,
     "TYPE": 0x08A,
     "HANDLE": 0x08B,
@@ -57,6 +61,7 @@ CODES = {
     "POLICY_CC": 0x0A4,
     "INITIALIZE": 0x100,
     "FAILURE": 0x101,
+    "DISABLED": 0x120,
     "AUTH_MISSING": 0x125,
     "POLICY": 0x126,
     "PCR_CHANGED": 0x128,
@@ -81,6 +86,7 @@ CODES = {
     "REFERENCE_S0": 0x918,
     "REFERENCE_S1": 0x919,
     "REFERENCE_S2": 0x91A,
+    "LOCKOUT": 0x921,
 }
 
 # What the first of a kind of places adds to a code, before 0x100 for its number (section 6.6.2).
@@ -166,6 +172,11 @@ def sized_list(*values, count=None):
 def policy_secret(nonce_tpm=b"", cp_hash=b"", policy_ref=b"", expiration=0):
     """The parameters of TPM2_PolicySecret."""
     return sized(nonce_tpm) + sized(cp_hash) + sized(policy_ref) + number(expiration, 4)
+
+
+def attack_parameters(max_tries, recovery_time, lockout_recovery):
+    """The parameters of TPM2_DictionaryAttackParameters."""
+    return b"".join(number(it, 4) for it in (max_tries, recovery_time, lockout_recovery))
 
 
 def policy_nv(operand=b"", offset=0, operation=0):

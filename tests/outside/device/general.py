@@ -33,7 +33,13 @@ PRIMARY_HIERARCHIES = (RH_OWNER, RH_ENDORSEMENT, RH_PLATFORM, RH_NULL)
 
 
 class Refusal(Exception):
-    """A command that is refused; its one argument names the code, as HASH/p1."""
+    """A command that is refused; its one argument names the code, as HASH/p1. `touched` is what
+    dictionary attack protection counts it at, if at anything.
+    """
+
+    def __init__(self, name, touched=None):
+        super().__init__(name)
+        self.touched = touched
 
 
 class Short(Exception):
@@ -79,6 +85,15 @@ def is_hierarchy(handle):
     return handle in HIERARCHIES
 
 
+def is_lockout(handle):
+    return handle == RH_LOCKOUT
+
+
+def clears(handle):
+    """A hierarchy that may clear the owner's things, and say whether that is allowed."""
+    return handle in (RH_LOCKOUT, RH_PLATFORM)
+
+
 def has_primaries(handle):
     """A hierarchy that can have objects."""
     return handle in PRIMARY_HIERARCHIES
@@ -100,7 +115,7 @@ def is_index(handle):
 
 
 def defines_indices(handle):
-    """A hierarchy that defines NV indices, and takes them away."""
+    """A hierarchy that defines NV indices and makes objects persistent, and takes both away."""
     return handle in (RH_OWNER, RH_PLATFORM)
 
 
@@ -122,8 +137,8 @@ def is_entity(handle):
 @dataclass(frozen=True)
 class Shape:
     """The kinds of a command's handles, how many of them need authorization, whether it may have
-    sessions, whether its first parameter and its first answer are sized buffers, and whether its
-    handle is authorized in the ADMIN role.
+    sessions, whether its first parameter and its first answer are sized buffers, whether its
+    handle is authorized in the ADMIN role, and whether it answers a handle.
     """
 
     handles: tuple = ()
@@ -132,6 +147,7 @@ class Shape:
     sized_parameter: bool = False
     sized_answer: bool = False
     is_admin: bool = False
+    answers_handle: bool = False
 
 
 SHAPES = {
@@ -144,7 +160,7 @@ SHAPES = {
     frames.HIERARCHY_CHANGE_AUTH: Shape((is_hierarchy,), 1, sized_parameter=True),
     frames.FLUSH_CONTEXT: Shape(sessions=False),
     frames.START_AUTH_SESSION: Shape(
-        (is_null, is_entity), sized_parameter=True, sized_answer=True
+        (is_null, is_entity), sized_parameter=True, sized_answer=True, answers_handle=True
     ),
     frames.POLICY_RESTART: Shape((is_policy,)),
     frames.POLICY_PCR: Shape((is_policy,), sized_parameter=True),
@@ -157,9 +173,13 @@ SHAPES = {
         (is_authorized_entity, is_policy), 1, sized_parameter=True, sized_answer=True
     ),
     frames.POLICY_GET_DIGEST: Shape((is_policy,), sized_answer=True),
-    frames.CREATE_PRIMARY: Shape((has_primaries,), 1, sized_parameter=True, sized_answer=True),
+    frames.CREATE_PRIMARY: Shape(
+        (has_primaries,), 1, sized_parameter=True, sized_answer=True, answers_handle=True
+    ),
     frames.CREATE: Shape((is_object,), 1, sized_parameter=True, sized_answer=True),
-    frames.LOAD: Shape((is_object,), 1, sized_parameter=True, sized_answer=True),
+    frames.LOAD: Shape(
+        (is_object,), 1, sized_parameter=True, sized_answer=True, answers_handle=True
+    ),
     frames.READ_PUBLIC: Shape((is_object,), sized_answer=True),
     frames.UNSEAL: Shape((is_object,), 1, sized_answer=True),
     frames.HMAC: Shape((is_object,), 1, sized_parameter=True, sized_answer=True),
@@ -175,6 +195,26 @@ SHAPES = {
     frames.NV_READ_LOCK: Shape((uses_indices, is_index), 1),
     frames.NV_CHANGE_AUTH: Shape((is_index,), 1, sized_parameter=True, is_admin=True),
     frames.POLICY_NV: Shape((uses_indices, is_index, is_policy), 1, sized_parameter=True),
+    frames.DICTIONARY_ATTACK_LOCK_RESET: Shape((is_lockout,), 1),
+    frames.DICTIONARY_ATTACK_PARAMETERS: Shape((is_lockout,), 1),
+    frames.SHUTDOWN: Shape(),
+    frames.SELF_TEST: Shape(),
+    frames.GET_CAPABILITY: Shape(),
+    frames.READ_CLOCK: Shape(sessions=False),
+    frames.EVICT_CONTROL: Shape((defines_indices, is_object), 1),
+    frames.CLEAR: Shape((clears,), 1),
+    frames.CLEAR_CONTROL: Shape((clears,), 1),
+}
+
+# The commands that are served so far; every other one is answered COMMAND_CODE.
+SERVED = SHAPES.keys() - {
+    frames.SHUTDOWN,
+    frames.SELF_TEST,
+    frames.READ_CLOCK,
+    frames.GET_CAPABILITY,
+    frames.EVICT_CONTROL,
+    frames.CLEAR,
+    frames.CLEAR_CONTROL,
 }
 
 
@@ -235,7 +275,7 @@ def read_header(fields, length):
         raise Refusal("BAD_TAG")
     if size != length:
         raise Refusal("COMMAND_SIZE")
-    if code not in SHAPES:
+    if code not in SERVED:
         raise Refusal("COMMAND_CODE")
     return tag, code
 
@@ -255,8 +295,7 @@ def read_handles(fields, kinds, sessions, objects, indices):
             raise Refusal(f"REFERENCE_H{place - 1}")
         if is_index(handle) and handle not in indices:
             raise Refusal(f"HANDLE/h{place}")
-        # There are no persistent objects yet.
-        if first_byte(handle) == PERSISTENT:
+        if first_byte(handle) == PERSISTENT and handle not in objects:
             raise Refusal(f"HANDLE/h{place}")
         handles.append(handle)
     return handles

@@ -7,9 +7,10 @@ import cuts
 import frames
 import objects
 from cuts import AREA, HANDLE
-from device import MANUFACTURED, SEED_BYTES
+from device import MANUFACTURED
 from frames import SHA256, command, entry, number, on_handle, sized
 from object_caller import hmac_key, sealed, storage_key
+from state import SECRET_BYTES
 
 HEAD = """\
 # The commands of objects, each cut to every shorter length: first as it is, and then with its
@@ -35,7 +36,7 @@ def creation(public, data=b""):
 
 def loading(data):
     """The parameters of TPM2_Load of what was created with the storage key as its parent."""
-    parent = objects.primary(template(storage_key()), frames.RH_OWNER, MANUFACTURED[:SEED_BYTES])
+    parent = objects.primary(template(storage_key()), frames.RH_OWNER, MANUFACTURED[:SECRET_BYTES])
     public, sensitive, _ = objects.created(template(sealed(), data), bytes(256))
     private = objects.wrapped(parent, public.name, sensitive, bytes(16))
     return sized(private) + sized(public.text)

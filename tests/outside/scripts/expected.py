@@ -38,10 +38,10 @@ def wanted_of(comment):
     return name
 
 
-def responses_of(script):
+def responses_of(script, device):
     """The responses that a script prints, up to its end or to a line of no known word."""
-    device, locality, random = Device(), 0, bytes(RANDOM_BYTES)
-    comment, in_comment = "", False
+    locality, random = 0, bytes(RANDOM_BYTES)
+    comment, in_comment, elapsed = "", False, 0
     for line in script.splitlines():
         word, _, argument = line.partition(" ")
         if line.startswith("#"):
@@ -50,7 +50,8 @@ def responses_of(script):
             comment = ""
         elif word == "cmd":
             wanted = wanted_of(comment)
-            response, refused = device.execute(bytes.fromhex(argument), locality, random)
+            response, refused = device.execute(bytes.fromhex(argument), locality, random, elapsed)
+            elapsed = 0
             if refused != wanted:
                 raise ValueError(f"it is {refused or 'a success'}, which is not said:{comment}")
             yield response
@@ -61,7 +62,9 @@ def responses_of(script):
             random = (entropy * RANDOM_BYTES)[:RANDOM_BYTES]
         elif word == "power":
             device.power_cycle()
-        elif word != "wait":
+        elif word == "wait":
+            elapsed += int(argument)
+        else:
             return
         in_comment = line.startswith("#")
 
@@ -70,11 +73,12 @@ def main(names):
     for path in map(pathlib.Path, names) if names else sorted(paths.TESTS.glob("*.tpm")):
         lines = []
         try:
-            for response in responses_of(path.read_text("ascii")):
+            for response in responses_of(path.read_text("ascii"), Device()):
                 lines.append(response.hex() + "\n")
         except ValueError as fault:
             sys.exit(f"{path}, command {len(lines) + 1}: {fault}")
         path.with_suffix(".out").write_text("".join(lines), "ascii")
 
 
-main(sys.argv[1:])
+if __name__ == "__main__":
+    main(sys.argv[1:])

@@ -4,9 +4,10 @@
 import paths
 
 import frames
-from caller import Caller, Use, flipped
 from frames import HIERARCHY_CHANGE_AUTH, RH_LOCKOUT, RH_OWNER, on_handle, sized
+from nv_caller import BY_VALUE, FIRST, area
 from script import Script
+from state_caller import StateCaller, wrong
 
 LOCKOUT = b"lockout"
 
@@ -15,15 +16,9 @@ script = Script(
     "A wrong entry is AUTH_FAIL where it was a try at the value of TPM_RH_LOCKOUT: as a password "
     "or in the key of an hmac, or else because its session was bound to TPM_RH_LOCKOUT at the "
     "start. "
-    "Every other wrong entry is BAD_AUTH. No tries are counted yet.",
+    "Every other wrong entry is BAD_AUTH. Each such try closes lockoutAuth for lockoutRecovery.",
 )
-caller = Caller(script)
-
-
-def wrong(prepared, place=1):
-    """With one bit of an entry's hmac changed, or with a byte where it has none."""
-    hmac = prepared.entries[place - 1].hmac
-    return prepared.but_entry(place, hmac=flipped(hmac) if hmac else b"\0")
+caller = StateCaller(script)
 
 
 def by_password(handle, password):
@@ -31,6 +26,8 @@ def by_password(handle, password):
 
 
 script.startup()
+script.allow_tries()
+script.wait_each_time()
 early = caller.start(
     "A session that is bound to TPM_RH_LOCKOUT while that has no value", RH_LOCKOUT
 )
@@ -161,4 +158,173 @@ caller.refused(
     caller.change_auth(RH_LOCKOUT, b"", unbound).but_entry(1, hmac=b"\0"),
 )
 caller.accepted("No hmac of it", caller.change_auth(RH_LOCKOUT, b"", unbound))
+
+# From here on no time passes but where it is said.
+script.pause = 0
+
+
+def right(what):
+    caller.does(what, caller.lock_reset(LOCKOUT))
+
+
+def wrong_password(what):
+    caller.fails(what, "AUTH_FAIL/s1", caller.lock_reset(b"wrong"))
+
+
+def closed(what, *passwords):
+    caller.fails(what, "LOCKOUT", *(caller.lock_reset(it) for it in passwords or (LOCKOUT,)))
+
+
+def closed_for(what, milliseconds):
+    script.chapter(what)
+    script.wait(milliseconds - 1)
+    closed(f"{milliseconds - 1:,} milliseconds later")
+    script.wait(1)
+    right("One more")
+
+
+def how_long():
+    script.chapter("One wrong try closes lockoutAuth for lockoutRecovery, to the millisecond.")
+    caller.set_protection(
+        "TPM2_DictionaryAttackParameters: lockoutRecovery is 1,000 seconds", 3, 1000, 1000
+    )
+    caller.accepted('lockoutAuth is "lockout"', caller.change_auth(RH_LOCKOUT, LOCKOUT, b""))
+    wrong_password("A wrong password of TPM2_DictionaryAttackLockReset")
+    closed("The right one, and others", LOCKOUT, b"wrong", b"")
+    caller.fails(
+        "Of the other commands: TPM2_DictionaryAttackParameters and TPM2_HierarchyChangeAuth",
+        "LOCKOUT",
+        caller.attack_parameters(3, 1000, 1000, LOCKOUT),
+        caller.change_auth(RH_LOCKOUT, b"x", LOCKOUT),
+    )
+    caller.fails(
+        "A session that is bound to nothing, one that is bound to it, and a wrong hmac",
+        "LOCKOUT",
+        caller.lock_reset(unbound),
+        caller.lock_reset(bound),
+        wrong(caller.lock_reset(unbound)),
+    )
+    caller.fails(
+        "One that is bound to it and authorizes PCR 16, and one that authorizes nothing",
+        "LOCKOUT",
+        caller.reset(bound),
+        caller.random(2, bound),
+        caller.reset(b"", bound),
+    )
+    caller.accepted("A session that is bound to another entity", caller.reset(to_owner))
+    closed_for("It opens. Wrong tries while it was closed have not closed it anew.", 1_000_000)
+    script.chapter("In the middle of the time.")
+    wrong_password("A wrong one")
+    script.wait(500_000)
+    closed("Another wrong one", b"wrong")
+    closed_for("The time goes on.", 500_000)
+    script.chapter("At a wrong hmac it closes too.")
+    caller.fails("Of PCR 16, bound to it", "AUTH_FAIL/s1", wrong(caller.reset(bound)))
+    closed("The right password")
+    script.wait(1_000_000)
+    right("Later")
+    caller.fails("Behind a password", "AUTH_FAIL/s2", wrong(caller.reset(b"", bound), 2))
+    closed("The right password")
+    closed_for("It opens.", 1_000_000)
+
+
+def power_cycles():
+    script.chapter("A power cycle opens nothing, and starts the time anew.")
+    wrong_password("A wrong one")
+    script.wait(999_999)
+    closed("A millisecond before the end")
+    script.power()
+    script.startup()
+    script.wait(1)
+    closed("After TPM2_Startup, in that millisecond")
+    closed_for("The time counts from the power cycle on.", 999_999)
+    script.chapter("It counts before TPM2_Startup too.")
+    wrong_password("A wrong one")
+    script.power()
+    script.wait(1_000_000)
+    script.startup()
+    right("It is over")
+
+
+def no_recovery():
+    script.chapter("With lockoutRecovery 0 no time opens it, but the next reset.")
+    caller.does("lockoutRecovery is 0", caller.attack_parameters(3, 1000, 0, LOCKOUT))
+    wrong_password("A wrong one")
+    script.wait(4_294_967_295)
+    closed("The right one, after the longest time that one command can take")
+    script.power()
+    script.startup()
+    right("Behind a power cycle and TPM2_Startup(CLEAR)")
+    wrong_password("A wrong one")
+    closed("It closes again")
+    script.power()
+    script.startup()
+    caller.does("lockoutRecovery is 1 second", caller.attack_parameters(3, 1000, 1, LOCKOUT))
+    wrong_password("A wrong one")
+    closed_for("It opens.", 1_000)
+
+
+def each_alone():
+    script.chapter("lockoutAuth and other protected entities have nothing to do with each other.")
+    caller.define("An NV index", area(FIRST, BY_VALUE), auth=b"pin")
+    caller.does("It is written", caller.writing(FIRST, b"data"))
+    to_lockout = caller.start("A session that is bound to TPM_RH_LOCKOUT", RH_LOCKOUT)
+    to_index = caller.start("And one that is bound to the index", FIRST)
+    caller.fails(
+        "Three wrong passwords of the index",
+        "AUTH_FAIL/s1",
+        *(caller.writing(FIRST, b"x", it) for it in (b"0", b"1", b"2")),
+    )
+    caller.fails("The index is locked", "LOCKOUT", caller.writing(FIRST, b"x"))
+    wrong_password("A wrong password of TPM_RH_LOCKOUT")
+    closed("lockoutAuth is closed, too")
+    caller.fails("And the index locked", "LOCKOUT", caller.writing(FIRST, b"x"))
+    script.wait(1_000)
+    caller.fails("After lockoutRecovery it still is", "LOCKOUT", caller.writing(FIRST, b"x"))
+    caller.accepted("The first one is accepted for PCR 16", caller.reset(to_lockout))
+    caller.fails("The second one is not", "LOCKOUT", caller.reset(to_index))
+    caller.fails(
+        "The first one for the index: what counts is the value that is in the key",
+        "LOCKOUT",
+        caller.writing(FIRST, b"x", to_lockout),
+    )
+    caller.accepted(
+        "The second one for TPM_RH_LOCKOUT: what counts is lockoutAuth, and the tries are gone",
+        caller.lock_reset(to_index),
+    )
+    wrong_password("lockoutAuth closes")
+    caller.fails("The second one for TPM_RH_LOCKOUT", "LOCKOUT", caller.lock_reset(to_index))
+    caller.does("The index is open", caller.writing(FIRST, b"x"))
+    caller.accepted("The second one for PCR 16", caller.reset(to_index))
+    caller.fails("The first one for PCR 16", "LOCKOUT", caller.reset(to_lockout))
+    caller.accepted("The first one for the index", caller.writing(FIRST, b"y", to_lockout))
+    script.wait(1_000)
+    caller.accepted("After lockoutRecovery for PCR 16", caller.reset(to_lockout))
+    caller.does(
+        "recoveryTime 0 is nothing to lockoutAuth", caller.attack_parameters(3, 0, 1, LOCKOUT)
+    )
+    wrong_password("A wrong one")
+    closed("The right one")
+    script.wait(1_000)
+    caller.does("Nor is maxTries 0", caller.attack_parameters(0, 1000, 1, LOCKOUT))
+    right("The right one")
+    caller.fails("Of the index", "LOCKOUT", caller.writing(FIRST, b"x"))
+
+
+def longest():
+    script.chapter("The longest lockoutRecovery.")
+    caller.does("It is FFFFFFFF", caller.attack_parameters(3, 1000, 0xFFFF_FFFF, LOCKOUT))
+    wrong_password("A wrong one")
+    script.wait(4_294_967_295)
+    closed("4,294,967 seconds are nothing to it")
+    script.power()
+    script.startup()
+    closed("A reset does not open it, as it has a time")
+
+
+how_long()
+power_cycles()
+no_recovery()
+each_alone()
+longest()
 script.write()

@@ -52,6 +52,7 @@ def undefine(*indices):
 
 
 script.startup()
+script.allow_tries()
 AFTER_AUTH_VALUE = policy.after_auth_value(SHA256, bytes(32))
 
 script.chapter("Without the policy.")

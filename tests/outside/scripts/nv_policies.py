@@ -296,6 +296,7 @@ def who_authorizes():
 
 
 script.startup()
+script.allow_tries()
 told = caller.policy("A session that TPM2_PolicyNV and TPM2_PolicySecret are told to")
 demands()
 availability()

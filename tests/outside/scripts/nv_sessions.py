@@ -329,6 +329,7 @@ def sent_again():
 
 
 script.startup()
+script.allow_tries()
 unbound()
 names()
 bound()

@@ -37,6 +37,7 @@ script = Script(
 )
 caller = ObjectCaller(script)
 script.startup()
+script.allow_tries()
 parent = caller.create_primary("A storage key", RH_OWNER, storage_key())
 
 

@@ -33,6 +33,7 @@ script = Script(
 )
 caller = ObjectCaller(script)
 script.startup()
+script.allow_tries()
 parent = caller.create_primary("A storage key", RH_OWNER, storage_key())
 made = caller.create(
     'TPM2_Create of sealed data, whose value is "pin"', parent, sealed(), user_auth=PIN, data=SECRET

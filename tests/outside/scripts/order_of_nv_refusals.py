@@ -365,6 +365,7 @@ def policy_nv():
 
 
 script.startup()
+script.allow_tries()
 script.chapter("Indices: of each type, some that are locked, and the rest of the bytes.")
 UNREAD = 0x0100_0031
 for index, public in enumerate(

@@ -41,6 +41,7 @@ def wrong(prepared, *places):
 
 
 script.startup()
+script.allow_tries()
 hmac = caller.start("An HMAC session, with AES", RH_OWNER, aes=True)
 plain = caller.start("Another, without AES", RH_OWNER)
 policy = caller.policy("A policy session, with AES", bind=RH_OWNER, aes=True)
@@ -190,6 +191,7 @@ pcr("The pcrDigest", "VALUE/p1", GIVEN + selection())
 caller.accepted("No fault is left", caller.pcrs(policy, [], b"", [Use(hmac, DECRYPTS)]))
 
 script.chapter("TPM2_PolicySecret of TPM_RH_LOCKOUT.")
+script.wait_each_time()
 caller.says("TPM2_PolicyRestart", "SUCCESS", caller.restart(policy))
 CP_HASH = bytes([1]) * 32
 caller.accepted('lockoutAuth is "lockout"', caller.change_auth(RH_LOCKOUT, b"lockout", b""))

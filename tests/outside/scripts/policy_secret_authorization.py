@@ -31,6 +31,8 @@ def wrong(prepared, place=1):
 
 
 script.startup()
+script.allow_tries()
+script.wait_each_time()
 for handle, name, value in VALUES:
     caller.accepted(
         f'The value of {name} is "{value.decode()}"', caller.change_auth(handle, value, b"")

@@ -38,6 +38,7 @@ def wrong(prepared, place):
 
 
 script.startup()
+script.allow_tries()
 caller.accepted('ownerAuth is "owner"', caller.change_auth(RH_OWNER, b"owner", b""))
 hmac = caller.start("An HMAC session, bound to TPM_RH_OWNER, with AES", RH_OWNER, aes=True)
 
@@ -282,6 +283,7 @@ for it, kind in ((first, SE_POLICY), (second, SE_TRIAL)):
     caller.digest_is("Its digest is zeros", it, zeros(it))
 
 script.chapter("Bound to TPM_RH_LOCKOUT, a wrong hmac is a try at its value.")
+script.wait_each_time()
 locked = caller.policy("A policy session", bind=RH_LOCKOUT)
 trial = caller.trial("A trial session, of SHA-1", bind=RH_LOCKOUT, algorithm=SHA1)
 for it in (locked, trial):

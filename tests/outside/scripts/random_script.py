@@ -17,8 +17,10 @@ import paths
 import frames
 import general
 import nv
+import persistent
 import policy
 import sessions
+import state
 from device import Device
 from frames import ALG_NULL, CONTINUE_SESSION, DECRYPT, ENCRYPT, KEYEDHASH, RH_NULL, RS_PW
 from frames import SHA1, SHA256, SYMCIPHER, number, sized
@@ -41,6 +43,11 @@ INDEX_NUMBERS = range(12)
 TYPES = *(nv.Type.ORDINARY,) * 2, *nv.Type
 ASKERS = frames.RH_OWNER, frames.RH_PLATFORM
 RANDOM_BYTES = 256
+
+# Milliseconds that pass, and the parameters of dictionary attack protection.
+WAITS = 1, 999, 1000, 999_999, 1_000_000, 1_000_001, 2**32 - 1
+MOST_TRIES = 3, 3, 3, 10, 1, 0
+RECOVERIES = 1000, 1000, 1, 0, 2**32 - 1
 
 
 class Writer(random.Random):
@@ -300,6 +307,39 @@ class Writer(random.Random):
         held = [*self.device.objects, *self.device.sessions, 0x80000007, 0x02000000, RH_NULL]
         return [], number(self.choice(held), 4)
 
+    # What a device keeps.
+
+    def parameters(self):
+        """Of dictionary attack protection."""
+        numbers = (self.choice(it) for it in (MOST_TRIES, RECOVERIES, RECOVERIES))
+        return [frames.RH_LOCKOUT], frames.attack_parameters(*numbers)
+
+    def capability(self):
+        """Mostly of what is there, from the first or from a handle on."""
+        kinds = 0, 0x40, 1, 2, 2, 3, 0x80, 0x81, 4
+        held = [*self.device.objects, *self.device.sessions, *self.device.indices]
+        wanted = self.choice((self.choice(kinds) << 24, self.choice(held or [0])))
+        capability = self.choice((1, 1, 1, 1, 2, 5, 6, 6, 3))
+        if capability == 2:
+            wanted = self.choice((0, self.choice(list(general.SHAPES)), 0x18C, 0x18D))
+        if capability == 6:
+            wanted = self.choice((0, 0x100, 0x101, 0x129, 0x20E, 0x211, 0x212))
+        count = self.choice((0, 1, 2, 64, 65, 2**32 - 1))
+        return [], b"".join(number(it, 4) for it in (capability, wanted, count))
+
+    def evict(self):
+        handle, asker = self.object(), self.choice(ASKERS)
+        held = self.device.objects.get(handle)
+        if held and not self.happens(0.2):
+            is_platforms = held.hierarchy == frames.RH_PLATFORM
+            asker = frames.RH_PLATFORM if is_platforms else frames.RH_OWNER
+        wanted = 0x81000000 + self.randrange(20)
+        if (asker == frames.RH_PLATFORM) != self.happens():
+            wanted += 0x00800000
+        if persistent.is_persistent(handle) and not self.happens(0.1):
+            wanted = handle
+        return [asker, handle], number(wanted ^ self.happens() << 25, 4)
+
     def pcr(self):
         return [self.choice((*PCR_NUMBERS, *PCR_NUMBERS, RH_NULL, 24))]
 
@@ -359,6 +399,21 @@ class Writer(random.Random):
         frames.NV_READ_LOCK: (2, lambda w: (w.asked(reads=True), b"")),
         frames.NV_CHANGE_AUTH: (6, nv_change_auth),
         frames.POLICY_NV: (10, policy_nv),
+        frames.DICTIONARY_ATTACK_LOCK_RESET: (3, lambda w: ([frames.RH_LOCKOUT], b"")),
+        frames.DICTIONARY_ATTACK_PARAMETERS: (2, parameters),
+        frames.SHUTDOWN: (1, lambda w: ([], number(w.choice((0, 1, 1)) + 2 * w.happens(), 2))),
+        frames.SELF_TEST: (1, lambda w: ([], number(w.randrange(2) + 2 * w.happens(), 1))),
+        frames.READ_CLOCK: (3, lambda w: ([], b"")),
+        frames.GET_CAPABILITY: (8, capability),
+        frames.EVICT_CONTROL: (10, evict),
+        frames.CLEAR: (0.5, lambda w: ([w.choice((frames.RH_LOCKOUT, frames.RH_PLATFORM))], b"")),
+        frames.CLEAR_CONTROL: (
+            0.5,
+            lambda w: (
+                [w.choice((frames.RH_LOCKOUT, frames.RH_PLATFORM))],
+                number(w.randrange(2) + 2 * w.happens(), 1),
+            ),
+        ),
     }
 
     # Entries.
@@ -412,7 +467,7 @@ class Writer(random.Random):
             )
         for place, entry, handle in command.places():
             entry.hmac = self.hmac_of(command, place, entry, handle)
-            if self.happens(0.02):
+            if self.happens(0.08 if device.touched(entry, handle) else 0.02):
                 entry.hmac = self.choice((b"", self.some_bytes(32), entry.hmac + b"\0"))
 
     def hmac_of(self, command, place, entry, handle):
@@ -440,9 +495,18 @@ class Writer(random.Random):
 
     # Sending.
 
-    def buffer(self):
-        codes = list(self.COMMANDS)
+    def code(self):
+        """Of a command that is served. Where it is locked, mostly soon of one that unlocks."""
+        if self.device.lockout.is_locked() and self.happens(0.1):
+            return self.choice(
+                (frames.DICTIONARY_ATTACK_LOCK_RESET, frames.DICTIONARY_ATTACK_PARAMETERS)
+            )
+        codes = [it for it in self.COMMANDS if it in general.SERVED]
         (code,) = self.choices(codes, [self.COMMANDS[it][0] for it in codes])
+        return code
+
+    def buffer(self):
+        code = self.code()
         handles, parameters = self.COMMANDS[code][1](self)
         if self.happens(0.02):
             parameters = parameters[: self.randrange(len(parameters) + 1)] + self.some_bytes(2)
@@ -474,21 +538,32 @@ class Writer(random.Random):
             return cut[:2] + number(len(cut), 4) + cut[6:] if len(cut) > 6 else cut
         return buffer
 
+    def startup(self):
+        """What was saved is mostly restored."""
+        is_saved = self.device.saved == state.Saved.STATE
+        kind = state.STATE if is_saved and self.happens(0.7) else state.CLEAR
+        return frames.command(frames.STARTUP, number(kind, 2))
+
     def step(self):
-        if self.happens(0.003):
+        is_saved = self.device.saved != state.Saved.NONE
+        if self.happens(0.2 if is_saved else 0.003):
             self.device.power_cycle()
             self.lines.append("power")
         if self.happens(0.02):
             self.locality = self.randrange(5)
             self.lines.append(f"loc {self.locality}")
         if not self.device.started and not self.happens(0.1):
-            buffer = frames.command(frames.STARTUP, number(0, 2))
+            buffer = self.startup()
         else:
             buffer = self.buffer()
         seed = self.randbytes(7)
         drawn = (seed * RANDOM_BYTES)[:RANDOM_BYTES]
+        elapsed = 0
+        if self.happens(0.1) or self.device.lockout.is_closed and self.happens(0.2):
+            elapsed = self.choice((*WAITS, self.randrange(2**32)))
+            self.lines.append(f"wait {elapsed}")
         self.lines += [f"entropy {seed.hex()}", f"cmd {buffer.hex()}"]
-        response, refused = self.device.execute(buffer, self.locality, drawn)
+        response, refused = self.device.execute(buffer, self.locality, drawn, elapsed)
         self.answers.append(response)
         self.note(buffer, response, refused)
         return refused

@@ -21,7 +21,7 @@ class Script:
     def __init__(self, path, head):
         self.path, self.lines, self.answers = paths.TOP / path, [], []
         self.device, self.locality, self.random = Device(), 0, bytes(RANDOM_BYTES)
-        self.seeds = 0
+        self.seeds, self.elapsed, self.pause = 0, 0, 0
         self.write_comment(f"{head} Written by tests/outside/scripts/{self.path.stem}.py.")
 
     def write_comment(self, text):
@@ -40,6 +40,16 @@ class Script:
     def power(self):
         self.device.power_cycle()
         self.lines += ["", "power"]
+
+    def wait(self, milliseconds):
+        """They pass before the next command."""
+        if self.lines[-1].startswith("cmd"):
+            self.lines.append("")
+        self.let_pass(milliseconds)
+
+    def let_pass(self, milliseconds):
+        self.elapsed += milliseconds
+        self.lines.append(f"wait {milliseconds}")
 
     def entropy(self, seed):
         self.random = (seed * RANDOM_BYTES)[:RANDOM_BYTES]
@@ -61,8 +71,13 @@ class Script:
         if fresh:
             self.fresh()
         for buffer in buffers:
+            if self.pause:
+                self.let_pass(self.pause)
             self.lines.append(f"cmd {buffer.hex()}")
-            response, refused = self.device.execute(buffer, self.locality, self.random)
+            response, refused = self.device.execute(
+                buffer, self.locality, self.random, self.elapsed
+            )
+            self.elapsed = 0
             if (refused or "SUCCESS") != outcome:
                 raise ValueError(f"{self.path.name}, {what}: it is {refused or 'a success'}")
             self.answers.append(response)
@@ -74,6 +89,29 @@ class Script:
             "SUCCESS",
             frames.command(frames.STARTUP, frames.number(0, 2)),
         )
+
+    def allow_tries(self):
+        """For a script of wrong authorization values that is not about dictionary attack
+        protection, which would refuse the right ones, too, after the third.
+        """
+        self.command(
+            "TPM2_DictionaryAttackParameters: maxTries and recoveryTime are 1,000, lockoutRecovery "
+            "is 1, so that the wrong tries of this script do not lock anything",
+            "SUCCESS",
+            frames.on_handle(
+                frames.DICTIONARY_ATTACK_PARAMETERS,
+                frames.RH_LOCKOUT,
+                frames.attack_parameters(1000, 1000, 1),
+            ),
+        )
+
+    def wait_each_time(self):
+        """For wrong tries at lockoutAuth, behind allow_tries."""
+        self.chapter(
+            "A wrong try at lockoutAuth closes it for lockoutRecovery. So a second passes before "
+            "each command from here on."
+        )
+        self.pause = 1000
 
     def write(self):
         self.path.write_text("\n".join(self.lines) + "\n", "ascii")

@@ -1,0 +1,20 @@
+-- TPM2_DictionaryAttackLockReset. TPM 2.0 Library, Part 3, section 25.2.
+use Rattle.std.specs.Prelude.{Result, Ok}
+use Rattle.tpm_bytes.specs.Reading.{◌>>=◌}
+use Rattle.tpm_lockout.specs.Lockout.{LockoutState}
+use Rattle.tpm_lockout.specs.Tries.{with_tries}
+use Rattle.tpm_types.specs.declared.refused.Refused.{Refused}
+use Rattle.tpm_record.specs.Record.{Record}
+use Rattle.tpm_actions.specs.Answer.{nothing}
+use Rattle.tpm_actions.specs.Request.{Request}
+use Rattle.tpm_actions.specs.Rows.{Success, all_read}
+
+-- a record with another protection against dictionary attacks
+abbrev pub with_lockout : Record → LockoutState → Record
+with_lockout r lockout = record r { fixed = record r.fixed { lockout = lockout } }
+
+-- lockHandle, authorized; no parameters. No failed try is left; the times go on
+unfoldable pub dictionary_attack_lock_reset_row : Record → Request → Result Success Refused
+dictionary_attack_lock_reset_row r q = do
+  ended ← all_read q.parameters
+  Ok (record { answer = nothing; after = with_lockout r (with_tries 0 r.fixed.lockout) })

@@ -1,0 +1,3 @@
+pub mod Lockout
+pub mod Tries
+pub mod Recovery

@@ -1,0 +1,55 @@
+-- What protects against dictionary attacks. TPM 2.0 Library, Part 1, section 19.8.
+use Rattle.std.specs.Prelude.{ℕ, ◌<◌, ◌*◌, ◌^◌, false}
+use Rattle.tpm_lockout.specs.declared.fields.LockoutFields.{LockoutFields}
+
+-- tries, parameters and whether lockoutAuth is closed, which are kept over a power cycle; and two
+-- times in milliseconds: since the latest try was counted or forgiven, and since lockoutAuth closed
+pub record LockoutState : Type 0 where
+  pub fields : LockoutFields
+  pub forgiving_time : ℕ
+  pub closed_time : ℕ
+
+-- seconds, in milliseconds
+abbrev pub milliseconds : ℕ → ℕ
+milliseconds seconds = 1000 * seconds
+
+-- as it is manufactured: three tries, and a thousand seconds for each time
+abbrev pub new_lockout : LockoutState
+new_lockout = record {
+  fields = record {
+    failed_tries = 0;
+    max_tries = 3;
+    recovery_time = 1000;
+    lockout_recovery = 1000;
+    closed = false;
+  };
+  forgiving_time = 0;
+  closed_time = 0;
+}
+
+-- both times begin anew
+abbrev pub times_restarted : LockoutState → LockoutState
+times_restarted s = record s { forgiving_time = 0; closed_time = 0 }
+
+-- what is kept, with both times at their beginning
+abbrev pub restored : LockoutFields → LockoutState
+restored fields = record { fields = fields; forgiving_time = 0; closed_time = 0 }
+
+-- TPM2_DictionaryAttackParameters: other parameters, and both times begin anew
+abbrev pub with_parameters : (max_tries recovery_time lockout_recovery : ℕ)
+    → LockoutState → LockoutState
+with_parameters max_tries recovery_time lockout_recovery s = restored (record s.fields {
+  max_tries = max_tries;
+  recovery_time = recovery_time;
+  lockout_recovery = lockout_recovery;
+})
+
+-- what holds of every state: numbers of their widths, and times of at most a thousand times the
+-- greatest number of seconds
+pub record IsLockout (s : LockoutState) : Type 0 where
+  pub failed_tries : s.fields.failed_tries < 2 ^ 32
+  pub max_tries : s.fields.max_tries < 2 ^ 32
+  pub recovery_time : s.fields.recovery_time < 2 ^ 32
+  pub lockout_recovery : s.fields.lockout_recovery < 2 ^ 32
+  pub forgiving_time : s.forgiving_time < milliseconds (2 ^ 32)
+  pub closed_time : s.closed_time < milliseconds (2 ^ 32)

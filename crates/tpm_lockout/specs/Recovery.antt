@@ -1,0 +1,35 @@
+-- lockoutAuth: how a wrong try closes it, and how it opens again. TPM 2.0 Library, Part 1, section
+-- 19.8.6 (lockoutAuth and lockoutRecovery).
+use Rattle.std.specs.Prelude.{ℕ, ◌+◌, ◌==◌, ◌&&◌, not, nat_le, Bool, true, false, if◌then◌else◌}
+use Rattle.tpm_lockout.specs.Lockout.{LockoutState, milliseconds}
+use Rattle.tpm_lockout.specs.Tries.{forgiven_after}
+use Rattle.tpm_lockout.specs.declared.fields.LockoutFields.{LockoutFields}
+
+abbrev pub with_closed : Bool → LockoutState → LockoutState
+with_closed closed s = record s { fields = record s.fields { closed = closed } }
+
+-- a wrong try closes it, from now on; while it is closed nothing more
+abbrev pub closed_by_failure : LockoutState → LockoutState
+closed_by_failure s =
+    if s.fields.closed then s else record (with_closed true s) { closed_time = 0 }
+
+-- whether time opens it: only where it is closed, and not until a TPM Reset
+abbrev pub opens_by_time : LockoutFields → Bool
+opens_by_time f = f.closed && not (f.lockout_recovery == 0)
+
+-- it opens as soon as it was closed for so long
+abbrev pub opened_at : (time : ℕ) → LockoutState → LockoutState
+opened_at time s =
+    if nat_le (milliseconds s.fields.lockout_recovery) time
+    then record (with_closed false s) { closed_time = 0 }
+    else record s { closed_time = time }
+
+-- some milliseconds later
+unfoldable pub opened_after : (elapsed : ℕ) → LockoutState → LockoutState
+opened_after elapsed s =
+    if opens_by_time s.fields then opened_at (s.closed_time + elapsed) s
+    else record s { closed_time = 0 }
+
+-- what some milliseconds do: tries are forgiven, and lockoutAuth opens
+abbrev pub lockout_ticked : (elapsed : ℕ) → LockoutState → LockoutState
+lockout_ticked elapsed s = opened_after elapsed (forgiven_after elapsed s)

@@ -1,0 +1,196 @@
+ghost use Rattle.std.specs.Prelude.{◌≡◌, ◌-◌, ◌<◌, ◌*◌, ◌^◌, false};
+ghost use Rattle.tpm_lockout.specs.Lockout.{milliseconds, new_lockout, restored, times_restarted};
+ghost use Rattle.tpm_lockout.specs.Lockout.{IsLockout, with_parameters};
+ghost use Rattle.tpm_lockout.specs.Recovery.{closed_by_failure, lockout_ticked, opened_after};
+ghost use Rattle.tpm_lockout.specs.Recovery.{with_closed};
+ghost use Rattle.tpm_lockout.specs.Tries.{after_failure, forgiven_after, is_locked, with_tries};
+
+use crate::fields::LockoutFields;
+use std::marker::Model;
+
+/// The protection against dictionary attacks, with its two times. Contracts see it as its fields and
+/// these.
+#[derive(Drop)]
+pub struct Lockout {
+    fields: LockoutFields,
+    /// Milliseconds since the latest try was counted or forgiven.
+    forgiving_time: u64,
+    /// Milliseconds since lockoutAuth was closed.
+    closed_time: u64,
+    ghost short_forgiving: { forgiving_time < milliseconds (2 ^ 32) },
+    ghost short_closed: { closed_time < milliseconds (2 ^ 32) },
+}
+
+impl Model for Lockout {
+    ghost use Rattle.tpm_lockout.specs.Lockout.{LockoutState};
+
+    ghost Value = { LockoutState };
+
+    ghost view = { λ l. record {
+      fields = l.fields;
+      forgiving_time = l.forgiving_time;
+      closed_time = l.closed_time;
+    } };
+}
+
+/// Seconds, in milliseconds.
+fn milliseconds(seconds: u32) -> u64
+    ensures { result ≡ milliseconds seconds }
+{
+    1000 * u64::from(seconds)
+}
+
+/// How many tries are left where so many are forgiven.
+fn tries_left(tries: u32, forgiven: u64) -> u32
+    ensures { result ≡ tries - forgiven }
+{
+    u64::from(tries).saturating_sub(forgiven) as u32
+}
+
+impl Lockout {
+    /// As it is manufactured: three tries, and a thousand seconds for each time.
+    pub fn new() -> Lockout
+        ensures { result ≡ new_lockout }
+    {
+        Lockout::restore(LockoutFields {
+            failed_tries: 0,
+            max_tries: 3,
+            recovery_time: 1000,
+            lockout_recovery: 1000,
+            closed: false,
+        })
+    }
+
+    /// What was kept, with both times at their beginning.
+    pub fn restore(fields: LockoutFields) -> Lockout
+        ensures { result ≡ restored fields }
+    {
+        Lockout {
+            fields,
+            forgiving_time: 0,
+            closed_time: 0,
+        }
+    }
+
+    /// What outlasts a power cycle.
+    pub fn fields(&self) -> LockoutFields
+        ensures value { result ≡ self.now.fields }
+        // Its numbers are of their widths, and so are its times.
+        ensures is_lockout { IsLockout self.now }
+    {
+        let _failed_tries = self.fields.failed_tries;
+        let _max_tries = self.fields.max_tries;
+        let _recovery_time = self.fields.recovery_time;
+        let _lockout_recovery = self.fields.lockout_recovery;
+        self.fields
+    }
+
+    /// Some milliseconds go by: each whole recoveryTime forgives a try, and lockoutAuth opens once it
+    /// was closed for lockoutRecovery.
+    pub fn tick(&mut self, elapsed_ms: u32)
+        ensures { self.new ≡ lockout_ticked elapsed_ms self.old }
+    {
+        self.forgive(elapsed_ms);
+        self.open_in_time(elapsed_ms);
+    }
+
+    #[tactic(auto, unfolding(crate::specs::Tries::forgiven_after))]
+    fn forgive(&mut self, elapsed_ms: u32)
+        ensures { self.new ≡ forgiven_after elapsed_ms self.old }
+    {
+        if self.fields.recovery_time == 0 {
+            self.forgiving_time = 0;
+            return;
+        }
+        let period = milliseconds(self.fields.recovery_time);
+        let time = self.forgiving_time + u64::from(elapsed_ms);
+        let left = tries_left(self.fields.failed_tries, time / period);
+        self.fields.failed_tries = left;
+        self.forgiving_time = if left == 0 { 0 } else { time % period };
+    }
+
+    #[tactic(auto, unfolding(crate::specs::Recovery::opened_after))]
+    fn open_in_time(&mut self, elapsed_ms: u32)
+        ensures { self.new ≡ opened_after elapsed_ms self.old }
+    {
+        if !self.fields.closed || self.fields.lockout_recovery == 0 {
+            self.closed_time = 0;
+            return;
+        }
+        let time = self.closed_time + u64::from(elapsed_ms);
+        if time >= milliseconds(self.fields.lockout_recovery) {
+            self.fields.closed = false;
+            self.closed_time = 0;
+        } else {
+            self.closed_time = time;
+        }
+    }
+
+    /// Whether what tries protect is locked out.
+    pub fn is_locked(&self) -> bool
+        ensures { result ≡ is_locked self.now.fields }
+    {
+        self.fields.recovery_time != 0 && self.fields.failed_tries >= self.fields.max_tries
+    }
+
+    /// A try at a protected entity failed: it counts, unless all is locked out or no try counts.
+    #[tactic(auto, unfolding(crate::specs::Tries::after_failure))]
+    pub fn failed(&mut self)
+        ensures { self.new ≡ after_failure self.old }
+    {
+        let most = self.fields.max_tries;
+        if self.fields.recovery_time != 0 && self.fields.failed_tries < most {
+            self.fields.failed_tries += 1;
+            self.forgiving_time = 0;
+        }
+    }
+
+    /// Forgets all failed tries (TPM2_DictionaryAttackLockReset). The times go on.
+    pub fn reset(&mut self)
+        ensures { self.new ≡ with_tries 0 self.old }
+    {
+        self.fields.failed_tries = 0;
+    }
+
+    /// Takes other parameters (TPM2_DictionaryAttackParameters), and both times begin anew.
+    pub fn set_parameters(&mut self, max_tries: u32, recovery_time: u32, lockout_recovery: u32)
+        ensures { self.new ≡ with_parameters max_tries recovery_time lockout_recovery self.old }
+    {
+        self.fields.max_tries = max_tries;
+        self.fields.recovery_time = recovery_time;
+        self.fields.lockout_recovery = lockout_recovery;
+        self.power_cycle();
+    }
+
+    /// A try at lockoutAuth failed, which closes it; while it is closed nothing more.
+    pub fn lockout_failed(&mut self)
+        ensures { self.new ≡ closed_by_failure self.old }
+    {
+        if !self.fields.closed {
+            self.fields.closed = true;
+            self.closed_time = 0;
+        }
+    }
+
+    /// Whether lockoutAuth is closed.
+    pub fn lockout_closed(&self) -> bool
+        ensures { result ≡ self.now.fields.closed }
+    {
+        self.fields.closed
+    }
+
+    /// Opens lockoutAuth, and changes nothing else.
+    pub fn lockout_open(&mut self)
+        ensures { self.new ≡ with_closed false self.old }
+    {
+        self.fields.closed = false;
+    }
+
+    /// Power goes off and on again: both times begin anew.
+    pub fn power_cycle(&mut self)
+        ensures { self.new ≡ times_restarted self.old }
+    {
+        self.forgiving_time = 0;
+        self.closed_time = 0;
+    }
+}

@@ -1,0 +1,197 @@
+"""The image of what a device keeps without power: bytes that another device is opened from.
+
+Behind the word TPMI stand a version and the length of the whole; at the end stands the SHA-256 of
+all before. The body has the fields of docs/table in their order.
+"""
+
+import nv
+import objects
+import persistent
+import protection
+import state
+from device import Device
+from frames import RH_ENDORSEMENT, RH_LOCKOUT, RH_NULL, RH_OWNER, RH_PLATFORM, SHA1, SHA256
+from frames import number, sized
+from general import Fields, Refusal, Short
+from parameters import DIGEST_BYTES, Parameters
+from sessions import digest, digest_bytes, trimmed
+
+MAGIC, VERSION = b"TPMI", 1
+HEAD_BYTES, DIGEST_AT_END = 10, 32
+
+# The hierarchies in their order, and the hash algorithms of the banks.
+HIERARCHIES = RH_OWNER, RH_ENDORSEMENT, RH_PLATFORM, RH_NULL
+WITH_PERSISTENT = RH_OWNER, RH_ENDORSEMENT, RH_PLATFORM
+BANKS = SHA1, SHA256
+
+
+class Fault(Exception):
+    """Why bytes are no image: Short, Magic, Version, Length, Digest or Body."""
+
+
+# Writing.
+
+
+def image(device):
+    body = b"".join(
+        (
+            hierarchies_text(device),
+            number(device.disable_clear, 1),
+            lockout_text(device.lockout),
+            counts_text(device),
+            saved_text(device),
+            objects_text(device),
+            indices_text(device),
+        )
+    )
+    length = HEAD_BYTES + len(body) + DIGEST_AT_END
+    text = MAGIC + number(VERSION, 2) + number(length, 4) + body
+    return text + digest(SHA256, text)
+
+
+def hierarchies_text(device):
+    text = b""
+    for hierarchy in HIERARCHIES:
+        text += sized(device.auth_value(hierarchy))
+        text += device.seeds[hierarchy] + device.proofs[hierarchy]
+    return text + sized(device.auth_value(RH_LOCKOUT))
+
+
+def lockout_text(lockout):
+    """The two times are not kept: a power cycle starts them anew."""
+    numbers = (
+        lockout.failed_tries,
+        lockout.max_tries,
+        lockout.recovery_time,
+        lockout.lockout_recovery,
+    )
+    return b"".join(number(it, 4) for it in numbers) + number(lockout.is_closed, 1)
+
+
+def counts_text(device):
+    starts = number(device.reset_count, 4) + number(device.restart_count, 4)
+    return number(device.clock, 8) + starts + number(device.largest_counter, 8)
+
+
+def saved_text(device):
+    text = number(device.saved, 1)
+    if device.saved == state.Saved.STATE:
+        text += b"".join(value for bank in BANKS for value in device.saved_banks[bank])
+    return text
+
+
+def objects_text(device):
+    held = sorted(it for it in device.objects if persistent.is_persistent(it))
+    text = number(len(held), 2)
+    for handle in held:
+        kept = device.objects[handle]
+        text += number(handle, 4) + number(kept.hierarchy, 4) + sized(kept.qualified_name)
+        text += sized(kept.public.text) + sized(kept.sensitive.text)
+    return text
+
+
+def indices_text(device):
+    text = number(len(device.indices), 2)
+    for handle in sorted(device.indices):
+        index = device.indices[handle]
+        text += sized(index.public.text) + sized(index.auth_value) + sized(index.data)
+    return text
+
+
+# Reading. A fault of the body is a refusal of the readers that commands have, or one of these.
+
+
+def check(holds):
+    if not holds:
+        raise Fault("Body")
+
+
+def open_image(text):
+    """The device of an image, as it is behind a power cycle."""
+    if len(text) < HEAD_BYTES + DIGEST_AT_END:
+        raise Fault("Short")
+    fields = Fields(text)
+    if fields.take(len(MAGIC)) != MAGIC:
+        raise Fault("Magic")
+    if fields.number(2) != VERSION:
+        raise Fault("Version")
+    if fields.number(4) != len(text):
+        raise Fault("Length")
+    if digest(SHA256, text[:-DIGEST_AT_END]) != text[-DIGEST_AT_END:]:
+        raise Fault("Digest")
+    try:
+        return read_body(Parameters(text[HEAD_BYTES:-DIGEST_AT_END]))
+    except (Refusal, Short):
+        raise Fault("Body") from None
+
+
+def read_body(fields):
+    device = Device()
+    read_hierarchies(fields, device)
+    device.disable_clear = bool(fields.one_of(1, (0, 1), "VALUE"))
+    numbers = [fields.number(4) for _ in range(4)]
+    is_closed = bool(fields.one_of(1, (0, 1), "VALUE"))
+    device.lockout = protection.Lockout(*numbers, is_closed)
+    device.clock = fields.number(8)
+    device.reset_count, device.restart_count = fields.number(4), fields.number(4)
+    device.largest_counter = fields.number(8)
+    read_saved(fields, device)
+    read_objects(fields, device)
+    read_indices(fields, device)
+    fields.end()
+    return device
+
+
+def read_auth_value(fields):
+    auth_value = fields.sized(DIGEST_BYTES)
+    check(auth_value == trimmed(auth_value))
+    return auth_value
+
+
+def read_hierarchies(fields, device):
+    for hierarchy in HIERARCHIES:
+        device.auth_values[hierarchy] = read_auth_value(fields)
+        device.seeds[hierarchy] = fields.take(state.SECRET_BYTES)
+        device.proofs[hierarchy] = fields.take(state.SECRET_BYTES)
+    check(not device.auth_values[RH_NULL])
+    device.auth_values[RH_LOCKOUT] = read_auth_value(fields)
+
+
+def read_saved(fields, device):
+    device.saved = state.Saved(fields.one_of(1, list(state.Saved), "VALUE"))
+    if device.saved == state.Saved.STATE:
+        for bank in BANKS:
+            size = digest_bytes(bank)
+            values = [fields.take(size) for _ in range(state.SAVED_PCRS)]
+            device.saved_banks[bank] = values
+
+
+def read_objects(fields, device):
+    count, last = fields.number(2), -1
+    check(count <= persistent.PERSISTENT_OBJECTS)
+    for _ in range(count):
+        handle, hierarchy = fields.number(4), fields.number(4)
+        check(persistent.is_persistent(handle) and handle > last)
+        check(hierarchy in WITH_PERSISTENT)
+        qualified_name = fields.sized(objects.NAME_BYTES)
+        public = fields.structure(objects.read_public)
+        sensitive = fields.structure(objects.read_sensitive)
+        check(sensitive.kind == public.kind)
+        check(sensitive.auth_value == trimmed(sensitive.auth_value))
+        device.objects[handle] = objects.Object(public, sensitive, hierarchy, qualified_name)
+        last = handle
+
+
+def read_indices(fields, device):
+    count, last = fields.number(2), -1
+    check(count <= nv.INDICES)
+    for _ in range(count):
+        public = fields.structure(nv.read_public)
+        check(public.index > last)
+        check(public.kind in list(nv.Type) and not nv.has_wrong_size(public))
+        auth_value, data = read_auth_value(fields), fields.sized(nv.INDEX_BYTES)
+        check(len(data) == (public.data_size if public.has(nv.Attribute.WRITTEN) else 0))
+        device.indices[public.index] = nv.Index(public, auth_value, data)
+        last = public.index
+    taken = sum(it.public.data_size for it in device.indices.values())
+    check(taken <= nv.ALL_BYTES)

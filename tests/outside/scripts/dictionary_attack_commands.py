@@ -1,0 +1,114 @@
+#!/usr/bin/env python3
+"""Writes tests/dictionary_attack_commands.tpm: the two commands, and all that refuses them."""
+
+import paths
+
+import frames
+from caller import Use
+from frames import DECRYPT, ENCRYPT, RH_LOCKOUT, RH_NULL, RH_OWNER, RH_PLATFORM
+from frames import command, number, on_handle
+from script import Script
+from state_caller import StateCaller
+
+LOCK_RESET, PARAMETERS = frames.DICTIONARY_ATTACK_LOCK_RESET, frames.DICTIONARY_ATTACK_PARAMETERS
+THREE = frames.attack_parameters(3, 1000, 1000)
+COMMANDS = (LOCK_RESET, b""), (PARAMETERS, THREE)
+
+script = Script(
+    "tests/dictionary_attack_commands.tpm",
+    "TPM2_DictionaryAttackLockReset and TPM2_DictionaryAttackParameters: their bytes, and what "
+    "refuses them. TPM_RH_LOCKOUT authorizes them, by a password or an HMAC session.",
+)
+caller = StateCaller(script)
+
+
+def says(what, outcome, *buffers):
+    script.command(what, outcome, *buffers)
+
+
+says(
+    "Before TPM2_Startup",
+    "INITIALIZE",
+    *(on_handle(code, RH_LOCKOUT, parameters) for code, parameters in COMMANDS),
+)
+script.startup()
+script.chapter("By the empty password, which lockoutAuth is on a new device.")
+for code, parameters in COMMANDS:
+    says("Both" if code == LOCK_RESET else "", "SUCCESS", on_handle(code, RH_LOCKOUT, parameters))
+
+script.chapter("The handle.")
+says("None", "INSUFFICIENT/h1", *(command(code, b"") for code, _ in COMMANDS))
+says(
+    "That of another hierarchy, of TPM_RH_NULL, and of PCR 0",
+    "VALUE/h1",
+    *(
+        on_handle(code, handle, parameters)
+        for code, parameters in COMMANDS
+        for handle in (RH_OWNER, RH_PLATFORM, RH_NULL, 0)
+    ),
+)
+says(
+    "Without sessions",
+    "AUTH_MISSING",
+    *(command(code, number(RH_LOCKOUT, 4) + parameters) for code, parameters in COMMANDS),
+)
+
+script.chapter("The parameters.")
+for place in (1, 2, 3):
+    says(
+        f"Cut within parameter {place}",
+        f"INSUFFICIENT/p{place}",
+        *(on_handle(PARAMETERS, RH_LOCKOUT, THREE[: 4 * place - it]) for it in (4, 1)),
+    )
+says(
+    "A byte behind them",
+    "SIZE",
+    *(on_handle(code, RH_LOCKOUT, parameters + b"\0") for code, parameters in COMMANDS),
+)
+says(
+    "All values are good ones",
+    "SUCCESS",
+    *(
+        on_handle(PARAMETERS, RH_LOCKOUT, frames.attack_parameters(*it))
+        for it in (
+            (0, 0, 0),
+            (0xFFFF_FFFF, 0xFFFF_FFFF, 0xFFFF_FFFF),
+            (0, 0xFFFF_FFFF, 1),
+            (3, 1000, 1),
+        )
+    ),
+)
+
+script.chapter("By sessions.")
+caller.does('lockoutAuth is "lockout"', caller.change_auth(RH_LOCKOUT, b"lockout", b""))
+unbound = caller.start("An HMAC session that is bound to nothing, with AES", aes=True)
+bound = caller.start("One that is bound to TPM_RH_LOCKOUT", RH_LOCKOUT)
+for session, words in ((unbound, "The first one"), (bound, "The second one")):
+    caller.accepted(f"{words}: TPM2_DictionaryAttackLockReset", caller.lock_reset(session))
+    caller.accepted(
+        f"{words}: TPM2_DictionaryAttackParameters", caller.attack_parameters(3, 1000, 1, session)
+    )
+caller.accepted("Both in one command", caller.lock_reset(bound, unbound))
+for attribute, words in ((DECRYPT, "decrypted"), (ENCRYPT, "encrypted")):
+    caller.refused(
+        f"Nothing can be {words}",
+        "ATTRIBUTES/s1",
+        caller.lock_reset(unbound).but_entry(1, attributes=attribute),
+        caller.attack_parameters(3, 1000, 1, unbound).but_entry(1, attributes=attribute),
+    )
+policy = caller.policy("A policy session")
+caller.refused(
+    "No policy authorizes TPM_RH_LOCKOUT",
+    "AUTH_UNAVAILABLE",
+    caller.lock_reset(policy),
+    caller.attack_parameters(3, 1000, 1, policy),
+)
+caller.accepted("Behind the password it may stand", caller.lock_reset(b"lockout", policy))
+caller.accepted("A session that ends", caller.lock_reset(Use(bound, attributes=0)))
+caller.refused("It is gone", "REFERENCE_S0", caller.lock_reset(bound))
+says(
+    "Wrong parameters of a wrong password: the password is looked at first",
+    "AUTH_FAIL/s1",
+    on_handle(PARAMETERS, RH_LOCKOUT, b"", [frames.entry(hmac=b"x")]),
+)
+script.write()

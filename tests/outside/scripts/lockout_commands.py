@@ -1,0 +1,147 @@
+#!/usr/bin/env python3
+"""Writes tests/lockout_commands.tpm: a try by each command that a protected entity authorizes."""
+
+import paths
+
+import frames
+import policy
+from caller import Use
+from frames import RH_OWNER, SHA256
+from nv import Attribute as NvAttribute
+from nv_caller import BY_POLICY, BY_VALUE, FIRST, FOURTH, SECOND, THIRD, area, bits, counter
+from nv_caller import extended
+from object_caller import HERE, STORES, hmac_key, sealed, storage_key
+from objects import Attribute
+from script import Script
+from state_caller import StateCaller, wrong
+
+PIN, DATA = b"pin", b"data"
+FIFTH = 0x0100_0005
+LOCKS = NvAttribute.WRITE_STCLEAR | NvAttribute.READ_STCLEAR
+PROTECTED = HERE | Attribute.USER_WITH_AUTH
+PARENT, SEALED, KEY = range(0x8000_0000, 0x8000_0003)
+
+# The policy of an index whose value may be changed by who knows it.
+CHANGING = policy.after_auth_value(
+    SHA256, policy.after_command_code(SHA256, bytes(32), frames.NV_CHANGE_AUTH)
+)
+
+script = Script(
+    "tests/lockout_commands.tpm",
+    "Each command that is authorized by a protected entity: with maxTries 1 one wrong entry locks, "
+    "and the right one is refused then, whichever command the try was made by.",
+)
+caller = StateCaller(script)
+
+
+def unlock(what="TPM2_DictionaryAttackLockReset"):
+    caller.does(what, caller.lock_reset())
+
+
+def tries(name, prepare, outcome="SUCCESS"):
+    """A right entry, a wrong one, and the right one again; the command itself may be refused."""
+    script.chapter(f"TPM2_{name}.")
+    if outcome == "SUCCESS":
+        caller.accepted("Right", prepare())
+    else:
+        caller.fails("Right, and refused for another reason", outcome, prepare())
+    caller.fails("Wrong", "AUTH_FAIL/s1", wrong(prepare()))
+    caller.fails("Right", "LOCKOUT", prepare())
+    caller.fails("TPM2_Unseal of another entity", "LOCKOUT", caller.unsealing(SEALED))
+    unlock()
+
+
+def objects():
+    handles = [
+        caller.create_primary(f"{words} without noDA", RH_OWNER, template, user_auth=PIN, data=data)
+        for words, template, data in (
+            ("A storage key", storage_key(attributes=PROTECTED | STORES), b""),
+            ("A sealed object", sealed(attributes=PROTECTED), DATA),
+            ("An HMAC key", hmac_key(attributes=PROTECTED), DATA),
+        )
+    ]
+    assert handles == [PARENT, SEALED, KEY]
+    made = caller.create("An object below the storage key", PARENT, sealed(), data=DATA)
+    tries("Create", lambda: caller.child(PARENT, sealed(), data=DATA))
+    tries("Load", lambda: caller.loading(PARENT, made))
+    tries("Unseal", lambda: caller.unsealing(SEALED))
+    tries("HMAC", lambda: caller.hmac(KEY, DATA, SHA256))
+    tries("Unseal of an HMAC key", lambda: caller.unsealing(KEY), "ATTRIBUTES/h1")
+    session = caller.policy("A policy session")
+    tries("PolicySecret of an object", lambda: caller.secret(session, PIN, of=SEALED))
+
+
+def indices():
+    script.chapter("NV indices.")
+    for words, public in (
+        ("An ordinary one with locks", area(FIRST, BY_VALUE | LOCKS)),
+        ("A counter", counter(SECOND, BY_VALUE)),
+        ("Bits", bits(THIRD, BY_VALUE)),
+        ("One that is extended", extended(FOURTH, BY_VALUE)),
+        ("One with a policy for TPM2_NV_ChangeAuth", area(FIFTH, BY_POLICY, auth_policy=CHANGING)),
+    ):
+        caller.define(words, public, auth=PIN)
+    session = caller.policy("A policy session")
+    tries("NV_Write", lambda: caller.writing(FIRST, DATA))
+    tries("NV_Write past the end", lambda: caller.writing(FIRST, DATA, offset=5), "NV_RANGE")
+    tries("NV_Read", lambda: caller.reading(FIRST, 4))
+    tries("NV_Increment", lambda: caller.incrementing(SECOND))
+    tries("NV_SetBits", lambda: caller.setting(THIRD, 1))
+    tries("NV_Extend", lambda: caller.extending(FOURTH, DATA))
+    tries("PolicySecret of an index", lambda: caller.secret(session, PIN, of=FIRST))
+    tries("PolicyNV", lambda: caller.comparing(session, FIRST, DATA))
+    tries("PolicyNV that does not hold", lambda: caller.comparing(session, FIRST, b"x"), "POLICY")
+    other = "NV_Write of another index than the one that authorizes"
+    tries(other, lambda: caller.writing(THIRD, DATA, PIN, by=FIRST), "NV_AUTHORIZATION")
+    tries("NV_WriteLock", lambda: caller.write_locking(FIRST))
+    tries("NV_Write of what is locked", lambda: caller.writing(FIRST, DATA), "NV_LOCKED")
+    tries("NV_ReadLock", lambda: caller.read_locking(FIRST))
+    caller.does("The session is flushed", caller.flush(session))
+
+
+def change_auth():
+    told = caller.policy("A policy session")
+
+    def prepare():
+        caller.says("TPM2_PolicyRestart", "SUCCESS", caller.restart(told))
+        code = caller.command_code(told, frames.NV_CHANGE_AUTH)
+        caller.says("TPM2_PolicyCommandCode", "SUCCESS", code)
+        caller.says("TPM2_PolicyAuthValue", "SUCCESS", caller.auth_value_told(told))
+        return caller.changing_auth(FIFTH, PIN, Use(told, demand=policy.AUTH_VALUE))
+
+    tries("NV_ChangeAuth, by a policy that asks for the value", prepare)
+    caller.does("The session is flushed", caller.flush(told))
+
+
+def two_entries():
+    script.chapter("A command makes one try at most, whichever of its entries are wrong.")
+    first = caller.start("A session that is bound to the sealed object", SEALED)
+    second = caller.start("One that is bound to an index", FIRST)
+    third = caller.start("One that is bound to nothing")
+    caller.set_protection("maxTries is 2", 2, 1000, 1000)
+    both = wrong(wrong(caller.reset(first, second, third)), 2)
+    caller.fails("The first two are wrong", "AUTH_FAIL/s1", both)
+    caller.accepted("It is not locked: all three", caller.reset(first, second, third))
+    unlock()
+    behind = wrong(caller.reset(third, first, second), 2)
+    caller.fails("The second of three", "AUTH_FAIL/s2", behind)
+    caller.accepted("It is not locked: all three", caller.reset(first, second, third))
+    caller.fails("The third of three", "AUTH_FAIL/s3", wrong(caller.reset(third, first, second), 3))
+    caller.fails("It is locked", "LOCKOUT", caller.reset(third, first, second))
+    unlock()
+    caller.fails(
+        "The first is wrong and no try, and the others are",
+        "BAD_AUTH/s1",
+        wrong(wrong(wrong(caller.reset(third, first, second)), 2), 3),
+        wrong(wrong(wrong(caller.reset(third, first, second)), 2), 3),
+    )
+    caller.accepted("It is not locked", caller.reset(third, first, second))
+
+
+script.startup()
+caller.set_protection("TPM2_DictionaryAttackParameters: maxTries is 1", 1, 1000, 1000)
+objects()
+indices()
+change_auth()
+two_entries()
+script.write()
