@@ -1,6 +1,6 @@
 -- TPM2_PolicyNV. TPM 2.0 Library, Part 3, section 23.9. The order of the checks is this device's
 -- own.
-use Rattle.std.specs.Prelude.{ℕ, not, List, length, Result, Ok, Err}
+use Rattle.std.specs.Prelude.{◌≢◌, ℕ, not, List, length, Result, Ok, Err}
 use Rattle.std.specs.Int.{w16}
 use Rattle.tpm_bytes.specs.Reading.{◌>>=◌, number_at, or_fault, refused_if}
 use Rattle.tpm_nv.specs.Access.{read_at}
@@ -38,7 +38,7 @@ nv_parameters text = do
   Ok (record { operand = operand.0; offset = offset.0; operation = operation.0 })
 
 -- what refuses the reading of an index behind A1. A2: it is locked against reading; A3: it is not
--- written; A4: what would be read is past its data. The last two do not occur
+-- written; A4: what would be read is past its data. The last two do not occur (no_reading_fails)
 abbrev pub read_fault : NvFault → PolicyFault
 read_fault fault.Locked = fault_of action.Second (plain code.NvLocked)
 read_fault fault.Uninitialized = fault_of action.Third (plain code.NvUninitialized)
@@ -57,6 +57,10 @@ compared r target p = do
   a1 ← refused_if (not (may_read target)) (fault_of action.First (plain code.NvAuthorization))
   or_read_fault (read_at r.nv target.handle p.offset (length p.operand))
 
+-- What refuses a reading is none of the faults that do not occur.
+abbrev pub IsNoFailure : PolicyFault → Type 0
+IsNoFailure fault = fault.rc.code ≢ code.Failure
+
 -- the index is asserted by its Name
 abbrev pub nv_parts_of : Record → Target → Parameters → NvParts
 nv_parts_of r target p = record {
@@ -67,7 +71,9 @@ nv_parts_of r target p = record {
   compared = compared r target p;
 }
 
--- authHandle, nvIndex, policySession
+-- authHandle, nvIndex, policySession; A1 to A4, what refuses the reading, and A5, that the comparison
+-- does not hold, are checked as the assertion is made, and of a trial session nothing is. A1: it may
+-- not read; A2: locked; A3: not written; A4: past the data; A5: it does not stand so to the operand
 abbrev pub nv_assertion : Record → Request → Result (Session → Assertion) Refused
 nv_assertion r q = do
   target ← target_of r q

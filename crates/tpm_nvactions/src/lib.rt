@@ -6,7 +6,6 @@
 //!
 //! It stands on tpm_actions, whose words for rows it uses, and on tpm_nv for the indices. What the
 //! commands have in common, who may read and write an index and how they refuse, is in [`access`].
-//! The device does not serve these commands yet.
 
 mod access;
 pub mod nv_change_auth;

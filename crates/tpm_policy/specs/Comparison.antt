@@ -1,7 +1,7 @@
 -- The comparison of the bytes of an NV index with an operand. TPM 2.0 Library, Part 3, section 23.9
--- (TPM2_PolicyNV), and Part 2, section 6.8 (TPM_EO). Both have as many bytes; numbers are
--- big-endian, and a signed one is in two's complement. Two empty texts are equal; of texts of
--- different sizes no bit is compared.
+-- (TPM2_PolicyNV), and Part 2, section 6.8 (TPM_EO). Both have one size; of others nothing is meant.
+-- Numbers are big-endian, and a signed one is in two's complement. Two empty texts are equal, and
+-- each bit of theirs is set and clear.
 use Rattle.std.specs.Prelude.{ℕ, ◌+◌, ◌-◌, ◌==◌, ◌&&◌, ◌||◌, not, nat_lt, bit_and, if◌then◌else◌, Bool, false, List, [], ◌∷◌}
 use Rattle.std.specs.Cmp.Lexicographic.{pointwise}
 use Rattle.std.specs.Str.{bytes_eq}
