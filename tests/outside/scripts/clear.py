@@ -1,0 +1,226 @@
+#!/usr/bin/env python3
+"""Writes tests/clear.tpm: TPM2_Clear, what it takes away and what it leaves."""
+
+import paths
+
+from frames import CLEAR, RH_ENDORSEMENT, RH_LOCKOUT, RH_NULL, RH_OWNER, RH_PLATFORM, SHA256
+from frames import command, number, on_handle
+from nv import Attribute
+from nv_caller import BY_OWNER, BY_PLATFORM, BY_VALUE, FIRST, SECOND, THIRD, area, counter
+from object_caller import sealed, storage_key
+from script import Script
+from state_caller import STATE, StateCaller, wrong
+
+HANDLES, PROPERTIES = 1, 6
+HIERARCHIES = (
+    (RH_OWNER, "TPM_RH_OWNER", b"owner"),
+    (RH_ENDORSEMENT, "TPM_RH_ENDORSEMENT", b"endorsement"),
+    (RH_PLATFORM, "TPM_RH_PLATFORM", b"platform"),
+    (RH_LOCKOUT, "TPM_RH_LOCKOUT", b"lockout"),
+)
+WITH_OBJECTS = (
+    (RH_OWNER, "the owner", 0x8100_0000, RH_OWNER),
+    (RH_ENDORSEMENT, "the endorsement hierarchy", 0x8100_0001, RH_OWNER),
+    (RH_PLATFORM, "the platform", 0x8180_0000, RH_PLATFORM),
+)
+
+script = Script(
+    "tests/clear.tpm",
+    "TPM2_Clear, for a new owner: the objects and the NV indices of the old one are gone, with the "
+    "seed of its primary objects, and so are its authorization values and its lockout. What is the "
+    "platform's stays.",
+)
+caller = StateCaller(script)
+
+
+def says(what, outcome, *buffers):
+    script.command(what, outcome, *buffers)
+
+
+def listed(what, wanted, *handles):
+    """The handles of a kind, as TPM2_GetCapability lists them."""
+    elements = number(len(handles), 4) + b"".join(number(it, 4) for it in handles)
+    given = caller.does(what, caller.capability(HANDLES, wanted, 64))
+    assert given == b"\0" + number(HANDLES, 4) + elements, what
+
+
+def lockout_is(what, *values):
+    """TPM_PT_LOCKOUT_COUNTER and the three behind it."""
+    pairs = b"".join(number(0x20E + at, 4) + number(it, 4) for at, it in enumerate(values))
+    given = caller.does(what, caller.capability(PROPERTIES, 0x20E, 4))
+    assert given == b"\0" + number(PROPERTIES, 4) + number(4, 4) + pairs, what
+
+
+def clock_is(what, time, clock, resets, restarts):
+    answer = number(time, 8) + number(clock, 8) + number(resets, 4) + number(restarts, 4) + b"\1"
+    assert caller.does(what, caller.clock()) == answer, what
+
+
+def counter_of(what):
+    """The update counter of the PCRs."""
+    return int.from_bytes(caller.does(what, caller.read_pcr(16))[:4], "big")
+
+
+def primary_of(what, hierarchy):
+    """The Name and the ticket of a primary object, which does not stay."""
+    handle = caller.create_primary(what, hierarchy, storage_key(), caller.auth_value(hierarchy))
+    name = caller.names[handle]
+    caller.flush_objects("It is flushed", handle)
+    return name, caller.ticket
+
+
+def refusals():
+    says("Before TPM2_Startup", "INITIALIZE", on_handle(CLEAR, RH_PLATFORM))
+    script.startup()
+    says("No handle", "INSUFFICIENT/h1", command(CLEAR, b""))
+    says(
+        "Who cannot clear",
+        "VALUE/h1",
+        *(on_handle(CLEAR, it) for it in (RH_OWNER, RH_ENDORSEMENT, RH_NULL, 0, 0x8000_0000)),
+    )
+    for handle in (RH_LOCKOUT, RH_PLATFORM):
+        words = "Without sessions" if handle == RH_LOCKOUT else ""
+        says(words, "AUTH_MISSING", command(CLEAR, number(handle, 4)))
+    says(
+        "A byte behind the handle",
+        "SIZE",
+        *(on_handle(CLEAR, it, b"\0") for it in (RH_LOCKOUT, RH_PLATFORM)),
+    )
+    caller.fails("A wrong password", "BAD_AUTH/s1", caller.clearing(RH_PLATFORM, b"x"))
+    policy = caller.policy("A policy session")
+    caller.fails("No policy clears", "AUTH_UNAVAILABLE", caller.clearing(RH_PLATFORM, policy))
+    caller.does("It is flushed", caller.flush(policy))
+    says(
+        "TPM2_Clear by the platform, and by lockoutAuth",
+        "SUCCESS",
+        *(on_handle(CLEAR, it) for it in (RH_PLATFORM, RH_LOCKOUT)),
+    )
+
+
+def set_up():
+    script.chapter("There is something of each kind, a reset and a restart among it.")
+    script.power()
+    script.startup()
+    caller.does("TPM2_Shutdown(STATE)", caller.shutting_down(STATE))
+    script.power()
+    caller.start_up("TPM2_Startup(STATE)", STATE)
+    script.wait(5000)
+    for index, attributes, by in (
+        (FIRST, BY_OWNER | BY_VALUE, RH_OWNER),
+        (SECOND, BY_PLATFORM | BY_VALUE | Attribute.PLATFORMCREATE, RH_PLATFORM),
+    ):
+        words = "An NV index of the owner, and one of the platform" if index == FIRST else ""
+        caller.define(words, area(index, attributes), by=by)
+        caller.does("", caller.writing(index, b"data", by=by))
+    caller.define("A counter of the owner", counter(THIRD))
+    for _ in range(3):
+        caller.does("It is 3" if not _ else "", caller.incrementing(THIRD))
+    for hierarchy, words, kept, asker in WITH_OBJECTS:
+        handle = caller.create_primary(f"An object of {words}", hierarchy, storage_key())
+        caller.keep("It stays", asker, handle, kept)
+    caller.create_primary("One of TPM_RH_NULL", RH_NULL, storage_key())
+    for handle, name, value in HIERARCHIES:
+        words = f'The value of {name} is "{value.decode()}"'
+        caller.does(words, caller.change_auth(handle, value, b""))
+    caller.set_protection("maxTries is 5, and the times are others, too", 5, 2000, 3000)
+
+
+def what_is_left():
+    script.chapter("The handles that are there.")
+    left = 0x8000_0002, 0x8000_0003
+    listed("The transient objects of the platform and of TPM_RH_NULL", 0x8000_0000, *left)
+    listed("The persistent one of the platform", 0x8100_0000, 0x8180_0000)
+    listed("The index of the platform", 0x0100_0000, SECOND)
+    caller.does("TPM2_ReadPublic of the platform's object", caller.public(0x8180_0000))
+    caller.read("TPM2_NV_Read of its index", SECOND, b"data", by=RH_PLATFORM)
+    caller.fails("The owner's index", "HANDLE/h1", caller.index_public(FIRST))
+    caller.fails("The owner's object", "HANDLE/h1", caller.public(0x8100_0000))
+
+
+def effects():
+    script.chapter("TPM2_Clear by the platform.")
+    names = {
+        hierarchy: primary_of("A primary object as it is before", hierarchy)
+        for hierarchy, *_ in HIERARCHIES[:3]
+    }
+    parent = caller.create_primary("A storage key of the owner", RH_OWNER, storage_key(), b"owner")
+    below = caller.create("An object below it", parent, sealed(), data=b"data")
+    bad = caller.writing(SECOND, b"x", b"x")
+    caller.fails("A try", "AUTH_FAIL/s1", bad)
+    caller.fails("And one that closes lockoutAuth", "AUTH_FAIL/s1", caller.lock_reset(b"x"))
+    session = caller.start("A session that is bound to the owner", RH_OWNER)
+    policy = caller.policy("A policy session")
+    caller.says("TPM2_PolicyPCR", "SUCCESS", caller.pcrs(policy, [(SHA256, [0])]))
+    lockout_is("One try", 1, 5, 2000, 3000)
+    before = counter_of("The update counter, and PCR 16")
+    clock_is("The clock", 5000, 5000, 1, 1)
+    script.wait(70)
+    caller.does("TPM2_Clear", caller.clearing(RH_PLATFORM))
+    script.wait(7)
+    clock_is("The clock and the counts are 0, the time goes on", 5077, 7, 0, 0)
+    assert counter_of("The update counter is one more; PCR 16 is as it was") == before + 1
+    lockout_is("No try, and the parameters as they were", 0, 5, 2000, 3000)
+    caller.does("lockoutAuth is open, and empty", caller.lock_reset())
+    caller.does("So is ownerAuth", caller.change_auth(RH_OWNER, b"", b""))
+    caller.does("And endorsementAuth", caller.change_auth(RH_ENDORSEMENT, b"", b""))
+    caller.fails(
+        "platformAuth is as it was", "BAD_AUTH/s1", caller.change_auth(RH_PLATFORM, b"", b"")
+    )
+    pcr = caller.pcrs(policy, [(SHA256, [0])])
+    caller.fails("TPM2_PolicyPCR: as if a PCR had changed", "PCR_CHANGED", pcr)
+    caller.accepted("The sessions are there: on PCR 16", caller.reset(session))
+    caller.accepted(
+        "On TPM_RH_OWNER, whose value is another", caller.change_auth(RH_OWNER, b"", session)
+    )
+    what_is_left()
+    script.chapter("The seed of the owner is new, and the others are not.")
+    for hierarchy, name, _ in HIERARCHIES[:3]:
+        object_name, ticket = primary_of(f"The same primary object of {name}", hierarchy)
+        assert (object_name == names[hierarchy][0]) == (hierarchy != RH_OWNER)
+        # The proofs of both are new, so that old tickets are worth nothing.
+        assert (ticket == names[hierarchy][1]) == (hierarchy == RH_PLATFORM)
+    parent = caller.create_primary("A storage key of the new owner", RH_OWNER, storage_key())
+    caller.fails(
+        "What was created below the old one", "INTEGRITY/p1", caller.loading(parent, below)
+    )
+    script.chapter("No counter goes back.")
+    caller.define("The counter is defined again", counter(THIRD))
+    caller.does("TPM2_NV_Increment", caller.incrementing(THIRD))
+    caller.read("It is 4", THIRD, number(4, 8))
+
+
+def by_sessions():
+    script.chapter("By sessions. The answer's hmac is by the value after it, the empty one.")
+    caller.does('lockoutAuth is "lockout"', caller.change_auth(RH_LOCKOUT, b"lockout", b""))
+    unbound = caller.start("An HMAC session that is bound to nothing")
+    bound = caller.start("One that is bound to TPM_RH_LOCKOUT", RH_LOCKOUT)
+    caller.fails("A wrong hmac", "AUTH_FAIL/s1", wrong(caller.clearing(RH_LOCKOUT, unbound)))
+    caller.fails("lockoutAuth is closed", "LOCKOUT", caller.clearing(RH_LOCKOUT, unbound))
+    caller.does("The platform opens it by TPM2_Clear", caller.clearing(RH_PLATFORM))
+    caller.does('lockoutAuth is "lockout"', caller.change_auth(RH_LOCKOUT, b"lockout", b""))
+    caller.accepted("TPM2_Clear by the first", caller.clearing(RH_LOCKOUT, unbound))
+    caller.does('lockoutAuth is "lockout"', caller.change_auth(RH_LOCKOUT, b"lockout", b""))
+    caller.accepted("By the bound one", caller.clearing(RH_LOCKOUT, bound))
+    caller.accepted("And by it once more", caller.clearing(RH_LOCKOUT, bound))
+    clearing = caller.clearing(RH_PLATFORM, b"platform", unbound, bound)
+    caller.accepted("By the platform, with both behind it", clearing)
+
+
+def over_starts():
+    script.chapter("Over starts.")
+    caller.does("TPM2_Shutdown(STATE)", caller.shutting_down(STATE))
+    caller.does("TPM2_Clear cancels what was saved", caller.clearing(RH_PLATFORM))
+    script.power()
+    caller.fails("TPM2_Startup(STATE)", "VALUE/p1", caller.starting(STATE))
+    caller.start_up("TPM2_Startup(CLEAR)")
+    clock_is("It is the first reset", 0, 0, 1, 0)
+    listed("The persistent object of the platform", 0x8100_0000, 0x8180_0000)
+    caller.does("platformAuth is empty now", caller.clearing(RH_PLATFORM, b""))
+
+
+refusals()
+set_up()
+effects()
+by_sessions()
+over_starts()
+script.write()

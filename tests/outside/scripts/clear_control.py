@@ -1,0 +1,169 @@
+#!/usr/bin/env python3
+"""Writes tests/clear_control.tpm: TPM2_ClearControl, and TPM2_Clear where it is disabled."""
+
+import paths
+
+import frames
+from frames import CLEAR, CLEAR_CONTROL, CONTINUE_SESSION, DECRYPT, ENCRYPT, RH_ENDORSEMENT
+from frames import RH_LOCKOUT, RH_NULL, RH_OWNER, RH_PLATFORM, command, number, on_handle
+from script import Script
+from state_caller import STATE, StateCaller, wrong
+
+NO, YES = 0, 1
+BOTH = RH_LOCKOUT, RH_PLATFORM
+PROPERTIES, LOCKOUT_COUNTER = 6, 0x20E
+
+script = Script(
+    "tests/clear_control.tpm",
+    "TPM2_ClearControl disables TPM2_Clear (YES, 01), by lockoutAuth or by the platform, and "
+    "enables it again (NO, 00), which only the platform may.",
+)
+caller = StateCaller(script)
+
+
+def says(what, outcome, *buffers):
+    script.command(what, outcome, *buffers)
+
+
+def control(handle, disables):
+    return on_handle(CLEAR_CONTROL, handle, number(disables, 1))
+
+
+def clears(what):
+    says(what, "SUCCESS", *(on_handle(CLEAR, it) for it in BOTH))
+
+
+def is_disabled(what):
+    says(what, "DISABLED", *(on_handle(CLEAR, it) for it in BOTH))
+
+
+def no_try(what):
+    """TPM_PT_LOCKOUT_COUNTER is 0, and lockoutAuth is open."""
+    given = caller.does(what, caller.capability(PROPERTIES, LOCKOUT_COUNTER, 1))
+    assert given[-4:] == bytes(4)
+    caller.does("lockoutAuth is open", caller.lock_reset())
+
+
+def refusals():
+    says("Before TPM2_Startup", "INITIALIZE", control(RH_PLATFORM, YES))
+    script.startup()
+    says("No handle", "INSUFFICIENT/h1", command(CLEAR_CONTROL, b""))
+    others = RH_OWNER, RH_ENDORSEMENT, RH_NULL, 0
+    says("Who cannot clear", "VALUE/h1", *(control(it, YES) for it in others))
+    says(
+        "Without sessions",
+        "AUTH_MISSING",
+        *(command(CLEAR_CONTROL, number(it, 4) + b"\1") for it in BOTH),
+    )
+    says("No parameter", "INSUFFICIENT/p1", *(on_handle(CLEAR_CONTROL, it) for it in BOTH))
+    says(
+        "Neither YES nor NO",
+        "VALUE/p1",
+        *(control(handle, value) for handle in BOTH for value in (2, 0x80, 0xFF)),
+    )
+    says(
+        "A byte behind it, also of NO by lockoutAuth",
+        "SIZE",
+        *(on_handle(CLEAR_CONTROL, handle, it) for handle in BOTH for it in (b"\0\0", b"\1\0")),
+    )
+    policy = caller.policy("A policy session")
+    caller.fails(
+        "No policy authorizes it",
+        "AUTH_UNAVAILABLE",
+        *(caller.clear_control(it, YES, policy) for it in BOTH),
+    )
+    caller.does("It is flushed", caller.flush(policy))
+    clears("None of these disabled TPM2_Clear: by lockoutAuth and by the platform")
+
+
+def who_may():
+    script.chapter("By the platform.")
+    says("NO, and TPM2_Clear was enabled already", "SUCCESS", control(RH_PLATFORM, NO))
+    clears("TPM2_Clear")
+    says("YES, twice", "SUCCESS", control(RH_PLATFORM, YES), control(RH_PLATFORM, YES))
+    is_disabled("TPM2_Clear by lockoutAuth, and by the platform")
+    says("NO", "SUCCESS", control(RH_PLATFORM, NO))
+    clears("TPM2_Clear")
+    script.chapter("By lockoutAuth.")
+    says("NO, though TPM2_Clear is enabled", "AUTH_FAIL", control(RH_LOCKOUT, NO))
+    says("YES", "SUCCESS", control(RH_LOCKOUT, YES))
+    is_disabled("TPM2_Clear by lockoutAuth, and by the platform")
+    says("YES again", "SUCCESS", control(RH_LOCKOUT, YES))
+    says("NO", "AUTH_FAIL", control(RH_LOCKOUT, NO))
+    is_disabled("It is disabled as before")
+    no_try("That was no try, though its code is of one")
+    for session, words in (
+        (caller.start("A session that is bound to nothing"), "By it"),
+        (caller.start("One that is bound to TPM_RH_LOCKOUT", RH_LOCKOUT), "By that"),
+    ):
+        caller.fails(f"{words}: NO", "AUTH_FAIL", caller.clear_control(RH_LOCKOUT, NO, session))
+        caller.does(f"{words}: YES", caller.clear_control(RH_LOCKOUT, YES, session))
+        caller.fails("A wrong hmac, of NO", "AUTH_FAIL/s1", wrong_control(session))
+        caller.fails("It has closed lockoutAuth", "LOCKOUT", caller.lock_reset())
+        script.wait(1_000_000)
+        caller.does("It opens with the time", caller.lock_reset())
+        caller.does("It is flushed", caller.flush(session))
+
+
+def wrong_control(session):
+    return wrong(caller.clear_control(RH_LOCKOUT, NO, session))
+
+
+def order():
+    script.chapter("DISABLED is the check of the command itself, behind all others.")
+    says(
+        "A byte behind the handle",
+        "SIZE",
+        *(on_handle(CLEAR, it, b"\0") for it in BOTH),
+    )
+    wrong_password = [frames.entry(hmac=b"x")]
+    says(
+        "A wrong password of the platform",
+        "BAD_AUTH/s1",
+        on_handle(CLEAR, RH_PLATFORM, b"", wrong_password),
+    )
+    says(
+        "One of TPM_RH_LOCKOUT: a try, which is counted",
+        "AUTH_FAIL/s1",
+        on_handle(CLEAR, RH_LOCKOUT, b"", wrong_password),
+    )
+    says("The right one", "LOCKOUT", on_handle(CLEAR, RH_LOCKOUT))
+    says("Of TPM2_ClearControl, too", "LOCKOUT", control(RH_LOCKOUT, NO), control(RH_LOCKOUT, YES))
+    script.wait(1_000_000)
+    is_disabled("Behind lockoutRecovery")
+
+
+def sessions():
+    script.chapter("By sessions that cannot encrypt what is no sized buffer.")
+    session = caller.start("An HMAC session with AES", aes=True)
+    for attribute in (DECRYPT, ENCRYPT):
+        words = "Its only parameter is one byte, and nothing is answered"
+        caller.fails(
+            words if attribute == DECRYPT else "",
+            "ATTRIBUTES/s1",
+            caller.clear_control(RH_PLATFORM, NO, session).but_entry(
+                1, attributes=CONTINUE_SESSION | attribute
+            ),
+        )
+    caller.does("It is flushed", caller.flush(session))
+
+
+def over_starts():
+    script.chapter("It is kept over starts.")
+    script.power()
+    script.startup()
+    is_disabled("Behind TPM2_Startup(CLEAR)")
+    caller.does("TPM2_Shutdown(STATE)", caller.shutting_down(STATE))
+    script.power()
+    caller.start_up("TPM2_Startup(STATE)", STATE)
+    is_disabled("Behind it")
+    says("NO by the platform", "SUCCESS", control(RH_PLATFORM, NO))
+    clears("TPM2_Clear")
+
+
+refusals()
+who_may()
+order()
+sessions()
+over_starts()
+script.write()

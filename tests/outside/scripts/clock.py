@@ -1,0 +1,124 @@
+#!/usr/bin/env python3
+"""Writes tests/clock.tpm: TPM2_ReadClock, the times and the counts of starts."""
+
+import paths
+
+import frames
+from frames import READ_CLOCK, command, number
+from script import Script
+from state_caller import CLEAR, STATE, StateCaller
+
+MOST = 2**32 - 1
+
+script = Script(
+    "tests/clock.tpm",
+    "TPM2_ReadClock: time, the milliseconds since the power cycle; clock, those of the device's "
+    "life; resetCount and restartCount; and that the clock is safe (01), as it never goes back. "
+    "The numbers of eight bytes end far beyond what a script can wait for.",
+)
+caller = StateCaller(script)
+
+
+def says(what, outcome, *buffers):
+    script.command(what, outcome, *buffers)
+
+
+def is_now(what, time, clock, resets, restarts):
+    answer = number(time, 8) + number(clock, 8) + number(resets, 4) + number(restarts, 4) + b"\1"
+    assert caller.does(what, caller.clock()) == answer, what
+
+
+def shut_down(kind):
+    caller.does(f"TPM2_Shutdown({'STATE' if kind else 'CLEAR'})", caller.shutting_down(kind))
+
+
+def refusals():
+    says("Before TPM2_Startup", "INITIALIZE", command(READ_CLOCK, b""))
+    script.startup()
+    script.wait(5)
+    is_now("Five milliseconds later", 5, 5, 1, 0)
+    says("A byte behind it", "SIZE", command(READ_CLOCK, b"\0"))
+    says(
+        "With an authorization area, right or wrong",
+        "AUTH_CONTEXT",
+        command(READ_CLOCK, frames.area(frames.entry()), frames.SESSIONS),
+        command(READ_CLOCK, number(0, 4), frames.SESSIONS),
+        command(READ_CLOCK, b"", frames.SESSIONS),
+    )
+    is_now("None of them took any time", 5, 5, 1, 0)
+
+
+def time():
+    script.chapter("Time passes with every command, before that does anything.")
+    script.wait(1)
+    script.wait(2)
+    is_now("Three milliseconds, in two lines", 8, 8, 1, 0)
+    script.wait(100)
+    caller.does("TPM2_GetRandom, after 100", caller.random(2))
+    script.wait(1000)
+    says("The empty buffer, after 1,000", "COMMAND_SIZE", b"")
+    script.wait(10_000)
+    says("A command that is not served, after 10,000", "COMMAND_CODE", command(0x0146, b"\0\0"))
+    is_now("All of that has passed", 11_108, 11_108, 1, 0)
+    script.wait(MOST)
+    caller.does("TPM2_GetRandom, after 4,294,967,295", caller.random(2))
+    script.wait(MOST)
+    is_now("And as many again", 11_108 + 2 * MOST, 11_108 + 2 * MOST, 1, 0)
+
+
+def power():
+    clock = 11_108 + 2 * MOST
+    script.chapter("A power cycle: time starts over, and clock goes on.")
+    script.power()
+    script.wait(3)
+    caller.fails("TPM2_GetRandom, after 3", "INITIALIZE", caller.random(2))
+    script.wait(4)
+    script.startup()
+    is_now("Time has passed before TPM2_Startup too; it was a reset", 7, clock + 7, 2, 0)
+    script.chapter("A wait counts for the next command, also where power is cycled in between.")
+    script.wait(10)
+    script.power()
+    script.wait(10)
+    script.startup()
+    is_now("20 since then", 20, clock + 27, 3, 0)
+    return clock + 27
+
+
+def starts(clock):
+    script.chapter("Resets, restarts and resumes.")
+    shut_down(STATE)
+    script.power()
+    caller.start_up("TPM2_Startup(STATE), a resume", STATE)
+    is_now("resetCount stays, restartCount is 1", 0, clock, 3, 1)
+    shut_down(STATE)
+    script.power()
+    caller.start_up("TPM2_Startup(CLEAR), a restart, as a state was saved")
+    is_now("restartCount is 2", 0, clock, 3, 2)
+    script.power()
+    caller.start_up("TPM2_Startup(CLEAR) without TPM2_Shutdown, a reset")
+    is_now("resetCount is 4, restartCount 0", 0, clock, 4, 0)
+    shut_down(CLEAR)
+    script.power()
+    caller.start_up("TPM2_Startup(CLEAR) after TPM2_Shutdown(CLEAR), a reset too")
+    is_now("resetCount is 5", 0, clock, 5, 0)
+    shut_down(STATE)
+    script.power()
+    caller.fails("A wrong type", "VALUE/p1", caller.starting(2))
+    caller.start_up("TPM2_Startup(STATE)", STATE)
+    is_now("A refused one has counted nothing", 0, clock, 5, 1)
+    shut_down(STATE)
+    script.power()
+    script.power()
+    caller.start_up("TPM2_Startup(STATE) after two power cycles", STATE)
+    is_now("One resume", 0, clock, 5, 2)
+    shut_down(STATE)
+    caller.does("TPM2_PCR_Reset cancels what was saved", caller.reset(b""))
+    script.power()
+    caller.start_up("TPM2_Startup(CLEAR), a reset")
+    is_now("resetCount is 6", 0, clock, 6, 0)
+
+
+refusals()
+time()
+starts(power())
+script.write()

@@ -1,0 +1,96 @@
+#!/usr/bin/env python3
+"""Writes tests/cut_state_commands.tpm: the commands on what a device keeps, cut to every shorter
+length.
+"""
+
+import paths
+
+import cuts
+import frames
+from cuts import AREA, HANDLE
+from frames import RH_LOCKOUT, RH_OWNER, RH_PLATFORM, command, number, on_handle, on_handles, sized
+from object_caller import storage_key
+
+HEAD = """\
+# The commands of starts, of capabilities, of dictionary attack protection, of persistent objects
+# and of clearing, each cut to every shorter length: first as it is, and then with its commandSize
+# corrected. At last it comes whole. Written by tests/outside/scripts/cut_state_commands.py.
+"""
+
+OBJECT, KEPT = 0x8000_0000, 0x8100_0000
+
+PRIMARY = on_handle(
+    frames.CREATE_PRIMARY,
+    RH_OWNER,
+    frames.creation(frames.sensitive_create(), sized(storage_key().text)),
+)
+
+COMMANDS = [
+    cuts.STARTUP,
+    (
+        "TPM2_SelfTest",
+        command(frames.SELF_TEST, b"\1"),
+        [(11, "within fullTest", "INSUFFICIENT/p1")],
+        "SUCCESS",
+    ),
+    (
+        "TPM2_GetCapability",
+        command(frames.GET_CAPABILITY, number(1, 4) + number(0, 4) + number(3, 4)),
+        [
+            (14, "within capability", "INSUFFICIENT/p1"),
+            (18, "within property", "INSUFFICIENT/p2"),
+            (22, "within propertyCount", "INSUFFICIENT/p3"),
+        ],
+        "SUCCESS",
+    ),
+    ("TPM2_ReadClock", command(frames.READ_CLOCK, b""), [], "SUCCESS"),
+    (
+        "TPM2_Shutdown",
+        command(frames.SHUTDOWN, number(1, 2)),
+        [(12, "within shutdownType", "INSUFFICIENT/p1")],
+        "SUCCESS",
+    ),
+    ("TPM2_CreatePrimary of a storage key", PRIMARY, [], "SUCCESS"),
+    (
+        "TPM2_EvictControl",
+        on_handles(frames.EVICT_CONTROL, [RH_OWNER, OBJECT], number(KEPT, 4)),
+        [
+            (14, "within auth", "INSUFFICIENT/h1"),
+            (18, "within objectHandle", "INSUFFICIENT/h2"),
+            (31, "within the authorization area", "AUTHSIZE"),
+            (35, "within persistentHandle", "INSUFFICIENT/p1"),
+        ],
+        "SUCCESS",
+    ),
+    (
+        "TPM2_DictionaryAttackLockReset",
+        on_handle(frames.DICTIONARY_ATTACK_LOCK_RESET, RH_LOCKOUT),
+        [HANDLE, AREA],
+        "SUCCESS",
+    ),
+    (
+        "TPM2_DictionaryAttackParameters",
+        on_handle(
+            frames.DICTIONARY_ATTACK_PARAMETERS,
+            RH_LOCKOUT,
+            frames.attack_parameters(3, 1000, 1000),
+        ),
+        [
+            HANDLE,
+            AREA,
+            (31, "within newMaxTries", "INSUFFICIENT/p1"),
+            (35, "within newRecoveryTime", "INSUFFICIENT/p2"),
+            (39, "within lockoutRecovery", "INSUFFICIENT/p3"),
+        ],
+        "SUCCESS",
+    ),
+    (
+        "TPM2_ClearControl",
+        on_handle(frames.CLEAR_CONTROL, RH_PLATFORM, b"\0"),
+        [HANDLE, AREA, (28, "within disable", "INSUFFICIENT/p1")],
+        "SUCCESS",
+    ),
+    ("TPM2_Clear", on_handle(frames.CLEAR, RH_LOCKOUT), [HANDLE, AREA], "SUCCESS"),
+]
+
+cuts.write("cut_state_commands.tpm", HEAD, COMMANDS)

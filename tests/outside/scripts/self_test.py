@@ -1,0 +1,46 @@
+#!/usr/bin/env python3
+"""Writes tests/self_test.tpm: TPM2_SelfTest, which finds nothing, and what refuses it."""
+
+import paths
+
+import frames
+from frames import CONTINUE_SESSION, DECRYPT, ENCRYPT, SELF_TEST, command, number
+from script import Script
+from state_caller import StateCaller, wrong
+
+script = Script(
+    "tests/self_test.tpm",
+    "TPM2_SelfTest, of all tests (YES, 01) or of those that were not run yet (NO, 00). The device "
+    "has none that could fail.",
+)
+caller = StateCaller(script)
+
+
+def says(what, outcome, *buffers):
+    script.command(what, outcome, *buffers)
+
+
+BOTH = [command(SELF_TEST, number(it, 1)) for it in (0, 1)]
+says("Before TPM2_Startup", "INITIALIZE", *BOTH)
+script.startup()
+says("NO, and YES", "SUCCESS", *BOTH)
+says("Without fullTest", "INSUFFICIENT/p1", command(SELF_TEST, b""))
+says("Neither", "VALUE/p1", *(command(SELF_TEST, number(it, 1)) for it in (2, 0x80, 0xFF)))
+says("A byte behind it", "SIZE", command(SELF_TEST, b"\1\0"), command(SELF_TEST, b"\0\1"))
+says("Neither, and a byte behind it", "VALUE/p1", command(SELF_TEST, b"\2\0"))
+says(
+    "A password, as there is nothing to authorize",
+    "HANDLE/s1",
+    command(SELF_TEST, frames.area(frames.entry()) + b"\1", frames.SESSIONS),
+)
+session = caller.start("An HMAC session with AES", aes=True)
+caller.accepted("TPM2_SelfTest with it", caller.self_test(1, session))
+caller.refused("A wrong hmac", "BAD_AUTH/s1", wrong(caller.self_test(1, session)))
+for attribute, words in ((DECRYPT, "decrypted"), (ENCRYPT, "encrypted")):
+    caller.refused(
+        f"Nothing can be {words}",
+        "ATTRIBUTES/s1",
+        caller.self_test(1, session).but_entry(1, attributes=CONTINUE_SESSION | attribute),
+    )
+caller.does("Nothing has changed: TPM2_PCR_Read", caller.read_pcr(16))
+script.write()

@@ -1,0 +1,109 @@
+#!/usr/bin/env python3
+"""Writes tests/shutdown.tpm: TPM2_Shutdown, what refuses it, and what it is to the next start."""
+
+import paths
+
+import frames
+from caller import Use
+from frames import CONTINUE_SESSION, DECRYPT, ENCRYPT, RH_OWNER, SHUTDOWN, command, number
+from script import Script
+from state_caller import CLEAR, STATE, StateCaller, wrong
+
+script = Script(
+    "tests/shutdown.tpm",
+    "TPM2_Shutdown says which state is kept for the next TPM2_Startup: none but what is kept "
+    "anyway, CLEAR (0000), or PCR 0 to 15, STATE (0001).",
+)
+caller = StateCaller(script)
+
+
+def says(what, outcome, *buffers):
+    script.command(what, outcome, *buffers)
+
+
+def shutdown(kind):
+    return command(SHUTDOWN, number(kind, 2))
+
+
+def refusals():
+    says("Before TPM2_Startup, of both kinds", "INITIALIZE", shutdown(CLEAR), shutdown(STATE))
+    script.startup()
+    says(
+        "Without a type, and with one byte of it",
+        "INSUFFICIENT/p1",
+        *(command(SHUTDOWN, bytes(it)) for it in (0, 1)),
+    )
+    says("Of no type that there is", "VALUE/p1", *(shutdown(it) for it in (2, 0x100, 0xFFFF)))
+    says("A byte behind it", "SIZE", command(SHUTDOWN, bytes(3)))
+    says(
+        "A password, as there is nothing to authorize",
+        "HANDLE/s1",
+        command(SHUTDOWN, frames.area(frames.entry()) + number(STATE, 2), frames.SESSIONS),
+    )
+    says("No authorization area", "AUTHSIZE", command(SHUTDOWN, number(0, 2), frames.SESSIONS))
+    script.power()
+    says(
+        "None of these has saved a state: TPM2_Startup(STATE)",
+        "VALUE/p1",
+        command(frames.STARTUP, number(STATE, 2)),
+    )
+
+
+def kinds():
+    script.startup()
+    says("TPM2_Shutdown(CLEAR)", "SUCCESS", shutdown(CLEAR))
+    says("TPM2_Shutdown(STATE), and once more", "SUCCESS", shutdown(STATE), shutdown(STATE))
+    says("It does not stop the device: TPM2_GetRandom", "SUCCESS", caller.random(2).buffer())
+    caller.does("TPM2_PCR_Reset", caller.reset(b""))
+    says(
+        "Nor can it be started again without a power cycle",
+        "INITIALIZE",
+        command(frames.STARTUP, number(CLEAR, 2)),
+    )
+    script.chapter("The last one counts.")
+    says("TPM2_Shutdown(STATE)", "SUCCESS", shutdown(STATE))
+    says("TPM2_Shutdown(CLEAR)", "SUCCESS", shutdown(CLEAR))
+    script.power()
+    caller.fails("TPM2_Startup(STATE)", "VALUE/p1", caller.starting(STATE))
+    caller.start_up("TPM2_Startup(CLEAR)")
+    says("TPM2_Shutdown(CLEAR)", "SUCCESS", shutdown(CLEAR))
+    says("TPM2_Shutdown(STATE)", "SUCCESS", shutdown(STATE))
+    script.power()
+    caller.start_up("TPM2_Startup(STATE)", STATE)
+    script.chapter("A state is restored once.")
+    script.power()
+    caller.fails("TPM2_Startup(STATE)", "VALUE/p1", caller.starting(STATE))
+    caller.start_up("TPM2_Startup(CLEAR)")
+
+
+def sessions():
+    script.chapter("With sessions, which authorize nothing here.")
+    caller.does('ownerAuth is "owner"', caller.change_auth(RH_OWNER, b"owner", b""))
+    session = caller.start("An HMAC session, bound to TPM_RH_OWNER, with AES", RH_OWNER, aes=True)
+    policy = caller.policy("A policy session")
+    caller.accepted("TPM2_Shutdown(CLEAR) with one", caller.shutting_down(CLEAR, session))
+    caller.accepted("TPM2_Shutdown(STATE) with both", caller.shutting_down(STATE, policy, session))
+    caller.refused(
+        "With a wrong hmac, of CLEAR", "BAD_AUTH/s1", wrong(caller.shutting_down(CLEAR, session))
+    )
+    for attribute, words in ((DECRYPT, "decrypted"), (ENCRYPT, "encrypted")):
+        caller.refused(
+            f"Nothing can be {words}",
+            "ATTRIBUTES/s1",
+            caller.shutting_down(CLEAR, session).but_entry(
+                1, attributes=CONTINUE_SESSION | attribute
+            ),
+        )
+    script.power()
+    caller.start_up("The one of STATE was accepted: TPM2_Startup(STATE)", STATE)
+    session = caller.start("Another session", RH_OWNER)
+    caller.accepted("It ends with its use", caller.shutting_down(STATE, Use(session, attributes=0)))
+    caller.refused("It is gone", "REFERENCE_S0", caller.shutting_down(CLEAR, session))
+    script.power()
+    caller.start_up("TPM2_Startup(STATE)", STATE)
+
+
+refusals()
+kinds()
+sessions()
+script.write()
