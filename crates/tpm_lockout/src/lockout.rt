@@ -98,7 +98,7 @@ impl Lockout {
     fn forgive(&mut self, elapsed_ms: u32)
         ensures { self.new ≡ forgiven_after elapsed_ms self.old }
     {
-        if self.fields.recovery_time == 0 {
+        if self.fields.recovery_time == 0 || self.fields.failed_tries == 0 {
             self.forgiving_time = 0;
             return;
         }
