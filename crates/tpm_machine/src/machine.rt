@@ -18,7 +18,7 @@ use tpm_machine_step::{Event, Outcome, Refusal, Response, Row};
 use tpm_record::tick::tick;
 use tpm_record::{Fixed, Keep, NoMemory, power_cycle, read_widths};
 use tpm_types::{Counted, Locality};
-use tpm_types_command::Command;
+use tpm_types_command::{Command, CommandCode};
 
 /// The device, by a way of keeping its state.
 #[derive(Drop)]
