@@ -120,6 +120,8 @@ pub enum ParameterKind {
     NvPublic,
     /// TPM_EO.
     Operation,
+    /// TPMI_DH_PERSISTENT.
+    PersistentHandle,
 }
 
 impl ParameterKind {
@@ -146,7 +148,8 @@ impl ParameterKind {
             | ParameterKind::Selection
             | ParameterKind::Digests
             | ParameterKind::DigestList
-            | ParameterKind::Operation => false,
+            | ParameterKind::Operation
+            | ParameterKind::PersistentHandle => false,
         }
     }
 }
