@@ -2,7 +2,7 @@
 -- Part 1, section 37.3 (owner and platform evict objects), and Part 2, section 7.2
 -- (TPM_HT_PERSISTENT: a handle whose highest byte is 81).
 use Rattle.std.specs.Prelude.{◌≡◌, ℕ, ◌≤◌, Bool, true, false, [], ◌∷◌, length, Option}
-use Rattle.tpm_ascending.specs.Ascending.{Ascends, Entries, at_key, key_from, with_key, without_key}
+use Rattle.tpm_ascending.specs.Ascending.{AreEach, Ascends, Entries, at_key, key_from, with_key, without_key}
 use Rattle.tpm_object.specs.Object.{IsObject}
 use Rattle.tpm_object.specs.declared.object.Object.{Object}
 use Rattle.tpm_types.specs.Handle.{is_persistent, numbered}
@@ -42,12 +42,8 @@ pub record IsPersistent (number : ℕ) (object : Object) : Type 0 where
   pub owned : can_persist object.hierarchy ≡ true
   pub sized : IsObject object
 
-abbrev pub AreEachPersistent : Entries Object → Type 0
-AreEachPersistent [] = Unit {0}
-AreEachPersistent (e ∷ es) = IsPersistent e.0 e.1 × AreEachPersistent es
-
 -- what holds of all: there are sixteen at most
 pub record ArePersistent (objects : Entries Object) : Type 0 where
   pub ascends : Ascends objects
   pub few : length objects ≤ 16
-  pub each : AreEachPersistent objects
+  pub each : AreEach IsPersistent objects

@@ -71,15 +71,15 @@ pub type ListObjects = StoredObjects<ListAscending<Object, 16>>;
 pub type SlotObjects = StoredObjects<FixedAscending<Object, 16>>;
 
 impl<P: Ascending<Object, 16>> Model for StoredObjects<P> {
-    ghost use Rattle.tpm_ascending.specs.Ascending.{Entries};
+    ghost use Rattle.tpm_ascending.specs.Ascending.{AreEach, Entries};
     ghost use Rattle.tpm_object.specs.declared.object.Object.{Object as ObjectParts};
-    ghost use Rattle.tpm_record.specs.Persistent.{AreEachPersistent};
+    ghost use Rattle.tpm_record.specs.Persistent.{IsPersistent};
 
     ghost Value = { Entries ObjectParts };
 
     ghost view = { λ stored. P.entries stored.objects };
 
-    ghost invariant = { λ stored. AreEachPersistent (P.entries stored.objects) };
+    ghost invariant = { λ stored. AreEach IsPersistent (P.entries stored.objects) };
 }
 
 impl<P: Ascending<Object, 16>> PersistentObjects for StoredObjects<P> {
@@ -109,13 +109,13 @@ impl<P: Ascending<Object, 16>> PersistentObjects for StoredObjects<P> {
         self.objects.next(handle.number)
     }
 
-    #[tactic(auto, using(crate::proofs::PersistentLaws::put_each))]
+    #[tactic(auto, using(tpm_ascending::proofs::AscendingLaws::put_each))]
     fn add(&mut self, handle: Handle, object: Object) -> Result<(), KeyFault> {
         object.read_sizes();
         self.objects.insert(handle.number, object)
     }
 
-    #[tactic(auto, using(crate::proofs::PersistentLaws::removed_each))]
+    #[tactic(auto, using(tpm_ascending::proofs::AscendingLaws::removed_each))]
     fn remove(&mut self, handle: Handle) -> bool {
         self.objects.remove(handle.number)
     }
