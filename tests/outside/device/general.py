@@ -212,7 +212,6 @@ SERVED = SHAPES.keys() - {
     frames.SELF_TEST,
     frames.READ_CLOCK,
     frames.GET_CAPABILITY,
-    frames.EVICT_CONTROL,
     frames.CLEAR,
     frames.CLEAR_CONTROL,
 }
