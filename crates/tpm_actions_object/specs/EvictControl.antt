@@ -1,6 +1,6 @@
 -- TPM2_EvictControl. TPM 2.0 Library, Part 3, section 28.5, and Part 2, section 7.5 (TPM_HC: the
 -- persistent handles of the platform begin with 81800000).
-use Rattle.std.specs.Prelude.{◌≡◌, ℕ, ◌==◌, nat_le, not, Bool, true, false, length, is_some, if◌then◌else◌, Result, Ok, Err}
+use Rattle.std.specs.Prelude.{◌≡◌, ◌==◌, nat_le, not, Bool, true, false, length, is_some, if◌then◌else◌, Result, Ok, Err}
 use Rattle.tpm_ascending.specs.Ascending.{Entries}
 use Rattle.tpm_bytes.specs.Reading.{◌>>=◌, refused_if}
 use Rattle.tpm_object.specs.declared.object.Object.{Object}

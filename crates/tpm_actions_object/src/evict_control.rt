@@ -3,8 +3,8 @@ ghost use Rattle.tpm_record.specs.Persistent.{can_persist};
 ghost use Rattle.tpm_types.specs.Handle.{is_persistent};
 ghost use Rattle.tpm_types.specs.PersistentHandle.{persistent_handle_at};
 ghost use Rattle.tpm_actions.specs.Answer.{IsEmpty};
-ghost use Rattle.tpm_actions.specs.Request.{request_of};
-ghost use Rattle.tpm_actions.specs.Rows.{ActsIfRoom, only};
+ghost use Rattle.tpm_actions.specs.Request.{request_of, second_handle};
+ghost use Rattle.tpm_actions.specs.Rows.{Acts, ActsIfRoom, only};
 ghost use Rattle.tpm_actions_object.specs.EvictControl.{Evicts, copied, evict_control_row, eviction_passes, is_of, is_of_platform, may_evict, may_name, removed};
 
 use crate::loaded::loaded;
@@ -125,9 +125,14 @@ pub fn evict_control<K: Keep>(
     _answer: &mut Answer,
 ) -> Result<(), Refused>
     requires { IsEmpty _answer.old }
-    ensures { ActsIfRoom K.can_refuse
+    ensures acts { ActsIfRoom K.can_refuse
         (evict_control_row (K.record_of keep.old) (request_of call.now))
         (K.record_of keep.old) result _answer.new (K.record_of keep.new) }
+    // What removes a persistent object is never refused memory.
+    ensures removes { IfOk (second_handle (request_of call.now).handles) (λ handle.
+        is_persistent handle ≡ true
+        → Acts (evict_control_row (K.record_of keep.old) (request_of call.now))
+        (K.record_of keep.old) result _answer.new (K.record_of keep.new)) }
 {
     let by_platform = call.first_handle()? == Handle::PLATFORM;
     let handle = call.second_handle()?;

@@ -13,12 +13,7 @@ use tpm_session::{Session, Sessions};
 /// The record, with its sessions, its objects, transient and persistent, and its NV indices in
 /// containers of any kind.
 #[derive(Drop)]
-pub struct Kept<
-    S: Places<Session, 16>,
-    O: Places<Object, 8>,
-    P: PersistentObjects,
-    N: Indices,
-> {
+pub struct Kept<S: Places<Session, 16>, O: Places<Object, 8>, P: PersistentObjects, N: Indices> {
     fixed: Fixed,
     sessions: Sessions<S>,
     objects: Objects<O>,
@@ -32,11 +27,15 @@ pub type ListKeep = Kept<ListPlaces<Session, 16>, ListPlaces<Object, 8>, ListObj
 
 /// The record in places that are as many as there can be. No memory is ever taken, so none can be
 /// refused. It is some twenty-eight thousand bytes long: it is made once, and lent.
-pub type SlotKeep = Kept<FixedPlaces<Session, 16>, FixedPlaces<Object, 8>, SlotObjects, SlotIndices>;
+pub type SlotKeep = Kept<
+    FixedPlaces<Session, 16>,
+    FixedPlaces<Object, 8>,
+    SlotObjects,
+    SlotIndices,
+>;
 
 impl<S: Places<Session, 16>, O: Places<Object, 8>, P: PersistentObjects, N: Indices> Keep
-    for Kept<S, O, P, N>
-{
+    for Kept<S, O, P, N> {
     ghost use Rattle.std.specs.Prelude.{◌≡◌, ◌||◌, false, refl, true};
     ghost use Rattle.std.proofs.lemmas.Bool.{or_right};
     ghost use Rattle.tpm_record.specs.Kept.{kept_record};

@@ -239,7 +239,11 @@ impl CommandCode {
         ensures few { length result.handles.now ≤ 3 }
     {
         match self {
-            CommandCode::EvictControl => shape!([USER_PROVISION, OBJECT], &[PersistentHandle], grows),
+            CommandCode::EvictControl => shape!(
+                [USER_PROVISION, OBJECT],
+                &[PersistentHandle],
+                grows
+            ),
             CommandCode::NvUndefineSpace => shape!([USER_PROVISION, NV_INDEX], &[]),
             CommandCode::HierarchyChangeAuth => shape!([USER_HIERARCHY_AUTH], &[Buffer(32)]),
             CommandCode::NvDefineSpace => shape!([USER_PROVISION], &[Buffer(32), NvPublic], grows),
