@@ -23,8 +23,8 @@ use Rattle.tpm_actions.specs.Request.{Request, first_handle, second_handle}
 use Rattle.tpm_actions.specs.Rows.{Success, only}
 use Rattle.tpm_actions_object.specs.Loaded.{loaded_at}
 
--- whether an object of this hierarchy is the owner's, or the platform's, to make persistent: those of
--- the endorsement hierarchy are the owner's, and those of the null hierarchy nobody's
+-- whether an object of this hierarchy is the owner's, or the platform's, to make persistent: those
+-- of the endorsement hierarchy are the owner's, and those of the null hierarchy nobody's
 abbrev pub is_of : (by_platform : Bool) → HierarchyHandle → Bool
 is_of false hierarchy.Owner = true
 is_of false hierarchy.Endorsement = true
@@ -85,12 +85,13 @@ evict_control_row r q = do
   handle ← second_handle q.handles
   object ← loaded_at r handle
   wanted ← only (persistent_handle_at q.parameters)
-  passed ← eviction_passes (auth.number == platform_handle.number) (is_persistent handle) object wanted
+  passed ← eviction_passes
+      (auth.number == platform_handle.number) (is_persistent handle) object wanted
   persistent ← evicted r.persistent handle object wanted
   Ok (record { answer = nothing; after = record r { persistent = persistent } })
 
--- The code changed the persistent objects so, or was refused memory, where it can be; or it refused.
--- A refusal changes nothing.
+-- The code changed the persistent objects so, or was refused memory, where it can be; or it
+-- refused. A refusal changes nothing.
 abbrev pub Evicts : Bool → Result (Entries Object) Refused
     → Record → Result (Unit {0}) Refused → Record → Type 0
 Evicts can (Ok persistent) old (Ok done) new = new ≡ record old { persistent = persistent }

@@ -10,8 +10,8 @@ use Rattle.tpm_record.specs.Hierarchy.{secrets_of}
 use Rattle.tpm_record.specs.Record.{Record}
 
 -- the parts of a record: none of it; the sessions; the transient objects; both; the persistent
--- objects; the NV indices; the authorization values of the hierarchies and of lockout; what protects
--- against dictionary attacks; the banks; and what a startup begins, the NV indices too
+-- objects; the NV indices; the authorization values of the hierarchies and of lockout; what
+-- protects against dictionary attacks; the banks; and what a startup begins, the NV indices too
 pub data Part : Type 0 where
   Nothing : Part
   Sessions : Part

@@ -141,8 +141,8 @@ pub fn grants_fit_entries_and_handles()
 {}
 
 /// A device as it is manufactured has no session and no object, and so all of them have their
-/// sizes; and after a power cycle it has no session and no transient object, and the persistent ones
-/// that it had.
+/// sizes; and after a power cycle it has no session and no transient object, and the persistent
+/// ones that it had.
 #[inline(always)]
 #[tactic(auto, using(crate::proofs::SizedSteps::manufactured_sized, crate::proofs::SizedSteps::cycled_sized))]
 pub fn devices_begin_sized()

@@ -1,5 +1,5 @@
--- The persistent objects of a device by their handles, in ascending order of these. TPM 2.0 Library,
--- Part 1, section 37.3 (owner and platform evict objects), and Part 2, section 7.2
+-- The persistent objects of a device by their handles, in ascending order of these. TPM 2.0
+-- Library, Part 1, section 37.3 (owner and platform evict objects), and Part 2, section 7.2
 -- (TPM_HT_PERSISTENT: a handle whose highest byte is 81).
 use Rattle.std.specs.Prelude.{◌≡◌, ℕ, ◌≤◌, Bool, true, false, [], length, Option}
 use Rattle.tpm_ascending.specs.Ascending.{AreEach, Ascends, Entries, at_key, key_from, with_key, without_key}
