@@ -3,6 +3,7 @@ pub mod Loaded
 pub mod Creation
 pub mod CreatePrimary
 pub mod Create
+pub mod EvictControl
 pub mod Load
 pub mod ReadPublic
 pub mod Unseal

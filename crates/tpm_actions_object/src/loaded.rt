@@ -4,15 +4,15 @@ ghost use Rattle.tpm_actions_object.specs.Loaded.{IsLoaded, Loads, is_fixed, loa
 use tpm_actions::refusals::{action_refusal, handle_refusal, memory_refusal};
 use tpm_object::{Object, is_storage_parent};
 use tpm_places::PlaceFault;
-use tpm_record::Keep;
+use tpm_record::{Keep, object_of};
 use tpm_types::{Handle, Refused, ResponseCode};
 use tpm_types_object::ObjectAttribute;
 
-/// The object of a handle.
+/// The object of a handle, transient or persistent.
 pub fn loaded<K: Keep>(keep: &K, handle: Handle) -> Result<&Object, Refused>
     ensures { IsLoaded (loaded_at (K.record_of keep.now) handle) result }
 {
-    match keep.objects().get(handle) {
+    match object_of(keep, handle) {
         Some(object) => Ok(object),
         None => Err(handle_refusal()),
     }

@@ -2,7 +2,7 @@
 -- that the keys still ascend, how many there are, and which key comes next.
 use Rattle.std.proofs.Common.{◌≡◌, ◌≢◌, ℕ, ◌<◌, ◌≤◌, ◌+◌, ◌⊎◌, true, cond, eqb, leb, [], ◌∷◌, length, Option, Some, None, is_some, refl, sym, ap, subst, ◌∙◌, arith, inl, inr}
 use Rattle.std.proofs.lemmas.Bool.{cases_eq, cases_lt, cond_both, cond-true, cond-false, eq-eqb, ne_eqb, eqb-true, leb-true, leb-false}
-use Rattle.tpm_ascending.specs.Ascending.{AllAbove, Ascends, Entries, at_key, changed_key, key_from, with_key, without_key}
+use Rattle.tpm_ascending.specs.Ascending.{AllAbove, AreEach, Ascends, Entries, at_key, changed_key, key_from, with_key, without_key}
 use Rattle.tpm_ascending.specs.IsAscendingMap.{IsAscendingMap}
 
 module _ {X : Type 0} where
@@ -115,7 +115,7 @@ module _ {X : Type 0} where
       (λ _. up.1)
       (λ _. (removed_above e.0 es key up.0, removed_ascends es key up.1))
 
-  removed_length : (es : Entries X) (key : ℕ) (x : X) → at_key es key ≡ Some x → length (without_key es key) + 1 ≡ length es
+  pub removed_length : (es : Entries X) (key : ℕ) (x : X) → at_key es key ≡ Some x → length (without_key es key) + 1 ≡ length es
   removed_length [] key x there = absurd cc
   removed_length (e ∷ es) key x there =
       cond_both (eqb e.0 key) _ _ (λ (l : Entries X). length l + 1 ≡ length (e ∷ es))
@@ -128,6 +128,22 @@ module _ {X : Type 0} where
       cond_both (eqb e.0 key) _ _ (λ (l : Entries X). length l ≤ length (e ∷ es))
       (λ _. omega arith)
       (λ _. omega (arith, removed_few es key))
+
+  -- ---- what holds of each value
+
+  pub put_each : (Is : ℕ → X → Type 0) (es : Entries X) (key : ℕ) (x : X) → AreEach Is es → Is key x → AreEach Is (with_key es key x)
+  put_each Is [] key x each is = (is, tt)
+  put_each Is (e ∷ es) key x each is =
+      cond_both (leb key e.0) _ _ (AreEach Is)
+      (λ _. (is, each))
+      (λ _. (each.0, put_each Is es key x each.1 is))
+
+  pub removed_each : (Is : ℕ → X → Type 0) (es : Entries X) (key : ℕ) → AreEach Is es → AreEach Is (without_key es key)
+  removed_each Is [] key each = tt
+  removed_each Is (e ∷ es) key each =
+      cond_both (eqb e.0 key) _ _ (AreEach Is)
+      (λ _. each.1)
+      (λ _. (each.0, removed_each Is es key each.1))
 
   -- ---- a value is changed
 

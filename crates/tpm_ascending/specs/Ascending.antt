@@ -43,6 +43,11 @@ module _ {X : Type 0} where
   Ascends [] = Unit {0}
   Ascends (e ∷ es) = AllAbove e.0 es × Ascends es
 
+  -- this holds of each value under its key
+  abbrev pub AreEach : (ℕ → X → Type 0) → Entries X → Type 0
+  AreEach Is [] = Unit {0}
+  AreEach Is (e ∷ es) = Is e.0 e.1 × AreEach Is es
+
   -- A value was put under a free key, where there was room; or nothing changed, for the key is
   -- taken, or it is free and there are as many as may be, or there was room and memory was refused.
   abbrev pub PutsKey : ℕ → Bool → Entries X → ℕ → X → Result (Unit {0}) KeyFault → Entries X

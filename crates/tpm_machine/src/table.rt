@@ -32,6 +32,7 @@ use tpm_actions::start_auth_session::start_auth_session;
 use tpm_actions::startup::startup;
 use tpm_actions_object::create::create;
 use tpm_actions_object::create_primary::create_primary;
+use tpm_actions_object::evict_control::evict_control;
 use tpm_actions_object::hmac::hmac;
 use tpm_actions_object::load::load;
 use tpm_actions_object::read_public::read_public;
@@ -81,6 +82,7 @@ fn act<K: Keep>(
         (K.record_of keep.old) result answer.new (K.record_of keep.new) }
 {
     match code {
+        CommandCode::EvictControl => evict_control(keep, call, answer),
         CommandCode::NvUndefineSpace => nv_undefine_space(keep, call, answer),
         CommandCode::HierarchyChangeAuth => hierarchy_change_auth(keep, call, answer),
         CommandCode::NvDefineSpace => nv_define_space(keep, call, answer),

@@ -1,8 +1,11 @@
--- A success takes one place more where its command grows, and else no more.
+-- A success takes one place more where its command grows, and else no more; that of
+-- TPM2_EvictControl one more or one less.
 use Rattle.std.proofs.Common.{rules, arith, ◌≡◌, ◌+◌, ℕ, Bool, true, false, List, Option, Some, Ok, IfOk, slice_set, refl, ap, ◌∙◌, inl, inr}
 use Rattle.tpm_types_command.specs.declared.command_code.CommandCode.{CommandCode}
 use Rattle.tpm_types_command.specs.declared.command_code.CommandCode.TheVariants as command
 use Rattle.tpm_types.specs.declared.handle.Handle.{Handle}
+use Rattle.tpm_types.specs.Handle.{is_persistent, platform_handle}
+use Rattle.tpm_types.specs.PersistentHandle.{persistent_handle_at}
 use Rattle.tpm_types_command.specs.CommandCode.{shape_of}
 use Rattle.tpm_object.specs.Object.{transient_byte}
 use Rattle.tpm_object.specs.declared.object.Object.{Object}
@@ -11,17 +14,18 @@ use Rattle.tpm_session.specs.declared.session.Session.{Session}
 use Rattle.tpm_session.specs.Session.{with_policy}
 use Rattle.tpm_record.specs.Record.{Record}
 use Rattle.tpm_actions.specs.Request.{Request, first_handle, second_handle}
-use Rattle.tpm_actions.specs.Rows.{all_read}
+use Rattle.tpm_actions.specs.Rows.{all_read, only}
 use Rattle.tpm_actions.specs.FlushContext.{flush_context_row, flushed_handle}
 use Rattle.tpm_actions.specs.StartAuthSession.{parameters_in, parameters_pass, session_place, start_auth_session_row}
 use Rattle.tpm_actions_object.specs.CreatePrimary.{create_primary_row, named_hierarchy}
 use Rattle.tpm_actions_object.specs.Creation.{parameters_in as creation_parameters}
+use Rattle.tpm_actions_object.specs.EvictControl.{copied, evict_control_row, evicted, eviction_passes, removed}
 use Rattle.tpm_actions_object.specs.Load.{load_row, parameters_in as load_parameters, sensitive_of}
 use Rattle.tpm_actions_object.specs.Checks.{given_passes, public_passes}
 use Rattle.tpm_actions_object.specs.Loaded.{is_fixed, loaded_at, parent_passes, place_for}
 use Rattle.tpm_actions_policy.specs.Assertions.{assertion_in, assertion_row, policy_after, policy_session, session_handle, with_assertion}
 use Rattle.tpm_actions_policy.specs.PolicyRestart.{policy_restart_row}
-use Rattle.tpm_ascending.proofs.AscendingLaws.{changed_length, put_length, removed_few}
+use Rattle.tpm_ascending.proofs.AscendingLaws.{changed_length, put_length, removed_few, removed_length}
 use Rattle.tpm_nv.specs.Access.{bits_set, extended, incremented, read_locked, with_auth_value, write_locked, written}
 use Rattle.tpm_nv.specs.Index.{NvContents, NvIndex, with_index, without_index}
 use Rattle.tpm_nv.specs.Startup.{started}
@@ -39,17 +43,19 @@ use Rattle.tpm_nvactions.specs.NvWrite.{nv_write_row}
 use Rattle.tpm_nvactions.specs.NvWriteLock.{nv_write_lock_row}
 use Rattle.tpm_types.specs.declared.refused.Refused.{Refused}
 use Rattle.tpm_bytes.specs.Reading.{◌>>=◌}
-use Rattle.std.specs.Prelude.{Result, Err, length}
+use Rattle.std.specs.Prelude.{Result, Err, length, if◌then◌else◌, ◌==◌}
 use Rattle.std.proofs.lemmas.List.{length-map}
 use Rattle.tpm_machine_step.specs.Table.{row_of}
-use Rattle.tpm_machine_laws.specs.Footprint.{Part, Nothing, Sessions, Objects, SessionsAndObjects, Nv, AuthValues, Lockout, Banks, Beginning, Saved, StartsNv, Touches, part_of}
+use Rattle.tpm_machine_laws.specs.Footprint.{Part, Nothing, Sessions, Objects, SessionsAndObjects, Persistent, Nv, AuthValues, Lockout, Banks, Beginning, Saved, StartsNv, Touches, part_of}
 use Rattle.tpm_machine_laws.proofs.Binding.{ok_bind, ok_bind_is, ok_then, ok_weaker, some_is}
 use Rattle.tpm_machine_laws.proofs.Footprint.{row_touches}
 use Rattle.tpm_places.specs.Places.{taken_count}
 use Rattle.tpm_places.proofs.NumberedLaws.{changed_taken, put_taken, removed_taken}
 use Rattle.tpm_session.specs.Sessions.{flushed, session_byte, with_session_policy}
-use Rattle.tpm_record.specs.Objects.{with_object, without_object}
-use Rattle.tpm_machine_laws.specs.Shapes.{Grows, taken_in}
+use Rattle.tpm_record.specs.Entity.{object_of}
+use Rattle.tpm_record.specs.Objects.{object_at, with_object, without_object}
+use Rattle.tpm_record.specs.Persistent.{persistent_at, with_persistent, without_persistent}
+use Rattle.tpm_machine_laws.specs.Shapes.{Grows, GrowsAsShaped, taken_in}
 
 -- ---- one place more
 
@@ -87,6 +93,32 @@ load_grows r q =
     ok_bind _ (public_passes 1 (is_fixed parent) p.public) _ (λ t.
     ok_bind _ (sensitive_of parent p.public p.private) _ (λ sensitive.
     ok_bind_is _ (place_for 6 r) _ (λ place is. more_objects r 6 place _ is)))))))
+
+-- ---- a persistent object more, or one less
+
+evicted_grows : (r : Record) (h : Handle) (o : Object) (wanted : Handle) → loaded_at r h ≡ Ok o → IfOk (evicted r.persistent h o wanted) (λ persistent. GrowsAsShaped command.EvictControl r (record r { persistent = persistent }))
+unfolding object_of
+evicted_grows r h o wanted is = by (is_persistent h) (some_is _ _ o is)
+  where
+    by : (b : Bool) → (if b then persistent_at r.persistent h else object_at r.objects h) ≡ Some o → IfOk (if b then removed r.persistent h wanted else copied r.persistent o wanted) (λ persistent. GrowsAsShaped command.EvictControl r (record r { persistent = persistent }))
+    by true there =
+        let less = removed_length r.persistent h.number o there in
+        let after : GrowsAsShaped command.EvictControl r (record r { persistent = without_persistent r.persistent h }) = inr (omega (arith, less)) in
+        search (rules, ok_bind)
+    by false there =
+        let more = put_length r.persistent wanted.number o in
+        let after : GrowsAsShaped command.EvictControl r (record r { persistent = with_persistent r.persistent wanted o }) = inl (omega (arith, more)) in
+        search (rules, ok_bind)
+
+evict_grows : (r : Record) (q : Request) → IfOk (evict_control_row r q) (λ s. GrowsAsShaped command.EvictControl r s.after)
+unfolding evict_control_row
+evict_grows r q =
+    ok_bind _ (first_handle q.handles) _ (λ auth.
+    ok_bind _ (second_handle q.handles) _ (λ h.
+    ok_bind_is _ (loaded_at r h) _ (λ o is.
+    ok_bind _ (only (persistent_handle_at q.parameters)) _ (λ wanted.
+    ok_bind _ (eviction_passes (auth.number == platform_handle.number) (is_persistent h) o wanted) _ (λ passed.
+    ok_then _ _ (evicted r.persistent h o wanted) _ (evicted_grows r h o wanted is) (λ persistent grows. grows))))))
 
 -- ---- no more places
 
@@ -226,11 +258,12 @@ change_auth_grows r q = search nv_counts
 
 -- ---- all others
 
--- whether a part is none of the sessions, the objects and the NV indices
+-- whether a part is none of the sessions, the objects, transient or persistent, and the NV indices
 abbrev pub keeps_places : Part → Bool
 keeps_places Sessions = false
 keeps_places Objects = false
 keeps_places SessionsAndObjects = false
+keeps_places Persistent = false
 keeps_places Nv = false
 keeps_places _ = true
 
@@ -239,6 +272,7 @@ touched_grows Nothing old new fixed touches = let same = ap (λ (r : Record). ta
 touched_grows Sessions old new fixed touches = absurd cc
 touched_grows Objects old new fixed touches = absurd cc
 touched_grows SessionsAndObjects old new fixed touches = absurd cc
+touched_grows Persistent old new fixed touches = absurd cc
 touched_grows Nv old new fixed touches = absurd cc
 touched_grows AuthValues old new fixed touches = let same = ap (λ (r : Record). taken_in r) touches.0 in omega (arith, same)
 touched_grows Lockout old new fixed touches = let same = ap (λ (r : Record). taken_in r) touches in omega (arith, same)
@@ -252,8 +286,9 @@ touched_grows Saved old new fixed touches = let same = ap (λ (r : Record). take
 fixed_grows : (r : Record) (c : CommandCode) (q : Request) → keeps_places (part_of c) ≡ true → IfOk (row_of r c q) (λ s. Grows false r s.after)
 fixed_grows r c q fixed = ok_weaker (λ s. Touches (part_of c) r s.after) _ (row_of r c q) (row_touches r c q) (λ s touches. touched_grows (part_of c) r s.after fixed touches)
 
-pub row_grows : (r : Record) (c : CommandCode) (q : Request) → IfOk (row_of r c q) (λ s. Grows (shape_of c).grows r s.after)
+pub row_grows : (r : Record) (c : CommandCode) (q : Request) → IfOk (row_of r c q) (λ s. GrowsAsShaped c r s.after)
 unfolding row_of shape_of
+row_grows r command.EvictControl q = evict_grows r q
 row_grows r command.StartAuthSession q = start_grows r q
 row_grows r command.CreatePrimary q = create_primary_grows r q
 row_grows r command.Load q = load_grows r q

@@ -7,6 +7,7 @@ use Rattle.std.proofs.lemmas.Result.{IfErr-at_err}
 use Rattle.std.specs.Option.{option_map_or}
 use Rattle.std.proofs.lemmas.Bool.{eqb-true}
 use Rattle.std.specs.Prelude.{length, nat_lt, ◌==◌, ◌||◌, if◌then◌else◌, not, ok_or, option_map}
+use Rattle.tpm_ascending.specs.Ascending.{Entries}
 use Rattle.tpm_bytes.specs.Reading.{◌>>=◌, refused_if}
 use Rattle.tpm_types_command.specs.declared.command_code.CommandCode.{CommandCode}
 use Rattle.tpm_types_command.specs.declared.command_code.CommandCode.TheVariants as command
@@ -21,7 +22,7 @@ use Rattle.tpm_types_command.specs.declared.shape.HandleRule.{HandleRule}
 use Rattle.tpm_types_command.specs.declared.shape.ParameterKind.{ParameterKind}
 use Rattle.tpm_types_command.specs.CommandCode.{shape_of}
 use Rattle.tpm_types_command.specs.Shape.{admin, unauthorized, user}
-use Rattle.tpm_types.specs.Handle.{handle_type, hierarchy_of}
+use Rattle.tpm_types.specs.Handle.{handle_type, hierarchy_of, is_persistent}
 use Rattle.tpm_object.specs.declared.creation.CreationFault.{CreationFault}
 use Rattle.tpm_object.specs.declared.template.TemplateFault.{TemplateFault}
 use Rattle.tpm_policy.specs.State.{Policy}
@@ -54,6 +55,7 @@ use Rattle.tpm_actions_object.specs.Checks.{creation_refusal, template_refusal}
 use Rattle.tpm_actions_object.specs.Create.{create_row}
 use Rattle.tpm_actions_object.specs.CreatePrimary.{create_primary_row, named_hierarchy}
 use Rattle.tpm_actions_object.specs.Creation.{parameters_in as creation_parameters}
+use Rattle.tpm_actions_object.specs.EvictControl.{copied, evict_control_row, evicted, removed}
 use Rattle.tpm_actions_object.specs.Hmac.{hmac_row, parameters_in as hmac_parameters, scheme_of}
 use Rattle.tpm_actions_object.specs.Load.{load_row, parameters_in as load_parameters}
 use Rattle.tpm_actions_object.specs.Loaded.{loaded_at}
@@ -296,6 +298,14 @@ late_start Fit type kind = grind arith
 late_assertion : (Fit : Type 0) (x : Result Policy PolicyFault) → Late Fit (by_its_check x)
 late_assertion Fit x = grind arith
 
+-- a persistent object is removed, or a transient one copied
+late_evicted : (Fit : Type 0) (objects : Entries Object) (h : Handle) (o : Object) (wanted : Handle) → Late Fit (evicted objects h o wanted)
+late_evicted Fit objects h o wanted = by (is_persistent h)
+  where
+    by : (b : Bool) → Late Fit (if b then removed objects h wanted else copied objects o wanted)
+    by true = search (rules, err_bind, err_if)
+    by false = search (rules, err_bind, err_if)
+
 -- ---- changes of NV indices
 
 -- a step of a change, whose faults are refused so
@@ -359,7 +369,7 @@ late_auth_value Fit r role h value fits =
 ruleset late_changes = (late_written, late_incremented, late_bits, late_extended, late_readable, late_read, late_write_locked, late_read_locked, late_auth_value, late_definition)
 
 -- and all others
-ruleset late_steps = (rules, err_bind, err_if, err_or, err_fault, late_template, late_creation, late_scheme, late_assertion, late_session)
+ruleset late_steps = (rules, err_bind, err_if, err_or, err_fault, late_template, late_creation, late_scheme, late_assertion, late_session, late_evicted)
 
 -- ---- rows
 
@@ -394,7 +404,7 @@ nv_public_orders r q =
     behind_reading r _ q.handles _ q.parameters (all_read q.parameters) _ (all_read_outcome (all_read q.parameters)) (λ ended. tt)))
 
 row_orders : (r : Record) (c : CommandCode) (q : Request) → Orders r (shape_of c).handles q.handles (shape_of c).parameters q.parameters (row_of r c q)
-unfolding row_of shape_of startup_row shutdown_row self_test_row read_clock_row get_random_row pcr_read_row pcr_extend_row pcr_event_row pcr_reset_row dictionary_attack_lock_reset_row dictionary_attack_parameters_row flush_context_row hierarchy_change_auth_row start_auth_session_row create_row create_primary_row hmac_row load_row read_public_row unseal_row assertion_row policy_get_digest_row policy_restart_row start_parameters creation_parameters hmac_parameters load_parameters secret_parameters parameters_pass nv_define_space_row nv_extend_row nv_increment_row nv_read_row nv_read_lock_row nv_set_bits_row nv_undefine_space_row nv_write_row nv_write_lock_row nv_read_parameters nv_write_parameters nv_parameters lockout_parameters
+unfolding row_of shape_of startup_row shutdown_row self_test_row read_clock_row get_random_row pcr_read_row pcr_extend_row pcr_event_row pcr_reset_row dictionary_attack_lock_reset_row dictionary_attack_parameters_row flush_context_row hierarchy_change_auth_row start_auth_session_row create_row create_primary_row evict_control_row hmac_row load_row read_public_row unseal_row assertion_row policy_get_digest_row policy_restart_row start_parameters creation_parameters hmac_parameters load_parameters secret_parameters parameters_pass nv_define_space_row nv_extend_row nv_increment_row nv_read_row nv_read_lock_row nv_set_bits_row nv_undefine_space_row nv_write_row nv_write_lock_row nv_read_parameters nv_write_parameters nv_parameters lockout_parameters
 row_orders r command.Startup q = search (handle_steps, reading_steps, late_steps, late_start) depth 16
 row_orders r command.NvDefineSpace q = search (behind_first, behind_reading, define_reads, rules, err_bind, err_if, late_definition) depth 16
 row_orders r command.NvChangeAuth q = change_auth_orders r q

@@ -18,7 +18,7 @@ use Rattle.tpm_actions.specs.StartAuthSession.{parameters_in, parameters_pass, s
 use Rattle.tpm_actions_policy.specs.Assertions.{assertion_in, assertion_row, policy_after, policy_session, session_handle, with_assertion}
 use Rattle.tpm_actions_policy.specs.PolicyRestart.{policy_restart_row}
 use Rattle.tpm_machine_step.specs.Table.{row_of}
-use Rattle.tpm_machine_laws.specs.Footprint.{Part, Nothing, Sessions, Objects, SessionsAndObjects, Nv, AuthValues, Lockout, Banks, Beginning, Saved, Touches, part_of}
+use Rattle.tpm_machine_laws.specs.Footprint.{Part, Nothing, Sessions, Objects, SessionsAndObjects, Persistent, Nv, AuthValues, Lockout, Banks, Beginning, Saved, Touches, part_of}
 use Rattle.tpm_machine_laws.proofs.Binding.{ok_bind, ok_bind_is, ok_then, ok_weaker, some_is}
 use Rattle.tpm_machine_laws.proofs.Footprint.{row_touches}
 use Rattle.tpm_bytes.proofs.Fields.{bind_ok, passed}
@@ -108,6 +108,7 @@ touched_stays Nothing old new leaves touches = sessions_same old new (ap (λ (r 
 touched_stays Sessions old new leaves touches = absurd cc
 touched_stays Objects old new leaves touches = sessions_same old new (ap (λ (r : Record). r.sessions) touches)
 touched_stays SessionsAndObjects old new leaves touches = absurd cc
+touched_stays Persistent old new leaves touches = sessions_same old new (ap (λ (r : Record). r.sessions) touches)
 touched_stays Nv old new leaves touches = sessions_same old new (ap (λ (r : Record). r.sessions) touches)
 touched_stays AuthValues old new leaves touches = sessions_same old new (ap (λ (r : Record). r.sessions) touches.0)
 touched_stays Lockout old new leaves touches = sessions_same old new (ap (λ (r : Record). r.sessions) touches)
@@ -131,6 +132,7 @@ row_stays r command.PolicyLocality q may = assertion_stays r command.PolicyLocal
 row_stays r command.PolicySecret q may = assertion_stays r command.PolicySecret q
 row_stays r command.PolicyNv q may = assertion_stays r command.PolicyNv q
 row_stays r command.PolicyRestart q may = restart_stays r q
+row_stays r command.EvictControl q may = other_stays r command.EvictControl q refl
 row_stays r command.NvDefineSpace q may = other_stays r command.NvDefineSpace q refl
 row_stays r command.NvUndefineSpace q may = other_stays r command.NvUndefineSpace q refl
 row_stays r command.NvWrite q may = other_stays r command.NvWrite q refl

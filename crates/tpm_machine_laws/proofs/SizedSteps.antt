@@ -3,6 +3,7 @@ use Rattle.std.proofs.Common.{arith, ◌≡◌, ℕ, Bool, true, false, cond, Li
 use Rattle.std.specs.Prelude.{IfSome, is_some, not}
 use Rattle.std.specs.Option.{option_map_or}
 use Rattle.std.proofs.lemmas.List.{length-drop}
+use Rattle.tpm_ascending.specs.Ascending.{AreEach, Entries}
 use Rattle.tpm_places.specs.Places.{AreAll, at_place}
 use Rattle.tpm_policy.specs.State.{starting}
 use Rattle.tpm_session.specs.Session.{with_nonce}
@@ -19,6 +20,7 @@ use Rattle.tpm_types_command.specs.Command.{Whole}
 use Rattle.tpm_types_command.specs.CommandCode.{shape_of}
 use Rattle.tpm_lockout.specs.Lockout.{LockoutState}
 use Rattle.tpm_record.specs.Cycle.{cycled}
+use Rattle.tpm_record.specs.Persistent.{IsPersistent}
 use Rattle.tpm_record.specs.Record.{Record, manufactured}
 use Rattle.tpm_record.specs.IsRecord.{IsRecord}
 use Rattle.tpm_record.specs.Tick.{ticked}
@@ -54,10 +56,10 @@ use Rattle.tpm_machine_laws.proofs.SizedRows.{flushed_all, policy_all, row_sized
 -- ---- no session and no object
 
 pub manufactured_sized : (random : List ℕ) → AreSized (manufactured random)
-manufactured_sized random = record { sessions = all_free IsSized 16; objects = all_free (λ (o : Object). IsWhole o.public) 8 }
+manufactured_sized random = record { sessions = all_free IsSized 16; objects = all_free (λ (o : Object). IsWhole o.public) 8; persistent = tt }
 
-pub cycled_sized : (r : Record) → AreSized (cycled r)
-cycled_sized r = record { sessions = all_free IsSized 16; objects = all_free (λ (o : Object). IsWhole o.public) 8 }
+pub cycled_sized : (r : Record) → AreSized r → AreSized (cycled r)
+cycled_sized r sized = record { sessions = all_free IsSized 16; objects = all_free (λ (o : Object). IsWhole o.public) 8; persistent = sized.persistent }
 
 -- ---- new nonces
 
@@ -163,7 +165,7 @@ accepted_fits r buffer locality random enough sized =
 -- neither is what was saved, which a success may cancel
 settled_sized : (keeps : Bool) (r : Record) → AreSized r → AreSized (cond keeps r (with_saved r Nothing))
 settled_sized true r sized = sized
-settled_sized false r sized = record { sessions = sized.sessions; objects = sized.objects }
+settled_sized false r sized = record { sessions = sized.sessions; objects = sized.objects; persistent = sized.persistent }
 
 success_sized : (a : Accepted) (random : List ℕ) → 256 ≤ length random → Fits a → AreSized (success_step a random).after
 success_sized a random enough fits =
@@ -172,7 +174,7 @@ success_sized a random enough fits =
 
 -- what a refusal counts is neither a session nor an object
 counted_sized : (r : Record) (lockout : LockoutState) → AreSized r → AreSized (with_lockout r lockout)
-counted_sized r lockout sized = record { sessions = sized.sessions; objects = sized.objects }
+counted_sized r lockout sized = record { sessions = sized.sessions; objects = sized.objects; persistent = sized.persistent }
 
 answer_where_sized : (refused : Bool) (r : Record) (random : List ℕ) (a : Result Accepted Refusal) → 256 ≤ length random → AreSized r → IfOk a Fits → AreSized (answer_where refused r random a).after
 answer_where_sized false r random (Ok a) enough sized fits = success_sized a random enough fits
@@ -187,10 +189,10 @@ answer_where_sized true r random (Ok a) enough sized fits = by (shape_of a.comma
 pub step_sized : (refused : Bool) (r : Record) (event : Happening) → IsEvent event → AreSized r → AreSized (step_where refused r event).after
 step_sized refused r (Given buffer locality elapsed random) happens sized =
     let t = ticked r elapsed in
-    let later : AreSized t = record { sessions = sized.sessions; objects = sized.objects } in
+    let later : AreSized t = record { sessions = sized.sessions; objects = sized.objects; persistent = sized.persistent } in
     let enough : 256 ≤ length random = omega (arith, happens.2) in
     answer_where_sized refused t random (accepted t buffer locality random) enough later (accepted_fits t buffer locality random (omega (arith, enough)) later)
-step_sized refused r Cycled happens sized = cycled_sized r
+step_sized refused r Cycled happens sized = cycled_sized r sized
 
 pub execution_sized : (can : Bool) (r : Record) (event : Happening) (x : Stepped) → Executes can r event x → AreSized r → AreSized x.after
 execution_sized can r event x executes sized =
@@ -222,6 +224,16 @@ public_found None is whole = tt
 
 pub public_areas : (r : Record) → IsRecord r → AreSized r → AreAll (λ object. IsPublic object.public) r.objects
 public_areas r is sized place = public_found (at_place r.objects place) (is.each_object place) (sized.objects place)
+
+entries_public : (es : Entries Object) → AreEach IsPersistent es → AreEach (λ number object. IsWhole object.public) es → AreEach (λ number object. IsPublic object.public) es
+entries_public [] are whole = tt
+entries_public (e ∷ es) are whole = (whole.0 are.0.sized.attributes, entries_public es are.1 whole.1)
+
+pub persistent_areas : (r : Record) → IsRecord r → AreSized r → AreEach (λ number object. IsPublic object.public) r.persistent
+persistent_areas r is sized = entries_public r.persistent is.persistent.each sized.persistent
+
+pub execution_persistent : (can : Bool) (old : Record) (event : Happening) (x : Stepped) → Executes can old event x → AreSized old → AreEach (λ number object. IsPublic object.public) x.after.persistent
+execution_persistent can old event x executes sized = persistent_areas x.after executes.is_record (execution_sized can old event x executes sized)
 
 pub execution_public : (can : Bool) (old : Record) (event : Happening) (x : Stepped) → Executes can old event x → AreSized old → AreAll (λ object. IsPublic object.public) x.after.objects
 execution_public can old event x executes sized = public_areas x.after executes.is_record (execution_sized can old event x executes sized)

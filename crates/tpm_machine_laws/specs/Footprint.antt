@@ -10,14 +10,16 @@ use Rattle.tpm_record.specs.declared.hierarchy.Hierarchies.{Hierarchies}
 use Rattle.tpm_record.specs.Hierarchy.{secrets_of}
 use Rattle.tpm_record.specs.Record.{Record}
 
--- the parts of a record: none of it; the sessions; the objects; both; the NV indices; the
--- authorization values of the hierarchies and of lockout; what protects against dictionary attacks;
--- the banks; what a startup begins, the NV indices too; and what a shutdown saves
+-- the parts of a record: none of it; the sessions; the transient objects; both; the persistent
+-- objects; the NV indices; the authorization values of the hierarchies and of lockout; what
+-- protects against dictionary attacks; the banks; what a startup begins, the NV indices too; and
+-- what a shutdown saves
 pub data Part : Type 0 where
   Nothing : Part
   Sessions : Part
   Objects : Part
   SessionsAndObjects : Part
+  Persistent : Part
   Nv : Part
   AuthValues : Part
   Lockout : Part
@@ -26,6 +28,7 @@ pub data Part : Type 0 where
   Saved : Part
 
 abbrev pub part_of : CommandCode → Part
+part_of command.EvictControl = Persistent
 part_of command.NvUndefineSpace = Nv
 part_of command.HierarchyChangeAuth = AuthValues
 part_of command.NvDefineSpace = Nv
@@ -102,6 +105,7 @@ Touches Nothing old new = new ≡ old
 Touches Sessions old new = new ≡ record old { sessions = new.sessions }
 Touches Objects old new = new ≡ record old { objects = new.objects }
 Touches SessionsAndObjects old new = new ≡ record old { sessions = new.sessions; objects = new.objects }
+Touches Persistent old new = new ≡ record old { persistent = new.persistent }
 Touches Nv old new = new ≡ record old { nv = new.nv }
 Touches AuthValues old new =
     (new ≡ record old { fixed = record old.fixed { hierarchies = new.fixed.hierarchies } })

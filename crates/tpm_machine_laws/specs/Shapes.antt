@@ -4,6 +4,7 @@ use Rattle.std.specs.Int.{w8, w16, w32, w64}
 use Rattle.tpm_bytes.specs.Reading.{◌>>=◌, number_at, or_fault}
 use Rattle.tpm_places.specs.Places.{taken_count}
 use Rattle.tpm_types_command.specs.declared.command_code.CommandCode.{CommandCode}
+use Rattle.tpm_types_command.specs.declared.command_code.CommandCode.TheVariants as command
 use Rattle.tpm_types.specs.declared.rc.Rc.{Rc}
 use Rattle.tpm_types.specs.declared.rc.ResponseCode.TheVariants as code
 use Rattle.tpm_types_command.specs.declared.shape.ParameterKind.{ParameterKind}
@@ -15,6 +16,7 @@ use Rattle.tpm_types.specs.DigestList.{digest_list_at}
 use Rattle.tpm_types.specs.DigestValues.{digest_values_at}
 use Rattle.tpm_types_object.specs.Filled.{filled_by}
 use Rattle.tpm_types.specs.PcrSelection.{selection_at}
+use Rattle.tpm_types.specs.PersistentHandle.{persistent_handle_at}
 use Rattle.tpm_types_object.specs.Public.{public_at}
 use Rattle.tpm_types_nv.specs.NvPublic.{nv_public_at}
 use Rattle.tpm_types.specs.Operation.{operation_at}
@@ -38,14 +40,21 @@ AnswersItsShape c s =
     (is_some s.answer.handle ≡ (shape_of c).answers_handle)
     × (begins_sized s.answer.body ≡ (shape_of c).sized_answer)
 
--- how many places are taken, by sessions, by objects and by NV indices
+-- how many places are taken, by sessions, by objects, transient and persistent, and by NV indices
 abbrev pub taken_in : Record → ℕ
-taken_in r = taken_count r.sessions + taken_count r.objects + length r.nv.indices
+taken_in r =
+    taken_count r.sessions + taken_count r.objects + length r.persistent + length r.nv.indices
 
 -- One place more is taken where a command grows; else no more are.
 abbrev pub Grows : Bool → Record → Record → Type 0
 Grows true old new = taken_in new ≡ taken_in old + 1
 Grows false old new = taken_in new ≤ taken_in old
+
+-- A success of TPM2_EvictControl takes one place more or gives one back, and that of any other
+-- command takes one more exactly where it grows by its shape.
+abbrev pub GrowsAsShaped : CommandCode → Record → Record → Type 0
+GrowsAsShaped command.EvictControl old new = Grows true old new ⊎ Grows true new old
+GrowsAsShaped c old new = Grows (shape_of c).grows old new
 
 -- what stands behind a parameter, or its fault
 abbrev pub behind : {X : Type 0} → Result (X × List ℕ) Rc → Result (List ℕ) Rc
@@ -72,6 +81,7 @@ behind_kind kind.Public text = behind (filled_by public_at text)
 behind_kind kind.NvPublic text = behind (filled_by nv_public_at text)
 behind_kind kind.Operation text = behind (operation_at text)
 behind_kind kind.YesNo text = behind (yes_no_at text)
+behind_kind kind.PersistentHandle text = behind (persistent_handle_at text)
 
 -- parameters of these kinds, the first of them of this number, and nothing behind them; or the first
 -- fault

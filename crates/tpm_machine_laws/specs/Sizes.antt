@@ -1,5 +1,6 @@
 -- Sizes that sessions and objects have by how they are made, and that no type of the code says.
 use Rattle.std.specs.Prelude.{◌≡◌, ◌⊎◌, ◌<◌, ◌^◌, true, [], length}
+use Rattle.tpm_ascending.specs.Ascending.{AreEach}
 use Rattle.tpm_mac.specs.Digest.{digest_size}
 use Rattle.tpm_places.specs.Places.{AreAll}
 use Rattle.tpm_session.specs.Key.{is_nonce_size}
@@ -21,7 +22,8 @@ pub record IsSized (session : Session) : Type 0 where
 abbrev pub IsWhole : Public → Type 0
 IsWhole public = public.attributes.bits < 2 ^ 32 → IsPublic public
 
--- Every session is sized, and every object has such a public area.
+-- Every session is sized, and every object, transient or persistent, has such a public area.
 pub record AreSized (r : Record) : Type 0 where
   pub sessions : AreAll IsSized r.sessions
   pub objects : AreAll (λ o. IsWhole o.public) r.objects
+  pub persistent : AreEach (λ number o. IsWhole o.public) r.persistent

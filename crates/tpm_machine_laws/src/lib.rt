@@ -16,6 +16,7 @@ ghost use Rattle.tpm_types_object.specs.Public.{IsPublic};
 ghost use Rattle.tpm_types_command.specs.Command.{Whole};
 ghost use Rattle.tpm_types_command.specs.CommandCode.{shape_of};
 ghost use Rattle.tpm_types_command.specs.declared.command_code.CommandCode.{CommandCode};
+ghost use Rattle.tpm_ascending.specs.Ascending.{AreEach};
 ghost use Rattle.tpm_places.specs.Places.{AreAll};
 ghost use Rattle.tpm_record.specs.Cycle.{cycled};
 ghost use Rattle.tpm_record.specs.IsRecord.{IsRecord};
@@ -36,7 +37,7 @@ ghost use Rattle.tpm_machine_laws.specs.Grants.{GrantsFit};
 ghost use Rattle.tpm_machine_laws.specs.Handles.{HandlesFit};
 ghost use Rattle.tpm_machine_laws.specs.Refusals.{Passes, RefusesAuthorization};
 ghost use Rattle.tpm_machine_laws.specs.Sessions.{HaveSessions, SessionsStay};
-ghost use Rattle.tpm_machine_laws.specs.Shapes.{AnswersItsShape, Grows, ReadsParameters, spelled};
+ghost use Rattle.tpm_machine_laws.specs.Shapes.{AnswersItsShape, GrowsAsShaped, ReadsParameters, spelled};
 ghost use Rattle.tpm_machine_laws.specs.Sizes.{AreSized};
 
 use tpm_machine_step::event::Outcome;
@@ -57,12 +58,13 @@ pub fn rows_answer_their_shapes()
         → IfOk (row_of r c q) (AnswersItsShape c) }
 {}
 
-/// A success of a command that grows takes one place more, and of any other no more.
+/// A success of a command that grows takes one place more, and of any other no more; but that of
+/// TPM2_EvictControl, by which an object may be removed too, one more or one less.
 #[inline(always)]
 #[tactic(auto, using(crate::proofs::Growth::row_grows))]
 pub fn rows_grow_by_their_shapes()
     ensures { (r : Record) (c : CommandCode) (q : Request)
-        → IfOk (row_of r c q) (λ s. Grows (shape_of c).grows r s.after) }
+        → IfOk (row_of r c q) (λ s. GrowsAsShaped c r s.after) }
 {}
 
 /// A row that refuses no handle refuses parameters exactly where they are not of the kinds that its
@@ -138,13 +140,14 @@ pub fn grants_fit_entries_and_handles()
         → IfOk (authorize r c locality) (GrantsFit c) }
 {}
 
-/// A device as it is manufactured, and a device after a power cycle, has no session and no object,
-/// and so all of them have their sizes.
+/// A device as it is manufactured has no session and no object, and so all of them have their
+/// sizes; and after a power cycle it has no session and no transient object, and the persistent
+/// ones that it had.
 #[inline(always)]
-#[tactic(auto, using(crate::proofs::AllPlaces::all_free))]
+#[tactic(auto, using(crate::proofs::SizedSteps::manufactured_sized, crate::proofs::SizedSteps::cycled_sized))]
 pub fn devices_begin_sized()
     ensures manufactured { (random : List ℕ) → AreSized (manufactured random) }
-    ensures cycled { (r : Record) → AreSized (cycled r) }
+    ensures cycled { (r : Record) → AreSized r → AreSized (cycled r) }
 {}
 
 /// A success draws at most 96 of the event's 256 random bytes.
@@ -189,6 +192,9 @@ pub fn executions_keep_sizes()
     ensures public { (can : Bool) (old : Record) (event : Happening) (x : Stepped)
         → Executes can old event x → AreSized old
         → AreAll (λ object. IsPublic object.public) x.after.objects }
+    ensures persistent { (can : Bool) (old : Record) (event : Happening) (x : Stepped)
+        → Executes can old event x → AreSized old
+        → AreEach (λ number object. IsPublic object.public) x.after.persistent }
 {}
 
 /// And every run of events leaves them.
@@ -208,8 +214,10 @@ pub fn histories_keep_sizes()
 
 /// Where all that holds of every record holds too, each object's public area is one.
 #[inline(always)]
-#[tactic(auto, using(crate::proofs::SizedSteps::public_areas))]
+#[tactic(auto, using(crate::proofs::SizedSteps::public_areas, crate::proofs::SizedSteps::persistent_areas))]
 pub fn objects_have_public_areas()
-    ensures { (r : Record) → IsRecord r → AreSized r
+    ensures transient { (r : Record) → IsRecord r → AreSized r
         → AreAll (λ object. IsPublic object.public) r.objects }
+    ensures persistent { (r : Record) → IsRecord r → AreSized r
+        → AreEach (λ number object. IsPublic object.public) r.persistent }
 {}

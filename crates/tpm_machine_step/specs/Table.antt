@@ -22,6 +22,7 @@ use Rattle.tpm_actions.specs.HierarchyChangeAuth.{hierarchy_change_auth_row}
 use Rattle.tpm_actions.specs.StartAuthSession.{start_auth_session_row}
 use Rattle.tpm_actions_object.specs.Create.{create_row}
 use Rattle.tpm_actions_object.specs.CreatePrimary.{create_primary_row}
+use Rattle.tpm_actions_object.specs.EvictControl.{evict_control_row}
 use Rattle.tpm_actions_object.specs.Hmac.{hmac_row}
 use Rattle.tpm_actions_object.specs.Load.{load_row}
 use Rattle.tpm_actions_object.specs.ReadPublic.{read_public_row}
@@ -43,6 +44,7 @@ use Rattle.tpm_nvactions.specs.NvWriteLock.{nv_write_lock_row}
 
 -- what a command does to a record
 unfoldable pub row_of : Record → CommandCode → Request → Result Success Refused
+row_of r command.EvictControl q = evict_control_row r q
 row_of r command.NvUndefineSpace q = nv_undefine_space_row r q
 row_of r command.HierarchyChangeAuth q = hierarchy_change_auth_row r q
 row_of r command.NvDefineSpace q = nv_define_space_row r q

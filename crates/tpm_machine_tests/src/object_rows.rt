@@ -6,6 +6,8 @@ use super::tables::{
 };
 use std::test::Fail;
 
+const EVICT_CONTROL: u32 = 0x120;
+
 const CREATE_PRIMARY: u32 = 0x131;
 
 const CREATE: u32 = 0x153;
@@ -23,6 +25,14 @@ const FIRST: &[u8] = &[0x80, 0, 0, 0];
 const SECOND: &[u8] = &[0x80, 0, 0, 1];
 
 const THIRD: &[u8] = &[0x80, 0, 0, 2];
+
+const PLATFORM: &[u8] = &[0x40, 0, 0, 12];
+
+/// The handles of persistent objects of the owner, but for their last byte, and one of the
+/// platform.
+const OWNERS: &[u8] = &[0x81, 0, 0];
+
+const PLATFORMS: &[u8] = &[0x81, 0x80, 0, 0];
 
 /// No authorization value, and four bytes.
 const GIVEN: &[u8] = &[0, 8, 0, 0, 0, 4, 0x4a, 0x65, 0x66, 0x65];
@@ -64,6 +74,9 @@ const STORAGE: &[u8] = &[
 const GIVEN_STORAGE: &[u8] = &[
     0, 18, 0, 0x25, 0, 11, 0, 3, 0, 0x52, 0, 0, 0, 6, 0, 0x80, 0, 0x43, 0, 0,
 ];
+
+/// A key of HMACs with stClear.
+const CLEARED: &[u8] = &[0, 16, 0, 8, 0, 11, 0, 4, 4, 0x44, 0, 0, 0, 5, 0, 11, 0, 0];
 
 /// Sealed data.
 const SEALED: &[u8] = &[0, 14, 0, 8, 0, 11, 0, 0, 0, 0x40, 0, 0, 0, 16, 0, 0];
@@ -213,6 +226,72 @@ fn each_check_of_objects_is_reported(rt: HostRuntime) -> Result<(), Fail> {
             &[(&[], "ok"), (&[], "A2")],
         ),
         rows_of(NO_SESSIONS, READ_PUBLIC, &[SECOND], &[(&[], "G6")]),
+    ];
+    check_tables(&rt, rt.alloc(), &tables)
+}
+
+#[test]
+fn each_check_of_evictions_is_reported(rt: HostRuntime) -> Result<(), Fail> {
+    let tables = [
+        rows_of(NO_SESSIONS, STARTUP, &[CLEAR], &[(&[], "ok")]),
+        rows_of(
+            SESSIONS,
+            CREATE_PRIMARY,
+            &[OWNER, PASSWORD],
+            &[
+                (&[GIVEN, KEY, NO_DATA, NONE], "ok"),
+                (&[GIVEN, CLEARED, NO_DATA, NONE], "ok"),
+            ],
+        ),
+        rows_of(
+            SESSIONS,
+            EVICT_CONTROL,
+            &[],
+            &[
+                (&[OWNER, FIRST, PASSWORD, FIRST], "G11"),
+                (&[PLATFORM, FIRST, PASSWORD, PLATFORMS], "A1"),
+                (&[OWNER, SECOND, PASSWORD, PLATFORMS], "A2"),
+                (&[OWNER, FIRST, PASSWORD, PLATFORMS], "A3"),
+                (&[OWNER, OWNERS, &[0], PASSWORD, OWNERS, &[0]], "G6"),
+            ],
+        ),
+        rows_of(
+            SESSIONS,
+            EVICT_CONTROL,
+            &[OWNER, FIRST, PASSWORD, OWNERS],
+            &[
+                (&[&[0]], "ok"),
+                (&[&[0]], "A5"),
+                (&[&[1]], "ok"),
+                (&[&[2]], "ok"),
+                (&[&[3]], "ok"),
+                (&[&[4]], "ok"),
+                (&[&[5]], "ok"),
+                (&[&[6]], "ok"),
+                (&[&[7]], "ok"),
+                (&[&[8]], "ok"),
+                (&[&[9]], "ok"),
+                (&[&[10]], "ok"),
+                (&[&[11]], "ok"),
+                (&[&[12]], "ok"),
+                (&[&[13]], "ok"),
+                (&[&[14]], "ok"),
+                (&[&[15]], "ok"),
+                (&[&[16]], "A6"),
+            ],
+        ),
+        rows_of(
+            SESSIONS,
+            EVICT_CONTROL,
+            &[OWNER, OWNERS, &[0], PASSWORD, OWNERS],
+            &[(&[&[1]], "A4"), (&[&[0]], "ok"), (&[&[0]], "G6")],
+        ),
+        rows_of(
+            SESSIONS,
+            EVICT_CONTROL,
+            &[PLATFORM, OWNERS, &[1], PASSWORD, OWNERS],
+            &[(&[&[1]], "ok")],
+        ),
     ];
     check_tables(&rt, rt.alloc(), &tables)
 }

@@ -2,10 +2,11 @@ ghost use Rattle.std.specs.Prelude.{◌≡◌};
 ghost use Rattle.tpm_types_object.specs.ObjectName.{object_name};
 ghost use Rattle.tpm_object.specs.Object.{are_of_cipher, is_cipher, is_keyed_hash, is_storage_parent, loaded_object};
 
+use tpm_mac::HashAlg;
 use tpm_name::Name;
 use tpm_places::{Kinded, Sizes};
-use tpm_types::{AuthValue, HierarchyHandle, Octets};
-use tpm_types_object::{ObjectAttribute, Public, PublicParameters, Sensitive};
+use tpm_types::{AuthValue, Handle, HierarchyHandle, Octets};
+use tpm_types_object::{ObjectAttribute, ObjectAttributes, Public, PublicParameters, Sensitive};
 
 /// A loaded object.
 #[derive(Drop)]
@@ -84,6 +85,26 @@ impl Sizes for Object {
         let _seed_value = self.seed_value.as_slice();
         let _sensitive = self.sensitive.as_slice();
         let _qualified_name = self.qualified_name.as_slice();
+    }
+}
+
+impl Default for Object {
+    /// What stands in a free place.
+    fn default() -> Object {
+        Object {
+            hierarchy: HierarchyHandle::Null,
+            public: Public {
+                name_alg: HashAlg::Sha1,
+                attributes: ObjectAttributes { bits: 0 },
+                auth_policy: Octets::empty(),
+                parameters: PublicParameters::SymCipher,
+                unique: Octets::empty(),
+            },
+            auth_value: AuthValue::empty(),
+            seed_value: Octets::empty(),
+            sensitive: Octets::empty(),
+            qualified_name: Name::of_handle(Handle::NULL),
+        }
     }
 }
 

@@ -1,5 +1,6 @@
 -- The record that is kept in containers of any kind.
 use Rattle.std.specs.Prelude.{List, Option}
+use Rattle.tpm_ascending.specs.Ascending.{Entries}
 use Rattle.tpm_nv.specs.Index.{NvContents}
 use Rattle.tpm_object.specs.declared.object.Object.{Object}
 use Rattle.tpm_session.specs.declared.session.Session.{Session}
@@ -8,13 +9,15 @@ use Rattle.tpm_record.specs.Objects.{objects_of}
 use Rattle.tpm_record.specs.Record.{Record}
 use Rattle.tpm_record.specs.declared.kept.Kept.{Kept}
 
--- by what shows the places of its sessions and of its objects, and its NV indices
-abbrev pub kept_record : {S O N : Type 0}
-    → (S → List (Option Session)) → (O → List (Option Object)) → (N → NvContents)
-    → Kept S O N → Record
-kept_record sessions objects nv keep = record {
+-- by what shows the places of its sessions and of its objects, its persistent objects, and its NV
+-- indices
+abbrev pub kept_record : {S O P N : Type 0}
+    → (S → List (Option Session)) → (O → List (Option Object)) → (P → Entries Object)
+    → (N → NvContents) → Kept S O P N → Record
+kept_record sessions objects persistent nv keep = record {
   fixed = keep.fixed;
   sessions = places_of sessions keep.sessions;
   objects = objects_of objects keep.objects;
+  persistent = persistent keep.persistent;
   nv = nv keep.nv;
 }

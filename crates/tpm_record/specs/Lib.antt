@@ -2,6 +2,7 @@ pub mod Hierarchy
 pub mod Saved
 pub mod Record
 pub mod Objects
+pub mod Persistent
 pub mod IsRecord
 pub mod Tick
 pub mod Cycle
@@ -17,3 +18,4 @@ pub use Rattle.tpm_session.specs.Sessions
 pub use Rattle.tpm_name.specs.Name
 pub use Rattle.tpm_object.specs.Object
 pub use Rattle.tpm_places.specs.Numbered
+pub use Rattle.tpm_ascending.specs.Ascending

@@ -12,6 +12,7 @@ ghost use Rattle.tpm_session.specs.declared.sessions.Sessions.{Sessions as Sessi
 
 use crate::fixed::Fixed;
 use crate::objects::Objects;
+use crate::persistent::PersistentObjects;
 use std::alloc::Global;
 use tpm_nv::Indices;
 use tpm_object::Object;
@@ -27,8 +28,11 @@ pub trait Keep: Drop + Sized {
     /// The places of its sessions.
     type Se: Places<Session, 16>;
 
-    /// The places of its objects.
+    /// The places of its transient objects.
     type Ob: Places<Object, 8>;
+
+    /// Its persistent objects.
+    type Pe: PersistentObjects;
 
     /// Its NV indices.
     type Nv: Indices;
@@ -42,8 +46,11 @@ pub trait Keep: Drop + Sized {
     /// The keep with other sessions.
     ghost with_sessions: { Self → SessionsParts Self.Se → Self };
 
-    /// The keep with other objects.
+    /// The keep with other transient objects.
     ghost with_objects: { Self → ObjectsParts Self.Ob → Self };
+
+    /// The keep with other persistent objects.
+    ghost with_persistent: { Self → Self.Pe → Self };
 
     /// The keep with other NV indices.
     ghost with_nv: { Self → Self.Nv → Self };
@@ -90,6 +97,16 @@ pub trait Keep: Drop + Sized {
             (with_objects self.entry.now)) }
         ensures value { objects_of Self.Ob.places result.now ≡ (record_of self.old).objects };
 
+    /// The persistent objects.
+    fn persistent(&self) -> &Self::Pe
+        ensures { Self.Pe.entries result.now ≡ (record_of self.now).persistent };
+
+    /// The persistent objects, to be changed.
+    fn persistent_mut(&mut self) -> &mut Self::Pe
+        ensures* writes_back { sem 𝓛 (Lends Self.row Self.Pe.row self.entry result
+            (with_persistent self.entry.now)) }
+        ensures value { Self.Pe.entries result.now ≡ (record_of self.old).persistent };
+
     /// The NV indices.
     fn nv(&self) -> &Self::Nv
         ensures { Self.Nv.contents result.now ≡ (record_of self.now).nv };
@@ -109,19 +126,27 @@ pub trait Keep: Drop + Sized {
         → record_of (with_sessions keep sessions)
         ≡ record (record_of keep) { sessions = places_of Self.Se.places sessions } };
 
-    /// And to the objects.
+    /// And to the transient objects.
     ghost objects_written: { (keep : Self) (objects : ObjectsParts Self.Ob)
         → record_of (with_objects keep objects)
         ≡ record (record_of keep) { objects = objects_of Self.Ob.places objects } };
+
+    /// And to the persistent objects.
+    ghost persistent_written: { (keep : Self) (persistent : Self.Pe)
+        → record_of (with_persistent keep persistent)
+        ≡ record (record_of keep) { persistent = Self.Pe.entries persistent } };
 
     /// And to the NV indices.
     ghost nv_written: { (keep : Self) (nv : Self.Nv)
         → record_of (with_nv keep nv) ≡ record (record_of keep) { nv = Self.Nv.contents nv } };
 
-    /// Memory can be refused where the sessions can be refused it, the objects, or the NV indices.
+    /// Memory can be refused where the sessions can be refused it, the objects, transient or
+    /// persistent, or the NV indices.
     ghost sessions_can_refuse: { Self.Se.can_refuse ≡ true → can_refuse ≡ true };
 
     ghost objects_can_refuse: { Self.Ob.can_refuse ≡ true → can_refuse ≡ true };
+
+    ghost persistent_can_refuse: { Self.Pe.can_refuse ≡ true → can_refuse ≡ true };
 
     ghost nv_can_refuse: { Self.Nv.can_refuse ≡ true → can_refuse ≡ true };
 }

@@ -3,30 +3,39 @@ ghost use Rattle.std.specs.Prelude.{◌≡◌};
 use crate::fixed::Fixed;
 use crate::keep::{Keep, NoMemory};
 use crate::objects::Objects;
+use crate::persistent::{ListObjects, PersistentObjects, SlotObjects};
 use std::alloc::Global;
 use tpm_nv::{Indices, ListIndices, SlotIndices};
 use tpm_object::Object;
 use tpm_places::{FixedPlaces, ListPlaces, Places};
 use tpm_session::{Session, Sessions};
 
-/// The record, with its sessions, its objects and its NV indices in containers of any kind.
+/// The record, with its sessions, its objects, transient and persistent, and its NV indices in
+/// containers of any kind.
 #[derive(Drop)]
-pub struct Kept<S: Places<Session, 16>, O: Places<Object, 8>, N: Indices> {
+pub struct Kept<S: Places<Session, 16>, O: Places<Object, 8>, P: PersistentObjects, N: Indices> {
     fixed: Fixed,
     sessions: Sessions<S>,
     objects: Objects<O>,
+    persistent: P,
     nv: N,
 }
 
 /// The record in lists that grow. Memory can be refused to a session, to an object or to an NV
 /// index.
-pub type ListKeep = Kept<ListPlaces<Session, 16>, ListPlaces<Object, 8>, ListIndices>;
+pub type ListKeep = Kept<ListPlaces<Session, 16>, ListPlaces<Object, 8>, ListObjects, ListIndices>;
 
 /// The record in places that are as many as there can be. No memory is ever taken, so none can be
-/// refused. It is some twenty-two thousand bytes long: it is made once, and lent.
-pub type SlotKeep = Kept<FixedPlaces<Session, 16>, FixedPlaces<Object, 8>, SlotIndices>;
+/// refused. It is some twenty-eight thousand bytes long: it is made once, and lent.
+pub type SlotKeep = Kept<
+    FixedPlaces<Session, 16>,
+    FixedPlaces<Object, 8>,
+    SlotObjects,
+    SlotIndices,
+>;
 
-impl<S: Places<Session, 16>, O: Places<Object, 8>, N: Indices> Keep for Kept<S, O, N> {
+impl<S: Places<Session, 16>, O: Places<Object, 8>, P: PersistentObjects, N: Indices> Keep
+    for Kept<S, O, P, N> {
     ghost use Rattle.std.specs.Prelude.{◌≡◌, ◌||◌, false, refl, true};
     ghost use Rattle.std.proofs.lemmas.Bool.{or_right};
     ghost use Rattle.tpm_record.specs.Kept.{kept_record};
@@ -35,9 +44,11 @@ impl<S: Places<Session, 16>, O: Places<Object, 8>, N: Indices> Keep for Kept<S, 
 
     type Ob = O;
 
+    type Pe = P;
+
     type Nv = N;
 
-    ghost record_of = { kept_record S.places O.places N.contents };
+    ghost record_of = { kept_record S.places O.places P.entries N.contents };
 
     ghost with_fixed = { λ keep fixed. record keep { fixed = fixed } };
 
@@ -45,17 +56,20 @@ impl<S: Places<Session, 16>, O: Places<Object, 8>, N: Indices> Keep for Kept<S, 
 
     ghost with_objects = { λ keep objects. record keep { objects = objects } };
 
+    ghost with_persistent = { λ keep persistent. record keep { persistent = persistent } };
+
     ghost with_nv = { λ keep nv. record keep { nv = nv } };
 
-    ghost can_refuse = { S.can_refuse || (O.can_refuse || N.can_refuse) };
+    ghost can_refuse = { S.can_refuse || (O.can_refuse || (P.can_refuse || N.can_refuse)) };
 
     ghost empty_can_refuse = { false };
 
-    fn empty(alloc: Global) -> Result<Kept<S, O, N>, NoMemory> {
+    fn empty(alloc: Global) -> Result<Kept<S, O, P, N>, NoMemory> {
         Ok(Kept {
             fixed: Fixed::manufactured(&[0; 256]),
             sessions: Sessions::new(alloc),
             objects: Objects::new(alloc),
+            persistent: P::new(alloc),
             nv: N::new(alloc),
         })
     }
@@ -84,6 +98,14 @@ impl<S: Places<Session, 16>, O: Places<Object, 8>, N: Indices> Keep for Kept<S, 
         &mut self.objects
     }
 
+    fn persistent(&self) -> &P {
+        &self.persistent
+    }
+
+    fn persistent_mut(&mut self) -> &mut P {
+        &mut self.persistent
+    }
+
     fn nv(&self) -> &N {
         &self.nv
     }
@@ -98,12 +120,21 @@ impl<S: Places<Session, 16>, O: Places<Object, 8>, N: Indices> Keep for Kept<S, 
 
     ghost objects_written = { λ keep objects. refl };
 
+    ghost persistent_written = { λ keep persistent. refl };
+
     ghost nv_written = { λ keep nv. refl };
 
     ghost sessions_can_refuse = { λ e. rw e refl };
 
     ghost objects_can_refuse = { λ e.
-        let may : (O.can_refuse || N.can_refuse) ≡ true = rw e refl in or_right _ _ may };
+        let may : (O.can_refuse || (P.can_refuse || N.can_refuse)) ≡ true = rw e refl in
+        or_right _ _ may };
 
-    ghost nv_can_refuse = { λ e. or_right _ _ (or_right _ _ e) };
+    ghost persistent_can_refuse = { λ e.
+        let may : (P.can_refuse || N.can_refuse) ≡ true = rw e refl in
+        or_right _ _ (or_right _ _ may) };
+
+    ghost nv_can_refuse = { λ e.
+        let may : (P.can_refuse || N.can_refuse) ≡ true = or_right _ _ e in
+        or_right _ _ (or_right _ _ may) };
 }

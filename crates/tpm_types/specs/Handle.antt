@@ -1,5 +1,5 @@
 -- Handles. TPM 2.0 Library, Part 2, sections 7.2 (TPM_HT, the highest byte) and 7.4 (TPM_RH).
-use Rattle.std.specs.Prelude.{◌≡◌, ℕ, ◌==◌, ◌/◌, ◌^◌, ◌||◌, nat_lt, if◌then◌else◌}
+use Rattle.std.specs.Prelude.{◌≡◌, ℕ, ◌==◌, ◌/◌, ◌^◌, ◌||◌, nat_lt, Bool, if◌then◌else◌}
 use Rattle.std.specs.Prelude.{Option, Some, None}
 use Rattle.tpm_types.specs.declared.handle.Handle.{Handle}
 use Rattle.tpm_types.specs.declared.handle.HierarchyAuth.{HierarchyAuth}
@@ -17,6 +17,10 @@ numbered number = record { number = number }
 -- what the highest byte says that a handle names
 abbrev pub handle_type : Handle → ℕ
 handle_type handle = handle.number / 2 ^ 24
+
+-- whether a handle is one of a persistent object (81), there or not
+abbrev pub is_persistent : Handle → Bool
+is_persistent handle = handle_type handle == 0x81
 
 -- the handles that the standard gives: TPM_RH_OWNER, TPM_RH_NULL, TPM_RS_PW, TPM_RH_LOCKOUT,
 -- TPM_RH_ENDORSEMENT and TPM_RH_PLATFORM

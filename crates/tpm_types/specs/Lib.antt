@@ -5,6 +5,7 @@ pub mod Algorithm
 pub mod Pcr
 pub mod PcrSelection
 pub mod Handle
+pub mod PersistentHandle
 pub mod DigestList
 pub mod DigestValues
 pub mod YesNo

@@ -63,7 +63,7 @@ impl HierarchyHandle {
 }
 
 impl Handle {
-    ghost use Rattle.tpm_types.specs.Handle.{SomePcrOf, handle_type, hierarchy_auth_of, hierarchy_of, pcr_of, session_kind};
+    ghost use Rattle.tpm_types.specs.Handle.{SomePcrOf, handle_type, hierarchy_auth_of, hierarchy_of, is_persistent, pcr_of, session_kind};
 
     /// TPM_RS_PW, section 7.4.
     pub const PASSWORD: Handle = Handle {
@@ -148,5 +148,12 @@ impl Handle {
         ensures { result ≡ handle_type self }
     {
         self.number >> 24
+    }
+
+    /// Whether the handle is one of a persistent object, there or not.
+    pub fn is_persistent(self) -> bool
+        ensures { result ≡ is_persistent self }
+    {
+        self.type_byte() == 0x81
     }
 }

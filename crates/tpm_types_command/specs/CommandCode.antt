@@ -15,6 +15,7 @@ use Rattle.tpm_types.specs.declared.role.Role.TheVariants as role
 use Rattle.tpm_types_command.specs.Shape.{Facts, admin, is_sized, shape_with, unauthorized, user}
 
 abbrev pub code_number : CommandCode → ℕ
+code_number code.EvictControl = 0x120
 code_number code.NvUndefineSpace = 0x122
 code_number code.HierarchyChangeAuth = 0x129
 code_number code.NvDefineSpace = 0x12a
@@ -60,7 +61,8 @@ code_number code.PolicyPassword = 0x18c
 -- all of them
 abbrev pub all_codes : List CommandCode
 all_codes =
-    code.NvUndefineSpace
+    code.EvictControl
+    ∷ code.NvUndefineSpace
     ∷ code.HierarchyChangeAuth
     ∷ code.NvDefineSpace
     ∷ code.CreatePrimary
@@ -139,6 +141,10 @@ abbrev pub secret_parameters : List ParameterKind
 secret_parameters =
     parameter.Buffer 32 ∷ parameter.Buffer 32 ∷ parameter.Buffer 32 ∷ parameter.U32 ∷ []
 
+-- auth, objectHandle
+abbrev pub evict_handles : List HandleRule
+evict_handles = user kind.Provision ∷ unauthorized kind.Object ∷ []
+
 -- the shape of a command that names a policy session alone
 abbrev pub on_policy : List ParameterKind → Facts
 on_policy parameters = shape_with (unauthorized kind.PolicySession ∷ []) parameters
@@ -169,6 +175,8 @@ compared_parameters = parameter.Buffer 32 ∷ parameter.U16 ∷ parameter.Operat
 
 -- every other fact of a command
 unfoldable pub shape_of : CommandCode → Facts
+shape_of code.EvictControl =
+    record (shape_with evict_handles (parameter.PersistentHandle ∷ [])) { grows = true }
 shape_of code.NvUndefineSpace =
     shape_with (user kind.Provision ∷ unauthorized kind.NvIndex ∷ []) []
 shape_of code.HierarchyChangeAuth = shape_with (user kind.HierarchyAuth ∷ []) (parameter.Buffer 32 ∷ [])

@@ -67,6 +67,7 @@ is_sized parameter.Selection = false
 is_sized parameter.Digests = false
 is_sized parameter.DigestList = false
 is_sized parameter.Operation = false
+is_sized parameter.PersistentHandle = false
 is_sized parameter.YesNo = false
 
 -- a shape, wherever its lists lie in memory: its handles and who authorizes each, its parameters,

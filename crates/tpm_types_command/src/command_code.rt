@@ -2,8 +2,8 @@ ghost use Rattle.std.specs.Prelude.{◌≡◌, ◌≤◌, ◌==◌, IfSome, leng
 ghost use Rattle.tpm_types.specs.CommandNumber.{is_command_number};
 
 use crate::shape::ParameterKind::{
-    Buffer, DigestList, Digests, Hash, HashOrNull, NvPublic, Operation, Public, Selection,
-    SensitiveCreate, SessionType, StartupType, Symmetric, U8, U16, U32, U64, YesNo,
+    Buffer, DigestList, Digests, Hash, HashOrNull, NvPublic, Operation, PersistentHandle, Public,
+    Selection, SensitiveCreate, SessionType, StartupType, Symmetric, U8, U16, U32, U64, YesNo,
 };
 use crate::shape::{HandleKind, HandleRule, ParameterKind, Shape};
 use tpm_types::{NvUse, Role};
@@ -12,6 +12,7 @@ use tpm_types::{NvUse, Role};
 /// 6.5.2.
 #[derive(Clone, Copy, Debug, PartialEq, Eq)]
 pub enum CommandCode {
+    EvictControl = 0x120,
     NvUndefineSpace = 0x122,
     HierarchyChangeAuth = 0x129,
     NvDefineSpace = 0x12a,
@@ -168,7 +169,8 @@ impl CommandCode {
     ghost use Rattle.tpm_types_command.specs.Shape.{facts_of};
 
     /// All of them, ascending by number.
-    pub const ALL: [CommandCode; 41] = [
+    pub const ALL: [CommandCode; 42] = [
+        CommandCode::EvictControl,
         CommandCode::NvUndefineSpace,
         CommandCode::HierarchyChangeAuth,
         CommandCode::NvDefineSpace,
@@ -244,6 +246,11 @@ impl CommandCode {
         ensures few { length result.handles.now ≤ 3 }
     {
         match self {
+            CommandCode::EvictControl => shape!(
+                [USER_PROVISION, OBJECT],
+                &[PersistentHandle],
+                grows
+            ),
             CommandCode::NvUndefineSpace => shape!([USER_PROVISION, NV_INDEX], &[]),
             CommandCode::HierarchyChangeAuth => shape!([USER_HIERARCHY_AUTH], &[Buffer(32)]),
             CommandCode::NvDefineSpace => shape!([USER_PROVISION], &[Buffer(32), NvPublic], grows),

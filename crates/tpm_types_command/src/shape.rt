@@ -120,6 +120,8 @@ pub enum ParameterKind {
     NvPublic,
     /// TPM_EO.
     Operation,
+    /// TPMI_DH_PERSISTENT.
+    PersistentHandle,
     /// TPMI_YES_NO.
     YesNo,
 }
@@ -149,6 +151,7 @@ impl ParameterKind {
             | ParameterKind::Digests
             | ParameterKind::DigestList
             | ParameterKind::Operation
+            | ParameterKind::PersistentHandle
             | ParameterKind::YesNo => false,
         }
     }

@@ -7,6 +7,7 @@ import frames
 from caller import Use
 from frames import EVICT_CONTROL, RH_ENDORSEMENT, RH_LOCKOUT, RH_NULL, RH_OWNER, RH_PLATFORM
 from frames import SHA256, command, number, on_handles
+from general import SERVED
 from nv_caller import area
 from object_caller import HERE, OPEN, STORES, hmac_key, sealed, storage_key
 from objects import Attribute
@@ -51,7 +52,9 @@ def primary(what, hierarchy, template=None):
 
 
 def kept_handles(what, *handles):
-    """All persistent objects, as TPM2_GetCapability lists them."""
+    """All persistent objects, as TPM2_GetCapability lists them, once it is served."""
+    if frames.GET_CAPABILITY not in SERVED:
+        return
     listed = number(len(handles), 4) + b"".join(number(it, 4) for it in handles)
     given = caller.does(what, caller.capability(HANDLES, FIRST, 64))
     assert given == b"\0" + number(HANDLES, 4) + listed, what
@@ -290,11 +293,20 @@ def restarts():
     caller.fails("A third wrong password locks", "AUTH_FAIL/s1", caller.unsealing(OTHER, b"nip"))
     caller.fails("The right one", "LOCKOUT", caller.unsealing(OTHER, b"pin"))
     caller.does("TPM2_DictionaryAttackLockReset", caller.lock_reset())
-    caller.does("TPM2_Shutdown(STATE)", caller.shutting_down(STATE))
-    script.power()
-    caller.start_up("TPM2_Startup(STATE)", STATE)
+    start_again()
     caller.unseal("It is there", OTHER, b"a secret", b"pin")
     caller.fails("What was loaded is not", "REFERENCE_H0", caller.public(handle))
+
+
+def start_again():
+    """Through TPM2_Shutdown, once it is served."""
+    if frames.SHUTDOWN in SERVED:
+        caller.does("TPM2_Shutdown(STATE)", caller.shutting_down(STATE))
+        script.power()
+        caller.start_up("TPM2_Startup(STATE)", STATE)
+    else:
+        script.power()
+        script.startup()
 
 
 def sessions():

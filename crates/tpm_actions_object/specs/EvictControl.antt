@@ -1,0 +1,100 @@
+-- TPM2_EvictControl. TPM 2.0 Library, Part 3, section 28.5, and Part 2, section 7.5 (TPM_HC: the
+-- persistent handles of the platform begin with 81800000).
+use Rattle.std.specs.Prelude.{◌≡◌, ◌==◌, nat_le, not, Bool, true, false, length, is_some, if◌then◌else◌, Result, Ok, Err}
+use Rattle.tpm_ascending.specs.Ascending.{Entries}
+use Rattle.tpm_bytes.specs.Reading.{◌>>=◌, refused_if}
+use Rattle.tpm_object.specs.declared.object.Object.{Object}
+use Rattle.tpm_types.specs.Handle.{is_persistent, platform_handle}
+use Rattle.tpm_types.specs.PersistentHandle.{persistent_handle_at}
+use Rattle.tpm_types.specs.Rc.{at, plain}
+use Rattle.tpm_types.specs.declared.handle.Handle.{Handle}
+use Rattle.tpm_types.specs.declared.handle.HierarchyHandle.{HierarchyHandle}
+use Rattle.tpm_types.specs.declared.handle.HierarchyHandle.TheVariants as hierarchy
+use Rattle.tpm_types.specs.declared.rc.Place.TheVariants as place
+use Rattle.tpm_types.specs.declared.rc.ResponseCode.TheVariants as code
+use Rattle.tpm_types.specs.declared.refused.Refused.{Refused}
+use Rattle.tpm_types_object.specs.ObjectAttributes.{has}
+use Rattle.tpm_types_object.specs.declared.object_attributes.ObjectAttribute.TheVariants as attribute
+use Rattle.tpm_record.specs.Persistent.{persistent_at, with_persistent, without_persistent}
+use Rattle.tpm_record.specs.Record.{Record}
+use Rattle.tpm_actions.specs.Answer.{nothing}
+use Rattle.tpm_actions.specs.Refusals.{action_refusal, memory_refusal, parameter_fault}
+use Rattle.tpm_actions.specs.Request.{Request, first_handle, second_handle}
+use Rattle.tpm_actions.specs.Rows.{Success, only}
+use Rattle.tpm_actions_object.specs.Loaded.{loaded_at}
+
+-- whether an object of this hierarchy is the owner's, or the platform's, to make persistent: those
+-- of the endorsement hierarchy are the owner's, and those of the null hierarchy nobody's
+abbrev pub is_of : (by_platform : Bool) → HierarchyHandle → Bool
+is_of false hierarchy.Owner = true
+is_of false hierarchy.Endorsement = true
+is_of true hierarchy.Platform = true
+is_of _ _ = false
+
+-- whether the platform, or the owner, may evict an object: its own, and the platform may remove any
+-- that is persistent
+abbrev pub may_evict : (by_platform removes : Bool) → HierarchyHandle → Bool
+may_evict true true h = true
+may_evict true false h = is_of true h
+may_evict false removes h = is_of false h
+
+-- whether a handle is one of the platform's persistent objects
+abbrev pub is_of_platform : Handle → Bool
+is_of_platform handle = nat_le 0x81800000 handle.number
+
+-- whether the platform, or the owner, may name this handle: the owner none of the platform's, and
+-- the platform those alone for a new persistent object
+abbrev pub may_name : (by_platform removes : Bool) → Handle → Bool
+may_name true true wanted = true
+may_name true false wanted = is_of_platform wanted
+may_name false removes wanted = not (is_of_platform wanted)
+
+-- A1: it is not theirs to evict; A2: it has stClear; A3: the handle is not theirs
+abbrev pub eviction_passes : (by_platform removes : Bool)
+    → Object → Handle → Result (Unit {0}) Refused
+eviction_passes by_platform removes object wanted = do
+  a1 ← refused_if (not (may_evict by_platform removes object.hierarchy))
+      (action_refusal 1 (at (place.Handle 2) (plain code.Hierarchy)))
+  a2 ← refused_if (has object.public.attributes attribute.StClear)
+      (action_refusal 2 (at (place.Handle 2) (plain code.Attributes)))
+  refused_if (not (may_name by_platform removes wanted)) (parameter_fault 3 1 code.Range)
+
+-- without the persistent object of a handle. A4: another handle is given
+abbrev pub removed : Entries Object → Handle → Handle → Result (Entries Object) Refused
+removed objects handle wanted = do
+  a4 ← refused_if (not (wanted.number == handle.number))
+      (action_refusal 4 (at (place.Handle 2) (plain code.Handle)))
+  Ok (without_persistent objects handle)
+
+-- with a copy of a transient object under a handle. A5: it is taken; A6: there are sixteen
+abbrev pub copied : Entries Object → Object → Handle → Result (Entries Object) Refused
+copied objects object wanted = do
+  a5 ← refused_if (is_some (persistent_at objects wanted)) (action_refusal 5 (plain code.NvDefined))
+  a6 ← refused_if (nat_le 16 (length objects)) (action_refusal 6 (plain code.NvSpace))
+  Ok (with_persistent objects wanted object)
+
+-- the persistent objects after an eviction: a persistent object is removed, a transient one copied
+abbrev pub evicted : Entries Object → Handle → Object → Handle → Result (Entries Object) Refused
+evicted objects handle object wanted =
+    if is_persistent handle then removed objects handle wanted else copied objects object wanted
+
+-- auth, the owner or the platform; objectHandle; persistentHandle. A1 to A6 as above
+unfoldable pub evict_control_row : Record → Request → Result Success Refused
+evict_control_row r q = do
+  auth ← first_handle q.handles
+  handle ← second_handle q.handles
+  object ← loaded_at r handle
+  wanted ← only (persistent_handle_at q.parameters)
+  passed ← eviction_passes
+      (auth.number == platform_handle.number) (is_persistent handle) object wanted
+  persistent ← evicted r.persistent handle object wanted
+  Ok (record { answer = nothing; after = record r { persistent = persistent } })
+
+-- The code changed the persistent objects so, or was refused memory, where it can be; or it
+-- refused. A refusal changes nothing.
+abbrev pub Evicts : Bool → Result (Entries Object) Refused
+    → Record → Result (Unit {0}) Refused → Record → Type 0
+Evicts can (Ok persistent) old (Ok done) new = new ≡ record old { persistent = persistent }
+Evicts can (Ok persistent) old (Err e) new = (can ≡ true) × (e ≡ memory_refusal) × (new ≡ old)
+Evicts can (Err refused) old (Ok done) new = ⊥
+Evicts can (Err refused) old (Err e) new = (e ≡ refused) × (new ≡ old)

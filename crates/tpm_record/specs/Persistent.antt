@@ -1,0 +1,49 @@
+-- The persistent objects of a device by their handles, in ascending order of these. TPM 2.0
+-- Library, Part 1, section 37.3 (owner and platform evict objects), and Part 2, section 7.2
+-- (TPM_HT_PERSISTENT: a handle whose highest byte is 81).
+use Rattle.std.specs.Prelude.{◌≡◌, ℕ, ◌≤◌, Bool, true, false, [], length, Option}
+use Rattle.tpm_ascending.specs.Ascending.{AreEach, Ascends, Entries, at_key, key_from, with_key, without_key}
+use Rattle.tpm_object.specs.Object.{IsObject}
+use Rattle.tpm_object.specs.declared.object.Object.{Object}
+use Rattle.tpm_types.specs.Handle.{is_persistent, numbered}
+use Rattle.tpm_types.specs.declared.handle.Handle.{Handle}
+use Rattle.tpm_types.specs.declared.handle.HierarchyHandle.{HierarchyHandle}
+use Rattle.tpm_types.specs.declared.handle.HierarchyHandle.TheVariants as hierarchy
+
+abbrev pub no_persistent : Entries Object
+no_persistent = []
+
+-- the object of a handle
+abbrev pub persistent_at : Entries Object → Handle → Option Object
+persistent_at objects handle = at_key objects handle.number
+
+-- with an object more, and without one
+abbrev pub with_persistent : Entries Object → Handle → Object → Entries Object
+with_persistent objects handle object = with_key objects handle.number object
+
+abbrev pub without_persistent : Entries Object → Handle → Entries Object
+without_persistent objects handle = without_key objects handle.number
+
+-- the lowest handle of one from a number on
+abbrev pub next_persistent : Entries Object → ℕ → Option ℕ
+next_persistent objects number = key_from objects number
+
+-- whether objects of a hierarchy can be persistent: none of the null hierarchy, which is made anew
+-- at each TPM Reset
+abbrev pub can_persist : HierarchyHandle → Bool
+can_persist hierarchy.Owner = true
+can_persist hierarchy.Endorsement = true
+can_persist hierarchy.Platform = true
+can_persist hierarchy.Null = false
+
+-- a persistent object under its handle
+pub record IsPersistent (number : ℕ) (object : Object) : Type 0 where
+  pub named : is_persistent (numbered number) ≡ true
+  pub owned : can_persist object.hierarchy ≡ true
+  pub sized : IsObject object
+
+-- what holds of all: there are sixteen at most
+pub record ArePersistent (objects : Entries Object) : Type 0 where
+  pub ascends : Ascends objects
+  pub few : length objects ≤ 16
+  pub each : AreEach IsPersistent objects

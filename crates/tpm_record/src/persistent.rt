@@ -1,0 +1,126 @@
+ghost use Rattle.std.specs.Prelude.{◌≡◌, Bool, is_some, length, option_copied, true};
+ghost use Rattle.tpm_ascending.specs.Ascending.{Entries, PutsKey};
+ghost use Rattle.tpm_object.specs.declared.object.Object.{Object as ObjectParts};
+ghost use Rattle.tpm_record.specs.Persistent.{ArePersistent, can_persist, next_persistent, no_persistent, persistent_at, without_persistent};
+ghost use Rattle.tpm_types.specs.Handle.{is_persistent};
+
+use std::alloc::Global;
+use std::marker::Model;
+use tpm_ascending::{Ascending, FixedAscending, KeyFault, ListAscending};
+use tpm_object::Object;
+use tpm_places::Sizes;
+use tpm_types::Handle;
+
+/// The persistent objects of a device by their handles: at most sixteen. Who may make an object
+/// persistent, or remove it, is no matter of these calls.
+pub trait PersistentObjects: Drop + Sized {
+    /// The handles in ascending order, each with its object.
+    ghost entries: { Self → Entries ObjectParts };
+
+    /// Whether memory can be refused where an object is added.
+    ghost can_refuse: { Bool };
+
+    /// No object; no memory is taken.
+    fn new(alloc: Global) -> Self
+        ensures { entries result ≡ no_persistent };
+
+    /// How many there are.
+    fn len(&self) -> usize
+        ensures { result ≡ length (entries self.now) };
+
+    /// The handles in ascending order, each with its object.
+    fn as_slice(&self) -> &[(u32, Object)]
+        ensures { result.now ≡ entries self.now };
+
+    /// The object of a handle.
+    fn get(&self, handle: Handle) -> Option<&Object>
+        ensures { option_copied result ≡ persistent_at (entries self.now) handle };
+
+    /// The lowest handle of an object from this one on.
+    fn next(&self, handle: Handle) -> Option<u32>
+        ensures { result ≡ next_persistent (entries self.now) handle.number };
+
+    /// Puts an object under a handle that is free.
+    fn add(&mut self, handle: Handle, object: Object) -> Result<(), KeyFault>
+        requires named { is_persistent handle ≡ true }
+        requires owned { can_persist object.hierarchy ≡ true }
+        ensures { PutsKey 16 can_refuse (entries self.old) handle.number object result
+            (entries self.new) };
+
+    /// Removes the object of a handle, and tells whether there was one.
+    fn remove(&mut self, handle: Handle) -> bool
+        ensures there { result ≡ is_some (persistent_at (entries self.old) handle) }
+        ensures after { entries self.new ≡ without_persistent (entries self.old) handle };
+
+    /// Says what holds of the objects whatever came before. It does nothing else.
+    fn read_sizes(&self)
+        ensures { ArePersistent (entries self.now) };
+}
+
+/// Persistent objects in a map by handles.
+#[derive(Drop)]
+pub struct StoredObjects<P: Ascending<Object, 16>> {
+    objects: P,
+}
+
+/// Persistent objects in a list that grows. Memory can be refused where one is added.
+pub type ListObjects = StoredObjects<ListAscending<Object, 16>>;
+
+/// Persistent objects in as many places as there can be. No memory is ever taken, so none can be
+/// refused.
+pub type SlotObjects = StoredObjects<FixedAscending<Object, 16>>;
+
+impl<P: Ascending<Object, 16>> Model for StoredObjects<P> {
+    ghost use Rattle.tpm_ascending.specs.Ascending.{AreEach, Entries};
+    ghost use Rattle.tpm_object.specs.declared.object.Object.{Object as ObjectParts};
+    ghost use Rattle.tpm_record.specs.Persistent.{IsPersistent};
+
+    ghost Value = { Entries ObjectParts };
+
+    ghost view = { λ stored. P.entries stored.objects };
+
+    ghost invariant = { λ stored. AreEach IsPersistent (P.entries stored.objects) };
+}
+
+impl<P: Ascending<Object, 16>> PersistentObjects for StoredObjects<P> {
+    ghost entries = { λ stored. stored };
+
+    ghost can_refuse = { P.can_refuse };
+
+    fn new(alloc: Global) -> StoredObjects<P> {
+        StoredObjects {
+            objects: P::new(alloc),
+        }
+    }
+
+    fn len(&self) -> usize {
+        self.objects.len()
+    }
+
+    fn as_slice(&self) -> &[(u32, Object)] {
+        self.objects.as_slice()
+    }
+
+    fn get(&self, handle: Handle) -> Option<&Object> {
+        self.objects.get(handle.number)
+    }
+
+    fn next(&self, handle: Handle) -> Option<u32> {
+        self.objects.next(handle.number)
+    }
+
+    #[tactic(auto, using(tpm_ascending::proofs::AscendingLaws::put_each))]
+    fn add(&mut self, handle: Handle, object: Object) -> Result<(), KeyFault> {
+        object.read_sizes();
+        self.objects.insert(handle.number, object)
+    }
+
+    #[tactic(auto, using(tpm_ascending::proofs::AscendingLaws::removed_each))]
+    fn remove(&mut self, handle: Handle) -> bool {
+        self.objects.remove(handle.number)
+    }
+
+    fn read_sizes(&self) {
+        let _ = self.objects.get(0);
+    }
+}
