@@ -1,6 +1,7 @@
 ghost use Rattle.std.specs.Prelude.{◌≡◌, ◌<◌, ◌≤◌, ◌^◌, ℕ, [], Bool, false, true, is_some, if◌then◌else◌};
 ghost use Rattle.std.specs.Prelude.{length, option_copied, option_map, OnOk};
 ghost use Rattle.tpm_nv.specs.Access.{Changes, Shows, bits_set, check_readable, extended, incremented, read_at, read_locked, with_auth_value, write_locked, written};
+ghost use Rattle.tpm_nv.specs.Clear.{cleared};
 ghost use Rattle.tpm_nv.specs.Definition.{Defines, defined_index, has_type_size};
 ghost use Rattle.tpm_nv.specs.Head.{head_of};
 ghost use Rattle.tpm_nv.specs.Index.{NvContents, index_at, next_index, no_indices, without_index};
@@ -112,6 +113,11 @@ pub trait Indices: Drop + Sized {
     /// What a startup with CLEAR does (Part 3, section 9.3).
     fn startup(&mut self)
         ensures { contents self.new ≡ started (contents self.old) };
+
+    /// Removes the indices that the platform did not define, as a Clear does (Part 3, section 24.6);
+    /// the bytes of those that stay are moved at most once.
+    fn clear(&mut self)
+        ensures { contents self.new ≡ cleared (contents self.old) };
 
     /// The largest value that a counter ever had.
     fn max_count(&self) -> u64
