@@ -11,6 +11,7 @@
 //! `tpm_places` for the places of sessions and objects. It promises for each keep the equations of
 //! `specs/` on its record.
 
+mod clear;
 pub mod cycle;
 pub mod entity;
 pub mod fixed;

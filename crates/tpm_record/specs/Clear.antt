@@ -1,0 +1,26 @@
+-- What TPM2_Clear does to objects: those of the owner and of the endorsement hierarchy are gone. TPM
+-- 2.0 Library, Part 3, section 24.6. What it does to the hierarchies stands in Hierarchy, to NV
+-- indices in tpm_nv/Clear.
+use Rattle.std.specs.Prelude.{Bool, true, false, List, Option, Some, None, map, if◌then◌else◌}
+use Rattle.tpm_object.specs.declared.object.Object.{Object}
+use Rattle.tpm_types.specs.declared.handle.HierarchyHandle.{HierarchyHandle}
+use Rattle.tpm_types.specs.declared.handle.HierarchyHandle.TheVariants as hierarchy
+
+-- whether a hierarchy is cleared
+abbrev pub is_cleared : HierarchyHandle → Bool
+is_cleared hierarchy.Owner = true
+is_cleared hierarchy.Endorsement = true
+is_cleared hierarchy.Platform = false
+is_cleared hierarchy.Null = false
+
+-- whether there is an object of such a hierarchy in a place
+abbrev pub is_place_cleared : Option Object → Bool
+is_place_cleared (Some object) = is_cleared object.hierarchy
+is_place_cleared None = false
+
+-- it is free then
+abbrev pub cleared_place : Option Object → Option Object
+cleared_place place = if is_place_cleared place then None else place
+
+unfoldable pub cleared_objects : List (Option Object) → List (Option Object)
+cleared_objects places = map cleared_place places
