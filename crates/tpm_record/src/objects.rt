@@ -2,7 +2,7 @@ ghost use Rattle.std.specs.Prelude.{◌≡◌, ◌<◌, is_some, length, option_
 ghost use Rattle.tpm_object.specs.Object.{IsObject, transient_byte};
 ghost use Rattle.tpm_places.specs.Numbered.{MapLaws};
 ghost use Rattle.tpm_places.specs.Places.{AreAll};
-ghost use Rattle.tpm_record.specs.Clear.{cleared_objects};
+ghost use Rattle.tpm_record.specs.Clear.{ClearingLaws, cleared_objects};
 ghost use Rattle.tpm_record.specs.Objects.{Adds, next_handle, object_at, object_handle, objects_of, without_object};
 ghost use Rattle.tpm_record.specs.Record.{no_objects};
 
@@ -105,3 +105,10 @@ pub fn object_laws()
 {
     numbered::numbered_laws::<Object>()
 }
+
+/// Of the objects that TPM2_Clear finds, those of the owner and of the endorsement hierarchy are
+/// gone, and all others are found as before. It does nothing.
+#[tactic(auto, using(crate::proofs::ClearLaws::are_cleared))]
+pub fn clearing_laws()
+    ensures { ClearingLaws }
+{}
