@@ -5,6 +5,9 @@ pub mod Rows
 pub mod Target
 pub mod PcrChange
 pub mod Startup
+pub mod Shutdown
+pub mod SelfTest
+pub mod ReadClock
 pub mod GetRandom
 pub mod PcrRead
 pub mod PcrExtend

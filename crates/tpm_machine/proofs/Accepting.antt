@@ -16,7 +16,7 @@ use Rattle.tpm_machine_step.specs.Entries.{DrawsFew}
 use Rattle.tpm_machine_step.specs.Answer.{Written, answer_to, text_of, written_of}
 use Rattle.tpm_machine_step.specs.General.{general, in_command}
 use Rattle.tpm_machine_step.specs.Safe.{IsModest}
-use Rattle.tpm_machine_step.specs.Step.{Accepted, Accepts, Answers, RefusesOrStarves, Stepped, Succeeds, acceptance, accepted, refusal_step, request_in}
+use Rattle.tpm_machine_step.specs.Step.{Accepted, Accepts, Answers, RefusesOrStarves, Stepped, Succeeds, acceptance, accepted, refusal_step, request_in, settled}
 use Rattle.tpm_machine_step.specs.Table.{row_of}
 use Rattle.tpm_machine.proofs.Refusals.{answers_exactly, refused_answers}
 
@@ -45,7 +45,7 @@ accepts can r c grants locality random q result answer new granted asked acts =
 
 -- ---- what is answered to a command that succeeded
 
-pub accepted_answers : (can : Bool) (r : Record) (random : List ℕ) (c : Whole) (grants : List (Option Grant)) (a : Result Accepted Refused) (answer : Answer) (effect : Record) (response : List ℕ) (after : Record) → Succeeds a c grants answer effect → record { response = response; after = after } ≡ answer_to c grants (text_of answer) effect random → Answers can r random (in_command c.code a) (record { response = response; row = record { code = code_number c.code; check = 0 }; after = after })
+pub accepted_answers : (can : Bool) (r : Record) (random : List ℕ) (c : Whole) (grants : List (Option Grant)) (a : Result Accepted Refused) (answer : Answer) (effect : Record) (response : List ℕ) (after : Record) → Succeeds a c grants answer effect → record { response = response; after = after } ≡ answer_to c grants (text_of answer) effect random → Answers can r random (in_command c.code a) (record { response = response; row = record { code = code_number c.code; check = 0 }; after = settled c.code after })
 accepted_answers can r random c grants (Err e) answer effect response after never is = absurd never
 accepted_answers can r random c grants (Ok a) answer effect response after (same, granted, written, left) is =
     let back = sym same in
@@ -55,7 +55,7 @@ accepted_answers can r random c grants (Ok a) answer effect response after (same
     ∙ ap (λ (x : Record). answer_to c grants (written_of a.success.answer) x random) left
     ∙ ap (λ (x : Whole). answer_to x grants (written_of a.success.answer) a.success.after random) back
     ∙ ap (λ (x : List (Option Grant)). answer_to a.command x (written_of a.success.answer) a.success.after random) (sym granted) in
-    answers_exactly can r random (Ok a) _ (λ i. record { response = (whole i).response; row = record { code = code_number (back i).code; check = 0 }; after = (whole i).after })
+    answers_exactly can r random (Ok a) _ (λ i. record { response = (whole i).response; row = record { code = code_number (back i).code; check = 0 }; after = settled (back i).code (whole i).after })
 
 -- and that it is modest, as the answer has room for so much alone, and nonces are short
 pub accepted_modest : (random : List ℕ) (c : Whole) (grants : List (Option Grant)) (a : Result Accepted Refused) (answer : Answer) (effect : Record) → answer.drawn ≤ 96 → length answer.parameters ≤ 1026 → DrawsFew random effect c.entries answer.drawn → Succeeds a c grants answer effect → IfOk a (IsModest random)

@@ -222,6 +222,7 @@ impl<K: Keep> Machine<K> {
         match accept(keep, command, grants, locality, random, answer) {
             Ok(()) => {
                 write_success(keep, command, grants, answer, random, text);
+                settle(keep, command.code);
                 Row {
                     code: command.code.number(),
                     check: 0,
@@ -233,7 +234,7 @@ impl<K: Keep> Machine<K> {
 }
 
 ghost use Rattle.tpm_types.specs.Check.{check_number};
-ghost use Rattle.tpm_machine_step.specs.Step.{counted_in};
+ghost use Rattle.tpm_machine_step.specs.Step.{counted_in, settled};
 ghost use Rattle.tpm_machine_step.specs.Answer.{refusal_text};
 ghost use Rattle.tpm_types.specs.Locality.{locality_number};
 
@@ -245,6 +246,15 @@ fn read_command(locality: Locality, elapsed_ms: u32, random: &[u8; 256])
     ensures random { length random.now ≡ 256 }
 {
     let _first = random[0];
+}
+
+/// Cancels what a TPM2_Shutdown saved, unless a success of this command keeps it.
+fn settle<K: Keep>(keep: &mut K, code: CommandCode)
+    ensures { K.record_of keep.new ≡ settled code (K.record_of keep.old) }
+{
+    if !code.shape().keeps_shutdown {
+        keep.fixed_mut().saved.cancel();
+    }
 }
 
 /// Counts against dictionary attacks what a refusal counts.

@@ -25,6 +25,9 @@ use tpm_actions::pcr_event::pcr_event;
 use tpm_actions::pcr_extend::pcr_extend;
 use tpm_actions::pcr_read::pcr_read;
 use tpm_actions::pcr_reset::pcr_reset;
+use tpm_actions::read_clock::read_clock;
+use tpm_actions::self_test::self_test;
+use tpm_actions::shutdown::shutdown;
 use tpm_actions::start_auth_session::start_auth_session;
 use tpm_actions::startup::startup;
 use tpm_actions_object::create::create;
@@ -92,7 +95,9 @@ fn act<K: Keep>(
         CommandCode::NvChangeAuth => nv_change_auth(keep, call, answer),
         CommandCode::PcrEvent => pcr_event(keep, call, answer),
         CommandCode::PcrReset => pcr_reset(keep, call, answer),
+        CommandCode::SelfTest => self_test(keep, call, answer),
         CommandCode::Startup => startup(keep, call, answer),
+        CommandCode::Shutdown => shutdown(keep, call, answer),
         CommandCode::PolicyNv => policy_nv(keep, call, answer),
         CommandCode::NvRead => nv_read(keep, call, answer),
         CommandCode::NvReadLock => nv_read_lock(keep, call, answer),
@@ -113,6 +118,7 @@ fn act<K: Keep>(
         CommandCode::PcrRead => pcr_read(keep, call, answer),
         CommandCode::PolicyPcr => policy_pcr(keep, call, answer),
         CommandCode::PolicyRestart => policy_restart(keep, call, answer),
+        CommandCode::ReadClock => read_clock(keep, call, answer),
         CommandCode::PcrExtend => pcr_extend(keep, call, answer),
         CommandCode::PolicyGetDigest => policy_get_digest(keep, call, answer),
         CommandCode::PolicyPassword => policy_password(keep, call, answer),

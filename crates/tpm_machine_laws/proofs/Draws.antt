@@ -25,7 +25,12 @@ use Rattle.tpm_types_object.specs.declared.public.PublicParameters.{PublicParame
 use Rattle.tpm_types_object.specs.declared.public.PublicParameters.TheVariants as parameters_of
 use Rattle.tpm_record.specs.Record.{Record}
 use Rattle.tpm_actions.specs.Request.{Request, second_handle}
-use Rattle.tpm_actions.specs.Startup.{startup_row}
+use Rattle.tpm_actions.specs.Startup.{start_draws as startup_drawn, start_of, startup_row}
+use Rattle.tpm_actions.specs.declared.startup.Start.{Start}
+use Rattle.tpm_actions.specs.declared.startup.Start.TheVariants.{Reset, Restart, Resume}
+use Rattle.tpm_actions.specs.Shutdown.{shutdown_row}
+use Rattle.tpm_actions.specs.SelfTest.{self_test_row}
+use Rattle.tpm_actions.specs.ReadClock.{read_clock_row}
 use Rattle.tpm_actions.specs.GetRandom.{get_random_row}
 use Rattle.tpm_actions.specs.PcrRead.{pcr_read_row}
 use Rattle.tpm_actions.specs.PcrExtend.{pcr_extend_row}
@@ -104,8 +109,10 @@ general_few r buffer =
 none_drawn : 0 ≤ 96
 none_drawn = omega arith
 
-secrets_drawn : 64 ≤ 96
-secrets_drawn = omega arith
+secrets_drawn : (start : Start) → startup_drawn start ≤ 96
+secrets_drawn Reset = omega arith
+secrets_drawn Restart = omega arith
+secrets_drawn Resume = omega arith
 
 answer_drawn : (requested : ℕ) → min requested 32 ≤ 96
 answer_drawn requested = omega arith
@@ -136,7 +143,7 @@ start_draws r q =
 ruleset draws = (rules, ok_bind, none_drawn, secrets_drawn, answer_drawn, object_drawn)
 
 pub row_draws : (r : Record) (c : CommandCode) (q : Request) → IfOk (row_of r c q) (λ s. s.answer.drawn ≤ 96)
-unfolding row_of startup_row get_random_row pcr_read_row pcr_extend_row pcr_event_row pcr_reset_row dictionary_attack_lock_reset_row dictionary_attack_parameters_row flush_context_row hierarchy_change_auth_row create_row create_primary_row hmac_row load_row read_public_row unseal_row assertion_row policy_get_digest_row policy_restart_row nv_change_auth_row nv_define_space_row nv_extend_row nv_increment_row nv_read_row nv_read_lock_row nv_read_public_row nv_set_bits_row nv_undefine_space_row nv_write_row nv_write_lock_row
+unfolding row_of startup_row shutdown_row self_test_row read_clock_row get_random_row pcr_read_row pcr_extend_row pcr_event_row pcr_reset_row dictionary_attack_lock_reset_row dictionary_attack_parameters_row flush_context_row hierarchy_change_auth_row create_row create_primary_row hmac_row load_row read_public_row unseal_row assertion_row policy_get_digest_row policy_restart_row nv_change_auth_row nv_define_space_row nv_extend_row nv_increment_row nv_read_row nv_read_lock_row nv_read_public_row nv_set_bits_row nv_undefine_space_row nv_write_row nv_write_lock_row
 row_draws r command.StartAuthSession q = start_draws r q
 row_draws r command.Startup q = search draws
 row_draws r _ q = search draws

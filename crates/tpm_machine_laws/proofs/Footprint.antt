@@ -1,5 +1,5 @@
 -- A success touches the part of its command.
-use Rattle.std.proofs.Common.{rules, IfOk, ℕ, List, Option, Some, None, refl}
+use Rattle.std.proofs.Common.{rules, IfOk, ℕ, List, Option, Some, None, refl, inl, inr}
 use Rattle.std.specs.Option.{option_map_or}
 use Rattle.tpm_types.specs.declared.handle.HierarchyAuth.{HierarchyAuth}
 use Rattle.tpm_types.specs.declared.handle.HierarchyAuth.TheVariants as auth
@@ -10,7 +10,15 @@ use Rattle.tpm_record.specs.Entity.{with_hierarchy_auth}
 use Rattle.tpm_record.specs.Record.{Record}
 use Rattle.tpm_record.specs.declared.hierarchy.Hierarchies.{Hierarchies}
 use Rattle.tpm_actions.specs.Request.{Request}
-use Rattle.tpm_actions.specs.Startup.{startup_row}
+use Rattle.tpm_actions.specs.Startup.{start_of, started_record, startup_row}
+use Rattle.tpm_actions.specs.declared.startup.Start.{Start}
+use Rattle.tpm_actions.specs.declared.startup.Start.TheVariants.{Reset, Restart, Resume}
+use Rattle.tpm_actions.specs.Rows.{only}
+use Rattle.tpm_types.specs.StartupType.{startup_type_at}
+use Rattle.tpm_record.specs.Saved.{kind_of}
+use Rattle.tpm_actions.specs.Shutdown.{shutdown_row}
+use Rattle.tpm_actions.specs.SelfTest.{self_test_row}
+use Rattle.tpm_actions.specs.ReadClock.{read_clock_row}
 use Rattle.tpm_actions.specs.GetRandom.{get_random_row}
 use Rattle.tpm_actions.specs.PcrRead.{pcr_read_row}
 use Rattle.tpm_actions.specs.PcrExtend.{pcr_extend_row}
@@ -43,7 +51,7 @@ use Rattle.tpm_nvactions.specs.NvWrite.{nv_write_row}
 use Rattle.tpm_nvactions.specs.NvWriteLock.{nv_write_lock_row}
 use Rattle.tpm_machine_step.specs.Table.{row_of}
 use Rattle.tpm_machine_laws.proofs.Binding.{ok_bind}
-use Rattle.tpm_machine_laws.specs.Footprint.{KeepsSecrets, Touches, part_of}
+use Rattle.tpm_machine_laws.specs.Footprint.{Beginning, KeepsSecrets, Touches, part_of}
 
 -- another authorization value changes no seed and no proof
 with_auth_keeps : (h : Hierarchies) (auth : HierarchyAuth) (value : List ℕ) → KeepsSecrets h (with_hierarchy_auth h auth value)
@@ -55,8 +63,21 @@ auth_keeps : (h : Hierarchies) (auth : Option HierarchyAuth) (value : List ℕ) 
 auth_keeps h (Some auth) value = with_auth_keeps h auth value
 auth_keeps h None value = λ which. refl
 
+-- a startup sets what it begins
+start_touches : (r : Record) (start : Start) (random : List ℕ) → Touches Beginning r (started_record start r random)
+unfolding with_hierarchy_auth
+start_touches r Reset random = (search rules, inr refl)
+start_touches r Restart random = (refl, inr refl)
+start_touches r Resume random = (refl, inl refl)
+
+startup_touches : (r : Record) (q : Request) → IfOk (startup_row r q) (λ s. Touches Beginning r s.after)
+unfolding startup_row
+startup_touches r q =
+    ok_bind _ (only (startup_type_at q.parameters)) _ (λ type.
+    ok_bind _ (start_of type (kind_of r.fixed.saved)) _ (λ start. start_touches r start q.random))
+
 pub row_touches : (r : Record) (c : CommandCode) (q : Request) → IfOk (row_of r c q) (λ s. Touches (part_of c) r s.after)
-unfolding row_of startup_row get_random_row pcr_read_row pcr_extend_row pcr_event_row pcr_reset_row dictionary_attack_lock_reset_row dictionary_attack_parameters_row flush_context_row hierarchy_change_auth_row start_auth_session_row create_row create_primary_row hmac_row load_row read_public_row unseal_row assertion_row policy_get_digest_row policy_restart_row nv_change_auth_row nv_define_space_row nv_extend_row nv_increment_row nv_read_row nv_read_lock_row nv_read_public_row nv_set_bits_row nv_undefine_space_row nv_write_row nv_write_lock_row with_hierarchy_auth
-row_touches r command.Startup q = search (rules, ok_bind)
+unfolding row_of shutdown_row self_test_row read_clock_row get_random_row pcr_read_row pcr_extend_row pcr_event_row pcr_reset_row dictionary_attack_lock_reset_row dictionary_attack_parameters_row flush_context_row hierarchy_change_auth_row start_auth_session_row create_row create_primary_row hmac_row load_row read_public_row unseal_row assertion_row policy_get_digest_row policy_restart_row nv_change_auth_row nv_define_space_row nv_extend_row nv_increment_row nv_read_row nv_read_lock_row nv_read_public_row nv_set_bits_row nv_undefine_space_row nv_write_row nv_write_lock_row with_hierarchy_auth
+row_touches r command.Startup q = startup_touches r q
 row_touches r command.HierarchyChangeAuth q = search (rules, ok_bind, auth_keeps)
 row_touches r _ q = search (rules, ok_bind)

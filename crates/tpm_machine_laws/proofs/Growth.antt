@@ -1,5 +1,5 @@
 -- A success takes one place more where its command grows, and else no more.
-use Rattle.std.proofs.Common.{rules, arith, ◌≡◌, ◌+◌, ℕ, Bool, true, false, List, Option, Some, Ok, IfOk, slice_set, refl, ap}
+use Rattle.std.proofs.Common.{rules, arith, ◌≡◌, ◌+◌, ℕ, Bool, true, false, List, Option, Some, Ok, IfOk, slice_set, refl, ap, ◌∙◌, inl, inr}
 use Rattle.tpm_types_command.specs.declared.command_code.CommandCode.{CommandCode}
 use Rattle.tpm_types_command.specs.declared.command_code.CommandCode.TheVariants as command
 use Rattle.tpm_types.specs.declared.handle.Handle.{Handle}
@@ -42,7 +42,7 @@ use Rattle.tpm_bytes.specs.Reading.{◌>>=◌}
 use Rattle.std.specs.Prelude.{Result, Err, length}
 use Rattle.std.proofs.lemmas.List.{length-map}
 use Rattle.tpm_machine_step.specs.Table.{row_of}
-use Rattle.tpm_machine_laws.specs.Footprint.{Part, Nothing, Sessions, Objects, SessionsAndObjects, Nv, AuthValues, Lockout, Banks, Beginning, Touches, part_of}
+use Rattle.tpm_machine_laws.specs.Footprint.{Part, Nothing, Sessions, Objects, SessionsAndObjects, Nv, AuthValues, Lockout, Banks, Beginning, Saved, StartsNv, Touches, part_of}
 use Rattle.tpm_machine_laws.proofs.Binding.{ok_bind, ok_bind_is, ok_then, ok_weaker, some_is}
 use Rattle.tpm_machine_laws.proofs.Footprint.{row_touches}
 use Rattle.tpm_places.specs.Places.{taken_count}
@@ -137,6 +137,10 @@ SameCount old new = length new.indices ≡ length old.indices
 started_count : (nv : NvContents) → SameCount nv (started nv)
 unfolding started
 started_count nv = length-map nv.indices _
+
+starts_count : (old new : NvContents) → StartsNv old new → SameCount old new
+starts_count old new (inl is) = ap (λ (nv : NvContents). length nv.indices) is
+starts_count old new (inr is) = ap (λ (nv : NvContents). length nv.indices) is ∙ started_count old
 
 same_indices : (r : Record) (nv : NvContents) → SameCount r.nv nv → Grows false r (record r { nv = nv })
 same_indices r nv same = omega (arith, same)
@@ -240,9 +244,10 @@ touched_grows AuthValues old new fixed touches = let same = ap (λ (r : Record).
 touched_grows Lockout old new fixed touches = let same = ap (λ (r : Record). taken_in r) touches in omega (arith, same)
 touched_grows Banks old new fixed touches = let same = ap (λ (r : Record). taken_in r) touches in omega (arith, same)
 touched_grows Beginning old new fixed touches =
-    let same = ap (λ (r : Record). taken_in r) touches in
-    let indices = started_count old.nv in
+    let same = ap (λ (r : Record). taken_in r) touches.0 in
+    let indices = starts_count old.nv new.nv touches.1 in
     omega (arith, same, indices)
+touched_grows Saved old new fixed touches = let same = ap (λ (r : Record). taken_in r) touches in omega (arith, same)
 
 fixed_grows : (r : Record) (c : CommandCode) (q : Request) → keeps_places (part_of c) ≡ true → IfOk (row_of r c q) (λ s. Grows false r s.after)
 fixed_grows r c q fixed = ok_weaker (λ s. Touches (part_of c) r s.after) _ (row_of r c q) (row_touches r c q) (λ s touches. touched_grows (part_of c) r s.after fixed touches)
@@ -274,6 +279,9 @@ row_grows r command.NvChangeAuth q = change_auth_grows r q
 row_grows r command.NvRead q = fixed_grows r command.NvRead q refl
 row_grows r command.NvReadPublic q = fixed_grows r command.NvReadPublic q refl
 row_grows r command.Startup q = fixed_grows r command.Startup q refl
+row_grows r command.Shutdown q = fixed_grows r command.Shutdown q refl
+row_grows r command.SelfTest q = fixed_grows r command.SelfTest q refl
+row_grows r command.ReadClock q = fixed_grows r command.ReadClock q refl
 row_grows r command.GetRandom q = fixed_grows r command.GetRandom q refl
 row_grows r command.PcrRead q = fixed_grows r command.PcrRead q refl
 row_grows r command.PcrExtend q = fixed_grows r command.PcrExtend q refl

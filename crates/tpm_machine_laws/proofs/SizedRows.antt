@@ -36,7 +36,7 @@ use Rattle.tpm_actions_object.specs.Loaded.{is_fixed, loaded_at, parent_passes, 
 use Rattle.tpm_actions_policy.specs.Assertions.{assertion_in, assertion_row, by_its_check, policy_after, policy_session, session_handle, with_assertion}
 use Rattle.tpm_actions_policy.specs.PolicyRestart.{policy_restart_row}
 use Rattle.tpm_machine_step.specs.Table.{row_of}
-use Rattle.tpm_machine_laws.specs.Footprint.{Part, Nothing, Sessions, Objects, SessionsAndObjects, Nv, AuthValues, Lockout, Banks, Beginning, Touches, part_of}
+use Rattle.tpm_machine_laws.specs.Footprint.{Part, Nothing, Sessions, Objects, SessionsAndObjects, Nv, AuthValues, Lockout, Banks, Beginning, Saved, Touches, part_of}
 use Rattle.tpm_machine_laws.specs.Sizes.{AreSized, IsSized, IsWhole}
 use Rattle.tpm_machine_laws.proofs.AllPlaces.{all_changed, all_found, all_set, all_without}
 use Rattle.tpm_machine_laws.proofs.Binding.{asked, ok_bind, ok_bind_is, ok_then, ok_weaker, some_is}
@@ -184,7 +184,8 @@ touched_sized Nv old new keeps touches sized = same_record old _ new refl refl t
 touched_sized AuthValues old new keeps touches sized = same_record old _ new refl refl touches.0 sized
 touched_sized Lockout old new keeps touches sized = same_record old _ new refl refl touches sized
 touched_sized Banks old new keeps touches sized = same_record old _ new refl refl touches sized
-touched_sized Beginning old new keeps touches sized = same_record old _ new refl refl touches sized
+touched_sized Beginning old new keeps touches sized = same_record old _ new refl refl touches.0 sized
+touched_sized Saved old new keeps touches sized = same_record old _ new refl refl touches sized
 
 fixed_sized : (r : Record) (c : CommandCode) (q : Request) → keeps_sized (part_of c) ≡ true → AreSized r → IfOk (row_of r c q) (λ s. AreSized s.after)
 fixed_sized r c q keeps sized = ok_weaker (λ s. Touches (part_of c) r s.after) _ (row_of r c q) (row_touches r c q) (λ s touches. touched_sized (part_of c) r s.after keeps touches sized)

@@ -41,6 +41,8 @@ use Rattle.tpm_machine_step.specs.declared.event.Outcome.{Outcome}
 use Rattle.tpm_actions.specs.DictionaryAttackLockReset.{with_lockout}
 use Rattle.tpm_actions.specs.Request.{Request}
 use Rattle.tpm_actions.specs.Rows.{Success}
+use Rattle.tpm_actions.specs.Shutdown.{with_saved}
+use Rattle.tpm_record.specs.Saved.{Nothing}
 use Rattle.tpm_types_command.specs.declared.command_code.CommandCode.{CommandCode}
 use Rattle.tpm_machine_laws.proofs.Draws.{general_few, row_draws}
 use Rattle.tpm_machine_laws.specs.Sizes.{AreSized, IsSized, IsWhole}
@@ -158,9 +160,15 @@ accepted_fits r buffer locality random enough sized =
     ok_then _ _ (general r buffer) _ (general_few r buffer) (λ c few.
     ok_in_command Fits c.code (acceptance r c locality random) (acceptance_fits r c locality random few enough sized))
 
+-- neither is what was saved, which a success may cancel
+settled_sized : (keeps : Bool) (r : Record) → AreSized r → AreSized (cond keeps r (with_saved r Nothing))
+settled_sized true r sized = sized
+settled_sized false r sized = record { sessions = sized.sessions; objects = sized.objects }
+
 success_sized : (a : Accepted) (random : List ℕ) → 256 ≤ length random → Fits a → AreSized (success_step a random).after
 success_sized a random enough fits =
-    answer_sized a.command a.grants (written_of a.success.answer) a.success.after random (omega (arith, enough, fits.1)) fits.0
+    settled_sized (shape_of a.command.code).keeps_shutdown _
+    (answer_sized a.command a.grants (written_of a.success.answer) a.success.after random (omega (arith, enough, fits.1)) fits.0)
 
 -- what a refusal counts is neither a session nor an object
 counted_sized : (r : Record) (lockout : LockoutState) → AreSized r → AreSized (with_lockout r lockout)

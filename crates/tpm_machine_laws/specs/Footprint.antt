@@ -1,8 +1,9 @@
 -- What of a record the success of each command may touch.
-use Rattle.std.specs.Prelude.{◌≡◌}
+use Rattle.std.specs.Prelude.{◌≡◌, ◌⊎◌}
 use Rattle.tpm_types_command.specs.declared.command_code.CommandCode.{CommandCode}
 use Rattle.tpm_types_command.specs.declared.command_code.CommandCode.TheVariants as command
 use Rattle.tpm_types.specs.declared.handle.HierarchyHandle.{HierarchyHandle}
+use Rattle.tpm_nv.specs.Index.{NvContents}
 use Rattle.tpm_nv.specs.Startup.{started}
 use Rattle.tpm_record.specs.declared.fixed.Fixed.{Fixed}
 use Rattle.tpm_record.specs.declared.hierarchy.Hierarchies.{Hierarchies}
@@ -11,7 +12,7 @@ use Rattle.tpm_record.specs.Record.{Record}
 
 -- the parts of a record: none of it; the sessions; the objects; both; the NV indices; the
 -- authorization values of the hierarchies and of lockout; what protects against dictionary attacks;
--- the banks; and what a startup begins, the NV indices too
+-- the banks; what a startup begins, the NV indices too; and what a shutdown saves
 pub data Part : Type 0 where
   Nothing : Part
   Sessions : Part
@@ -22,6 +23,7 @@ pub data Part : Type 0 where
   Lockout : Part
   Banks : Part
   Beginning : Part
+  Saved : Part
 
 abbrev pub part_of : CommandCode → Part
 part_of command.NvUndefineSpace = Nv
@@ -38,7 +40,9 @@ part_of command.DictionaryAttackParameters = Lockout
 part_of command.NvChangeAuth = Nv
 part_of command.PcrEvent = Banks
 part_of command.PcrReset = Banks
+part_of command.SelfTest = Nothing
 part_of command.Startup = Beginning
+part_of command.Shutdown = Saved
 part_of command.PolicyNv = Sessions
 part_of command.NvRead = Nothing
 part_of command.NvReadLock = Nv
@@ -59,6 +63,7 @@ part_of command.GetRandom = Nothing
 part_of command.PcrRead = Nothing
 part_of command.PolicyPcr = Sessions
 part_of command.PolicyRestart = Sessions
+part_of command.ReadClock = Nothing
 part_of command.PcrExtend = Banks
 part_of command.PolicyGetDigest = Nothing
 part_of command.PolicyPassword = Sessions
@@ -67,13 +72,12 @@ part_of command.PolicyPassword = Sessions
 abbrev pub KeepsSecrets : Hierarchies → Hierarchies → Type 0
 KeepsSecrets old new = (h : HierarchyHandle) → secrets_of new h ≡ secrets_of old h
 
--- f with the fields that a startup sets, as they are after it: whether it is started, what is saved,
--- the counts, platformAuth and the null hierarchy, whether lockoutAuth is closed; and no changes of
--- PCRs are counted yet
+-- f with the fields that a startup sets, as they are after it: whether it is started, the counts,
+-- platformAuth and the null hierarchy, whether lockoutAuth is closed, and the PCRs, of which no
+-- changes are counted yet
 abbrev pub begun : Fixed → Fixed → Fixed
 begun f after = record f {
   started = after.started;
-  saved = after.saved;
   hierarchies = record f.hierarchies {
     platform = record f.hierarchies.platform {
       auth_value = after.hierarchies.platform.auth_value;
@@ -83,10 +87,14 @@ begun f after = record f {
   lockout = record f.lockout {
     fields = record f.lockout.fields { closed = after.lockout.fields.closed };
   };
-  banks = record f.banks { update_count = 0 };
+  banks = record after.banks { update_count = 0 };
   reset_count = after.reset_count;
   restart_count = after.restart_count;
 }
+
+-- A startup has its effects on all NV indices, or none.
+abbrev pub StartsNv : NvContents → NvContents → Type 0
+StartsNv old new = (new ≡ old) ⊎ (new ≡ started old)
 
 -- A record differs from an older one in this part alone.
 abbrev pub Touches : Part → Record → Record → Type 0
@@ -101,4 +109,5 @@ Touches AuthValues old new =
 Touches Lockout old new = new ≡ record old { fixed = record old.fixed { lockout = new.fixed.lockout } }
 Touches Banks old new = new ≡ record old { fixed = record old.fixed { banks = new.fixed.banks } }
 Touches Beginning old new =
-    new ≡ record old { fixed = begun old.fixed new.fixed; nv = started old.nv }
+    (new ≡ record old { fixed = begun old.fixed new.fixed; nv = new.nv }) × StartsNv old.nv new.nv
+Touches Saved old new = new ≡ record old { fixed = record old.fixed { saved = new.fixed.saved } }

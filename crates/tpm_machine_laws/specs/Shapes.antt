@@ -23,6 +23,7 @@ use Rattle.tpm_types_object.specs.SensitiveCreate.{sensitive_create_at}
 use Rattle.tpm_types.specs.SessionType.{session_type_at}
 use Rattle.tpm_types.specs.StartupType.{startup_type_at}
 use Rattle.tpm_types.specs.Symmetric.{symmetric_at}
+use Rattle.tpm_types.specs.YesNo.{yes_no_at}
 use Rattle.tpm_record.specs.Record.{Record}
 use Rattle.tpm_types.specs.declared.check.Check.TheVariants as check
 use Rattle.tpm_types.specs.declared.refused.Refused.{Refused}
@@ -70,6 +71,7 @@ behind_kind kind.SensitiveCreate text = behind (filled_by sensitive_create_at te
 behind_kind kind.Public text = behind (filled_by public_at text)
 behind_kind kind.NvPublic text = behind (filled_by nv_public_at text)
 behind_kind kind.Operation text = behind (operation_at text)
+behind_kind kind.YesNo text = behind (yes_no_at text)
 
 -- parameters of these kinds, the first of them of this number, and nothing behind them; or the first
 -- fault

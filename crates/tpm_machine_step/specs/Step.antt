@@ -23,6 +23,9 @@ use Rattle.tpm_actions.specs.Request.{Request}
 use Rattle.tpm_actions.specs.declared.answer.Answer.{Answer}
 use Rattle.tpm_actions.specs.Refusals.{memory_refusal}
 use Rattle.tpm_actions.specs.Rows.{Success}
+use Rattle.tpm_actions.specs.Shutdown.{with_saved}
+use Rattle.tpm_record.specs.Saved.{Nothing}
+use Rattle.tpm_types_command.specs.declared.command_code.CommandCode.{CommandCode}
 use Rattle.tpm_machine_step.specs.Answer.{Answered, answer_to, refusal_text, written_of}
 use Rattle.tpm_machine_step.specs.Events.{Happening, Given, Cycled}
 use Rattle.tpm_machine_step.specs.General.{general, in_command}
@@ -110,6 +113,11 @@ refusal_step r e = record {
   after = counted_in e.refused.counted r;
 }
 
+-- what a TPM2_Shutdown saved is cancelled by the next success, unless that keeps it (Part 3, section
+-- 9.4)
+abbrev pub settled : CommandCode → Record → Record
+settled code r = if (shape_of code).keeps_shutdown then r else with_saved r Nothing
+
 abbrev pub success_step : Accepted → List ℕ → Stepped
 success_step a random =
     let x : Answered =
@@ -117,7 +125,7 @@ success_step a random =
     record {
       response = x.response;
       row = record { code = code_number a.command.code; check = 0 };
-      after = x.after;
+      after = settled a.command.code x.after;
     }
 
 abbrev pub answer_of : Record → List ℕ → Result Accepted Refusal → Stepped

@@ -7,6 +7,9 @@ use Rattle.tpm_types.specs.declared.refused.Refused.{Refused}
 use Rattle.tpm_actions.specs.Request.{Request}
 use Rattle.tpm_actions.specs.Rows.{Success}
 use Rattle.tpm_actions.specs.Startup.{startup_row}
+use Rattle.tpm_actions.specs.Shutdown.{shutdown_row}
+use Rattle.tpm_actions.specs.SelfTest.{self_test_row}
+use Rattle.tpm_actions.specs.ReadClock.{read_clock_row}
 use Rattle.tpm_actions.specs.GetRandom.{get_random_row}
 use Rattle.tpm_actions.specs.PcrRead.{pcr_read_row}
 use Rattle.tpm_actions.specs.PcrExtend.{pcr_extend_row}
@@ -54,7 +57,9 @@ row_of r command.DictionaryAttackParameters q = dictionary_attack_parameters_row
 row_of r command.NvChangeAuth q = nv_change_auth_row r q
 row_of r command.PcrEvent q = pcr_event_row r q
 row_of r command.PcrReset q = pcr_reset_row r q
+row_of r command.SelfTest q = self_test_row r q
 row_of r command.Startup q = startup_row r q
+row_of r command.Shutdown q = shutdown_row r q
 row_of r command.PolicyNv q = assertion_row command.PolicyNv r q
 row_of r command.NvRead q = nv_read_row r q
 row_of r command.NvReadLock q = nv_read_lock_row r q
@@ -75,6 +80,7 @@ row_of r command.GetRandom q = get_random_row r q
 row_of r command.PcrRead q = pcr_read_row r q
 row_of r command.PolicyPcr q = assertion_row command.PolicyPcr r q
 row_of r command.PolicyRestart q = policy_restart_row r q
+row_of r command.ReadClock q = read_clock_row r q
 row_of r command.PcrExtend q = pcr_extend_row r q
 row_of r command.PolicyGetDigest q = policy_get_digest_row r q
 row_of r command.PolicyPassword q = assertion_row command.PolicyPassword r q

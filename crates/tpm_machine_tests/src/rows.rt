@@ -16,6 +16,12 @@ const GET_RANDOM: u32 = 0x17b;
 
 const PCR_READ: u32 = 0x17e;
 
+const SELF_TEST: u32 = 0x143;
+
+const SHUTDOWN: u32 = 0x145;
+
+const READ_CLOCK: u32 = 0x181;
+
 const PCR_EXTEND: u32 = 0x182;
 
 const PCR_EVENT: u32 = 0x13c;
@@ -45,6 +51,8 @@ const POLICY_GET_DIGEST: u32 = 0x189;
 const POLICY_PASSWORD: u32 = 0x18c;
 
 const STATE: &[u8] = &[0, 1];
+
+const YES: &[u8] = &[1];
 
 const HANDLE_NULL: &[u8] = &[0x40, 0, 0, 7];
 
@@ -135,6 +143,10 @@ fn each_check_is_reported(rt: HostRuntime) -> Result<(), Fail> {
         rows_of(SESSIONS, GET_RANDOM, &[PASSWORD, NO_DATA], &[(&[], "G8")]),
         rows_of(NO_SESSIONS, GET_RANDOM, &[NO_DATA], &[(&[], "ok")]),
         rows_of(NO_SESSIONS, PCR_READ, &[NONE], &[(&[], "ok")]),
+        rows_of(NO_SESSIONS, SELF_TEST, &[YES], &[(&[], "ok"), (&[YES], "G11")]),
+        rows_of(NO_SESSIONS, SHUTDOWN, &[], &[(&[STATE], "ok"), (&[YES], "G11")]),
+        rows_of(NO_SESSIONS, READ_CLOCK, &[], &[(&[], "ok"), (&[YES], "G11")]),
+        rows_of(SESSIONS, READ_CLOCK, &[PASSWORD], &[(&[], "G7")]),
         rows_of(
             SESSIONS,
             PCR_RESET,

@@ -11,7 +11,9 @@ ghost use Rattle.tpm_pcr.specs.Values.{IsBank};
 ghost use Rattle.tpm_pcr.specs.Banks.{answer_selection, new_banks, pcr_value, read_values};
 ghost use Rattle.tpm_pcr.specs.Banks.{select_digest_of, select_with, selected_pcrs};
 ghost use Rattle.tpm_pcr.specs.Banks.{selected_values};
+ghost use Rattle.tpm_pcr.specs.Saved.{restored_in, saved_of};
 
+use crate::saved::SavedPcrs;
 use arrayvec::ArrayVec;
 use std::marker::Model;
 use tpm_mac::{Digest, HashAlg, Hasher};
@@ -213,6 +215,30 @@ impl Banks {
         if bank.select.contains(pcr) {
             hasher.update(self.value(bank.hash, pcr).as_slice());
         }
+    }
+}
+
+impl Banks {
+    /// Saves the values of the PCRs 0 to 15.
+    pub fn save(&self, saved: &mut SavedPcrs)
+        ensures { saved.new ≡ saved_of self.now }
+    {
+        let (mut sha1, mut sha256) = ([[0; 20]; 16], [[0; 32]; 16]);
+        sha1.copy_from_slice(&self.sha1[..16]);
+        sha256.copy_from_slice(&self.sha256[..16]);
+        saved.sha1 = sha1;
+        saved.sha256 = sha256;
+    }
+
+    /// Gives the PCRs 0 to 15 the values that were saved. The others and the update counter stay.
+    pub fn restore(&mut self, saved: &SavedPcrs)
+        ensures { self.new ≡ restored_in saved.now self.old }
+    {
+        let (mut sha1, mut sha256) = (self.sha1, self.sha256);
+        sha1[..16].copy_from_slice(&saved.sha1);
+        sha256[..16].copy_from_slice(&saved.sha256);
+        self.sha1 = sha1;
+        self.sha256 = sha256;
     }
 }
 

@@ -7,6 +7,8 @@
 
 pub mod banks;
 pub mod changes;
+pub mod saved;
 
 pub use banks::{Banks, PcrReading};
 pub use changes::{ChangeFault, event_digests};
+pub use saved::SavedPcrs;

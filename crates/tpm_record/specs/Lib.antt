@@ -1,4 +1,5 @@
 pub mod Hierarchy
+pub mod Saved
 pub mod Record
 pub mod Objects
 pub mod IsRecord
@@ -12,6 +13,7 @@ pub use Rattle.tpm_lockout.specs.Tries
 pub use Rattle.tpm_lockout.specs.Recovery
 pub use Rattle.tpm_pcr.specs.Values
 pub use Rattle.tpm_pcr.specs.Banks
+pub use Rattle.tpm_pcr.specs.Saved as SavedPcrs
 pub use Rattle.tpm_session.specs.Sessions
 pub use Rattle.tpm_name.specs.Name
 pub use Rattle.tpm_object.specs.Object

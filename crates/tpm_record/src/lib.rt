@@ -5,7 +5,8 @@
 //! [`keep::Keep`] is the trait, [`kept::Kept`] the way of keeping the record, in containers of any
 //! kind: [`kept::ListKeep`] in lists that grow, [`kept::SlotKeep`] in places that are as many as
 //! there can be, which takes no memory. [`fixed::Fixed`] is the part that does not grow,
-//! [`objects::Objects`] are the loaded objects; NV indices are tpm_nv's. [`tick::tick`] and
+//! [`saved::Saved`] in it what a shutdown saved, [`objects::Objects`] are the loaded objects; NV
+//! indices are tpm_nv's. [`tick::tick`] and
 //! [`cycle::power_cycle`] are what happens to a record whatever the command, [`entity`] what a
 //! handle's entity is. It stands on `tpm_lockout`, `tpm_pcr`, `tpm_session`, `tpm_object` and `tpm_nv`, and on
 //! `tpm_places` for the places of sessions and objects. It promises for each keep the equations of
@@ -20,6 +21,7 @@ pub mod keep;
 pub mod kept;
 pub mod objects;
 pub mod record;
+pub mod saved;
 pub mod tick;
 
 pub use cycle::power_cycle;
@@ -27,8 +29,9 @@ pub use entity::{
     Means, absence_rc, auth_value_of, copied_auth_value, is_available, is_present, name_of,
     policy_of, protection_of,
 };
-pub use fixed::{Fixed, Saved};
+pub use fixed::Fixed;
 pub use hierarchy::{Hierarchies, Secrets};
 pub use keep::{Keep, NoMemory};
 pub use kept::{ListKeep, SlotKeep};
 pub use record::read_widths;
+pub use saved::{Saved, SavedKind};

@@ -1,9 +1,9 @@
-//! The digest of a selection of PCRs, by numbers of Python's `hashlib`.
+//! The digest of a selection of PCRs, by numbers of Python's `hashlib`; and values that are saved.
 
 use arrayvec::ArrayVec;
 use tpm_mac::HashAlg;
-use tpm_pcr::Banks;
-use tpm_types::{BankSelection, PcrSelect, PcrSelection};
+use tpm_pcr::{Banks, SavedPcrs};
+use tpm_types::{BankSelection, Locality, PcrIndex, PcrSelect, PcrSelection};
 
 /// The digests of the selection below on a new device.
 const DIGESTS: [(HashAlg, &[u8]); 2] = [
@@ -34,5 +34,20 @@ fn a_digest_is_over_all_selected_values(rt: HostRuntime) {
     for (hash, digest) in DIGESTS {
         let found = Banks::new().select_digest(hash, &selection);
         assert_eq!(rt; found.as_slice(), digest);
+    }
+}
+
+#[test]
+fn saved_values_are_restored_up_to_pcr_15(rt: HostRuntime) {
+    let locality = Locality::new(0).unwrap();
+    let (mut banks, mut saved) = (Banks::new(), SavedPcrs::new());
+    banks.save(&mut saved);
+    for number in [15, 16] {
+        let _ = banks.event(PcrIndex::new(number).unwrap(), locality, b"start");
+    }
+    banks.restore(&saved);
+    for (number, restored) in [(15, true), (16, false)] {
+        let value = banks.value(HashAlg::Sha1, PcrIndex::new(number).unwrap());
+        assert_eq!(rt; value.as_slice() == [0; 20].as_slice(), restored);
     }
 }

@@ -9,6 +9,7 @@ use tpm_name::Name;
 use tpm_types::{
     BankSelection, DigestList, DigestValue, DigestValues, Handle, PcrSelect, PcrSelection,
     ResponseCode, SessionAttributes, SessionType, StartupType, is_command_number, read_buffer,
+    read_yes_no,
 };
 use tpm_types_command::{AuthEntry, Command, CommandCode, HandleKind, ParameterKind, read_handles};
 
@@ -55,7 +56,8 @@ fn commands_have_numbers(rt: HostRuntime) {
     assert!(rt; is_numbered(CommandCode::PcrRead, 0x17e));
     assert!(rt; is_numbered(CommandCode::PcrExtend, 0x182));
     assert!(rt; is_numbered(CommandCode::PolicyPassword, 0x18c));
-    assert_eq!(rt; CommandCode::named(0x143), None);
+    assert!(rt; is_numbered(CommandCode::Shutdown, 0x145));
+    assert_eq!(rt; CommandCode::named(0x142), None);
 }
 
 #[test]
@@ -82,9 +84,10 @@ fn handles_are_read_by_their_rules(rt: HostRuntime) {
 
 #[test]
 fn parameters_are_read(rt: HostRuntime) {
-    let mut text = Cursor::new(b"\x00\x01\x00\x02ab;");
+    let mut text = Cursor::new(b"\x00\x01\x00\x02ab\x01;");
     assert_eq!(rt; StartupType::read(&mut text), Ok(StartupType::State));
     assert_eq!(rt; read_buffer(&mut text, 2), Ok(b"ab".as_slice()));
+    assert_eq!(rt; read_yes_no(&mut text), Ok(true));
     assert_eq!(rt; text.rest(), b";".as_slice());
 }
 

@@ -7,6 +7,7 @@ pub mod PcrSelection
 pub mod Handle
 pub mod DigestList
 pub mod DigestValues
+pub mod YesNo
 pub mod StartupType
 pub mod SessionType
 pub mod Operation

@@ -36,6 +36,7 @@ pub mod session_attributes;
 pub mod session_type;
 pub mod startup_type;
 pub mod symmetric;
+pub mod yes_no;
 
 pub use action_check::ActionCheck;
 pub use algorithm::{hash_number, hash_or_null_number, read_hash, read_hash_or_null};
@@ -60,3 +61,4 @@ pub use session_attributes::SessionAttributes;
 pub use session_type::SessionType;
 pub use startup_type::StartupType;
 pub use symmetric::SymmetricDefinition;
+pub use yes_no::read_yes_no;

@@ -29,7 +29,9 @@ code_number code.DictionaryAttackParameters = 0x13a
 code_number code.NvChangeAuth = 0x13b
 code_number code.PcrEvent = 0x13c
 code_number code.PcrReset = 0x13d
+code_number code.SelfTest = 0x143
 code_number code.Startup = 0x144
+code_number code.Shutdown = 0x145
 code_number code.PolicyNv = 0x149
 code_number code.NvRead = 0x14e
 code_number code.NvReadLock = 0x14f
@@ -50,6 +52,7 @@ code_number code.GetRandom = 0x17b
 code_number code.PcrRead = 0x17e
 code_number code.PolicyPcr = 0x17f
 code_number code.PolicyRestart = 0x180
+code_number code.ReadClock = 0x181
 code_number code.PcrExtend = 0x182
 code_number code.PolicyGetDigest = 0x189
 code_number code.PolicyPassword = 0x18c
@@ -71,7 +74,9 @@ all_codes =
     ∷ code.NvChangeAuth
     ∷ code.PcrEvent
     ∷ code.PcrReset
+    ∷ code.SelfTest
     ∷ code.Startup
+    ∷ code.Shutdown
     ∷ code.PolicyNv
     ∷ code.NvRead
     ∷ code.NvReadLock
@@ -92,6 +97,7 @@ all_codes =
     ∷ code.PcrRead
     ∷ code.PolicyPcr
     ∷ code.PolicyRestart
+    ∷ code.ReadClock
     ∷ code.PcrExtend
     ∷ code.PolicyGetDigest
     ∷ code.PolicyPassword
@@ -113,10 +119,17 @@ abbrev pub create_parameters : List ParameterKind
 create_parameters =
     parameter.SensitiveCreate ∷ parameter.Public ∷ parameter.Buffer 34 ∷ parameter.Selection ∷ []
 
+-- the shape of a command that answers a sized buffer first
+abbrev pub answering : Facts → Facts
+answering shape = record shape { sized_answer = true }
+
+-- and of one whose success leaves what a TPM2_Shutdown saved
+abbrev pub keeping : Facts → Facts
+keeping shape = record shape { keeps_shutdown = true }
+
 -- the shape of a command whose only handle is an object, authorized in the role of the user
 abbrev pub on_object : List ParameterKind → Facts
-on_object parameters =
-    record (shape_with (user kind.Object ∷ []) parameters) { sized_answer = true }
+on_object parameters = answering (shape_with (user kind.Object ∷ []) parameters)
 
 -- authHandle, policySession; nonceTPM, cpHashA, policyRef, expiration
 abbrev pub secret_handles : List HandleRule
@@ -180,43 +193,45 @@ shape_of code.DictionaryAttackParameters =
 shape_of code.NvChangeAuth = shape_with (admin kind.NvIndex ∷ []) (parameter.Buffer 32 ∷ [])
 shape_of code.PcrEvent = shape_with (user kind.PcrOrNull ∷ []) (parameter.Buffer 1024 ∷ [])
 shape_of code.PcrReset = shape_with (user kind.Pcr ∷ []) []
+shape_of code.SelfTest = keeping (shape_with [] (parameter.YesNo ∷ []))
 shape_of code.Startup = record (shape_with [] (parameter.StartupType ∷ [])) { forbids_sessions = true }
+shape_of code.Shutdown = keeping (shape_with [] (parameter.StartupType ∷ []))
 shape_of code.PolicyNv =
     record (shape_with compared_handles compared_parameters) { reads_nv = true }
 shape_of code.NvRead =
-    record (on_read_nv (parameter.U16 ∷ parameter.U16 ∷ [])) { sized_answer = true }
+    keeping (answering (on_read_nv (parameter.U16 ∷ parameter.U16 ∷ [])))
 shape_of code.NvReadLock = on_read_nv []
 shape_of code.PolicySecret =
     record (shape_with secret_handles secret_parameters) { sized_answer = true; reads_nv = true }
-shape_of code.Create = on_object create_parameters
-shape_of code.Hmac = on_object (parameter.Buffer 1024 ∷ parameter.HashOrNull ∷ [])
+shape_of code.Create = keeping (on_object create_parameters)
+shape_of code.Hmac = keeping (on_object (parameter.Buffer 1024 ∷ parameter.HashOrNull ∷ []))
 shape_of code.Load =
     record (on_object (parameter.Buffer 256 ∷ parameter.Public ∷ [])) {
       answers_handle = true;
       grows = true;
     }
-shape_of code.Unseal = on_object []
+shape_of code.Unseal = keeping (on_object [])
 shape_of code.FlushContext = record (shape_with [] (parameter.U32 ∷ [])) { forbids_sessions = true }
 shape_of code.NvReadPublic =
-    record (shape_with (unauthorized kind.NvIndex ∷ []) []) { sized_answer = true }
+    keeping (answering (shape_with (unauthorized kind.NvIndex ∷ []) []))
 shape_of code.PolicyAuthValue = on_policy []
 shape_of code.PolicyCommandCode = on_policy (parameter.U32 ∷ [])
 shape_of code.PolicyLocality = on_policy (parameter.U8 ∷ [])
 shape_of code.PolicyOr = on_policy (parameter.DigestList ∷ [])
-shape_of code.ReadPublic =
-    record (shape_with (unauthorized kind.Object ∷ []) []) { sized_answer = true }
+shape_of code.ReadPublic = keeping (answering (shape_with (unauthorized kind.Object ∷ []) []))
 shape_of code.StartAuthSession =
     record (shape_with (unauthorized kind.Null ∷ unauthorized kind.Entity ∷ []) start_parameters) {
       sized_answer = true;
       answers_handle = true;
       grows = true;
     }
-shape_of code.GetRandom = record (shape_with [] (parameter.U16 ∷ [])) { sized_answer = true }
-shape_of code.PcrRead = shape_with [] (parameter.Selection ∷ [])
+shape_of code.GetRandom = keeping (answering (shape_with [] (parameter.U16 ∷ [])))
+shape_of code.PcrRead = keeping (shape_with [] (parameter.Selection ∷ []))
 shape_of code.PolicyPcr = on_policy (parameter.Buffer 32 ∷ parameter.Selection ∷ [])
 shape_of code.PolicyRestart = on_policy []
+shape_of code.ReadClock = record (keeping (shape_with [] [])) { forbids_sessions = true }
 shape_of code.PcrExtend = shape_with (user kind.PcrOrNull ∷ []) (parameter.Digests ∷ [])
-shape_of code.PolicyGetDigest = record (on_policy []) { sized_answer = true }
+shape_of code.PolicyGetDigest = keeping (answering (on_policy []))
 shape_of code.PolicyPassword = on_policy []
 
 -- how many handles a command has, and how many of these need authorization

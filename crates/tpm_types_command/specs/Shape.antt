@@ -67,12 +67,14 @@ is_sized parameter.Selection = false
 is_sized parameter.Digests = false
 is_sized parameter.DigestList = false
 is_sized parameter.Operation = false
+is_sized parameter.YesNo = false
 
 -- a shape, wherever its lists lie in memory: its handles and who authorizes each, its parameters,
 -- whether the first parameter of its answer is a sized buffer, whether a handle stands before
--- these, whether it may have no sessions, whether it may want memory, and whether it reads the NV
+-- these, whether it may have no sessions, whether it may want memory, whether it reads the NV
 -- index that authorizes it, where one does: any other command writes it, or administers it in that
--- role
+-- role; and whether its success leaves what a TPM2_Shutdown saved, which any other one cancels
+-- (Part 3, section 9.4)
 pub record Facts : Type 0 where
   pub handles : List HandleRule
   pub parameters : List ParameterKind
@@ -81,6 +83,7 @@ pub record Facts : Type 0 where
   pub forbids_sessions : Bool
   pub grows : Bool
   pub reads_nv : Bool
+  pub keeps_shutdown : Bool
 
 abbrev pub facts_of : Shape → Facts
 facts_of s = record {
@@ -91,6 +94,7 @@ facts_of s = record {
   forbids_sessions = s.forbids_sessions;
   grows = s.grows;
   reads_nv = s.reads_nv;
+  keeps_shutdown = s.keeps_shutdown;
 }
 
 -- a handle that is authorized in the role of the user
@@ -115,4 +119,5 @@ shape_with handles parameters = record {
   forbids_sessions = false;
   grows = false;
   reads_nv = false;
+  keeps_shutdown = false;
 }

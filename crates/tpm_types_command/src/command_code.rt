@@ -3,7 +3,7 @@ ghost use Rattle.tpm_types.specs.CommandNumber.{is_command_number};
 
 use crate::shape::ParameterKind::{
     Buffer, DigestList, Digests, Hash, HashOrNull, NvPublic, Operation, Public, Selection,
-    SensitiveCreate, SessionType, StartupType, Symmetric, U8, U16, U32, U64,
+    SensitiveCreate, SessionType, StartupType, Symmetric, U8, U16, U32, U64, YesNo,
 };
 use crate::shape::{HandleKind, HandleRule, ParameterKind, Shape};
 use tpm_types::{NvUse, Role};
@@ -26,7 +26,9 @@ pub enum CommandCode {
     NvChangeAuth = 0x13b,
     PcrEvent = 0x13c,
     PcrReset = 0x13d,
+    SelfTest = 0x143,
     Startup = 0x144,
+    Shutdown = 0x145,
     PolicyNv = 0x149,
     NvRead = 0x14e,
     NvReadLock = 0x14f,
@@ -47,6 +49,7 @@ pub enum CommandCode {
     PcrRead = 0x17e,
     PolicyPcr = 0x17f,
     PolicyRestart = 0x180,
+    ReadClock = 0x181,
     PcrExtend = 0x182,
     PolicyGetDigest = 0x189,
     PolicyPassword = 0x18c,
@@ -153,6 +156,7 @@ macro_rules! shape {
             forbids_sessions: false,
             grows: false,
             reads_nv: false,
+            keeps_shutdown: false,
         };
         $(shape.$fact = true;)*
         shape
@@ -164,7 +168,7 @@ impl CommandCode {
     ghost use Rattle.tpm_types_command.specs.Shape.{facts_of};
 
     /// All of them, ascending by number.
-    pub const ALL: [CommandCode; 38] = [
+    pub const ALL: [CommandCode; 41] = [
         CommandCode::NvUndefineSpace,
         CommandCode::HierarchyChangeAuth,
         CommandCode::NvDefineSpace,
@@ -179,7 +183,9 @@ impl CommandCode {
         CommandCode::NvChangeAuth,
         CommandCode::PcrEvent,
         CommandCode::PcrReset,
+        CommandCode::SelfTest,
         CommandCode::Startup,
+        CommandCode::Shutdown,
         CommandCode::PolicyNv,
         CommandCode::NvRead,
         CommandCode::NvReadLock,
@@ -200,6 +206,7 @@ impl CommandCode {
         CommandCode::PcrRead,
         CommandCode::PolicyPcr,
         CommandCode::PolicyRestart,
+        CommandCode::ReadClock,
         CommandCode::PcrExtend,
         CommandCode::PolicyGetDigest,
         CommandCode::PolicyPassword,
@@ -257,7 +264,9 @@ impl CommandCode {
             CommandCode::NvChangeAuth => shape!([ADMIN_NV_INDEX], &[Buffer(32)]),
             CommandCode::PcrEvent => shape!([USER_PCR_OR_NULL], &[Buffer(1024)]),
             CommandCode::PcrReset => shape!([USER_PCR], &[]),
+            CommandCode::SelfTest => shape!([], &[YesNo], keeps_shutdown),
             CommandCode::Startup => shape!([], &[StartupType], forbids_sessions),
+            CommandCode::Shutdown => shape!([], &[StartupType], keeps_shutdown),
             CommandCode::PolicyNv => shape!(
                 [USER_NV_AUTH, NV_INDEX, POLICY_SESSION],
                 COMPARED,
@@ -267,7 +276,8 @@ impl CommandCode {
                 [USER_NV_AUTH, NV_INDEX],
                 &[U16, U16],
                 sized_answer,
-                reads_nv
+                reads_nv,
+                keeps_shutdown
             ),
             CommandCode::NvReadLock => shape!([USER_NV_AUTH, NV_INDEX], &[], reads_nv),
             CommandCode::PolicySecret => shape!(
@@ -276,17 +286,22 @@ impl CommandCode {
                 sized_answer,
                 reads_nv
             ),
-            CommandCode::Create => shape!([USER_OBJECT], CREATE, sized_answer),
-            CommandCode::Hmac => shape!([USER_OBJECT], &[Buffer(1024), HashOrNull], sized_answer),
+            CommandCode::Create => shape!([USER_OBJECT], CREATE, sized_answer, keeps_shutdown),
+            CommandCode::Hmac => shape!(
+                [USER_OBJECT],
+                &[Buffer(1024), HashOrNull],
+                sized_answer,
+                keeps_shutdown
+            ),
             CommandCode::Load => shape!([USER_OBJECT], LOAD, sized_answer, answers_handle, grows),
-            CommandCode::Unseal => shape!([USER_OBJECT], &[], sized_answer),
+            CommandCode::Unseal => shape!([USER_OBJECT], &[], sized_answer, keeps_shutdown),
             CommandCode::FlushContext => shape!([], &[U32], forbids_sessions),
-            CommandCode::NvReadPublic => shape!([NV_INDEX], &[], sized_answer),
+            CommandCode::NvReadPublic => shape!([NV_INDEX], &[], sized_answer, keeps_shutdown),
             CommandCode::PolicyAuthValue => shape!([POLICY_SESSION], &[]),
             CommandCode::PolicyCommandCode => shape!([POLICY_SESSION], &[U32]),
             CommandCode::PolicyLocality => shape!([POLICY_SESSION], &[U8]),
             CommandCode::PolicyOr => shape!([POLICY_SESSION], &[DigestList]),
-            CommandCode::ReadPublic => shape!([OBJECT], &[], sized_answer),
+            CommandCode::ReadPublic => shape!([OBJECT], &[], sized_answer, keeps_shutdown),
             CommandCode::StartAuthSession => shape!(
                 [NULL, ENTITY],
                 START,
@@ -294,12 +309,18 @@ impl CommandCode {
                 answers_handle,
                 grows
             ),
-            CommandCode::GetRandom => shape!([], &[U16], sized_answer),
-            CommandCode::PcrRead => shape!([], &[Selection]),
+            CommandCode::GetRandom => shape!([], &[U16], sized_answer, keeps_shutdown),
+            CommandCode::PcrRead => shape!([], &[Selection], keeps_shutdown),
             CommandCode::PolicyPcr => shape!([POLICY_SESSION], &[Buffer(32), Selection]),
             CommandCode::PolicyRestart => shape!([POLICY_SESSION], &[]),
+            CommandCode::ReadClock => shape!([], &[], forbids_sessions, keeps_shutdown),
             CommandCode::PcrExtend => shape!([USER_PCR_OR_NULL], &[Digests]),
-            CommandCode::PolicyGetDigest => shape!([POLICY_SESSION], &[], sized_answer),
+            CommandCode::PolicyGetDigest => shape!(
+                [POLICY_SESSION],
+                &[],
+                sized_answer,
+                keeps_shutdown
+            ),
             CommandCode::PolicyPassword => shape!([POLICY_SESSION], &[]),
         }
     }

@@ -120,6 +120,8 @@ pub enum ParameterKind {
     NvPublic,
     /// TPM_EO.
     Operation,
+    /// TPMI_YES_NO.
+    YesNo,
 }
 
 impl ParameterKind {
@@ -146,7 +148,8 @@ impl ParameterKind {
             | ParameterKind::Selection
             | ParameterKind::Digests
             | ParameterKind::DigestList
-            | ParameterKind::Operation => false,
+            | ParameterKind::Operation
+            | ParameterKind::YesNo => false,
         }
     }
 }
@@ -167,4 +170,6 @@ pub struct Shape {
     /// Whether it reads the NV index that authorizes it, where one does; any other command writes
     /// it, or administers it in that role.
     pub reads_nv: bool,
+    /// Whether its success leaves what a TPM2_Shutdown saved; that of any other command cancels it.
+    pub keeps_shutdown: bool,
 }

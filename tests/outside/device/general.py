@@ -208,9 +208,6 @@ SHAPES = {
 
 # The commands that are served so far; every other one is answered COMMAND_CODE.
 SERVED = SHAPES.keys() - {
-    frames.SHUTDOWN,
-    frames.SELF_TEST,
-    frames.READ_CLOCK,
     frames.GET_CAPABILITY,
     frames.EVICT_CONTROL,
     frames.CLEAR,

@@ -1,0 +1,24 @@
+ghost use Rattle.std.specs.Prelude.{◌≡◌};
+ghost use Rattle.tpm_actions.specs.Answer.{IsEmpty};
+ghost use Rattle.tpm_actions.specs.Request.{request_of};
+ghost use Rattle.tpm_actions.specs.Rows.{Acts};
+ghost use Rattle.tpm_actions.specs.SelfTest.{self_test_row};
+
+use crate::answer::Answer;
+use crate::call::Call;
+use crate::reading::{end, parameter};
+use tpm_bytes::Cursor;
+use tpm_record::Keep;
+use tpm_types::{Refused, read_yes_no};
+
+/// TPM2_SelfTest: all tests have passed already.
+#[tactic(auto, unfolding(crate::specs::SelfTest::self_test_row))]
+pub fn self_test<K: Keep>(_keep: &mut K, call: &Call, _answer: &mut Answer) -> Result<(), Refused>
+    requires { IsEmpty _answer.old }
+    ensures { Acts (self_test_row (K.record_of _keep.old) (request_of call.now))
+        (K.record_of _keep.old) result _answer.new (K.record_of _keep.new) }
+{
+    let mut text = Cursor::new(call.parameters);
+    let _full_test = parameter(1, read_yes_no(&mut text))?;
+    end(&text)
+}

@@ -1,0 +1,42 @@
+ghost use Rattle.tpm_pcr.specs.Saved.{IsSavedBank};
+
+use std::marker::Model;
+
+/// The values of the PCRs 0 to 15 in each bank, as TPM2_Shutdown(STATE) saves them for
+/// TPM2_Startup(STATE).
+#[derive(Drop)]
+pub struct SavedPcrs {
+    pub(crate) sha1: [[u8; 20]; 16],
+    pub(crate) sha256: [[u8; 32]; 16],
+    ghost is_sha1: { IsSavedBank 20 sha1 },
+    ghost is_sha256: { IsSavedBank 32 sha256 },
+}
+
+impl Model for SavedPcrs {
+    ghost use Rattle.tpm_pcr.specs.Saved.{SavedValues};
+
+    ghost Value = { SavedValues };
+
+    ghost view = { λ s. record { sha1 = s.sha1; sha256 = s.sha256 } };
+}
+
+impl SavedPcrs {
+    ghost use Rattle.tpm_pcr.specs.Saved.{IsSaved};
+
+    /// Zeros, in the place of values that are saved later.
+    pub fn new() -> SavedPcrs {
+        SavedPcrs {
+            sha1: [[0; 20]; 16],
+            sha256: [[0; 32]; 16],
+        }
+    }
+
+    /// Says of the values what their types say: there are sixteen of their hash's size in each
+    /// bank. It only reads.
+    #[inline(always)]
+    pub fn read_sizes(&self)
+        ensures { IsSaved self.now }
+    {
+        let _bank = &self.sha1;
+    }
+}

@@ -1,0 +1,44 @@
+-- What the last TPM2_Shutdown saved for the next TPM2_Startup. TPM 2.0 Library, Part 1, section
+-- 12.2.3, and Part 3, sections 9.3 and 9.4.
+use Rattle.tpm_pcr.specs.Saved.{IsSaved, SavedValues, restored_in, saved_of}
+use Rattle.tpm_pcr.specs.Values.{BankValues}
+use Rattle.tpm_types.specs.declared.startup_type.StartupType.{StartupType}
+use Rattle.tpm_types.specs.declared.startup_type.StartupType.TheVariants as type
+use Rattle.tpm_record.specs.declared.saved.SavedKind.{SavedKind}
+use Rattle.tpm_record.specs.declared.saved.SavedKind.TheVariants as kind
+
+-- nothing, as there was no TPM2_Shutdown, or since it was cancelled; that there was one with CLEAR;
+-- or the values of the PCRs that one with STATE saved
+pub data SavedState : Type 0 where
+  Nothing : SavedState
+  Clear : SavedState
+  State : SavedValues → SavedState
+
+-- what a TPM2_Shutdown saves
+abbrev pub saved_by : StartupType → BankValues → SavedState
+saved_by type.Clear banks = Clear
+saved_by type.State banks = State (saved_of banks)
+
+-- what is kept: where nothing or CLEAR is, the values are none
+abbrev pub state_kept : SavedKind → SavedValues → SavedState
+state_kept kind.Nothing values = Nothing
+state_kept kind.Clear values = Clear
+state_kept kind.State values = State values
+
+-- of which kind it is
+abbrev pub kind_of : SavedState → SavedKind
+kind_of Nothing = kind.Nothing
+kind_of Clear = kind.Clear
+kind_of (State values) = kind.State
+
+-- the banks with the values that are saved, if there are such
+abbrev pub restored_from : SavedState → BankValues → BankValues
+restored_from Nothing banks = banks
+restored_from Clear banks = banks
+restored_from (State values) banks = restored_in values banks
+
+-- What holds of all that is saved.
+abbrev pub IsSavedState : SavedState → Type 0
+IsSavedState Nothing = Unit {0}
+IsSavedState Clear = Unit {0}
+IsSavedState (State values) = IsSaved values
