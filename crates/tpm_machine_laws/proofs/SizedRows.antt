@@ -36,7 +36,8 @@ use Rattle.tpm_actions_object.specs.Loaded.{is_fixed, loaded_at, parent_passes, 
 use Rattle.tpm_actions_policy.specs.Assertions.{assertion_in, assertion_row, by_its_check, policy_after, policy_session, session_handle, with_assertion}
 use Rattle.tpm_actions_policy.specs.PolicyRestart.{policy_restart_row}
 use Rattle.tpm_machine_step.specs.Table.{row_of}
-use Rattle.tpm_machine_laws.specs.Footprint.{Part, Nothing, Sessions, Objects, SessionsAndObjects, Nv, AuthValues, Lockout, Banks, Beginning, Saved, Touches, part_of}
+use Rattle.tpm_machine_laws.specs.Footprint.{Part, Nothing, Sessions, Objects, SessionsAndObjects, Nv, AuthValues, Lockout, Banks, Beginning, Saved, DisableClear, Cleared, Touches, part_of}
+use Rattle.tpm_record.proofs.ClearLaws.{cleared_all}
 use Rattle.tpm_machine_laws.specs.Sizes.{AreSized, IsSized, IsWhole}
 use Rattle.tpm_machine_laws.proofs.AllPlaces.{all_changed, all_found, all_set, all_without}
 use Rattle.tpm_machine_laws.proofs.Binding.{asked, ok_bind, ok_bind_is, ok_then, ok_weaker, some_is}
@@ -168,7 +169,7 @@ same_places old new sessions objects sized =
 same_record : (old like new : Record) → like.sessions ≡ old.sessions → like.objects ≡ old.objects → new ≡ like → AreSized old → AreSized new
 same_record old like new sessions objects is sized = subst AreSized (sym is) (same_places old like sessions objects sized)
 
--- whether a part is neither the sessions nor the objects
+-- whether a part is neither the sessions nor the objects, or leaves the objects that stay as they are
 abbrev keeps_sized : Part → Bool
 keeps_sized Sessions = false
 keeps_sized Objects = false
@@ -185,6 +186,9 @@ touched_sized AuthValues old new keeps touches sized = same_record old _ new ref
 touched_sized Lockout old new keeps touches sized = same_record old _ new refl refl touches sized
 touched_sized Banks old new keeps touches sized = same_record old _ new refl refl touches sized
 touched_sized Beginning old new keeps touches sized = same_record old _ new refl refl touches.0 sized
+touched_sized DisableClear old new keeps touches sized = same_record old _ new refl refl touches sized
+touched_sized Cleared old new keeps touches sized =
+    subst AreSized (sym touches) (record { sessions = sized.sessions; objects = cleared_all (λ (o : Object). IsWhole o.public) old.objects sized.objects })
 touched_sized Saved old new keeps touches sized = same_record old _ new refl refl touches sized
 
 fixed_sized : (r : Record) (c : CommandCode) (q : Request) → keeps_sized (part_of c) ≡ true → AreSized r → IfOk (row_of r c q) (λ s. AreSized s.after)

@@ -210,8 +210,6 @@ SHAPES = {
 SERVED = SHAPES.keys() - {
     frames.GET_CAPABILITY,
     frames.EVICT_CONTROL,
-    frames.CLEAR,
-    frames.CLEAR_CONTROL,
 }
 
 
