@@ -5,6 +5,7 @@ pub mod Rows
 pub mod Target
 pub mod PcrChange
 pub mod Startup
+pub mod ClearControl
 pub mod Shutdown
 pub mod SelfTest
 pub mod ReadClock

@@ -9,6 +9,7 @@
 
 pub mod answer;
 pub mod call;
+pub mod clear_control;
 pub mod dictionary_attack_lock_reset;
 pub mod dictionary_attack_parameters;
 pub mod flush_context;

@@ -1,4 +1,5 @@
 pub mod Checks
+pub mod Clear
 pub mod Loaded
 pub mod Creation
 pub mod CreatePrimary

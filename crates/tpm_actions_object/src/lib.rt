@@ -7,6 +7,7 @@
 //! opened. What the commands share stands in `checks`, `loaded` and `creation`.
 
 mod checks;
+pub mod clear;
 pub mod create;
 pub mod create_primary;
 mod creation;

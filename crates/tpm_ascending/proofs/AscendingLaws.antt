@@ -1,8 +1,8 @@
 -- Entries in ascending order of their keys: what is found after one is put, removed or changed,
--- that the keys still ascend, how many there are, and which key comes next.
-use Rattle.std.proofs.Common.{◌≡◌, ◌≢◌, ℕ, ◌<◌, ◌≤◌, ◌+◌, ◌⊎◌, true, cond, eqb, leb, [], ◌∷◌, length, Option, Some, None, is_some, refl, sym, ap, subst, ◌∙◌, arith, inl, inr}
+-- or some are kept, that the keys still ascend, how many there are, and which key comes next.
+use Rattle.std.proofs.Common.{◌≡◌, ◌≢◌, ℕ, ◌<◌, ◌≤◌, ◌+◌, ◌⊎◌, Bool, false, true, cond, eqb, leb, [], ◌∷◌, length, Option, Some, None, is_some, refl, sym, ap, subst, ◌∙◌, arith, inl, inr}
 use Rattle.std.proofs.lemmas.Bool.{cases_eq, cases_lt, cond_both, cond-true, cond-false, eq-eqb, ne_eqb, eqb-true, leb-true, leb-false}
-use Rattle.tpm_ascending.specs.Ascending.{AllAbove, AreEach, Ascends, Entries, at_key, changed_key, key_from, with_key, without_key}
+use Rattle.tpm_ascending.specs.Ascending.{AllAbove, AreEach, Ascends, Entries, at_key, changed_key, kept_entries, key_from, with_key, without_key}
 use Rattle.tpm_ascending.specs.IsAscendingMap.{IsAscendingMap}
 
 module _ {X : Type 0} where
@@ -183,6 +183,75 @@ module _ {X : Type 0} where
       (λ _. refl)
       (λ _. omega (arith, changed_length es key x))
 
+  -- ---- some entries are kept
+
+  pub kept_each : (Is : ℕ → X → Type 0) (stays : X → Bool) (es : Entries X) → AreEach Is es → AreEach Is (kept_entries stays es)
+  kept_each Is stays [] each = tt
+  kept_each Is stays (e ∷ es) each =
+      cond_both (stays e.1) _ _ (AreEach Is)
+      (λ _. (each.0, kept_each Is stays es each.1))
+      (λ _. kept_each Is stays es each.1)
+
+  kept_above : (low : ℕ) (stays : X → Bool) (es : Entries X) → AllAbove low es → AllAbove low (kept_entries stays es)
+  kept_above low stays [] above = tt
+  kept_above low stays (e ∷ es) above =
+      cond_both (stays e.1) _ _ (AllAbove low)
+      (λ _. (above.0, kept_above low stays es above.1))
+      (λ _. kept_above low stays es above.1)
+
+  pub kept_ascends : (stays : X → Bool) (es : Entries X) → Ascends es → Ascends (kept_entries stays es)
+  kept_ascends stays [] up = tt
+  kept_ascends stays (e ∷ es) up =
+      cond_both (stays e.1) _ _ Ascends
+      (λ _. (kept_above e.0 stays es up.0, kept_ascends stays es up.1))
+      (λ _. kept_ascends stays es up.1)
+
+  pub kept_few : (stays : X → Bool) (es : Entries X) → length (kept_entries stays es) ≤ length es
+  kept_few stays [] = omega arith
+  kept_few stays (e ∷ es) =
+      cond_both (stays e.1) _ _ (λ (l : Entries X). length l ≤ length (e ∷ es))
+      (λ _. omega (arith, kept_few stays es))
+      (λ _. omega (arith, kept_few stays es))
+
+  kept_absent : (stays : X → Bool) (es : Entries X) (key : ℕ) → at_key es key ≡ None → at_key (kept_entries stays es) key ≡ None
+  kept_absent stays [] key none = refl
+  kept_absent stays (e ∷ es) key none =
+      let first = first_apart e es key none in
+      let rest = kept_absent stays es key first.1 in
+      cond_both (stays e.1) _ _ (λ (l : Entries X). at_key l key ≡ None)
+      (λ _. at_rest e (kept_entries stays es) key first.0 ∙ rest)
+      (λ _. rest)
+
+  kept_found : (stays : X → Bool) (es : Entries X) (key : ℕ) (x : X) → at_key es key ≡ Some x → stays x ≡ true → at_key (kept_entries stays es) key ≡ Some x
+  kept_found stays [] key x there good = absurd cc
+  kept_found stays (e ∷ es) key x there good =
+      elim (cases_eq e.0 key) [
+        | inl same ↦
+            let found = sym (at_first e es key same) ∙ there in
+            let is : e.1 ≡ x = cc in
+            rw (ap stays is ∙ good) (at_first e (kept_entries stays es) key same ∙ found)
+        | inr apart ↦
+            let rest = kept_found stays es key x (sym (at_rest e es key apart) ∙ there) good in
+            cond_both (stays e.1) _ _ (λ (l : Entries X). at_key l key ≡ Some x)
+            (λ _. at_rest e (kept_entries stays es) key apart ∙ rest)
+            (λ _. rest)
+      ]
+
+  kept_gone : (stays : X → Bool) (es : Entries X) (key : ℕ) (x : X) → Ascends es → at_key es key ≡ Some x → stays x ≡ false → at_key (kept_entries stays es) key ≡ None
+  kept_gone stays [] key x up there bad = refl
+  kept_gone stays (e ∷ es) key x up there bad =
+      elim (cases_eq e.0 key) [
+        | inl same ↦
+            let found = sym (at_first e es key same) ∙ there in
+            let is : e.1 ≡ x = cc in
+            rw (ap stays is ∙ bad) (kept_absent stays es key (above_absent es key (subst (λ low. AllAbove low es) same up.0)))
+        | inr apart ↦
+            let rest = kept_gone stays es key x up.1 (sym (at_rest e es key apart) ∙ there) bad in
+            cond_both (stays e.1) _ _ (λ (l : Entries X). at_key l key ≡ None)
+            (λ _. at_rest e (kept_entries stays es) key apart ∙ rest)
+            (λ _. rest)
+      ]
+
   -- ---- the next key
 
   -- it is the first, or it comes from the rest
@@ -290,6 +359,11 @@ module _ {X : Type 0} where
     changed_absent = changed_absent;
     changed_ascends = changed_ascends;
     changed_length = changed_length;
+    kept_found = kept_found;
+    kept_gone = kept_gone;
+    kept_absent = kept_absent;
+    kept_ascends = kept_ascends;
+    kept_few = kept_few;
     next_there = next_there;
     next_from = next_from;
     next_lowest = next_lowest;

@@ -1,5 +1,5 @@
 -- Values under numbers, their keys, as a list of entries in ascending order of the keys.
-use Rattle.std.specs.Prelude.{◌≡◌, ℕ, ◌==◌, ◌<◌, ◌≤◌, nat_le, Bool, true, List, [], ◌∷◌, length, Option, Some, None, Result, Ok, Err, is_some, if◌then◌else◌}
+use Rattle.std.specs.Prelude.{◌≡◌, ℕ, ◌==◌, ◌<◌, ◌≤◌, nat_le, Bool, true, List, [], ◌∷◌, length, filter, Option, Some, None, Result, Ok, Err, is_some, if◌then◌else◌}
 use Rattle.tpm_ascending.specs.declared.ascending.KeyFault.{KeyFault}
 use Rattle.tpm_ascending.specs.declared.ascending.KeyFault.TheVariants.{Taken, Full, NoMemory}
 
@@ -32,6 +32,10 @@ module _ {X : Type 0} where
   abbrev pub without_key : Entries X → ℕ → Entries X
   without_key [] key = []
   without_key (e ∷ es) key = if e.0 == key then es else e ∷ without_key es key
+
+  -- the entries whose values are to stay
+  abbrev pub kept_entries : (X → Bool) → Entries X → Entries X
+  kept_entries stays entries = filter (λ e. stays e.1) entries
 
   -- every key of these entries is above this one
   abbrev pub AllAbove : ℕ → Entries X → Type 0

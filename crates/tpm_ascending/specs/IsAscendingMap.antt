@@ -1,6 +1,6 @@
 -- The laws of a map whose keys ascend.
-use Rattle.std.specs.Prelude.{◌≡◌, ◌≢◌, ℕ, ◌+◌, ◌<◌, ◌≤◌, true, length, Some, None, is_some}
-use Rattle.tpm_ascending.specs.Ascending.{Ascends, Entries, at_key, changed_key, key_from, with_key, without_key}
+use Rattle.std.specs.Prelude.{◌≡◌, ◌≢◌, ℕ, ◌+◌, ◌<◌, ◌≤◌, Bool, false, true, length, Some, None, is_some}
+use Rattle.tpm_ascending.specs.Ascending.{Ascends, Entries, at_key, changed_key, kept_entries, key_from, with_key, without_key}
 
 -- keys in ascending order, each with a value of this type, are a map
 pub record IsAscendingMap (X : Type 0) : Type 0 where
@@ -42,6 +42,20 @@ pub record IsAscendingMap (X : Type 0) : Type 0 where
       → Ascends (changed_key entries key x)
   pub changed_length : (entries : Entries X) (key : ℕ) (x : X)
       → length (changed_key entries key x) ≡ length entries
+  -- of what is kept by a choice, what stays is found as it was, all else is gone, and nothing comes
+  pub kept_found : (stays : X → Bool) (entries : Entries X) (key : ℕ) (x : X)
+      → at_key entries key ≡ Some x → stays x ≡ true
+      → at_key (kept_entries stays entries) key ≡ Some x
+  pub kept_gone : (stays : X → Bool) (entries : Entries X) (key : ℕ) (x : X) → Ascends entries
+      → at_key entries key ≡ Some x → stays x ≡ false
+      → at_key (kept_entries stays entries) key ≡ None
+  pub kept_absent : (stays : X → Bool) (entries : Entries X) (key : ℕ) → at_key entries key ≡ None
+      → at_key (kept_entries stays entries) key ≡ None
+  -- the keys still ascend, and there are no more
+  pub kept_ascends : (stays : X → Bool) (entries : Entries X) → Ascends entries
+      → Ascends (kept_entries stays entries)
+  pub kept_few : (stays : X → Bool) (entries : Entries X)
+      → length (kept_entries stays entries) ≤ length entries
   -- the next key from one on is there, is not below that one, and no key between them is there
   pub next_there : (entries : Entries X) (key next : ℕ) → key_from entries key ≡ Some next
       → is_some (at_key entries next) ≡ true

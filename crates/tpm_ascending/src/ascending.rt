@@ -1,7 +1,7 @@
 ghost use Rattle.std.specs.Prelude.{◌≡◌, ◌≤◌, ℕ, [], Bool, List, is_some, length, option_copied};
 ghost use Rattle.std.specs.Borrow.{LendsIf, sem};
 ghost use Rattle.std.specs.Option.{option_copied_mut};
-ghost use Rattle.tpm_ascending.specs.Ascending.{Ascends, PutsKey, at_key, changed_key, key_from, without_key};
+ghost use Rattle.tpm_ascending.specs.Ascending.{Ascends, PutsKey, at_key, changed_key, kept_entries, key_from, without_key};
 
 use std::alloc::Global;
 
@@ -14,6 +14,15 @@ pub enum KeyFault {
     Full,
     /// Memory was refused.
     NoMemory,
+}
+
+/// A choice among values: which stay where the others are removed.
+pub trait Choice<T> {
+    ghost stays: { T → Bool };
+
+    /// Whether a value stays.
+    fn stays(value: &T) -> bool
+        ensures { result ≡ stays value.now };
 }
 
 /// At most `N` values, each under a key of its own. Contracts see them with their keys, in
@@ -65,6 +74,10 @@ pub trait Ascending<T: Drop, const N: usize>: Drop + Sized {
     fn remove(&mut self, key: u32) -> bool
         ensures there { result ≡ is_some (at_key (entries self.old) key) }
         ensures after { entries self.new ≡ without_key (entries self.old) key };
+
+    /// Removes each value that does not stay by this choice, in one pass.
+    fn retain<C: Choice<T>>(&mut self)
+        ensures { entries self.new ≡ kept_entries C.stays (entries self.old) };
 
     /// Removes all values.
     fn clear(&mut self)

@@ -1,4 +1,7 @@
-use crate::ascending::{Ascending, KeyFault};
+ghost use Rattle.std.specs.Prelude.{◌≡◌};
+ghost use Rattle.tpm_ascending.specs.Ascending.{kept_entries};
+
+use crate::ascending::{Ascending, Choice, KeyFault};
 use crate::lookup::{index_for, index_of, key_at, value_at};
 use arrayvec::ArrayVec;
 use std::alloc::Global;
@@ -20,6 +23,13 @@ impl<T: Default, const N: usize> Model for FixedAscending<T, N> {
     ghost view = { λ map. map.entries.items };
 
     ghost invariant = { λ map. Ascends map.entries.items × (length map.entries.items ≤ N) };
+}
+
+/// Removes each entry whose value does not stay.
+fn retain_in<C: Choice<T>, T: Drop + Default, const N: usize>(entries: &mut ArrayVec<(u32, T), N>)
+    ensures { entries.new.items ≡ kept_entries C.stays entries.old.items }
+{
+    entries.retain(|entry| C::stays(&entry.1));
 }
 
 impl<T: Drop + Default, const N: usize> Ascending<T, N> for FixedAscending<T, N> {
@@ -80,6 +90,11 @@ impl<T: Drop + Default, const N: usize> Ascending<T, N> for FixedAscending<T, N>
         };
         let _ = self.entries.remove(index);
         true
+    }
+
+    #[tactic(auto, using(crate::proofs::AscendingLaws::kept_ascends, crate::proofs::AscendingLaws::kept_few))]
+    fn retain<C: Choice<T>>(&mut self) {
+        retain_in::<C, T, N>(&mut self.entries);
     }
 
     fn clear(&mut self) {

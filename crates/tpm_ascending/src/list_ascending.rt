@@ -1,4 +1,7 @@
-use crate::ascending::{Ascending, KeyFault};
+ghost use Rattle.std.specs.Prelude.{◌≡◌};
+ghost use Rattle.tpm_ascending.specs.Ascending.{kept_entries};
+
+use crate::ascending::{Ascending, Choice, KeyFault};
 use crate::lookup::{index_for, index_of, key_at, value_at};
 use std::alloc::Global;
 use std::marker::Model;
@@ -18,6 +21,13 @@ impl<T, const N: usize> Model for ListAscending<T, N> {
     ghost view = { λ map. map.entries.items };
 
     ghost invariant = { λ map. Ascends map.entries.items × (length map.entries.items ≤ N) };
+}
+
+/// Removes each entry whose value does not stay.
+fn retain_in<C: Choice<T>, T: Drop>(entries: &mut Vec<(u32, T)>)
+    ensures { entries.new.items ≡ kept_entries C.stays entries.old.items }
+{
+    entries.retain(|entry| C::stays(&entry.1));
 }
 
 impl<T: Drop, const N: usize> Ascending<T, N> for ListAscending<T, N> {
@@ -81,6 +91,11 @@ impl<T: Drop, const N: usize> Ascending<T, N> for ListAscending<T, N> {
         };
         let _ = self.entries.remove(index);
         true
+    }
+
+    #[tactic(auto, using(crate::proofs::AscendingLaws::kept_ascends, crate::proofs::AscendingLaws::kept_few))]
+    fn retain<C: Choice<T>>(&mut self) {
+        retain_in::<C, T>(&mut self.entries);
     }
 
     fn clear(&mut self) {

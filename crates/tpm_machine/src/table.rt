@@ -16,6 +16,7 @@ use crate::parameters::pass_parameters;
 use arrayvec::ArrayVec;
 use tpm_actions::answer::Answer;
 use tpm_actions::call::Call;
+use tpm_actions::clear_control::clear_control;
 use tpm_actions::dictionary_attack_lock_reset::dictionary_attack_lock_reset;
 use tpm_actions::dictionary_attack_parameters::dictionary_attack_parameters;
 use tpm_actions::flush_context::flush_context;
@@ -30,6 +31,7 @@ use tpm_actions::self_test::self_test;
 use tpm_actions::shutdown::shutdown;
 use tpm_actions::start_auth_session::start_auth_session;
 use tpm_actions::startup::startup;
+use tpm_actions_object::clear::clear;
 use tpm_actions_object::create::create;
 use tpm_actions_object::create_primary::create_primary;
 use tpm_actions_object::evict_control::evict_control;
@@ -84,6 +86,8 @@ fn act<K: Keep>(
     match code {
         CommandCode::EvictControl => evict_control(keep, call, answer),
         CommandCode::NvUndefineSpace => nv_undefine_space(keep, call, answer),
+        CommandCode::Clear => clear(keep, call, answer),
+        CommandCode::ClearControl => clear_control(keep, call, answer),
         CommandCode::HierarchyChangeAuth => hierarchy_change_auth(keep, call, answer),
         CommandCode::NvDefineSpace => nv_define_space(keep, call, answer),
         CommandCode::CreatePrimary => create_primary(keep, call, answer),

@@ -9,6 +9,7 @@ use Rattle.tpm_actions.specs.Startup.{startup_row}
 use Rattle.tpm_actions.specs.Shutdown.{shutdown_row}
 use Rattle.tpm_actions.specs.SelfTest.{self_test_row}
 use Rattle.tpm_actions.specs.ReadClock.{read_clock_row}
+use Rattle.tpm_actions.specs.ClearControl.{clear_control_row}
 use Rattle.tpm_actions.specs.GetRandom.{get_random_row}
 use Rattle.tpm_actions.specs.PcrRead.{pcr_read_row}
 use Rattle.tpm_actions.specs.PcrExtend.{pcr_extend_row}
@@ -19,6 +20,7 @@ use Rattle.tpm_actions.specs.DictionaryAttackLockReset.{dictionary_attack_lock_r
 use Rattle.tpm_actions.specs.DictionaryAttackParameters.{dictionary_attack_parameters_row}
 use Rattle.tpm_actions.specs.HierarchyChangeAuth.{hierarchy_change_auth_row}
 use Rattle.tpm_actions.specs.StartAuthSession.{start_auth_session_row}
+use Rattle.tpm_actions_object.specs.Clear.{clear_row}
 use Rattle.tpm_actions_object.specs.Create.{create_row}
 use Rattle.tpm_actions_object.specs.CreatePrimary.{create_primary_row}
 use Rattle.tpm_actions_object.specs.EvictControl.{evict_control_row}
@@ -45,6 +47,6 @@ use Rattle.tpm_machine_laws.proofs.Binding.{ok_bind}
 use Rattle.tpm_machine_laws.specs.Shapes.{AnswersItsShape}
 
 pub row_answers : (r : Record) (c : CommandCode) (q : Request) → IfOk (row_of r c q) (AnswersItsShape c)
-unfolding row_of shape_of startup_row shutdown_row self_test_row read_clock_row get_random_row pcr_read_row pcr_extend_row pcr_event_row pcr_reset_row dictionary_attack_lock_reset_row dictionary_attack_parameters_row flush_context_row hierarchy_change_auth_row start_auth_session_row create_row create_primary_row evict_control_row hmac_row load_row read_public_row unseal_row assertion_row policy_get_digest_row policy_restart_row nv_change_auth_row nv_define_space_row nv_extend_row nv_increment_row nv_read_row nv_read_lock_row nv_read_public_row nv_set_bits_row nv_undefine_space_row nv_write_row nv_write_lock_row
+unfolding row_of shape_of startup_row shutdown_row self_test_row read_clock_row clear_row clear_control_row get_random_row pcr_read_row pcr_extend_row pcr_event_row pcr_reset_row dictionary_attack_lock_reset_row dictionary_attack_parameters_row flush_context_row hierarchy_change_auth_row start_auth_session_row create_row create_primary_row evict_control_row hmac_row load_row read_public_row unseal_row assertion_row policy_get_digest_row policy_restart_row nv_change_auth_row nv_define_space_row nv_extend_row nv_increment_row nv_read_row nv_read_lock_row nv_read_public_row nv_set_bits_row nv_undefine_space_row nv_write_row nv_write_lock_row
 row_answers r command.Startup q = search (rules, ok_bind)
 row_answers r _ q = search (rules, ok_bind)

@@ -31,6 +31,7 @@ use Rattle.tpm_actions.specs.declared.startup.Start.TheVariants.{Reset, Restart,
 use Rattle.tpm_actions.specs.Shutdown.{shutdown_row}
 use Rattle.tpm_actions.specs.SelfTest.{self_test_row}
 use Rattle.tpm_actions.specs.ReadClock.{read_clock_row}
+use Rattle.tpm_actions.specs.ClearControl.{clear_control_row}
 use Rattle.tpm_actions.specs.GetRandom.{get_random_row}
 use Rattle.tpm_actions.specs.PcrRead.{pcr_read_row}
 use Rattle.tpm_actions.specs.PcrExtend.{pcr_extend_row}
@@ -41,6 +42,7 @@ use Rattle.tpm_actions.specs.DictionaryAttackLockReset.{dictionary_attack_lock_r
 use Rattle.tpm_actions.specs.DictionaryAttackParameters.{dictionary_attack_parameters_row}
 use Rattle.tpm_actions.specs.HierarchyChangeAuth.{hierarchy_change_auth_row}
 use Rattle.tpm_actions.specs.StartAuthSession.{parameters_in, parameters_pass, session_place, start_auth_session_row}
+use Rattle.tpm_actions_object.specs.Clear.{clear_row}
 use Rattle.tpm_actions_object.specs.Create.{create_row}
 use Rattle.tpm_actions_object.specs.CreatePrimary.{create_primary_row}
 use Rattle.tpm_actions_object.specs.EvictControl.{evict_control_row}
@@ -115,6 +117,9 @@ secrets_drawn Reset = omega arith
 secrets_drawn Restart = omega arith
 secrets_drawn Resume = omega arith
 
+all_drawn : 96 ≤ 96
+all_drawn = omega arith
+
 answer_drawn : (requested : ℕ) → min requested 32 ≤ 96
 answer_drawn requested = omega arith
 
@@ -141,10 +146,10 @@ start_draws r q =
     ok_bind_is _ (parameters_pass p) _ (λ passed is.
     ok_bind _ (session_place r.sessions) _ (λ place. omega (arith, nonce_few p.hash (length p.nonce_caller) (caller_sized p passed is))))))
 
-ruleset draws = (rules, ok_bind, none_drawn, secrets_drawn, answer_drawn, object_drawn)
+ruleset draws = (rules, ok_bind, none_drawn, secrets_drawn, all_drawn, answer_drawn, object_drawn)
 
 pub row_draws : (r : Record) (c : CommandCode) (q : Request) → IfOk (row_of r c q) (λ s. s.answer.drawn ≤ 96)
-unfolding row_of startup_row shutdown_row self_test_row read_clock_row get_random_row pcr_read_row pcr_extend_row pcr_event_row pcr_reset_row dictionary_attack_lock_reset_row dictionary_attack_parameters_row flush_context_row hierarchy_change_auth_row create_row create_primary_row evict_control_row hmac_row load_row read_public_row unseal_row assertion_row policy_get_digest_row policy_restart_row nv_change_auth_row nv_define_space_row nv_extend_row nv_increment_row nv_read_row nv_read_lock_row nv_read_public_row nv_set_bits_row nv_undefine_space_row nv_write_row nv_write_lock_row
+unfolding row_of startup_row shutdown_row self_test_row read_clock_row clear_row clear_control_row get_random_row pcr_read_row pcr_extend_row pcr_event_row pcr_reset_row dictionary_attack_lock_reset_row dictionary_attack_parameters_row flush_context_row hierarchy_change_auth_row create_row create_primary_row evict_control_row hmac_row load_row read_public_row unseal_row assertion_row policy_get_digest_row policy_restart_row nv_change_auth_row nv_define_space_row nv_extend_row nv_increment_row nv_read_row nv_read_lock_row nv_read_public_row nv_set_bits_row nv_undefine_space_row nv_write_row nv_write_lock_row
 row_draws r command.StartAuthSession q = start_draws r q
 row_draws r command.Startup q = search draws
 row_draws r _ q = search draws

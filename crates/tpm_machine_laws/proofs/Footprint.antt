@@ -1,5 +1,5 @@
 -- A success touches the part of its command.
-use Rattle.std.proofs.Common.{rules, IfOk, ℕ, List, Option, Some, None, refl, inl, inr}
+use Rattle.std.proofs.Common.{rules, ◌≡◌, ◌+◌, IfOk, ℕ, true, List, Option, Some, None, Result, Ok, Err, refl, ap, inl, inr}
 use Rattle.std.specs.Option.{option_map_or}
 use Rattle.tpm_types.specs.declared.handle.HierarchyAuth.{HierarchyAuth}
 use Rattle.tpm_types.specs.declared.handle.HierarchyAuth.TheVariants as auth
@@ -13,12 +13,24 @@ use Rattle.tpm_actions.specs.Request.{Request}
 use Rattle.tpm_actions.specs.Startup.{start_of, started_record, startup_row}
 use Rattle.tpm_actions.specs.declared.startup.Start.{Start}
 use Rattle.tpm_actions.specs.declared.startup.Start.TheVariants.{Reset, Restart, Resume}
-use Rattle.tpm_actions.specs.Rows.{only}
+use Rattle.tpm_actions.specs.Refusals.{action_refusal, or_refusal}
+use Rattle.tpm_actions.specs.Rows.{all_read, only}
+use Rattle.tpm_bytes.specs.Reading.{◌>>=◌, refused_if}
+use Rattle.tpm_nv.specs.Clear.{cleared}
+use Rattle.tpm_pcr.specs.Changes.{change_check, clear_counted}
+use Rattle.tpm_pcr.specs.Values.{BankValues}
+use Rattle.tpm_pcr.specs.declared.changes.ChangeFault.{ChangeFault}
+use Rattle.tpm_record.specs.Clear.{cleared_objects, cleared_persistent}
+use Rattle.tpm_record.specs.Hierarchy.{cleared_hierarchies}
+use Rattle.tpm_types.specs.Rc.{plain}
+use Rattle.tpm_types.specs.declared.rc.ResponseCode.TheVariants as code
+use Rattle.tpm_types.specs.declared.refused.Refused.{Refused}
 use Rattle.tpm_types.specs.StartupType.{startup_type_at}
 use Rattle.tpm_record.specs.Saved.{kind_of}
 use Rattle.tpm_actions.specs.Shutdown.{shutdown_row}
 use Rattle.tpm_actions.specs.SelfTest.{self_test_row}
 use Rattle.tpm_actions.specs.ReadClock.{read_clock_row}
+use Rattle.tpm_actions.specs.ClearControl.{clear_control_row}
 use Rattle.tpm_actions.specs.GetRandom.{get_random_row}
 use Rattle.tpm_actions.specs.PcrRead.{pcr_read_row}
 use Rattle.tpm_actions.specs.PcrExtend.{pcr_extend_row}
@@ -29,6 +41,7 @@ use Rattle.tpm_actions.specs.DictionaryAttackLockReset.{dictionary_attack_lock_r
 use Rattle.tpm_actions.specs.DictionaryAttackParameters.{dictionary_attack_parameters_row}
 use Rattle.tpm_actions.specs.HierarchyChangeAuth.{hierarchy_change_auth_row}
 use Rattle.tpm_actions.specs.StartAuthSession.{start_auth_session_row}
+use Rattle.tpm_actions_object.specs.Clear.{clear_row, cleared_fixed}
 use Rattle.tpm_actions_object.specs.Create.{create_row}
 use Rattle.tpm_actions_object.specs.CreatePrimary.{create_primary_row}
 use Rattle.tpm_actions_object.specs.EvictControl.{evict_control_row}
@@ -52,7 +65,7 @@ use Rattle.tpm_nvactions.specs.NvWrite.{nv_write_row}
 use Rattle.tpm_nvactions.specs.NvWriteLock.{nv_write_lock_row}
 use Rattle.tpm_machine_step.specs.Table.{row_of}
 use Rattle.tpm_machine_laws.proofs.Binding.{ok_bind}
-use Rattle.tpm_machine_laws.specs.Footprint.{Beginning, KeepsSecrets, Touches, part_of}
+use Rattle.tpm_machine_laws.specs.Footprint.{Beginning, Cleared, KeepsSecrets, Touches, part_of}
 
 -- another authorization value changes no seed and no proof
 with_auth_keeps : (h : Hierarchies) (auth : HierarchyAuth) (value : List ℕ) → KeepsSecrets h (with_hierarchy_auth h auth value)
@@ -77,8 +90,27 @@ startup_touches r q =
     ok_bind _ (only (startup_type_at q.parameters)) _ (λ type.
     ok_bind _ (start_of type (kind_of r.fixed.saved)) _ (λ start. start_touches r start q.random))
 
+-- a clear counts an update of the PCRs, or is refused
+clear_counts : (refusal : ChangeFault → Refused) (banks : BankValues) → IfOk (or_refusal refusal (clear_counted banks)) (λ new. new ≡ record banks { update_count = banks.update_count + 1 })
+unfolding clear_counted
+clear_counts refusal banks = by (change_check true 1 banks)
+  where
+    by : (check : Result (Unit {0}) ChangeFault) → IfOk (or_refusal refusal (check >>= λ passed. let counted : BankValues = record banks { update_count = banks.update_count + 1 } in Ok counted)) (λ new. new ≡ record banks { update_count = banks.update_count + 1 })
+    by (Ok passed) = refl
+    by (Err fault) = tt
+
+clear_touches : (r : Record) (q : Request) → IfOk (clear_row r q) (λ s. Touches Cleared r s.after)
+unfolding clear_row cleared_hierarchies
+clear_touches r q =
+    ok_bind _ (all_read q.parameters) _ (λ ended.
+    ok_bind _ (refused_if r.fixed.disable_clear (action_refusal 1 (plain code.Disabled))) _ (λ a1.
+    ok_then _ _ (or_refusal (λ fault. action_refusal 2 (plain code.Failure)) (clear_counted r.fixed.banks)) _ (clear_counts _ r.fixed.banks) (λ banks is.
+    let after : BankValues → Record = λ b. record r { fixed = cleared_fixed b q.random r.fixed; objects = cleared_objects r.objects; persistent = cleared_persistent r.persistent; nv = cleared r.nv } in
+    ap after is)))
+
 pub row_touches : (r : Record) (c : CommandCode) (q : Request) → IfOk (row_of r c q) (λ s. Touches (part_of c) r s.after)
-unfolding row_of shutdown_row self_test_row read_clock_row get_random_row pcr_read_row pcr_extend_row pcr_event_row pcr_reset_row dictionary_attack_lock_reset_row dictionary_attack_parameters_row flush_context_row hierarchy_change_auth_row start_auth_session_row create_row create_primary_row evict_control_row hmac_row load_row read_public_row unseal_row assertion_row policy_get_digest_row policy_restart_row nv_change_auth_row nv_define_space_row nv_extend_row nv_increment_row nv_read_row nv_read_lock_row nv_read_public_row nv_set_bits_row nv_undefine_space_row nv_write_row nv_write_lock_row with_hierarchy_auth
+unfolding row_of shutdown_row self_test_row read_clock_row clear_control_row get_random_row pcr_read_row pcr_extend_row pcr_event_row pcr_reset_row dictionary_attack_lock_reset_row dictionary_attack_parameters_row flush_context_row hierarchy_change_auth_row start_auth_session_row create_row create_primary_row evict_control_row hmac_row load_row read_public_row unseal_row assertion_row policy_get_digest_row policy_restart_row nv_change_auth_row nv_define_space_row nv_extend_row nv_increment_row nv_read_row nv_read_lock_row nv_read_public_row nv_set_bits_row nv_undefine_space_row nv_write_row nv_write_lock_row with_hierarchy_auth
 row_touches r command.Startup q = startup_touches r q
+row_touches r command.Clear q = clear_touches r q
 row_touches r command.HierarchyChangeAuth q = search (rules, ok_bind, auth_keeps)
 row_touches r _ q = search (rules, ok_bind)

@@ -1,6 +1,6 @@
 -- A success takes one place more where its command grows, and else no more; that of
 -- TPM2_EvictControl one more or one less.
-use Rattle.std.proofs.Common.{rules, arith, ◌≡◌, ◌+◌, ℕ, Bool, true, false, List, Option, Some, Ok, IfOk, slice_set, refl, ap, ◌∙◌, inl, inr}
+use Rattle.std.proofs.Common.{rules, arith, ◌≡◌, ◌≤◌, ◌+◌, ℕ, Bool, true, false, List, Option, Some, Ok, IfOk, slice_set, refl, ap, ◌∙◌, inl, inr}
 use Rattle.tpm_types_command.specs.declared.command_code.CommandCode.{CommandCode}
 use Rattle.tpm_types_command.specs.declared.command_code.CommandCode.TheVariants as command
 use Rattle.tpm_types.specs.declared.handle.Handle.{Handle}
@@ -25,8 +25,9 @@ use Rattle.tpm_actions_object.specs.Checks.{given_passes, public_passes}
 use Rattle.tpm_actions_object.specs.Loaded.{is_fixed, loaded_at, parent_passes, place_for}
 use Rattle.tpm_actions_policy.specs.Assertions.{assertion_in, assertion_row, policy_after, policy_session, session_handle, with_assertion}
 use Rattle.tpm_actions_policy.specs.PolicyRestart.{policy_restart_row}
-use Rattle.tpm_ascending.proofs.AscendingLaws.{changed_length, put_length, removed_few, removed_length}
+use Rattle.tpm_ascending.proofs.AscendingLaws.{changed_length, kept_few, put_length, removed_few, removed_length}
 use Rattle.tpm_nv.specs.Access.{bits_set, extended, incremented, read_locked, with_auth_value, write_locked, written}
+use Rattle.tpm_nv.specs.Clear.{cleared, is_by_platform}
 use Rattle.tpm_nv.specs.Index.{NvContents, NvIndex, with_index, without_index}
 use Rattle.tpm_nv.specs.Startup.{started}
 use Rattle.tpm_nv.specs.declared.fault.NvFault.{NvFault}
@@ -46,12 +47,14 @@ use Rattle.tpm_bytes.specs.Reading.{◌>>=◌}
 use Rattle.std.specs.Prelude.{Result, Err, length, if◌then◌else◌, ◌==◌}
 use Rattle.std.proofs.lemmas.List.{length-map}
 use Rattle.tpm_machine_step.specs.Table.{row_of}
-use Rattle.tpm_machine_laws.specs.Footprint.{Part, Nothing, Sessions, Objects, SessionsAndObjects, Persistent, Nv, AuthValues, Lockout, Banks, Beginning, Saved, StartsNv, Touches, part_of}
+use Rattle.tpm_machine_laws.specs.Footprint.{Part, Nothing, Sessions, Objects, SessionsAndObjects, Persistent, Nv, AuthValues, Lockout, Banks, Beginning, Saved, DisableClear, Cleared, StartsNv, Touches, part_of}
 use Rattle.tpm_machine_laws.proofs.Binding.{ok_bind, ok_bind_is, ok_then, ok_weaker, some_is}
 use Rattle.tpm_machine_laws.proofs.Footprint.{row_touches}
 use Rattle.tpm_places.specs.Places.{taken_count}
 use Rattle.tpm_places.proofs.NumberedLaws.{changed_taken, put_taken, removed_taken}
 use Rattle.tpm_session.specs.Sessions.{flushed, session_byte, with_session_policy}
+use Rattle.tpm_record.proofs.ClearLaws.{cleared_few}
+use Rattle.tpm_record.specs.Clear.{outlasts}
 use Rattle.tpm_record.specs.Entity.{object_of}
 use Rattle.tpm_record.specs.Objects.{object_at, with_object, without_object}
 use Rattle.tpm_record.specs.Persistent.{persistent_at, with_persistent, without_persistent}
@@ -170,6 +173,10 @@ started_count : (nv : NvContents) → SameCount nv (started nv)
 unfolding started
 started_count nv = length-map nv.indices _
 
+cleared_count : (nv : NvContents) → length (cleared nv).indices ≤ length nv.indices
+unfolding cleared
+cleared_count nv = kept_few (λ (index : NvIndex). is_by_platform index.public) nv.indices
+
 starts_count : (old new : NvContents) → StartsNv old new → SameCount old new
 starts_count old new (inl is) = ap (λ (nv : NvContents). length nv.indices) is
 starts_count old new (inr is) = ap (λ (nv : NvContents). length nv.indices) is ∙ started_count old
@@ -258,7 +265,8 @@ change_auth_grows r q = search nv_counts
 
 -- ---- all others
 
--- whether a part is none of the sessions, the objects, transient or persistent, and the NV indices
+-- whether a part is none of the sessions, the objects, transient or persistent, and the NV indices,
+-- or takes none of them more
 abbrev pub keeps_places : Part → Bool
 keeps_places Sessions = false
 keeps_places Objects = false
@@ -281,6 +289,13 @@ touched_grows Beginning old new fixed touches =
     let same = ap (λ (r : Record). taken_in r) touches.0 in
     let indices = starts_count old.nv new.nv touches.1 in
     omega (arith, same, indices)
+touched_grows DisableClear old new fixed touches = let same = ap (λ (r : Record). taken_in r) touches in omega (arith, same)
+touched_grows Cleared old new fixed touches =
+    let same = ap (λ (r : Record). taken_in r) touches in
+    let objects = cleared_few old.objects in
+    let persistent = kept_few outlasts old.persistent in
+    let indices = cleared_count old.nv in
+    omega (arith, same, objects, persistent, indices)
 touched_grows Saved old new fixed touches = let same = ap (λ (r : Record). taken_in r) touches in omega (arith, same)
 
 fixed_grows : (r : Record) (c : CommandCode) (q : Request) → keeps_places (part_of c) ≡ true → IfOk (row_of r c q) (λ s. Grows false r s.after)
@@ -314,6 +329,8 @@ row_grows r command.NvChangeAuth q = change_auth_grows r q
 row_grows r command.NvRead q = fixed_grows r command.NvRead q refl
 row_grows r command.NvReadPublic q = fixed_grows r command.NvReadPublic q refl
 row_grows r command.Startup q = fixed_grows r command.Startup q refl
+row_grows r command.Clear q = fixed_grows r command.Clear q refl
+row_grows r command.ClearControl q = fixed_grows r command.ClearControl q refl
 row_grows r command.Shutdown q = fixed_grows r command.Shutdown q refl
 row_grows r command.SelfTest q = fixed_grows r command.SelfTest q refl
 row_grows r command.ReadClock q = fixed_grows r command.ReadClock q refl

@@ -15,6 +15,9 @@ use Rattle.tpm_types.specs.declared.handle.Handle.{Handle}
 use Rattle.tpm_types.specs.declared.handle.HierarchyHandle.{HierarchyHandle}
 use Rattle.tpm_types_object.specs.declared.public.PublicParameters.{PublicParameters}
 use Rattle.tpm_types.specs.declared.rc.Rc.{Rc}
+use Rattle.tpm_pcr.specs.Values.{BankValues}
+use Rattle.tpm_pcr.specs.declared.changes.ChangeFault.{ChangeFault}
+use Rattle.tpm_types.specs.Rc.{plain}
 use Rattle.tpm_types.specs.declared.startup_type.StartupType.{StartupType}
 use Rattle.tpm_record.specs.declared.saved.SavedKind.{SavedKind}
 use Rattle.tpm_types_command.specs.declared.shape.HandleKind.TheVariants as handle_kind
@@ -35,6 +38,7 @@ use Rattle.tpm_types.specs.declared.check.Check.{Check}
 use Rattle.tpm_types.specs.declared.check.Check.TheVariants as check
 use Rattle.tpm_types.specs.declared.refused.Refused.{Refused}
 use Rattle.tpm_actions.specs.FlushContext.{flush_context_row}
+use Rattle.tpm_actions.specs.ClearControl.{clear_control_row}
 use Rattle.tpm_actions.specs.GetRandom.{get_random_row}
 use Rattle.tpm_actions.specs.DictionaryAttackLockReset.{dictionary_attack_lock_reset_row}
 use Rattle.tpm_actions.specs.DictionaryAttackParameters.{dictionary_attack_parameters_row, lockout_parameters}
@@ -43,7 +47,7 @@ use Rattle.tpm_actions.specs.PcrEvent.{pcr_event_row}
 use Rattle.tpm_actions.specs.PcrExtend.{pcr_extend_row}
 use Rattle.tpm_actions.specs.PcrRead.{pcr_read_row}
 use Rattle.tpm_actions.specs.PcrReset.{pcr_reset_row}
-use Rattle.tpm_actions.specs.Refusals.{handle_refusal, or_refusal, parameter_fault as own_fault}
+use Rattle.tpm_actions.specs.Refusals.{action_refusal, handle_refusal, or_refusal, parameter_fault as own_fault}
 use Rattle.tpm_actions.specs.Request.{Request, first_handle, second_handle, third_handle}
 use Rattle.tpm_actions.specs.Rows.{all_read, parameter}
 use Rattle.tpm_actions.specs.StartAuthSession.{parameters_in as start_parameters, parameters_pass, start_auth_session_row}
@@ -52,6 +56,7 @@ use Rattle.tpm_actions.specs.Shutdown.{shutdown_row}
 use Rattle.tpm_actions.specs.SelfTest.{self_test_row}
 use Rattle.tpm_actions.specs.ReadClock.{read_clock_row}
 use Rattle.tpm_actions_object.specs.Checks.{creation_refusal, template_refusal}
+use Rattle.tpm_actions_object.specs.Clear.{clear_row}
 use Rattle.tpm_actions_object.specs.Create.{create_row}
 use Rattle.tpm_actions_object.specs.CreatePrimary.{create_primary_row, named_hierarchy}
 use Rattle.tpm_actions_object.specs.Creation.{parameters_in as creation_parameters}
@@ -292,6 +297,9 @@ late_scheme Fit p = grind arith
 late_definition : (Fit : Type 0) (x : Result (Unit {0}) DefinitionFault) → Late Fit (or_refusal definition_refusal x)
 late_definition Fit x = grind arith
 
+late_counted : (Fit : Type 0) (x : Result BankValues ChangeFault) → Late Fit (or_refusal (λ fault. action_refusal 2 (plain code.Failure)) x)
+late_counted Fit x = grind arith
+
 late_start : (Fit : Type 0) (type : StartupType) (kind : SavedKind) → Late Fit (start_of type kind)
 late_start Fit type kind = grind arith
 
@@ -404,8 +412,9 @@ nv_public_orders r q =
     behind_reading r _ q.handles _ q.parameters (all_read q.parameters) _ (all_read_outcome (all_read q.parameters)) (λ ended. tt)))
 
 row_orders : (r : Record) (c : CommandCode) (q : Request) → Orders r (shape_of c).handles q.handles (shape_of c).parameters q.parameters (row_of r c q)
-unfolding row_of shape_of startup_row shutdown_row self_test_row read_clock_row get_random_row pcr_read_row pcr_extend_row pcr_event_row pcr_reset_row dictionary_attack_lock_reset_row dictionary_attack_parameters_row flush_context_row hierarchy_change_auth_row start_auth_session_row create_row create_primary_row evict_control_row hmac_row load_row read_public_row unseal_row assertion_row policy_get_digest_row policy_restart_row start_parameters creation_parameters hmac_parameters load_parameters secret_parameters parameters_pass nv_define_space_row nv_extend_row nv_increment_row nv_read_row nv_read_lock_row nv_set_bits_row nv_undefine_space_row nv_write_row nv_write_lock_row nv_read_parameters nv_write_parameters nv_parameters lockout_parameters
+unfolding row_of shape_of startup_row shutdown_row self_test_row read_clock_row clear_row clear_control_row get_random_row pcr_read_row pcr_extend_row pcr_event_row pcr_reset_row dictionary_attack_lock_reset_row dictionary_attack_parameters_row flush_context_row hierarchy_change_auth_row start_auth_session_row create_row create_primary_row evict_control_row hmac_row load_row read_public_row unseal_row assertion_row policy_get_digest_row policy_restart_row start_parameters creation_parameters hmac_parameters load_parameters secret_parameters parameters_pass nv_define_space_row nv_extend_row nv_increment_row nv_read_row nv_read_lock_row nv_set_bits_row nv_undefine_space_row nv_write_row nv_write_lock_row nv_read_parameters nv_write_parameters nv_parameters lockout_parameters
 row_orders r command.Startup q = search (handle_steps, reading_steps, late_steps, late_start) depth 16
+row_orders r command.Clear q = search (handle_steps, reading_steps, late_steps, late_counted) depth 16
 row_orders r command.NvDefineSpace q = search (behind_first, behind_reading, define_reads, rules, err_bind, err_if, late_definition) depth 16
 row_orders r command.NvChangeAuth q = change_auth_orders r q
 row_orders r command.NvReadPublic q = nv_public_orders r q

@@ -18,7 +18,7 @@ use Rattle.tpm_actions.specs.StartAuthSession.{parameters_in, parameters_pass, s
 use Rattle.tpm_actions_policy.specs.Assertions.{assertion_in, assertion_row, policy_after, policy_session, session_handle, with_assertion}
 use Rattle.tpm_actions_policy.specs.PolicyRestart.{policy_restart_row}
 use Rattle.tpm_machine_step.specs.Table.{row_of}
-use Rattle.tpm_machine_laws.specs.Footprint.{Part, Nothing, Sessions, Objects, SessionsAndObjects, Persistent, Nv, AuthValues, Lockout, Banks, Beginning, Saved, Touches, part_of}
+use Rattle.tpm_machine_laws.specs.Footprint.{Part, Nothing, Sessions, Objects, SessionsAndObjects, Persistent, Nv, AuthValues, Lockout, Banks, Beginning, Saved, DisableClear, Cleared, Touches, part_of}
 use Rattle.tpm_machine_laws.proofs.Binding.{ok_bind, ok_bind_is, ok_then, ok_weaker, some_is}
 use Rattle.tpm_machine_laws.proofs.Footprint.{row_touches}
 use Rattle.tpm_bytes.proofs.Fields.{bind_ok, passed}
@@ -114,6 +114,8 @@ touched_stays AuthValues old new leaves touches = sessions_same old new (ap (λ 
 touched_stays Lockout old new leaves touches = sessions_same old new (ap (λ (r : Record). r.sessions) touches)
 touched_stays Banks old new leaves touches = sessions_same old new (ap (λ (r : Record). r.sessions) touches)
 touched_stays Beginning old new leaves touches = sessions_same old new (ap (λ (r : Record). r.sessions) touches.0)
+touched_stays DisableClear old new leaves touches = sessions_same old new (ap (λ (r : Record). r.sessions) touches)
+touched_stays Cleared old new leaves touches = sessions_same old new (ap (λ (r : Record). r.sessions) touches)
 touched_stays Saved old new leaves touches = sessions_same old new (ap (λ (r : Record). r.sessions) touches)
 
 other_stays : (r : Record) (c : CommandCode) (q : Request) → leaves_sessions (part_of c) ≡ true → IfOk (row_of r c q) (λ s. SessionsStay r s.after)
@@ -145,6 +147,8 @@ row_stays r command.NvChangeAuth q may = other_stays r command.NvChangeAuth q re
 row_stays r command.NvRead q may = other_stays r command.NvRead q refl
 row_stays r command.NvReadPublic q may = other_stays r command.NvReadPublic q refl
 row_stays r command.Startup q may = other_stays r command.Startup q refl
+row_stays r command.Clear q may = other_stays r command.Clear q refl
+row_stays r command.ClearControl q may = other_stays r command.ClearControl q refl
 row_stays r command.Shutdown q may = other_stays r command.Shutdown q refl
 row_stays r command.SelfTest q may = other_stays r command.SelfTest q refl
 row_stays r command.ReadClock q may = other_stays r command.ReadClock q refl

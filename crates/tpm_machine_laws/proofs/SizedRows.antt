@@ -1,7 +1,7 @@
 -- A success keeps the sizes of sessions and objects.
 use Rattle.std.proofs.Common.{false, rules, ◌≡◌, ◌≤◌, ℕ, Bool, true, List, length, take, Option, Some, Result, Ok, Err, IfOk, refl, sym, subst}
 use Rattle.std.specs.Prelude.{IfSome, not, if◌then◌else◌, ◌==◌}
-use Rattle.tpm_ascending.proofs.AscendingLaws.{put_each, removed_each}
+use Rattle.tpm_ascending.proofs.AscendingLaws.{kept_each, put_each, removed_each}
 use Rattle.tpm_ascending.specs.Ascending.{AreEach, Entries}
 use Rattle.tpm_bytes.specs.Reading.{refused_if}
 use Rattle.tpm_bytes.proofs.Fields.{bind_ok}
@@ -44,7 +44,9 @@ use Rattle.tpm_actions_object.specs.Loaded.{is_fixed, loaded_at, parent_passes, 
 use Rattle.tpm_actions_policy.specs.Assertions.{assertion_in, assertion_row, by_its_check, policy_after, policy_session, session_handle, with_assertion}
 use Rattle.tpm_actions_policy.specs.PolicyRestart.{policy_restart_row}
 use Rattle.tpm_machine_step.specs.Table.{row_of}
-use Rattle.tpm_machine_laws.specs.Footprint.{Part, Nothing, Sessions, Objects, SessionsAndObjects, Persistent, Nv, AuthValues, Lockout, Banks, Beginning, Saved, Touches, part_of}
+use Rattle.tpm_machine_laws.specs.Footprint.{Part, Nothing, Sessions, Objects, SessionsAndObjects, Persistent, Nv, AuthValues, Lockout, Banks, Beginning, Saved, DisableClear, Cleared, Touches, part_of}
+use Rattle.tpm_record.proofs.ClearLaws.{cleared_all}
+use Rattle.tpm_record.specs.Clear.{outlasts}
 use Rattle.tpm_machine_laws.specs.Sizes.{AreSized, IsSized, IsWhole}
 use Rattle.tpm_machine_laws.proofs.AllPlaces.{all_changed, all_found, all_set, all_without}
 use Rattle.tpm_machine_laws.proofs.Binding.{asked, ok_bind, ok_bind_is, ok_then, ok_weaker, some_is}
@@ -209,7 +211,8 @@ same_places old new sessions objects persistent sized =
 same_record : (old like new : Record) → like.sessions ≡ old.sessions → like.objects ≡ old.objects → like.persistent ≡ old.persistent → new ≡ like → AreSized old → AreSized new
 same_record old like new sessions objects persistent is sized = subst AreSized (sym is) (same_places old like sessions objects persistent sized)
 
--- whether a part is neither the sessions nor the objects, transient or persistent
+-- whether a part is neither the sessions nor the objects, transient or persistent, or leaves the
+-- objects that stay as they are
 abbrev keeps_sized : Part → Bool
 keeps_sized Sessions = false
 keeps_sized Objects = false
@@ -229,6 +232,9 @@ touched_sized Lockout old new keeps touches sized = same_record old _ new refl r
 touched_sized Banks old new keeps touches sized = same_record old _ new refl refl refl touches sized
 touched_sized Beginning old new keeps touches sized = same_record old _ new refl refl refl touches.0 sized
 touched_sized Saved old new keeps touches sized = same_record old _ new refl refl refl touches sized
+touched_sized DisableClear old new keeps touches sized = same_record old _ new refl refl refl touches sized
+touched_sized Cleared old new keeps touches sized =
+    subst AreSized (sym touches) (record { sessions = sized.sessions; objects = cleared_all (λ (o : Object). IsWhole o.public) old.objects sized.objects; persistent = kept_each EntryWhole outlasts old.persistent sized.persistent })
 
 fixed_sized : (r : Record) (c : CommandCode) (q : Request) → keeps_sized (part_of c) ≡ true → AreSized r → IfOk (row_of r c q) (λ s. AreSized s.after)
 fixed_sized r c q keeps sized = ok_weaker (λ s. Touches (part_of c) r s.after) _ (row_of r c q) (row_touches r c q) (λ s touches. touched_sized (part_of c) r s.after keeps touches sized)

@@ -1,10 +1,13 @@
 -- What of a record the success of each command may touch.
-use Rattle.std.specs.Prelude.{◌≡◌, ◌⊎◌}
+use Rattle.std.specs.Prelude.{◌≡◌, ◌⊎◌, ◌+◌, []}
 use Rattle.tpm_types_command.specs.declared.command_code.CommandCode.{CommandCode}
 use Rattle.tpm_types_command.specs.declared.command_code.CommandCode.TheVariants as command
 use Rattle.tpm_types.specs.declared.handle.HierarchyHandle.{HierarchyHandle}
+use Rattle.tpm_actions_object.specs.Clear.{cleared_lockout}
+use Rattle.tpm_nv.specs.Clear.{cleared}
 use Rattle.tpm_nv.specs.Index.{NvContents}
 use Rattle.tpm_nv.specs.Startup.{started}
+use Rattle.tpm_record.specs.Clear.{cleared_objects, cleared_persistent}
 use Rattle.tpm_record.specs.declared.fixed.Fixed.{Fixed}
 use Rattle.tpm_record.specs.declared.hierarchy.Hierarchies.{Hierarchies}
 use Rattle.tpm_record.specs.Hierarchy.{secrets_of}
@@ -12,8 +15,9 @@ use Rattle.tpm_record.specs.Record.{Record}
 
 -- the parts of a record: none of it; the sessions; the transient objects; both; the persistent
 -- objects; the NV indices; the authorization values of the hierarchies and of lockout; what
--- protects against dictionary attacks; the banks; what a startup begins, the NV indices too; and
--- what a shutdown saves
+-- protects against dictionary attacks; the banks; what a startup begins, the NV indices too; what a
+-- shutdown saves; whether TPM2_Clear is disabled; and what that takes away, objects and NV indices
+-- too
 pub data Part : Type 0 where
   Nothing : Part
   Sessions : Part
@@ -26,10 +30,14 @@ pub data Part : Type 0 where
   Banks : Part
   Beginning : Part
   Saved : Part
+  DisableClear : Part
+  Cleared : Part
 
 abbrev pub part_of : CommandCode → Part
 part_of command.EvictControl = Persistent
 part_of command.NvUndefineSpace = Nv
+part_of command.Clear = Cleared
+part_of command.ClearControl = DisableClear
 part_of command.HierarchyChangeAuth = AuthValues
 part_of command.NvDefineSpace = Nv
 part_of command.CreatePrimary = Objects
@@ -99,6 +107,28 @@ begun f after = record f {
 abbrev pub StartsNv : NvContents → NvContents → Type 0
 StartsNv old new = (new ≡ old) ⊎ (new ≡ started old)
 
+-- f as TPM2_Clear leaves it: the owner's new seed and proof and the endorsement hierarchy's new proof
+-- are as they are after it; no authorization value is set but platformAuth; lockout is cleared, the
+-- PCRs count an update, and Clock and the counts begin at 0
+abbrev pub emptied : Fixed → Fixed → Fixed
+emptied f after = record f {
+  hierarchies = record f.hierarchies {
+    owner = record { auth_value = []; secrets = after.hierarchies.owner.secrets };
+    endorsement = record {
+      auth_value = [];
+      secrets = record f.hierarchies.endorsement.secrets {
+        proof = after.hierarchies.endorsement.secrets.proof;
+      };
+    };
+    lockout_auth = [];
+  };
+  lockout = cleared_lockout f.lockout;
+  banks = record f.banks { update_count = f.banks.update_count + 1 };
+  clock = 0;
+  reset_count = 0;
+  restart_count = 0;
+}
+
 -- A record differs from an older one in this part alone.
 abbrev pub Touches : Part → Record → Record → Type 0
 Touches Nothing old new = new ≡ old
@@ -115,3 +145,12 @@ Touches Banks old new = new ≡ record old { fixed = record old.fixed { banks = 
 Touches Beginning old new =
     (new ≡ record old { fixed = begun old.fixed new.fixed; nv = new.nv }) × StartsNv old.nv new.nv
 Touches Saved old new = new ≡ record old { fixed = record old.fixed { saved = new.fixed.saved } }
+Touches DisableClear old new =
+    new ≡ record old { fixed = record old.fixed { disable_clear = new.fixed.disable_clear } }
+Touches Cleared old new =
+    new ≡ record old {
+      fixed = emptied old.fixed new.fixed;
+      objects = cleared_objects old.objects;
+      persistent = cleared_persistent old.persistent;
+      nv = cleared old.nv;
+    }

@@ -10,6 +10,7 @@ use Rattle.tpm_actions.specs.Startup.{startup_row}
 use Rattle.tpm_actions.specs.Shutdown.{shutdown_row}
 use Rattle.tpm_actions.specs.SelfTest.{self_test_row}
 use Rattle.tpm_actions.specs.ReadClock.{read_clock_row}
+use Rattle.tpm_actions.specs.ClearControl.{clear_control_row}
 use Rattle.tpm_actions.specs.GetRandom.{get_random_row}
 use Rattle.tpm_actions.specs.PcrRead.{pcr_read_row}
 use Rattle.tpm_actions.specs.PcrExtend.{pcr_extend_row}
@@ -20,6 +21,7 @@ use Rattle.tpm_actions.specs.DictionaryAttackLockReset.{dictionary_attack_lock_r
 use Rattle.tpm_actions.specs.DictionaryAttackParameters.{dictionary_attack_parameters_row}
 use Rattle.tpm_actions.specs.HierarchyChangeAuth.{hierarchy_change_auth_row}
 use Rattle.tpm_actions.specs.StartAuthSession.{start_auth_session_row}
+use Rattle.tpm_actions_object.specs.Clear.{clear_row}
 use Rattle.tpm_actions_object.specs.Create.{create_row}
 use Rattle.tpm_actions_object.specs.CreatePrimary.{create_primary_row}
 use Rattle.tpm_actions_object.specs.EvictControl.{evict_control_row}
@@ -46,6 +48,8 @@ use Rattle.tpm_nvactions.specs.NvWriteLock.{nv_write_lock_row}
 unfoldable pub row_of : Record → CommandCode → Request → Result Success Refused
 row_of r command.EvictControl q = evict_control_row r q
 row_of r command.NvUndefineSpace q = nv_undefine_space_row r q
+row_of r command.Clear q = clear_row r q
+row_of r command.ClearControl q = clear_control_row r q
 row_of r command.HierarchyChangeAuth q = hierarchy_change_auth_row r q
 row_of r command.NvDefineSpace q = nv_define_space_row r q
 row_of r command.CreatePrimary q = create_primary_row r q

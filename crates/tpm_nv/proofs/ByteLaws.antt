@@ -1,7 +1,8 @@
 -- Rows of bytes: a place opened and closed up by moving bytes from and to the end.
 use Rattle.std.proofs.Common.{◌≡◌, ℕ, ◌+◌, ◌-◌, ◌≤◌, List, ◌++◌, length, take, drop, replicate, refl, sym, append_assoc, arith, length-append, length-drop}
 use Rattle.std.proofs.lemmas.List.{length-replicate, take_at, drop_at, take-append-le, drop-append-le, length-take-le}
-use Rattle.tpm_nv.specs.Bytes.{closed_up, moved_from_end, moved_to_end, opened, piece_of}
+use Rattle.std.specs.List.{copy_within}
+use Rattle.tpm_nv.specs.Bytes.{closed_up, moved_down, moved_from_end, moved_to_end, opened, piece_of}
 
 pub opened_by_moving : (start size : ℕ) (bytes : List ℕ) → start ≤ length bytes → moved_from_end start size (bytes ++ replicate size 0) ≡ opened start size bytes
 unfolding moved_from_end
@@ -17,3 +18,8 @@ closed_by_moving start size bytes inside =
     let behind = drop (start + size) bytes in
     let whole : front ++ (behind ++ piece_of start size bytes) ≡ (front ++ behind) ++ piece_of start size bytes = sym (append_assoc front behind (piece_of start size bytes)) in
     rw whole (take_at (front ++ behind) (piece_of start size bytes) (length bytes - size) (omega (arith, length-append front behind, length-take-le start bytes (omega arith), length-drop (start + size) bytes)))
+
+pub moved_by_copying : (start size place : ℕ) (bytes : List ℕ) → copy_within bytes start (start + size) place ≡ moved_down start size place bytes
+moved_by_copying start size place bytes =
+    let many : start + size - start ≡ size = omega arith in
+    rw many (append_assoc (take place bytes) (piece_of start size bytes) (drop (place + size) bytes))

@@ -7,7 +7,7 @@ use Rattle.std.proofs.lemmas.List.{append-nil, drop-drop, drop-append-le, drop-t
 use Rattle.std.proofs.lemmas.List.Sums.{sum_by-cons}
 use Rattle.tpm_ascending.specs.Ascending.{AllAbove, Ascends, Entries, at_key, changed_key, key_from, with_key, without_key}
 use Rattle.tpm_nv.specs.Bytes.{closed_up, opened, piece_of, put_over}
-use Rattle.tpm_nv.specs.Head.{AreHeads, IsHead, index_with, indices_of, size_of, start_of, total}
+use Rattle.tpm_nv.specs.Head.{AreHeads, IsHead, head_of, index_with, indices_of, size_of, start_of, total}
 use Rattle.tpm_nv.specs.Index.{NvIndex}
 use Rattle.tpm_nv.specs.declared.head.Head.{Head}
 
@@ -96,6 +96,10 @@ pub next_among : (es : Entries Head) (row : List ℕ) (key : ℕ) → key_from (
 next_among [] row key = refl
 next_among (e ∷ es) row key =
     ap (λ (o : Option ℕ). cond (leb key e.0) (Some e.0) o) (next_among es (drop (size_of e.1) row) key)
+
+pub heads_among : (es : Entries Head) (row : List ℕ) → es ≡ map (λ (e : ℕ × NvIndex). (e.0, head_of e.1)) (indices_of es row)
+heads_among [] row = refl
+heads_among (e ∷ es) row = ap (λ (l : Entries Head). e ∷ l) (heads_among es (drop (size_of e.1) row))
 
 pub length_among : (es : Entries Head) (row : List ℕ) → length (indices_of es row) ≡ length es
 length_among [] row = refl

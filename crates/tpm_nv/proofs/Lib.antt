@@ -1,4 +1,5 @@
 pub mod ByteLaws
+pub mod ClearLaws
 pub mod DefinitionLaws
 pub mod Cuts
 pub mod KeptLaws

@@ -31,3 +31,8 @@ moved_from_end start size bytes =
 abbrev pub moved_to_end : (start size : ℕ) → List ℕ → List ℕ
 moved_to_end start size bytes =
     take start bytes ++ (drop (start + size) bytes ++ piece_of start size bytes)
+
+-- so many bytes from a place on, put over those from a lower place on
+abbrev pub moved_down : (start size place : ℕ) → List ℕ → List ℕ
+moved_down start size place bytes =
+    take place bytes ++ (piece_of start size bytes ++ drop (place + size) bytes)

@@ -1,7 +1,7 @@
 -- How NV indices are kept, which no rule of the standard says: their heads by their handles, and the
 -- bytes of all in one row, in the order of the handles, as many of each as its head says, whether it
 -- is written or not.
-use Rattle.std.specs.Prelude.{◌≡◌, ℕ, ◌+◌, ◌≤◌, nat_le, true, List, [], ◌∷◌, length, take, drop, Some, if◌then◌else◌}
+use Rattle.std.specs.Prelude.{◌≡◌, ℕ, ◌+◌, ◌≤◌, nat_le, Bool, true, List, [], ◌∷◌, ◌++◌, length, take, drop, Some, if◌then◌else◌, map}
 use Rattle.tpm_ascending.specs.Ascending.{Ascends, Entries}
 use Rattle.tpm_types.specs.AuthValue.{IsAuthValue}
 use Rattle.tpm_types.specs.declared.handle.Handle.{Handle}
@@ -9,6 +9,7 @@ use Rattle.tpm_types_nv.specs.NvAttributes.{has}
 use Rattle.tpm_types_nv.specs.NvPublic.{IsNvPublic}
 use Rattle.tpm_types_nv.specs.declared.nv_attributes.NvAttribute.TheVariants as attribute
 use Rattle.tpm_types_nv.specs.declared.nv_attributes.NvAttributes.{NvAttributes}
+use Rattle.tpm_nv.specs.Clear.{is_by_platform}
 use Rattle.tpm_nv.specs.Definition.{has_type_size}
 use Rattle.tpm_nv.specs.Index.{NvContents, NvIndex, index_at}
 use Rattle.tpm_nv.specs.Startup.{started_attributes}
@@ -17,6 +18,10 @@ use Rattle.tpm_nv.specs.declared.head.Head.{Head}
 -- an index without its data
 abbrev pub head_of : NvIndex → Head
 head_of index = record { public = index.public; auth_value = index.auth_value }
+
+-- all of them, under their handles
+abbrev pub heads_of : NvContents → Entries Head
+heads_of contents = map (λ e. (e.0, head_of e.1)) contents.indices
 
 -- the index of a head whose bytes these are: they are its data once it is written
 abbrev pub index_with : Head → List ℕ → NvIndex
@@ -81,3 +86,15 @@ pub record IsIndexOf (contents : NvContents) (handle : Handle) (head : Head) (by
 -- after a startup with CLEAR
 abbrev pub started_head : Head → Head
 started_head head = with_attributes head (started_attributes head.public.attributes)
+
+-- whether it stays when the others are cleared, and the bytes of those that do
+abbrev pub stays : Head → Bool
+stays head = is_by_platform head.public
+
+abbrev pub kept_piece : Head → List ℕ → List ℕ
+kept_piece head bytes = if stays head then bytes else []
+
+abbrev pub kept_bytes : Entries Head → List ℕ → List ℕ
+kept_bytes [] row = []
+kept_bytes (e ∷ es) row =
+    kept_piece e.1 (take (size_of e.1) row) ++ kept_bytes es (drop (size_of e.1) row)

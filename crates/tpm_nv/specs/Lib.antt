@@ -3,6 +3,7 @@ pub mod Index
 pub mod Definition
 pub mod Access
 pub mod Startup
+pub mod Clear
 pub mod IsContents
 pub mod Head
 pub use Rattle.tpm_ascending.specs.Ascending

@@ -1,8 +1,9 @@
 ghost use Rattle.std.specs.Prelude.{◌≡◌, ◌<◌, ◌≤◌, ◌^◌, ℕ, [], Bool, false, true, is_some, if◌then◌else◌};
 ghost use Rattle.std.specs.Prelude.{length, option_copied, option_map, OnOk};
 ghost use Rattle.tpm_nv.specs.Access.{Changes, Shows, bits_set, check_readable, extended, incremented, read_at, read_locked, with_auth_value, write_locked, written};
+ghost use Rattle.tpm_nv.specs.Clear.{cleared};
 ghost use Rattle.tpm_nv.specs.Definition.{Defines, defined_index, has_type_size};
-ghost use Rattle.tpm_nv.specs.Head.{head_of};
+ghost use Rattle.tpm_nv.specs.Head.{head_of, heads_of};
 ghost use Rattle.tpm_nv.specs.Index.{NvContents, index_at, next_index, no_indices, without_index};
 ghost use Rattle.tpm_nv.specs.IsContents.{IsContents};
 ghost use Rattle.tpm_nv.specs.Startup.{started};
@@ -32,6 +33,11 @@ pub trait Indices: Drop + Sized {
     /// The public area and the authorization value of an index.
     fn get(&self, handle: Handle) -> Option<&Head>
         ensures { option_copied result ≡ option_map head_of (index_at (contents self.now) handle) };
+
+    /// The public areas and the authorization values of all indices, in ascending order of their
+    /// handles.
+    fn heads(&self) -> &[(u32, Head)]
+        ensures { result.now ≡ heads_of (contents self.now) };
 
     /// The lowest handle of an index from this one on.
     fn next(&self, handle: Handle) -> Option<u32>
@@ -112,6 +118,11 @@ pub trait Indices: Drop + Sized {
     /// What a startup with CLEAR does (Part 3, section 9.3).
     fn startup(&mut self)
         ensures { contents self.new ≡ started (contents self.old) };
+
+    /// Removes the indices that the platform did not define, as a Clear does (Part 3, section 24.6);
+    /// the bytes of those that stay are moved at most once.
+    fn clear(&mut self)
+        ensures { contents self.new ≡ cleared (contents self.old) };
 
     /// The largest value that a counter ever had.
     fn max_count(&self) -> u64

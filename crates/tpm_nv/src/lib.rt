@@ -13,6 +13,7 @@
 //! A definition alone may take memory; a refused call changes nothing. [`check_definition`] is what
 //! may be defined. Who may read or write an index is no matter of this crate.
 
+mod clear;
 pub mod definition;
 pub mod fault;
 pub mod fixed_row;

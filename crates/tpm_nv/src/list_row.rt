@@ -1,7 +1,7 @@
 ghost use Rattle.std.specs.Prelude.{◌≡◌, ◌≤◌, ◌+◌, ◌++◌, length, replicate, OnErr, OnOk};
 ghost use Rattle.tpm_nv.specs.Bytes.{moved_from_end};
 
-use crate::row::{NoMemory, Row, fill_piece, move_from_end, move_to_end, put_piece};
+use crate::row::{NoMemory, Row, copy_down, fill_piece, move_from_end, move_to_end, put_piece};
 use std::alloc::Global;
 
 /// Bytes in a list that grows.
@@ -68,5 +68,13 @@ impl Row for ListRow {
         let left = self.bytes.len() - size;
         move_to_end(self.bytes.as_mut_slice(), start, size);
         self.bytes.truncate(left);
+    }
+
+    fn move_down(&mut self, start: usize, size: usize, place: usize) {
+        copy_down(self.bytes.as_mut_slice(), start, size, place);
+    }
+
+    fn truncate(&mut self, size: usize) {
+        self.bytes.truncate(size);
     }
 }

@@ -1,5 +1,7 @@
-ghost use Rattle.std.specs.Prelude.{◌≡◌, ◌≤◌, ◌+◌, ℕ, [], Bool, List, length, replicate, OnErr, OnOk, true};
-ghost use Rattle.tpm_nv.specs.Bytes.{closed_up, moved_from_end, moved_to_end, opened, put_over};
+ghost use Rattle.std.specs.Prelude.{◌≡◌, ◌≤◌, ◌+◌, ℕ, [], Bool, List, length, replicate, take};
+ghost use Rattle.std.specs.Prelude.{OnErr, OnOk, true};
+ghost use Rattle.tpm_nv.specs.Bytes.{closed_up, moved_down, moved_from_end, moved_to_end};
+ghost use Rattle.tpm_nv.specs.Bytes.{opened, put_over};
 
 use std::alloc::Global;
 
@@ -48,6 +50,17 @@ pub trait Row: Drop + Sized {
     fn close_up(&mut self, start: usize, size: usize)
         requires { start + size ≤ length (bytes self.old) }
         ensures { bytes self.new ≡ closed_up start size (bytes self.old) };
+
+    /// Puts so many bytes from a place on over those from a lower place on.
+    fn move_down(&mut self, start: usize, size: usize, place: usize)
+        requires inside { start + size ≤ length (bytes self.old) }
+        requires lower { place ≤ start }
+        ensures { bytes self.new ≡ moved_down start size place (bytes self.old) };
+
+    /// Removes the bytes from a place on.
+    fn truncate(&mut self, size: usize)
+        requires { size ≤ length (bytes self.old) }
+        ensures { bytes self.new ≡ take size (bytes self.old) };
 }
 
 /// Puts a piece over the bytes from a place on.
@@ -81,4 +94,14 @@ pub(crate) fn move_to_end(bytes: &mut [u8], start: usize, size: usize)
     ensures { bytes.new ≡ moved_to_end start size bytes.old }
 {
     bytes[start..].rotate_left(size);
+}
+
+/// Puts so many bytes from a place on over those from a lower place on.
+#[tactic(auto, using(crate::proofs::ByteLaws::moved_by_copying))]
+pub(crate) fn copy_down(bytes: &mut [u8], start: usize, size: usize, place: usize)
+    requires inside { start + size ≤ length bytes.old }
+    requires lower { place ≤ start }
+    ensures { bytes.new ≡ moved_down start size place bytes.old }
+{
+    bytes.copy_within(start..start + size, place);
 }

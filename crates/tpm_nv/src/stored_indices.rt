@@ -11,6 +11,7 @@ ghost use Rattle.tpm_types_nv.specs.NvAttributes.{attribute_bit, has};
 ghost use Rattle.tpm_types_nv.specs.NvPublic.{IsNvPublic};
 ghost use Rattle.tpm_types_nv.specs.declared.nv_attributes.NvAttribute.TheVariants as attributes;
 
+use crate::clear::{PlatformIndices, keep_bytes};
 use crate::fault::{DefineFault, NvFault};
 use crate::fixed_row::FixedRow;
 use crate::head::Head;
@@ -256,6 +257,11 @@ impl<H: Ascending<Head, 32>, R: Row> Indices for StoredIndices<H, R> {
         self.heads.get(handle.number)
     }
 
+    #[tactic(auto, using(crate::proofs::Cuts::heads_among))]
+    fn heads(&self) -> &[(u32, Head)] {
+        self.heads.as_slice()
+    }
+
     fn next(&self, handle: Handle) -> Option<u32> {
         self.heads.next(handle.number)
     }
@@ -402,6 +408,12 @@ impl<H: Ascending<Head, 32>, R: Row> Indices for StoredIndices<H, R> {
     #[tactic(auto, unfolding(crate::specs::Startup::started))]
     fn startup(&mut self) {
         start_heads(&mut self.heads);
+    }
+
+    #[tactic(auto, unfolding(crate::specs::Clear::cleared))]
+    fn clear(&mut self) {
+        keep_bytes(&mut self.row, self.heads.as_slice());
+        self.heads.retain::<PlatformIndices>();
     }
 
     fn max_count(&self) -> u64 {

@@ -1,5 +1,5 @@
 -- How PCRs change. TPM 2.0 Library, Part 3, sections 22.2 (TPM2_PCR_Extend), 22.3 (TPM2_PCR_Event)
--- and 22.8 (TPM2_PCR_Reset). Which PCR is for what is the PC Client Platform TPM Profile's (section
+-- and 22.8 (TPM2_PCR_Reset); and what 24.6 (TPM2_Clear) does to the count of updates. Which PCR is for what is the PC Client Platform TPM Profile's (section
 -- on PCR attributes); from where each changes is this device's own, a simplification of that
 -- profile, and so is that each value counts.
 use Rattle.std.specs.Prelude.{◌≡◌, ℕ, ◌+◌, ◌-◌, ◌^◌, ◌==◌, not, nat_lt, nat_le, if◌then◌else◌}
@@ -82,6 +82,12 @@ unfoldable pub reset_of : ℕ → ℕ → BankValues → Result BankValues Chang
 reset_of pcr locality banks = do
   passed ← change_check (may_reset (use_of pcr) locality) 2 banks
   Ok (with_value alg.Sha256 pcr (replicate 32 0) (with_value alg.Sha1 pcr (replicate 20 0) banks))
+
+-- TPM2_Clear: it changes no value, and counts as an update
+unfoldable pub clear_counted : BankValues → Result BankValues ChangeFault
+clear_counted banks = do
+  passed ← change_check true 1 banks
+  Ok (record banks { update_count = banks.update_count + 1 })
 
 -- A change did what it should; a refusal changes nothing.
 abbrev pub Changes : Result BankValues ChangeFault

@@ -1,4 +1,4 @@
-ghost use Rattle.std.specs.Prelude.{◌≡◌, ◌-◌, [], ◌∷◌, ◌++◌, ◌&&◌, nat_lt, if◌then◌else◌};
+ghost use Rattle.std.specs.Prelude.{◌≡◌, ◌+◌, ◌-◌, [], ◌∷◌, ◌++◌, ◌&&◌, nat_lt, if◌then◌else◌};
 ghost use Rattle.std.specs.Prelude.{◌<◌, ◌^◌, length, take, replicate};
 ghost use Rattle.std.specs.List.{concat, flat_map};
 ghost use Rattle.tpm_types.specs.Pcr.{is_selected, with_pcr};
@@ -85,6 +85,14 @@ impl Banks {
         ensures { self.new ≡ with_value Sha256 pcr value self.old }
     {
         self.sha256[usize::from(pcr.number())] = value;
+        self.update_count += 1;
+    }
+
+    /// Counts one update more.
+    pub(crate) fn count_update(&mut self)
+        requires { self.old.update_count < 2 ^ 64 - 1 }
+        ensures { self.new ≡ record self.old { update_count = self.old.update_count + 1 } }
+    {
         self.update_count += 1;
     }
 

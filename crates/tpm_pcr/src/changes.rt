@@ -4,7 +4,8 @@ ghost use Rattle.tpm_mac.specs.Digest.{digest_size, hash_of};
 ghost use Rattle.tpm_types.specs.DigestValues.{digest_of, hash_of_value};
 ghost use Rattle.tpm_types.specs.Locality.{locality_number};
 ghost use Rattle.tpm_pcr.specs.Banks.{pcr_value};
-ghost use Rattle.tpm_pcr.specs.Changes.{Answers, Changes, change_check, event_digests, extend_of};
+ghost use Rattle.tpm_pcr.specs.Changes.{Answers, Changes, change_check, clear_counted};
+ghost use Rattle.tpm_pcr.specs.Changes.{event_digests, extend_of};
 ghost use Rattle.tpm_pcr.specs.Changes.{may_extend, may_reset, reset_of, use_of};
 ghost use Rattle.tpm_pcr.specs.Changes.{with_extension, with_value};
 
@@ -152,6 +153,17 @@ impl Banks {
         check(self, PcrUse::of(pcr).may_reset(locality), 2)?;
         self.write_sha1(pcr, [0; 20]);
         self.write_sha256(pcr, [0; 32]);
+        Ok(())
+    }
+
+    /// Counts a TPM2_Clear as an update, which changes no value: Failure where it could not be
+    /// counted.
+    #[tactic(auto, unfolding(crate::specs::Changes::clear_counted))]
+    pub fn count_clear(&mut self) -> Result<(), ChangeFault>
+        ensures { Changes (clear_counted self.old) self.old result self.new }
+    {
+        check(self, true, 1)?;
+        self.count_update();
         Ok(())
     }
 

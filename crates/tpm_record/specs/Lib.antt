@@ -6,6 +6,7 @@ pub mod Persistent
 pub mod IsRecord
 pub mod Tick
 pub mod Cycle
+pub mod Clear
 pub mod Entity
 pub mod Kept
 pub use Rattle.tpm_lockout.specs.Lockout

@@ -13,6 +13,7 @@
 //! `tpm_ascending` for the map of persistent ones. It promises for each keep the equations of
 //! `specs/` on its record.
 
+mod clear;
 pub mod cycle;
 pub mod entity;
 pub mod fixed;

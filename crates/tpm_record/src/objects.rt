@@ -2,9 +2,11 @@ ghost use Rattle.std.specs.Prelude.{◌≡◌, ◌<◌, is_some, length, option_
 ghost use Rattle.tpm_object.specs.Object.{IsObject, transient_byte};
 ghost use Rattle.tpm_places.specs.Numbered.{MapLaws};
 ghost use Rattle.tpm_places.specs.Places.{AreAll};
+ghost use Rattle.tpm_record.specs.Clear.{ClearingLaws, cleared_objects};
 ghost use Rattle.tpm_record.specs.Objects.{Adds, next_handle, object_at, object_handle, objects_of, without_object};
 ghost use Rattle.tpm_record.specs.Record.{no_objects};
 
+use crate::clear::clear_places;
 use std::alloc::Global;
 use tpm_object::{Object, TRANSIENT_BYTE};
 use tpm_places::{PlaceFault, Places, numbered};
@@ -80,6 +82,14 @@ impl<O: Places<Object, 8>> Objects<O> {
         numbered::remove(&mut self.places, handle.number)
     }
 
+    /// Removes the objects of the owner and of the endorsement hierarchy, as TPM2_Clear does (TPM
+    /// 2.0 Library, Part 3, section 24.6).
+    pub fn clear_hierarchies(&mut self)
+        ensures { objects_of O.places self.new ≡ cleared_objects (objects_of O.places self.old) }
+    {
+        clear_places(&mut self.places);
+    }
+
     /// Removes all objects.
     pub fn clear(&mut self)
         ensures { objects_of O.places self.new ≡ no_objects }
@@ -95,3 +105,10 @@ pub fn object_laws()
 {
     numbered::numbered_laws::<Object>()
 }
+
+/// Of the objects that TPM2_Clear finds, those of the owner and of the endorsement hierarchy are
+/// gone, and all others are found as before. It does nothing.
+#[tactic(auto, using(crate::proofs::ClearLaws::are_cleared))]
+pub fn clearing_laws()
+    ensures { ClearingLaws }
+{}

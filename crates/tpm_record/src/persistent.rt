@@ -1,9 +1,11 @@
 ghost use Rattle.std.specs.Prelude.{◌≡◌, Bool, is_some, length, option_copied, true};
 ghost use Rattle.tpm_ascending.specs.Ascending.{Entries, PutsKey};
 ghost use Rattle.tpm_object.specs.declared.object.Object.{Object as ObjectParts};
+ghost use Rattle.tpm_record.specs.Clear.{cleared_persistent};
 ghost use Rattle.tpm_record.specs.Persistent.{ArePersistent, can_persist, next_persistent, no_persistent, persistent_at, without_persistent};
 ghost use Rattle.tpm_types.specs.Handle.{is_persistent};
 
+use crate::clear::Outlasting;
 use std::alloc::Global;
 use std::marker::Model;
 use tpm_ascending::{Ascending, FixedAscending, KeyFault, ListAscending};
@@ -51,6 +53,11 @@ pub trait PersistentObjects: Drop + Sized {
     fn remove(&mut self, handle: Handle) -> bool
         ensures there { result ≡ is_some (persistent_at (entries self.old) handle) }
         ensures after { entries self.new ≡ without_persistent (entries self.old) handle };
+
+    /// Removes the objects of the owner and of the endorsement hierarchy, as TPM2_Clear does (TPM
+    /// 2.0 Library, Part 3, section 24.6).
+    fn clear_hierarchies(&mut self)
+        ensures { entries self.new ≡ cleared_persistent (entries self.old) };
 
     /// Says what holds of the objects whatever came before. It does nothing else.
     fn read_sizes(&self)
@@ -118,6 +125,11 @@ impl<P: Ascending<Object, 16>> PersistentObjects for StoredObjects<P> {
     #[tactic(auto, using(tpm_ascending::proofs::AscendingLaws::removed_each))]
     fn remove(&mut self, handle: Handle) -> bool {
         self.objects.remove(handle.number)
+    }
+
+    #[tactic(auto, using(tpm_ascending::proofs::AscendingLaws::kept_each))]
+    fn clear_hierarchies(&mut self) {
+        self.objects.retain::<Outlasting>();
     }
 
     fn read_sizes(&self) {

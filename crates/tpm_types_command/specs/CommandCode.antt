@@ -17,6 +17,8 @@ use Rattle.tpm_types_command.specs.Shape.{Facts, admin, is_sized, shape_with, un
 abbrev pub code_number : CommandCode → ℕ
 code_number code.EvictControl = 0x120
 code_number code.NvUndefineSpace = 0x122
+code_number code.Clear = 0x126
+code_number code.ClearControl = 0x127
 code_number code.HierarchyChangeAuth = 0x129
 code_number code.NvDefineSpace = 0x12a
 code_number code.CreatePrimary = 0x131
@@ -63,6 +65,8 @@ abbrev pub all_codes : List CommandCode
 all_codes =
     code.EvictControl
     ∷ code.NvUndefineSpace
+    ∷ code.Clear
+    ∷ code.ClearControl
     ∷ code.HierarchyChangeAuth
     ∷ code.NvDefineSpace
     ∷ code.CreatePrimary
@@ -153,6 +157,10 @@ on_policy parameters = shape_with (unauthorized kind.PolicySession ∷ []) param
 abbrev pub on_lockout : List ParameterKind → Facts
 on_lockout parameters = shape_with (user kind.Lockout ∷ []) parameters
 
+-- the shape of a command that lockoutAuth or the platform authorizes: authHandle
+abbrev pub on_clear : List ParameterKind → Facts
+on_clear parameters = shape_with (user kind.Clear ∷ []) parameters
+
 -- authHandle, nvIndex
 abbrev pub nv_handles : List HandleRule
 nv_handles = user kind.NvAuth ∷ unauthorized kind.NvIndex ∷ []
@@ -179,6 +187,8 @@ shape_of code.EvictControl =
     record (shape_with evict_handles (parameter.PersistentHandle ∷ [])) { grows = true }
 shape_of code.NvUndefineSpace =
     shape_with (user kind.Provision ∷ unauthorized kind.NvIndex ∷ []) []
+shape_of code.Clear = on_clear []
+shape_of code.ClearControl = on_clear (parameter.YesNo ∷ [])
 shape_of code.HierarchyChangeAuth = shape_with (user kind.HierarchyAuth ∷ []) (parameter.Buffer 32 ∷ [])
 shape_of code.NvDefineSpace =
     record (shape_with (user kind.Provision ∷ []) (parameter.Buffer 32 ∷ parameter.NvPublic ∷ [])) {

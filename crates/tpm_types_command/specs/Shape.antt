@@ -30,8 +30,8 @@ is_provision handle =
 -- (TPMI_RH_HIERARCHY_AUTH); a hierarchy or TPM_RH_NULL (TPMI_RH_HIERARCHY+); an entity as above,
 -- with TPM_RH_NULL or without; a transient object or a persistent one, there or not
 -- (TPMI_DH_OBJECT); a policy session, which a trial session is too (03: TPMI_SH_POLICY); the owner
--- or the platform; lockout (TPMI_RH_LOCKOUT); the owner, the platform or an NV index
--- (TPMI_RH_NV_AUTH); an NV index, there or not (TPMI_RH_NV_INDEX)
+-- or the platform; lockout (TPMI_RH_LOCKOUT); that or the platform (TPMI_RH_CLEAR); the owner, the
+-- platform or an NV index (TPMI_RH_NV_AUTH); an NV index, there or not (TPMI_RH_NV_INDEX)
 abbrev pub is_of_kind : HandleKind → Handle → Bool
 is_of_kind kind.Pcr handle = is_some (pcr_of handle)
 is_of_kind kind.PcrOrNull handle = is_some (pcr_of handle) || handle.number == null_handle.number
@@ -45,6 +45,8 @@ is_of_kind kind.Object handle = handle_type handle == 0x80 || handle_type handle
 is_of_kind kind.PolicySession handle = handle_type handle == 0x03
 is_of_kind kind.Provision handle = is_provision handle
 is_of_kind kind.Lockout handle = handle.number == lockout_handle.number
+is_of_kind kind.Clear handle =
+    handle.number == lockout_handle.number || handle.number == platform_handle.number
 is_of_kind kind.NvAuth handle = is_provision handle || handle_type handle == 0x01
 is_of_kind kind.NvIndex handle = handle_type handle == 0x01
 

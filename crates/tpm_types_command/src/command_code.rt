@@ -14,6 +14,8 @@ use tpm_types::{NvUse, Role};
 pub enum CommandCode {
     EvictControl = 0x120,
     NvUndefineSpace = 0x122,
+    Clear = 0x126,
+    ClearControl = 0x127,
     HierarchyChangeAuth = 0x129,
     NvDefineSpace = 0x12a,
     CreatePrimary = 0x131,
@@ -73,6 +75,11 @@ const USER_HIERARCHY_AUTH: HandleRule = HandleRule {
 
 const USER_LOCKOUT: HandleRule = HandleRule {
     kind: HandleKind::Lockout,
+    role: Some(Role::User),
+};
+
+const USER_CLEAR: HandleRule = HandleRule {
+    kind: HandleKind::Clear,
     role: Some(Role::User),
 };
 
@@ -169,9 +176,11 @@ impl CommandCode {
     ghost use Rattle.tpm_types_command.specs.Shape.{facts_of};
 
     /// All of them, ascending by number.
-    pub const ALL: [CommandCode; 42] = [
+    pub const ALL: [CommandCode; 44] = [
         CommandCode::EvictControl,
         CommandCode::NvUndefineSpace,
+        CommandCode::Clear,
+        CommandCode::ClearControl,
         CommandCode::HierarchyChangeAuth,
         CommandCode::NvDefineSpace,
         CommandCode::CreatePrimary,
@@ -252,6 +261,8 @@ impl CommandCode {
                 grows
             ),
             CommandCode::NvUndefineSpace => shape!([USER_PROVISION, NV_INDEX], &[]),
+            CommandCode::Clear => shape!([USER_CLEAR], &[]),
+            CommandCode::ClearControl => shape!([USER_CLEAR], &[YesNo]),
             CommandCode::HierarchyChangeAuth => shape!([USER_HIERARCHY_AUTH], &[Buffer(32)]),
             CommandCode::NvDefineSpace => shape!([USER_PROVISION], &[Buffer(32), NvPublic], grows),
             CommandCode::CreatePrimary => shape!(

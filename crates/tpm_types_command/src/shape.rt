@@ -28,6 +28,8 @@ pub enum HandleKind {
     Provision,
     /// TPMI_RH_LOCKOUT: TPM_RH_LOCKOUT alone.
     Lockout,
+    /// TPMI_RH_CLEAR: TPM_RH_LOCKOUT, or the platform.
+    Clear,
     /// TPMI_RH_NV_AUTH: the owner, the platform, or an NV index.
     NvAuth,
     /// TPMI_RH_NV_INDEX: an NV index.
@@ -69,6 +71,7 @@ impl HandleKind {
             HandleKind::PolicySession => handle.type_byte() == 0x03,
             HandleKind::Provision => is_provision(handle),
             HandleKind::Lockout => handle == Handle::LOCKOUT,
+            HandleKind::Clear => handle == Handle::LOCKOUT || handle == Handle::PLATFORM,
             HandleKind::NvAuth => is_provision(handle) || handle.type_byte() == 0x01,
             HandleKind::NvIndex => handle.type_byte() == 0x01,
         }

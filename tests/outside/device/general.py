@@ -209,8 +209,6 @@ SHAPES = {
 # The commands that are served so far; every other one is answered COMMAND_CODE.
 SERVED = SHAPES.keys() - {
     frames.GET_CAPABILITY,
-    frames.CLEAR,
-    frames.CLEAR_CONTROL,
 }
 
 

@@ -1,0 +1,54 @@
+-- TPM2_Clear. TPM 2.0 Library, Part 3, section 24.6; the owner of the computer is another now.
+use Rattle.std.specs.Prelude.{ℕ, false, List, Result, Ok}
+use Rattle.tpm_bytes.specs.Reading.{◌>>=◌, refused_if}
+use Rattle.tpm_lockout.specs.Lockout.{LockoutState}
+use Rattle.tpm_lockout.specs.Recovery.{with_closed}
+use Rattle.tpm_lockout.specs.Tries.{with_tries}
+use Rattle.tpm_nv.specs.Clear.{cleared}
+use Rattle.tpm_pcr.specs.Changes.{clear_counted}
+use Rattle.tpm_pcr.specs.Values.{BankValues}
+use Rattle.tpm_types.specs.Rc.{plain}
+use Rattle.tpm_types.specs.declared.rc.ResponseCode.TheVariants as code
+use Rattle.tpm_types.specs.declared.refused.Refused.{Refused}
+use Rattle.tpm_record.specs.Clear.{cleared_objects, cleared_persistent}
+use Rattle.tpm_record.specs.Hierarchy.{cleared_hierarchies}
+use Rattle.tpm_record.specs.Record.{Record}
+use Rattle.tpm_record.specs.declared.fixed.Fixed.{Fixed}
+use Rattle.tpm_actions.specs.Answer.{nothing}
+use Rattle.tpm_actions.specs.Refusals.{action_refusal, or_refusal}
+use Rattle.tpm_actions.specs.Request.{Request}
+use Rattle.tpm_actions.specs.Rows.{Success, all_read}
+
+-- lockoutAuth is open, and no failed try is left; the parameters stay, and the times go on
+abbrev pub cleared_lockout : LockoutState → LockoutState
+cleared_lockout s = with_closed false (with_tries 0 s)
+
+-- the hierarchies and lockout are cleared, Clock and the counts begin at 0, and an update of the PCRs
+-- is counted; Time and whether TPM2_Clear is refused stay
+abbrev pub cleared_fixed : BankValues → List ℕ → Fixed → Fixed
+cleared_fixed banks random f = record f {
+  hierarchies = cleared_hierarchies f.hierarchies random;
+  lockout = cleared_lockout f.lockout;
+  banks = banks;
+  clock = 0;
+  reset_count = 0;
+  restart_count = 0;
+}
+
+-- authHandle, lockout or the platform, authorized; no parameters. A1: it is disabled, for either of
+-- them; A2: the update could not be counted. The owner's objects and indices are gone, and so are
+-- the endorsement hierarchy's objects; sessions stay, and what is the platform's
+unfoldable pub clear_row : Record → Request → Result Success Refused
+clear_row r q = do
+  ended ← all_read q.parameters
+  a1 ← refused_if r.fixed.disable_clear (action_refusal 1 (plain code.Disabled))
+  banks ← or_refusal (λ fault. action_refusal 2 (plain code.Failure)) (clear_counted r.fixed.banks)
+  Ok (record {
+    answer = record nothing { drawn = 96 };
+    after = record r {
+      fixed = cleared_fixed banks q.random r.fixed;
+      objects = cleared_objects r.objects;
+      persistent = cleared_persistent r.persistent;
+      nv = cleared r.nv;
+    };
+  })

@@ -1,0 +1,11 @@
+use Rattle.std.proofs.Common.{◌≡◌, ◌≤◌, ◌+◌, ◌++◌, drop, length, take}
+use Rattle.tpm_nv.specs.Head.{kept_bytes, total}
+use Rattle.tpm_nv.proofs.clear.keep_bytes.Given as goal
+
+-- what is kept so far, and what is left, decide about the whole
+abbrev pub invariant-loop-head : goal.invariant-loop-head
+invariant-loop-head g l =
+    (kept_bytes l.heads (g.R.Row.bytes l.initial.row) ≡ take l.kept (g.R.Row.bytes l.row) ++ kept_bytes (drop l.head-index l.heads) (drop l.start (g.R.Row.bytes l.row)))
+    × (l.kept ≤ l.start)
+    × (l.start + total (drop l.head-index l.heads) ≡ length (g.R.Row.bytes l.row))
+    × (length (g.R.Row.bytes l.row) ≡ length (g.R.Row.bytes l.initial.row))

@@ -1,0 +1,19 @@
+-- What TPM2_Clear does to NV indices. TPM 2.0 Library, Part 3, section 24.6 (TPM2_Clear), and Part
+-- 2, section 13.4 (TPMA_NV).
+use Rattle.std.specs.Prelude.{Bool}
+use Rattle.tpm_ascending.specs.Ascending.{kept_entries}
+use Rattle.tpm_types_nv.specs.NvAttributes.{has}
+use Rattle.tpm_types_nv.specs.declared.nv_attributes.NvAttribute.TheVariants as attribute
+use Rattle.tpm_types_nv.specs.declared.nv_public.NvPublic.{NvPublic}
+use Rattle.tpm_nv.specs.Index.{NvContents}
+
+-- whether the platform defined an index: PLATFORMCREATE
+abbrev pub is_by_platform : NvPublic → Bool
+is_by_platform public = has public.attributes attribute.PlatformCreate
+
+-- such indices alone stay, and so does the largest value that a counter ever had
+unfoldable pub cleared : NvContents → NvContents
+cleared contents =
+    record contents {
+      indices = kept_entries (λ index. is_by_platform index.public) contents.indices;
+    }

@@ -1,0 +1,66 @@
+//! What TPM2_Clear does to objects, transient and persistent.
+
+ghost use Rattle.std.specs.Prelude.{◌≡◌, None, if◌then◌else◌, option_copied, slice_set};
+ghost use Rattle.tpm_places.specs.Places.{at_place};
+ghost use Rattle.tpm_record.specs.Clear.{cleared_objects, is_cleared, is_place_cleared};
+
+use tpm_ascending::Choice;
+use tpm_object::Object;
+use tpm_places::Places;
+use tpm_types::HierarchyHandle;
+
+/// Whether a hierarchy is cleared.
+fn is_cleared(hierarchy: HierarchyHandle) -> bool
+    ensures { result ≡ is_cleared hierarchy }
+{
+    match hierarchy {
+        HierarchyHandle::Owner | HierarchyHandle::Endorsement => true,
+        HierarchyHandle::Platform | HierarchyHandle::Null => false,
+    }
+}
+
+/// Whether what is in a place is an object of such a hierarchy.
+fn is_place_cleared(object: Option<&Object>) -> bool
+    ensures { result ≡ is_place_cleared (option_copied object.entry) }
+{
+    match object {
+        Some(object) => is_cleared(object.hierarchy),
+        None => false,
+    }
+}
+
+/// Frees a place with such an object.
+fn clear_place<O: Places<Object, 8>>(places: &mut O, place: usize)
+    ensures { O.places places.new
+        ≡ (if is_place_cleared (at_place (O.places places.old) place)
+        then slice_set (O.places places.old) place None
+        else O.places places.old) }
+{
+    if is_place_cleared(places.get(place)) {
+        places.remove(place);
+    }
+}
+
+/// The persistent objects that TPM2_Clear leaves: those of the other hierarchies.
+pub(crate) enum Outlasting {}
+
+impl Choice<Object> for Outlasting {
+    ghost use Rattle.tpm_record.specs.Clear.{outlasts};
+
+    ghost stays = { outlasts };
+
+    fn stays(object: &Object) -> bool {
+        !is_cleared(object.hierarchy)
+    }
+}
+
+/// Frees each place with an object of a hierarchy that is cleared.
+#[tactic(auto, unfolding(crate::specs::Clear::cleared_objects), using(crate::proofs::ClearLaws::all_cleared))]
+pub(crate) fn clear_places<O: Places<Object, 8>>(places: &mut O)
+    ensures { O.places places.new ≡ cleared_objects (O.places places.old) }
+{
+    let _ = places.get(8);
+    for place in 0..8 {
+        clear_place(places, place);
+    }
+}
