@@ -31,6 +31,7 @@ use tpm_actions::self_test::self_test;
 use tpm_actions::shutdown::shutdown;
 use tpm_actions::start_auth_session::start_auth_session;
 use tpm_actions::startup::startup;
+use tpm_actions_capability::get_capability::get_capability;
 use tpm_actions_object::clear::clear;
 use tpm_actions_object::create::create;
 use tpm_actions_object::create_primary::create_primary;
@@ -120,6 +121,7 @@ fn act<K: Keep>(
         CommandCode::PolicyOr => policy_or(keep, call, answer),
         CommandCode::ReadPublic => read_public(keep, call, answer),
         CommandCode::StartAuthSession => start_auth_session(keep, call, answer),
+        CommandCode::GetCapability => get_capability(keep, call, answer),
         CommandCode::GetRandom => get_random(keep, call, answer),
         CommandCode::PcrRead => pcr_read(keep, call, answer),
         CommandCode::PolicyPcr => policy_pcr(keep, call, answer),

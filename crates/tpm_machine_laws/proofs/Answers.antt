@@ -21,6 +21,7 @@ use Rattle.tpm_actions.specs.DictionaryAttackParameters.{dictionary_attack_param
 use Rattle.tpm_actions.specs.HierarchyChangeAuth.{hierarchy_change_auth_row}
 use Rattle.tpm_actions.specs.StartAuthSession.{start_auth_session_row}
 use Rattle.tpm_actions_object.specs.Clear.{clear_row}
+use Rattle.tpm_actions_capability.specs.GetCapability.{get_capability_row}
 use Rattle.tpm_actions_object.specs.Create.{create_row}
 use Rattle.tpm_actions_object.specs.CreatePrimary.{create_primary_row}
 use Rattle.tpm_actions_object.specs.EvictControl.{evict_control_row}
@@ -47,6 +48,6 @@ use Rattle.tpm_machine_laws.proofs.Binding.{ok_bind}
 use Rattle.tpm_machine_laws.specs.Shapes.{AnswersItsShape}
 
 pub row_answers : (r : Record) (c : CommandCode) (q : Request) → IfOk (row_of r c q) (AnswersItsShape c)
-unfolding row_of shape_of startup_row shutdown_row self_test_row read_clock_row clear_row clear_control_row get_random_row pcr_read_row pcr_extend_row pcr_event_row pcr_reset_row dictionary_attack_lock_reset_row dictionary_attack_parameters_row flush_context_row hierarchy_change_auth_row start_auth_session_row create_row create_primary_row evict_control_row hmac_row load_row read_public_row unseal_row assertion_row policy_get_digest_row policy_restart_row nv_change_auth_row nv_define_space_row nv_extend_row nv_increment_row nv_read_row nv_read_lock_row nv_read_public_row nv_set_bits_row nv_undefine_space_row nv_write_row nv_write_lock_row
+unfolding row_of shape_of startup_row shutdown_row self_test_row read_clock_row clear_row clear_control_row get_capability_row get_random_row pcr_read_row pcr_extend_row pcr_event_row pcr_reset_row dictionary_attack_lock_reset_row dictionary_attack_parameters_row flush_context_row hierarchy_change_auth_row start_auth_session_row create_row create_primary_row evict_control_row hmac_row load_row read_public_row unseal_row assertion_row policy_get_digest_row policy_restart_row nv_change_auth_row nv_define_space_row nv_extend_row nv_increment_row nv_read_row nv_read_lock_row nv_read_public_row nv_set_bits_row nv_undefine_space_row nv_write_row nv_write_lock_row
 row_answers r command.Startup q = search (rules, ok_bind)
 row_answers r _ q = search (rules, ok_bind)

@@ -43,6 +43,7 @@ use Rattle.tpm_actions.specs.DictionaryAttackParameters.{dictionary_attack_param
 use Rattle.tpm_actions.specs.HierarchyChangeAuth.{hierarchy_change_auth_row}
 use Rattle.tpm_actions.specs.StartAuthSession.{parameters_in, parameters_pass, session_place, start_auth_session_row}
 use Rattle.tpm_actions_object.specs.Clear.{clear_row}
+use Rattle.tpm_actions_capability.specs.GetCapability.{get_capability_row}
 use Rattle.tpm_actions_object.specs.Create.{create_row}
 use Rattle.tpm_actions_object.specs.CreatePrimary.{create_primary_row}
 use Rattle.tpm_actions_object.specs.EvictControl.{evict_control_row}
@@ -149,7 +150,7 @@ start_draws r q =
 ruleset draws = (rules, ok_bind, none_drawn, secrets_drawn, all_drawn, answer_drawn, object_drawn)
 
 pub row_draws : (r : Record) (c : CommandCode) (q : Request) → IfOk (row_of r c q) (λ s. s.answer.drawn ≤ 96)
-unfolding row_of startup_row shutdown_row self_test_row read_clock_row clear_row clear_control_row get_random_row pcr_read_row pcr_extend_row pcr_event_row pcr_reset_row dictionary_attack_lock_reset_row dictionary_attack_parameters_row flush_context_row hierarchy_change_auth_row create_row create_primary_row evict_control_row hmac_row load_row read_public_row unseal_row assertion_row policy_get_digest_row policy_restart_row nv_change_auth_row nv_define_space_row nv_extend_row nv_increment_row nv_read_row nv_read_lock_row nv_read_public_row nv_set_bits_row nv_undefine_space_row nv_write_row nv_write_lock_row
+unfolding row_of startup_row shutdown_row self_test_row read_clock_row clear_row clear_control_row get_capability_row get_random_row pcr_read_row pcr_extend_row pcr_event_row pcr_reset_row dictionary_attack_lock_reset_row dictionary_attack_parameters_row flush_context_row hierarchy_change_auth_row create_row create_primary_row evict_control_row hmac_row load_row read_public_row unseal_row assertion_row policy_get_digest_row policy_restart_row nv_change_auth_row nv_define_space_row nv_extend_row nv_increment_row nv_read_row nv_read_lock_row nv_read_public_row nv_set_bits_row nv_undefine_space_row nv_write_row nv_write_lock_row
 row_draws r command.StartAuthSession q = start_draws r q
 row_draws r command.Startup q = search draws
 row_draws r _ q = search draws

@@ -334,6 +334,7 @@ row_grows r command.ClearControl q = fixed_grows r command.ClearControl q refl
 row_grows r command.Shutdown q = fixed_grows r command.Shutdown q refl
 row_grows r command.SelfTest q = fixed_grows r command.SelfTest q refl
 row_grows r command.ReadClock q = fixed_grows r command.ReadClock q refl
+row_grows r command.GetCapability q = fixed_grows r command.GetCapability q refl
 row_grows r command.GetRandom q = fixed_grows r command.GetRandom q refl
 row_grows r command.PcrRead q = fixed_grows r command.PcrRead q refl
 row_grows r command.PcrExtend q = fixed_grows r command.PcrExtend q refl

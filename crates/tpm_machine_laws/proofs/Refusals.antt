@@ -6,7 +6,7 @@ use Rattle.std.proofs.lemmas.Bool.Decides.{nat_tests}
 use Rattle.std.proofs.lemmas.Result.{IfErr-at_err}
 use Rattle.std.specs.Option.{option_map_or}
 use Rattle.std.proofs.lemmas.Bool.{eqb-true}
-use Rattle.std.specs.Prelude.{length, nat_lt, ◌==◌, ◌||◌, if◌then◌else◌, not, ok_or, option_map}
+use Rattle.std.specs.Prelude.{length, nat_lt, ◌==◌, ◌||◌, if◌then◌else◌, not, ok_or, option_map, ◌/◌, ◌^◌}
 use Rattle.tpm_ascending.specs.Ascending.{Entries}
 use Rattle.tpm_bytes.specs.Reading.{◌>>=◌, refused_if}
 use Rattle.tpm_types_command.specs.declared.command_code.CommandCode.{CommandCode}
@@ -57,6 +57,10 @@ use Rattle.tpm_actions.specs.SelfTest.{self_test_row}
 use Rattle.tpm_actions.specs.ReadClock.{read_clock_row}
 use Rattle.tpm_actions_object.specs.Checks.{creation_refusal, template_refusal}
 use Rattle.tpm_actions_object.specs.Clear.{clear_row}
+use Rattle.tpm_actions_capability.specs.GetCapability.{capability_of, capability_parameters, get_capability_row, handle_elements, told_of}
+use Rattle.tpm_actions_capability.specs.declared.get_capability.Asked.{Asked}
+use Rattle.tpm_actions_capability.specs.declared.get_capability.Capability.{Capability}
+use Rattle.tpm_actions_capability.specs.declared.get_capability.Capability.TheVariants as capability
 use Rattle.tpm_actions_object.specs.Create.{create_row}
 use Rattle.tpm_actions_object.specs.CreatePrimary.{create_primary_row, named_hierarchy}
 use Rattle.tpm_actions_object.specs.Creation.{parameters_in as creation_parameters}
@@ -303,6 +307,18 @@ late_counted Fit x = grind arith
 late_start : (Fit : Type 0) (type : StartupType) (kind : SavedKind) → Late Fit (start_of type kind)
 late_start Fit type kind = grind arith
 
+late_capability : (Fit : Type 0) (number : ℕ) → Late Fit (capability_of number)
+late_capability Fit number = grind arith
+
+late_handles : (Fit : Type 0) (r : Record) (kind : ℕ) → Late Fit (handle_elements r kind)
+late_handles Fit r kind = grind arith
+
+late_told : (Fit : Type 0) (r : Record) (asked : Asked) (c : Capability) → Late Fit (told_of r asked c)
+late_told Fit r asked capability.Handles = err_bind _ (handle_elements r (asked.property / 2 ^ 24)) _ (late_handles Fit r (asked.property / 2 ^ 24)) (λ elements. tt)
+late_told Fit r asked capability.Commands = tt
+late_told Fit r asked capability.Pcrs = tt
+late_told Fit r asked capability.Properties = tt
+
 late_assertion : (Fit : Type 0) (x : Result Policy PolicyFault) → Late Fit (by_its_check x)
 late_assertion Fit x = grind arith
 
@@ -377,7 +393,7 @@ late_auth_value Fit r role h value fits =
 ruleset late_changes = (late_written, late_incremented, late_bits, late_extended, late_readable, late_read, late_write_locked, late_read_locked, late_auth_value, late_definition)
 
 -- and all others
-ruleset late_steps = (rules, err_bind, err_if, err_or, err_fault, late_template, late_creation, late_scheme, late_assertion, late_session, late_evicted)
+ruleset late_steps = (rules, err_bind, err_if, err_or, err_fault, late_capability, late_told, late_template, late_creation, late_scheme, late_assertion, late_session, late_evicted)
 
 -- ---- rows
 
@@ -412,7 +428,7 @@ nv_public_orders r q =
     behind_reading r _ q.handles _ q.parameters (all_read q.parameters) _ (all_read_outcome (all_read q.parameters)) (λ ended. tt)))
 
 row_orders : (r : Record) (c : CommandCode) (q : Request) → Orders r (shape_of c).handles q.handles (shape_of c).parameters q.parameters (row_of r c q)
-unfolding row_of shape_of startup_row shutdown_row self_test_row read_clock_row clear_row clear_control_row get_random_row pcr_read_row pcr_extend_row pcr_event_row pcr_reset_row dictionary_attack_lock_reset_row dictionary_attack_parameters_row flush_context_row hierarchy_change_auth_row start_auth_session_row create_row create_primary_row evict_control_row hmac_row load_row read_public_row unseal_row assertion_row policy_get_digest_row policy_restart_row start_parameters creation_parameters hmac_parameters load_parameters secret_parameters parameters_pass nv_define_space_row nv_extend_row nv_increment_row nv_read_row nv_read_lock_row nv_set_bits_row nv_undefine_space_row nv_write_row nv_write_lock_row nv_read_parameters nv_write_parameters nv_parameters lockout_parameters
+unfolding row_of shape_of startup_row shutdown_row self_test_row read_clock_row clear_row clear_control_row get_capability_row get_random_row pcr_read_row pcr_extend_row pcr_event_row pcr_reset_row dictionary_attack_lock_reset_row dictionary_attack_parameters_row flush_context_row hierarchy_change_auth_row start_auth_session_row create_row create_primary_row evict_control_row hmac_row load_row read_public_row unseal_row assertion_row policy_get_digest_row policy_restart_row start_parameters creation_parameters hmac_parameters load_parameters secret_parameters parameters_pass nv_define_space_row nv_extend_row nv_increment_row nv_read_row nv_read_lock_row nv_set_bits_row nv_undefine_space_row nv_write_row nv_write_lock_row nv_read_parameters nv_write_parameters nv_parameters lockout_parameters capability_parameters
 row_orders r command.Startup q = search (handle_steps, reading_steps, late_steps, late_start) depth 16
 row_orders r command.Clear q = search (handle_steps, reading_steps, late_steps, late_counted) depth 16
 row_orders r command.NvDefineSpace q = search (behind_first, behind_reading, define_reads, rules, err_bind, err_if, late_definition) depth 16

@@ -152,6 +152,7 @@ row_stays r command.ClearControl q may = other_stays r command.ClearControl q re
 row_stays r command.Shutdown q may = other_stays r command.Shutdown q refl
 row_stays r command.SelfTest q may = other_stays r command.SelfTest q refl
 row_stays r command.ReadClock q may = other_stays r command.ReadClock q refl
+row_stays r command.GetCapability q may = other_stays r command.GetCapability q refl
 row_stays r command.GetRandom q may = other_stays r command.GetRandom q refl
 row_stays r command.PcrRead q may = other_stays r command.PcrRead q refl
 row_stays r command.PcrExtend q may = other_stays r command.PcrExtend q refl

@@ -70,6 +70,7 @@ part_of command.PolicyLocality = Sessions
 part_of command.PolicyOr = Sessions
 part_of command.ReadPublic = Nothing
 part_of command.StartAuthSession = Sessions
+part_of command.GetCapability = Nothing
 part_of command.GetRandom = Nothing
 part_of command.PcrRead = Nothing
 part_of command.PolicyPcr = Sessions

@@ -22,6 +22,7 @@ use Rattle.tpm_actions.specs.DictionaryAttackParameters.{dictionary_attack_param
 use Rattle.tpm_actions.specs.HierarchyChangeAuth.{hierarchy_change_auth_row}
 use Rattle.tpm_actions.specs.StartAuthSession.{start_auth_session_row}
 use Rattle.tpm_actions_object.specs.Clear.{clear_row}
+use Rattle.tpm_actions_capability.specs.GetCapability.{get_capability_row}
 use Rattle.tpm_actions_object.specs.Create.{create_row}
 use Rattle.tpm_actions_object.specs.CreatePrimary.{create_primary_row}
 use Rattle.tpm_actions_object.specs.EvictControl.{evict_control_row}
@@ -82,6 +83,7 @@ row_of r command.PolicyLocality q = assertion_row command.PolicyLocality r q
 row_of r command.PolicyOr q = assertion_row command.PolicyOr r q
 row_of r command.ReadPublic q = read_public_row r q
 row_of r command.StartAuthSession q = start_auth_session_row r q
+row_of r command.GetCapability q = get_capability_row r q
 row_of r command.GetRandom q = get_random_row r q
 row_of r command.PcrRead q = pcr_read_row r q
 row_of r command.PolicyPcr q = assertion_row command.PolicyPcr r q

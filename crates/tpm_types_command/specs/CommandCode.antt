@@ -51,6 +51,7 @@ code_number code.PolicyLocality = 0x16f
 code_number code.PolicyOr = 0x171
 code_number code.ReadPublic = 0x173
 code_number code.StartAuthSession = 0x176
+code_number code.GetCapability = 0x17a
 code_number code.GetRandom = 0x17b
 code_number code.PcrRead = 0x17e
 code_number code.PolicyPcr = 0x17f
@@ -99,6 +100,7 @@ all_codes =
     ∷ code.PolicyOr
     ∷ code.ReadPublic
     ∷ code.StartAuthSession
+    ∷ code.GetCapability
     ∷ code.GetRandom
     ∷ code.PcrRead
     ∷ code.PolicyPcr
@@ -243,6 +245,8 @@ shape_of code.StartAuthSession =
       answers_handle = true;
       grows = true;
     }
+shape_of code.GetCapability =
+    keeping (shape_with [] (parameter.U32 ∷ parameter.U32 ∷ parameter.U32 ∷ []))
 shape_of code.GetRandom = keeping (answering (shape_with [] (parameter.U16 ∷ [])))
 shape_of code.PcrRead = keeping (shape_with [] (parameter.Selection ∷ []))
 shape_of code.PolicyPcr = on_policy (parameter.Buffer 32 ∷ parameter.Selection ∷ [])

@@ -48,6 +48,7 @@ pub enum CommandCode {
     PolicyOr = 0x171,
     ReadPublic = 0x173,
     StartAuthSession = 0x176,
+    GetCapability = 0x17a,
     GetRandom = 0x17b,
     PcrRead = 0x17e,
     PolicyPcr = 0x17f,
@@ -176,7 +177,7 @@ impl CommandCode {
     ghost use Rattle.tpm_types_command.specs.Shape.{facts_of};
 
     /// All of them, ascending by number.
-    pub const ALL: [CommandCode; 44] = [
+    pub const ALL: [CommandCode; 45] = [
         CommandCode::EvictControl,
         CommandCode::NvUndefineSpace,
         CommandCode::Clear,
@@ -213,6 +214,7 @@ impl CommandCode {
         CommandCode::PolicyOr,
         CommandCode::ReadPublic,
         CommandCode::StartAuthSession,
+        CommandCode::GetCapability,
         CommandCode::GetRandom,
         CommandCode::PcrRead,
         CommandCode::PolicyPcr,
@@ -327,6 +329,7 @@ impl CommandCode {
                 answers_handle,
                 grows
             ),
+            CommandCode::GetCapability => shape!([], &[U32, U32, U32], keeps_shutdown),
             CommandCode::GetRandom => shape!([], &[U16], sized_answer, keeps_shutdown),
             CommandCode::PcrRead => shape!([], &[Selection], keeps_shutdown),
             CommandCode::PolicyPcr => shape!([POLICY_SESSION], &[Buffer(32), Selection]),

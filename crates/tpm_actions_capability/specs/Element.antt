@@ -1,0 +1,51 @@
+-- What TPM2_GetCapability lists. TPM 2.0 Library, Part 3, section 30.2, and Part 2, section 10.10.2
+-- (TPMS_CAPABILITY_DATA).
+use Rattle.std.specs.Prelude.{ℕ, ◌==◌, zero, suc, nat_lt, nat_le, min, Bool, List, [], ◌∷◌, ◌++◌, count_by, filter, take, map, if◌then◌else◌}
+use Rattle.std.specs.Int.{w32, to_be_bytes}
+use Rattle.std.specs.List.{flat_map}
+use Rattle.tpm_actions_capability.specs.declared.element.Element.{Element}
+use Rattle.tpm_actions_capability.specs.declared.element.Telling.{Telling}
+use Rattle.tpm_actions_capability.specs.declared.element.Telling.TheVariants as tell
+
+-- the numbers below one, ascending
+abbrev pub numbers_below : ℕ → List ℕ
+numbers_below zero = []
+numbers_below (suc n) = numbers_below n ++ n ∷ []
+
+-- an element that is told by its own number
+abbrev pub by_itself : ℕ → Element
+by_itself number = record { number = number; told = number }
+
+-- an element, if it is there
+abbrev pub if_there : Bool → Element → List Element
+if_there is_there e = if is_there then e ∷ [] else []
+
+-- what is told of an element: a value alone, or its number (the property) and the value
+abbrev pub told_text : Telling → Element → List ℕ
+told_text tell.Value e = to_be_bytes w32 e.told
+told_text tell.NumberAndValue e = to_be_bytes w32 e.number ++ to_be_bytes w32 e.told
+
+abbrev pub is_from : ℕ → Element → Bool
+is_from from e = nat_le from e.number
+
+-- how many elements there are from a number on, and how many of these are told: not more than are
+-- asked for, and never more than 64
+abbrev pub found_count : ℕ → List Element → ℕ
+found_count from elements = count_by (is_from from) elements
+
+abbrev pub told_count : (from count : ℕ) → List Element → ℕ
+told_count from count elements = min (found_count from elements) (min count 64)
+
+-- the text of the first elements from a number on, so many
+abbrev pub text_of : Telling → (from count : ℕ) → List Element → List ℕ
+text_of telling from count elements =
+    flat_map (told_text telling) (take count (filter (is_from from) elements))
+
+-- whether there are more than are told (moreData), the capability, how many are told, and these, the
+-- first from a number on
+abbrev pub listing : Telling → (capability from count : ℕ) → List Element → List ℕ
+listing telling capability from count elements =
+    (if nat_lt (told_count from count elements) (found_count from elements) then 1 else 0)
+    ∷ to_be_bytes w32 capability
+    ++ to_be_bytes w32 (told_count from count elements)
+    ++ text_of telling from (told_count from count elements) elements

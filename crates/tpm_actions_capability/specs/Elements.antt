@@ -1,0 +1,93 @@
+-- The elements of each capability of a device, in ascending order. TPM 2.0 Library, Part 2, sections
+-- 6.12 (TPM_CAP), 6.13 (TPM_PT), 7.4 (TPM_RH) and 8.9 (TPMA_CC), and Part 3, section 30.2.
+use Rattle.std.specs.Prelude.{ℕ, ◌+◌, ◌*◌, ◌^◌, Bool, true, false, List, [], ◌∷◌, ◌++◌, is_some, length, map, if◌then◌else◌}
+use Rattle.std.specs.List.{flat_map}
+use Rattle.tpm_lockout.specs.Lockout.{LockoutState}
+use Rattle.tpm_nv.specs.Head.{heads_of}
+use Rattle.tpm_places.specs.Numbered.{number_of}
+use Rattle.tpm_session.specs.Sessions.{session_at}
+use Rattle.tpm_types.specs.Handle.{endorsement_handle, lockout_handle, null_handle, numbered, owner_handle, password_handle, platform_handle}
+use Rattle.tpm_types.specs.declared.handle.Handle.{Handle}
+use Rattle.tpm_types_command.specs.CommandCode.{all_codes, code_number, shape_of}
+use Rattle.tpm_types_command.specs.declared.command_code.CommandCode.{CommandCode}
+use Rattle.tpm_record.specs.Objects.{object_at}
+use Rattle.tpm_record.specs.Record.{Record}
+use Rattle.tpm_actions_capability.specs.Element.{by_itself, if_there, numbers_below}
+use Rattle.tpm_actions_capability.specs.declared.element.Element.{Element}
+
+-- ---- handles, by the first byte of the one from which on they are asked for
+
+-- 00: the PCRs
+abbrev pub pcr_elements : List Element
+pcr_elements = map by_itself (numbers_below 24)
+
+-- 01: the NV indices
+abbrev pub index_elements : Record → List Element
+index_elements r = map (λ e. by_itself e.0) (heads_of r.nv)
+
+-- 40: what is always there
+abbrev pub permanent_elements : List Element
+permanent_elements =
+    by_itself owner_handle.number
+    ∷ by_itself null_handle.number
+    ∷ by_itself password_handle.number
+    ∷ by_itself lockout_handle.number
+    ∷ by_itself endorsement_handle.number
+    ∷ by_itself platform_handle.number
+    ∷ []
+
+-- 02: the sessions, of whatever type, in the order of their places: the place is compared, and the
+-- handle is told
+abbrev pub session_element : Record → (kind place : ℕ) → List Element
+session_element r kind place =
+    let handle : Handle = numbered (number_of kind place) in
+    if_there (is_some (session_at r.sessions handle))
+    (record { number = place; told = handle.number })
+
+abbrev pub session_elements : Record → List Element
+session_elements r =
+    flat_map (λ place. session_element r 0x02 place ++ session_element r 0x03 place)
+    (numbers_below 16)
+
+-- 80: the transient objects
+abbrev pub object_element : Record → ℕ → List Element
+object_element r place =
+    let handle : Handle = numbered (number_of 0x80 place) in
+    if_there (is_some (object_at r.objects handle)) (by_itself handle.number)
+
+abbrev pub object_elements : Record → List Element
+object_elements r = flat_map (object_element r) (numbers_below 8)
+
+-- 81: the persistent objects
+abbrev pub persistent_elements : Record → List Element
+persistent_elements r = map (λ e. by_itself e.0) r.persistent
+
+-- ---- commands, with their attributes
+
+-- the number in bits 0 to 15, how many handles it has in bits 25 to 27, and whether it answers one
+-- in bit 28
+abbrev pub command_attributes : CommandCode → ℕ
+command_attributes code =
+    code_number code + 2 ^ 25 * length (shape_of code).handles
+    + (if (shape_of code).answers_handle then 2 ^ 28 else 0)
+
+abbrev pub command_element : CommandCode → Element
+command_element code =
+    record { number = code_number code; told = command_attributes code }
+
+abbrev pub command_elements : List Element
+command_elements = map command_element all_codes
+
+-- ---- properties
+
+-- TPM_PT_FAMILY_INDICATOR ("2.0" and a zero) and TPM_PT_TOTAL_COMMANDS; TPM_PT_LOCKOUT_COUNTER,
+-- TPM_PT_MAX_AUTH_FAIL, TPM_PT_LOCKOUT_INTERVAL and TPM_PT_LOCKOUT_RECOVERY
+abbrev pub property_elements : LockoutState → List Element
+property_elements lockout =
+    record { number = 0x100; told = 0x322e3000 }
+    ∷ record { number = 0x129; told = length all_codes }
+    ∷ record { number = 0x20e; told = lockout.fields.failed_tries }
+    ∷ record { number = 0x20f; told = lockout.fields.max_tries }
+    ∷ record { number = 0x210; told = lockout.fields.recovery_time }
+    ∷ record { number = 0x211; told = lockout.fields.lockout_recovery }
+    ∷ []

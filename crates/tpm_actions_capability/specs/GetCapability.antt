@@ -1,0 +1,98 @@
+-- TPM2_GetCapability. TPM 2.0 Library, Part 3, section 30.2.
+use Rattle.std.specs.Prelude.{◌≡◌, ℕ, ◌==◌, ◌/◌, ◌%◌, ◌^◌, List, [], ◌∷◌, ◌++◌, if◌then◌else◌, Result, Ok, Err}
+use Rattle.std.specs.Int.{w32, to_be_bytes}
+use Rattle.tpm_bytes.specs.Reading.{◌>>=◌, number_at, or_fault}
+use Rattle.tpm_mac.specs.declared.algorithm.HashAlg.TheVariants as alg
+use Rattle.tpm_types.specs.PcrSelection.{selection_text}
+use Rattle.tpm_types.specs.Rc.{plain}
+use Rattle.tpm_types.specs.declared.pcr_selection.BankSelection.{BankSelection}
+use Rattle.tpm_types.specs.declared.rc.ResponseCode.TheVariants as code
+use Rattle.tpm_types.specs.declared.refused.Refused.{Refused}
+use Rattle.tpm_record.specs.Record.{Record}
+use Rattle.tpm_actions.specs.Answer.{Plain, answer_of}
+use Rattle.tpm_actions.specs.Refusals.{parameter_fault}
+use Rattle.tpm_actions.specs.Request.{Request}
+use Rattle.tpm_actions.specs.Rows.{Success, all_read, parameter, unchanged}
+use Rattle.tpm_actions_capability.specs.Element.{listing}
+use Rattle.tpm_actions_capability.specs.Elements.{command_elements, index_elements, object_elements, pcr_elements, permanent_elements, persistent_elements, property_elements, session_elements}
+use Rattle.tpm_actions_capability.specs.declared.element.Element.{Element}
+use Rattle.tpm_actions_capability.specs.declared.element.Telling.TheVariants as tell
+use Rattle.tpm_actions_capability.specs.declared.get_capability.Asked.{Asked}
+use Rattle.tpm_actions_capability.specs.declared.get_capability.Capability.{Capability}
+use Rattle.tpm_actions_capability.specs.declared.get_capability.Capability.TheVariants as capability
+
+-- capability, property, propertyCount
+unfoldable pub capability_parameters : List ℕ → Result Asked Refused
+capability_parameters text = do
+  capability ← parameter 1 (or_fault (number_at w32 text) (plain code.Insufficient))
+  property ← parameter 2 (or_fault (number_at w32 capability.1) (plain code.Insufficient))
+  count ← parameter 3 (or_fault (number_at w32 property.1) (plain code.Insufficient))
+  ended ← all_read count.1
+  Ok (record { capability = capability.0; property = property.0; count = count.0 })
+
+-- A1: a capability that is not served
+abbrev pub capability_of : ℕ → Result Capability Refused
+capability_of number =
+    if number == 1 then Ok capability.Handles
+    else (if number == 2 then Ok capability.Commands
+    else (if number == 5 then Ok capability.Pcrs
+    else (if number == 6 then Ok capability.Properties
+    else Err (parameter_fault 1 1 code.Value))))
+
+-- the handles whose first byte is this one; saved sessions (03) there are none. A2: there are none of
+-- such a kind
+abbrev pub handle_elements : Record → (kind : ℕ) → Result (List Element) Refused
+handle_elements r kind =
+    if kind == 0x00 then Ok pcr_elements
+    else (if kind == 0x01 then Ok (index_elements r)
+    else (if kind == 0x02 then Ok (session_elements r)
+    else (if kind == 0x03 then Ok []
+    else (if kind == 0x40 then Ok permanent_elements
+    else (if kind == 0x80 then Ok (object_elements r)
+    else (if kind == 0x81 then Ok (persistent_elements r)
+    else Err (parameter_fault 2 2 code.Handle)))))))
+
+-- from which on handles are listed: sessions by their places
+abbrev pub first_handle_of : ℕ → ℕ
+first_handle_of property = if property / 2 ^ 24 == 0x02 then property % 2 ^ 24 else property
+
+-- all PCRs of both banks, whatever is asked for; there are no more
+abbrev pub all_banks : List BankSelection
+all_banks =
+    record { hash = alg.Sha1; select = 0xff_ffff }
+    ∷ record { hash = alg.Sha256; select = 0xff_ffff }
+    ∷ []
+
+abbrev pub pcrs_text : List ℕ
+pcrs_text = 0 ∷ to_be_bytes w32 5 ++ selection_text all_banks
+
+-- moreData, and the capability with its elements
+abbrev pub told_of : Record → Asked → Capability → Result (List ℕ) Refused
+told_of r p capability.Handles = do
+  elements ← handle_elements r (p.property / 2 ^ 24)
+  Ok (listing tell.Value 1 (first_handle_of p.property) p.count elements)
+told_of r p capability.Commands = Ok (listing tell.Value 2 p.property p.count command_elements)
+told_of r p capability.Pcrs = Ok pcrs_text
+told_of r p capability.Properties =
+    Ok (listing tell.NumberAndValue 6 p.property p.count (property_elements r.fixed.lockout))
+
+unfoldable pub get_capability_row : Record → Request → Result Success Refused
+get_capability_row r q = do
+  p ← capability_parameters q.parameters
+  capability ← capability_of p.capability
+  text ← told_of r p capability
+  Ok (unchanged r (answer_of (Plain text)))
+
+-- The code's text is the definition's, or its refusal is.
+abbrev pub Tells : Result (List ℕ) Refused → Result (Unit {0}) Refused → List ℕ → Type 0
+Tells (Ok text) (Ok done) new = new ≡ text
+Tells (Ok text) (Err e) new = ⊥
+Tells (Err refused) (Ok done) new = ⊥
+Tells (Err refused) (Err e) new = e ≡ refused
+
+-- The same of elements.
+abbrev pub Lists : Result (List Element) Refused → Result (Unit {0}) Refused → List Element → Type 0
+Lists (Ok elements) (Ok done) new = new ≡ elements
+Lists (Ok elements) (Err e) new = ⊥
+Lists (Err refused) (Ok done) new = ⊥
+Lists (Err refused) (Err e) new = e ≡ refused

@@ -1,0 +1,4 @@
+pub mod Element
+pub mod Elements
+pub mod GetCapability
+pub use Rattle.tpm_actions.specs.Rows

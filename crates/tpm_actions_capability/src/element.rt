@@ -1,0 +1,120 @@
+ghost use Rattle.std.specs.Prelude.{◌≡◌, ◌≤◌, ◌+◌, ◌*◌, ◌++◌, List, [], ◌∷◌, length};
+ghost use Rattle.tpm_actions_capability.specs.Element.{by_itself, found_count, is_from, listing, text_of, told_text};
+ghost use Rattle.tpm_actions_capability.specs.declared.element.Element.{Element as ListedElement};
+
+use arrayvec::ArrayVec;
+use tpm_actions::answer::Parameters;
+
+/// The most elements of one answer, of whatever capability: there are never more.
+pub(crate) const MOST_ELEMENTS: usize = 64;
+
+/// All that a capability lists.
+pub(crate) type Elements = ArrayVec<Element, MOST_ELEMENTS>;
+
+/// What a capability lists.
+#[derive(Clone, Copy, Debug, PartialEq, Eq, Default)]
+pub struct Element {
+    /// What is compared with the property from which on elements are asked for.
+    pub number: u32,
+    pub told: u32,
+}
+
+/// What is told of an element.
+#[derive(Clone, Copy, Debug, PartialEq, Eq)]
+pub enum Telling {
+    Value,
+    NumberAndValue,
+}
+
+impl Element {
+    /// An element that is told by its own number.
+    pub(crate) fn by_itself(number: u32) -> Element
+        ensures { result ≡ by_itself number }
+    {
+        Element {
+            number,
+            told: number,
+        }
+    }
+
+    fn is_from(&self, from: u32) -> bool
+        ensures { result ≡ is_from from self.now }
+    {
+        from <= self.number
+    }
+
+    fn tell(&self, telling: Telling, text: &mut Parameters)
+        requires { length text.old + 8 ≤ 1026 }
+        ensures told { text.new ≡ text.old ++ told_text telling self.now }
+        ensures few { length text.new ≤ length text.old + 8 }
+    {
+        let _ = match telling {
+            Telling::Value => text.put_u32(self.told),
+            Telling::NumberAndValue => {
+                let _ = text.put_u32(self.number);
+                text.put_u32(self.told)
+            }
+        };
+    }
+}
+
+/// How many elements there are from a number on.
+fn found_count(elements: &[Element], from: u32) -> usize
+    ensures { result ≡ found_count from elements.now }
+{
+    elements.iter().filter(|e| e.is_from(from)).count()
+}
+
+/// Tells an element, if it is from this number on and any is left to be told; gives how many are
+/// left then.
+#[tactic(auto, using(crate::proofs::Telling::telling_one))]
+fn tell_if(e: &Element, telling: Telling, from: u32, left: usize, text: &mut Parameters) -> usize
+    requires { length text.old + 8 * left ≤ 1026 }
+    ensures told { (others : List ListedElement)
+        → text.new ++ text_of telling from result others
+        ≡ text.old ++ text_of telling from left (e.now ∷ others) }
+    ensures room { length text.new + 8 * result ≤ 1026 }
+{
+    if left == 0 || !e.is_from(from) {
+        return left;
+    }
+    e.tell(telling, text);
+    left - 1
+}
+
+/// Tells the first elements from a number on, so many.
+fn tell_elements(
+    elements: &[Element],
+    telling: Telling,
+    from: u32,
+    count: usize,
+    text: &mut Parameters,
+)
+    requires { length text.old + 8 * count ≤ 1026 }
+    ensures { text.new ≡ text.old ++ text_of telling from count elements.now }
+{
+    let mut left = count;
+    for e in elements {
+        left = tell_if(e, telling, from, left, text);
+    }
+}
+
+/// Lists the elements of a capability from a number on, as many as are asked for.
+pub(crate) fn list(
+    elements: &[Element],
+    telling: Telling,
+    capability: u32,
+    from: u32,
+    count: u32,
+    text: &mut Parameters,
+)
+    requires { text.old ≡ [] }
+    ensures { text.new ≡ listing telling capability from count elements.now }
+{
+    let found = found_count(elements, from);
+    let told = found.min((count as usize).min(MOST_ELEMENTS));
+    let _ = text.put_u8(u8::from(told < found));
+    let _ = text.put_u32(capability);
+    let _ = text.put_u32(told as u32);
+    tell_elements(elements, telling, from, told, text);
+}

@@ -1,0 +1,186 @@
+ghost use Rattle.std.specs.Prelude.{◌≡◌, ◌≤◌, ◌<◌, ◌+◌, ◌++◌, [], length, map};
+ghost use Rattle.tpm_actions_capability.specs.Element.{by_itself};
+ghost use Rattle.tpm_actions_capability.specs.Elements.{command_attributes, command_element, command_elements};
+ghost use Rattle.tpm_actions_capability.specs.Elements.{index_elements, object_element, object_elements, persistent_elements};
+ghost use Rattle.tpm_actions_capability.specs.Elements.{pcr_elements, permanent_elements, property_elements, session_element, session_elements};
+
+use crate::element::{Element, Elements};
+use tpm_lockout::Lockout;
+use tpm_nv::Indices;
+use tpm_places::numbered;
+use tpm_record::{Keep, PersistentObjects};
+use tpm_types::{Handle, PCR_COUNT};
+use tpm_types_command::CommandCode;
+
+/// The PCRs.
+#[tactic(auto, using(crate::proofs::Listing::one_more))]
+pub(crate) fn pcrs(elements: &mut Elements)
+    requires { elements.old.items ≡ [] }
+    ensures { elements.new.items ≡ pcr_elements }
+{
+    for number in 0..u32::from(PCR_COUNT) {
+        elements.push(Element::by_itself(number));
+    }
+}
+
+/// The handles of what is always there.
+pub(crate) fn permanent(elements: &mut Elements)
+    requires { elements.old.items ≡ [] }
+    ensures { elements.new.items ≡ permanent_elements }
+{
+    elements.push(Element::by_itself(Handle::OWNER.number));
+    elements.push(Element::by_itself(Handle::NULL.number));
+    elements.push(Element::by_itself(Handle::PASSWORD.number));
+    elements.push(Element::by_itself(Handle::LOCKOUT.number));
+    elements.push(Element::by_itself(Handle::ENDORSEMENT.number));
+    elements.push(Element::by_itself(Handle::PLATFORM.number));
+}
+
+/// The session of this kind in a place, if there is one.
+fn session<K: Keep>(keep: &K, kind: u32, place: u32, elements: &mut Elements)
+    requires kind { kind < 256 }
+    requires place { place < 16 }
+    requires room { length elements.old.items < 64 }
+    ensures added { elements.new.items
+        ≡ elements.old.items ++ session_element (K.record_of keep.now) kind place }
+    ensures few { length elements.new.items ≤ length elements.old.items + 1 }
+{
+    let handle = Handle {
+        number: numbered::number_of(kind, place as usize),
+    };
+    if keep.sessions().get(handle).is_some() {
+        elements.push(Element {
+            number: place,
+            told: handle.number,
+        });
+    }
+}
+
+/// The sessions, in the order of their places.
+#[tactic(auto, using(crate::proofs::Listing::one_more))]
+pub(crate) fn sessions<K: Keep>(keep: &K, elements: &mut Elements)
+    requires { elements.old.items ≡ [] }
+    ensures { elements.new.items ≡ session_elements (K.record_of keep.now) }
+{
+    for place in 0..16 {
+        session(keep, 0x02, place, elements);
+        session(keep, 0x03, place, elements);
+    }
+}
+
+/// The transient object in a place, if there is one.
+fn object<K: Keep>(keep: &K, place: u32, elements: &mut Elements)
+    requires place { place < 8 }
+    requires room { length elements.old.items < 64 }
+    ensures added { elements.new.items
+        ≡ elements.old.items ++ object_element (K.record_of keep.now) place }
+    ensures few { length elements.new.items ≤ length elements.old.items + 1 }
+{
+    let handle = Handle {
+        number: numbered::number_of(0x80, place as usize),
+    };
+    if keep.objects().get(handle).is_some() {
+        elements.push(Element::by_itself(handle.number));
+    }
+}
+
+/// The transient objects.
+#[tactic(auto, using(crate::proofs::Listing::one_more))]
+pub(crate) fn objects<K: Keep>(keep: &K, elements: &mut Elements)
+    requires { elements.old.items ≡ [] }
+    ensures { elements.new.items ≡ object_elements (K.record_of keep.now) }
+{
+    for place in 0..8 {
+        object(keep, place, elements);
+    }
+}
+
+/// The handles of things that are kept under ascending handles.
+#[tactic(auto, using(crate::proofs::Listing::one_more))]
+fn kept<T>(things: &[(u32, T)], elements: &mut Elements)
+    requires empty { elements.old.items ≡ [] }
+    requires few { length things.now ≤ 64 }
+    ensures { elements.new.items ≡ map (λ thing. by_itself thing.0) things.now }
+{
+    for thing in things {
+        elements.push(Element::by_itself(thing.0));
+    }
+}
+
+/// The NV indices.
+pub(crate) fn indices<K: Keep>(keep: &K, elements: &mut Elements)
+    requires { elements.old.items ≡ [] }
+    ensures { elements.new.items ≡ index_elements (K.record_of keep.now) }
+{
+    keep.nv().read_sizes();
+    kept(keep.nv().heads(), elements);
+}
+
+/// The persistent objects.
+pub(crate) fn persistent<K: Keep>(keep: &K, elements: &mut Elements)
+    requires { elements.old.items ≡ [] }
+    ensures { elements.new.items ≡ persistent_elements (K.record_of keep.now) }
+{
+    keep.persistent().read_sizes();
+    kept(keep.persistent().as_slice(), elements);
+}
+
+/// The attributes of a command (TPMA_CC).
+fn command_attributes(code: CommandCode) -> u32
+    ensures { result ≡ command_attributes code }
+{
+    let shape = code.shape();
+    let answered = if shape.answers_handle { 1 << 28 } else { 0 };
+    code.number() + (1 << 25) * shape.handles.len() as u32 + answered
+}
+
+/// A command, with its attributes.
+fn command(code: CommandCode) -> Element
+    ensures { result ≡ command_element code }
+{
+    Element {
+        number: code.number(),
+        told: command_attributes(code),
+    }
+}
+
+/// Some commands.
+#[tactic(auto, using(crate::proofs::Listing::one_more))]
+fn list_commands(codes: &[CommandCode], elements: &mut Elements)
+    requires empty { elements.old.items ≡ [] }
+    requires few { length codes.now ≤ 64 }
+    ensures { elements.new.items ≡ map command_element codes.now }
+{
+    for code in codes {
+        elements.push(command(*code));
+    }
+}
+
+/// The commands.
+pub(crate) fn commands(elements: &mut Elements)
+    requires { elements.old.items ≡ [] }
+    ensures { elements.new.items ≡ command_elements }
+{
+    list_commands(&CommandCode::ALL, elements);
+}
+
+/// A property and its value.
+fn property(number: u32, told: u32) -> Element
+    ensures { result ≡ record { number = number; told = told } }
+{
+    Element { number, told }
+}
+
+/// The properties.
+pub(crate) fn properties(lockout: &Lockout, elements: &mut Elements)
+    requires { elements.old.items ≡ [] }
+    ensures { elements.new.items ≡ property_elements lockout.now }
+{
+    let fields = lockout.fields();
+    elements.push(property(0x100, u32::from_be_bytes(*b"2.0\0")));
+    elements.push(property(0x129, CommandCode::ALL.len() as u32));
+    elements.push(property(0x20e, fields.failed_tries));
+    elements.push(property(0x20f, fields.max_tries));
+    elements.push(property(0x210, fields.recovery_time));
+    elements.push(property(0x211, fields.lockout_recovery));
+}

@@ -1,0 +1,194 @@
+ghost use Rattle.std.specs.Prelude.{◌≡◌, []};
+ghost use Rattle.tpm_actions.specs.Answer.{IsEmpty};
+ghost use Rattle.tpm_actions.specs.Request.{request_of};
+ghost use Rattle.tpm_actions.specs.Rows.{Acts};
+ghost use Rattle.tpm_actions_capability.specs.Element.{listing};
+ghost use Rattle.tpm_actions_capability.specs.Elements.{command_elements, property_elements};
+ghost use Rattle.tpm_actions_capability.specs.GetCapability.{Lists, Tells, capability_of, capability_parameters, first_handle_of};
+ghost use Rattle.tpm_actions_capability.specs.GetCapability.{get_capability_row, handle_elements, pcrs_text, told_of};
+ghost use Rattle.tpm_actions_capability.specs.declared.element.Telling.TheVariants as tell;
+ghost use Rattle.tpm_actions_capability.specs.declared.get_capability.Capability.TheVariants.{Handles};
+
+use crate::element::{Elements, Telling, list};
+use crate::elements::{
+    commands, indices, objects, pcrs, permanent, persistent, properties, sessions,
+};
+use arrayvec::ArrayVec;
+use tpm_actions::answer::{Answer, Parameters};
+use tpm_actions::call::Call;
+use tpm_actions::reading::{end, number};
+use tpm_actions::refusals::parameter_fault;
+use tpm_bytes::Cursor;
+use tpm_mac::HashAlg;
+use tpm_record::Keep;
+use tpm_types::{BankSelection, PcrSelect, PcrSelection, Refused, ResponseCode};
+
+/// What is asked for.
+#[derive(Clone, Copy)]
+pub struct Asked {
+    capability: u32,
+    property: u32,
+    count: u32,
+}
+
+/// What can be asked for: TPM_CAP of TPM 2.0 Library, Part 2, section 6.12.
+#[derive(Clone, Copy, Debug, PartialEq, Eq)]
+pub enum Capability {
+    Handles,
+    Commands,
+    Pcrs,
+    Properties,
+}
+
+#[tactic(auto, unfolding(crate::specs::GetCapability::capability_parameters))]
+fn read_parameters(parameters: &[u8]) -> Result<Asked, Refused>
+    ensures { result ≡ capability_parameters parameters.now }
+{
+    let mut text = Cursor::new(parameters);
+    let capability = number(1, text.u32())?;
+    let property = number(2, text.u32())?;
+    let count = number(3, text.u32())?;
+    end(&text)?;
+    Ok(Asked {
+        capability,
+        property,
+        count,
+    })
+}
+
+impl Capability {
+    /// That of a number; VALUE where it is not served.
+    fn of(number: u32) -> Result<Capability, Refused>
+        ensures { result ≡ capability_of number }
+    {
+        match number {
+            1 => Ok(Capability::Handles),
+            2 => Ok(Capability::Commands),
+            5 => Ok(Capability::Pcrs),
+            6 => Ok(Capability::Properties),
+            _ => Err(parameter_fault(1, 1, ResponseCode::Value)),
+        }
+    }
+}
+
+/// The handles with this first byte; HANDLE where there are none of such a kind.
+fn handles<K: Keep>(keep: &K, kind: u32, elements: &mut Elements) -> Result<(), Refused>
+    requires { elements.old.items ≡ [] }
+    ensures { Lists (handle_elements (K.record_of keep.now) kind) result elements.new.items }
+{
+    match kind {
+        0x00 => pcrs(elements),
+        0x01 => indices(keep, elements),
+        0x02 => sessions(keep, elements),
+        0x03 => {}
+        0x40 => permanent(elements),
+        0x80 => objects(keep, elements),
+        0x81 => persistent(keep, elements),
+        _ => return Err(parameter_fault(2, 2, ResponseCode::Handle)),
+    }
+    Ok(())
+}
+
+/// From which on handles are listed: sessions by their places.
+fn first_handle_of(property: u32) -> u32
+    ensures { result ≡ first_handle_of property }
+{
+    if property >> 24 == 0x02 {
+        property % (1 << 24)
+    } else {
+        property
+    }
+}
+
+fn tell_handles<K: Keep>(keep: &K, asked: Asked, text: &mut Parameters) -> Result<(), Refused>
+    requires { text.old ≡ [] }
+    ensures { Tells (told_of (K.record_of keep.now) asked Handles) result text.new }
+{
+    let mut elements = ArrayVec::new();
+    handles(keep, asked.property >> 24, &mut elements)?;
+    let from = first_handle_of(asked.property);
+    list(
+        elements.as_slice(),
+        Telling::Value,
+        1,
+        from,
+        asked.count,
+        text,
+    );
+    Ok(())
+}
+
+fn tell_commands(asked: Asked, text: &mut Parameters)
+    requires { text.old ≡ [] }
+    ensures { text.new ≡ listing tell.Value 2 asked.property asked.count command_elements }
+{
+    let mut elements = ArrayVec::new();
+    commands(&mut elements);
+    list(
+        elements.as_slice(),
+        Telling::Value,
+        2,
+        asked.property,
+        asked.count,
+        text,
+    );
+}
+
+fn tell_pcrs(text: &mut Parameters)
+    requires { text.old ≡ [] }
+    ensures { text.new ≡ pcrs_text }
+{
+    let select = PcrSelect::from_octets([0xff; 3]);
+    let mut banks = ArrayVec::new();
+    banks.push(BankSelection {
+        hash: HashAlg::Sha1,
+        select,
+    });
+    banks.push(BankSelection {
+        hash: HashAlg::Sha256,
+        select,
+    });
+    let _ = text.put_u8(0);
+    let _ = text.put_u32(5);
+    let _ = PcrSelection { banks }.write(text);
+}
+
+fn tell_properties<K: Keep>(keep: &K, asked: Asked, text: &mut Parameters)
+    requires { text.old ≡ [] }
+    ensures { text.new ≡ listing tell.NumberAndValue 6 asked.property asked.count
+        (property_elements (K.record_of keep.now).fixed.lockout) }
+{
+    let mut elements = ArrayVec::new();
+    properties(&keep.fixed().lockout, &mut elements);
+    let telling = Telling::NumberAndValue;
+    list(
+        elements.as_slice(),
+        telling,
+        6,
+        asked.property,
+        asked.count,
+        text,
+    );
+}
+
+/// TPM2_GetCapability: what the device has and is.
+#[tactic(auto, unfolding(crate::specs::GetCapability::get_capability_row))]
+pub fn get_capability<K: Keep>(
+    keep: &mut K,
+    call: &Call,
+    answer: &mut Answer,
+) -> Result<(), Refused>
+    requires { IsEmpty answer.old }
+    ensures { Acts (get_capability_row (K.record_of keep.old) (request_of call.now))
+        (K.record_of keep.old) result answer.new (K.record_of keep.new) }
+{
+    let asked = read_parameters(call.parameters)?;
+    let text = &mut answer.parameters;
+    match Capability::of(asked.capability)? {
+        Capability::Handles => tell_handles(keep, asked, text)?,
+        Capability::Commands => tell_commands(asked, text),
+        Capability::Pcrs => tell_pcrs(text),
+        Capability::Properties => tell_properties(keep, asked, text),
+    }
+    Ok(())
+}
