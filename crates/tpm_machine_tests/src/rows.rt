@@ -50,9 +50,19 @@ const POLICY_GET_DIGEST: u32 = 0x189;
 
 const POLICY_PASSWORD: u32 = 0x18c;
 
+const CLEAR_OWNER: u32 = 0x126;
+
+const CLEAR_CONTROL: u32 = 0x127;
+
 const STATE: &[u8] = &[0, 1];
 
 const YES: &[u8] = &[1];
+
+const NO: &[u8] = &[0];
+
+const LOCKOUT: &[u8] = &[0x40, 0, 0, 0x0a];
+
+const PLATFORM: &[u8] = &[0x40, 0, 0, 0x0c];
 
 const HANDLE_NULL: &[u8] = &[0x40, 0, 0, 7];
 
@@ -143,9 +153,24 @@ fn each_check_is_reported(rt: HostRuntime) -> Result<(), Fail> {
         rows_of(SESSIONS, GET_RANDOM, &[PASSWORD, NO_DATA], &[(&[], "G8")]),
         rows_of(NO_SESSIONS, GET_RANDOM, &[NO_DATA], &[(&[], "ok")]),
         rows_of(NO_SESSIONS, PCR_READ, &[NONE], &[(&[], "ok")]),
-        rows_of(NO_SESSIONS, SELF_TEST, &[YES], &[(&[], "ok"), (&[YES], "G11")]),
-        rows_of(NO_SESSIONS, SHUTDOWN, &[], &[(&[STATE], "ok"), (&[YES], "G11")]),
-        rows_of(NO_SESSIONS, READ_CLOCK, &[], &[(&[], "ok"), (&[YES], "G11")]),
+        rows_of(
+            NO_SESSIONS,
+            SELF_TEST,
+            &[YES],
+            &[(&[], "ok"), (&[YES], "G11")],
+        ),
+        rows_of(
+            NO_SESSIONS,
+            SHUTDOWN,
+            &[],
+            &[(&[STATE], "ok"), (&[YES], "G11")],
+        ),
+        rows_of(
+            NO_SESSIONS,
+            READ_CLOCK,
+            &[],
+            &[(&[], "ok"), (&[YES], "G11")],
+        ),
         rows_of(SESSIONS, READ_CLOCK, &[PASSWORD], &[(&[], "G7")]),
         rows_of(
             SESSIONS,
@@ -232,6 +257,38 @@ fn each_check_of_sessions_is_reported(rt: HostRuntime) -> Result<(), Fail> {
             ],
         ),
         rows_of(SESSIONS, PCR_RESET, &[PCR_16, BY_SESSION], &[(&[], "G8")]),
+    ];
+    check_tables(&rt, rt.alloc(), &tables)
+}
+
+#[test]
+fn each_check_of_a_clear_is_reported(rt: HostRuntime) -> Result<(), Fail> {
+    let tables = [
+        rows_of(NO_SESSIONS, STARTUP, &[CLEAR], &[(&[], "ok")]),
+        rows_of(
+            SESSIONS,
+            CLEAR_OWNER,
+            &[],
+            &[
+                (&[OWNER, PASSWORD], "G6"),
+                (&[PLATFORM, PASSWORD, YES], "G11"),
+                (&[LOCKOUT, PASSWORD], "ok"),
+            ],
+        ),
+        rows_of(
+            SESSIONS,
+            CLEAR_CONTROL,
+            &[LOCKOUT, PASSWORD],
+            &[(&[], "G11"), (&[NO], "A1"), (&[YES], "ok")],
+        ),
+        rows_of(SESSIONS, CLEAR_OWNER, &[PLATFORM, PASSWORD], &[(&[], "A1")]),
+        rows_of(
+            SESSIONS,
+            CLEAR_CONTROL,
+            &[PLATFORM, PASSWORD, NO],
+            &[(&[], "ok")],
+        ),
+        rows_of(SESSIONS, CLEAR_OWNER, &[PLATFORM, PASSWORD], &[(&[], "ok")]),
     ];
     check_tables(&rt, rt.alloc(), &tables)
 }

@@ -50,6 +50,7 @@ fn is_numbered(code: CommandCode, number: u32) -> bool {
 #[test]
 fn commands_have_numbers(rt: HostRuntime) {
     assert!(rt; is_numbered(CommandCode::EvictControl, 0x120));
+    assert!(rt; is_numbered(CommandCode::ClearControl, 0x127));
     assert!(rt; is_numbered(CommandCode::PcrEvent, 0x13c));
     assert!(rt; is_numbered(CommandCode::PcrReset, 0x13d));
     assert!(rt; is_numbered(CommandCode::Startup, 0x144));

@@ -60,7 +60,7 @@ class Commands:
         if capability == HANDLES:
             return [number(it, 4) for it in self.handles_from(wanted)]
         if capability == COMMANDS:
-            codes = sorted(it for it in general.SERVED if it >= wanted)
+            codes = sorted(it for it in general.SHAPES if it >= wanted)
             return [number(command_attributes(it), 4) for it in codes]
         if capability == PROPERTIES:
             properties = sorted(self.properties().items())
@@ -95,7 +95,7 @@ class Commands:
         lockout = self.lockout
         return {
             FAMILY_INDICATOR: FAMILY,
-            TOTAL_COMMANDS: number(len(general.SERVED), 4),
+            TOTAL_COMMANDS: number(len(general.SHAPES), 4),
             LOCKOUT_COUNTER: number(lockout.failed_tries, 4),
             MAX_AUTH_FAIL: number(lockout.max_tries, 4),
             LOCKOUT_INTERVAL: number(lockout.recovery_time, 4),

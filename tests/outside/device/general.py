@@ -206,11 +206,6 @@ SHAPES = {
     frames.CLEAR_CONTROL: Shape((clears,), 1),
 }
 
-# The commands that are served so far; every other one is answered COMMAND_CODE.
-SERVED = SHAPES.keys() - {
-    frames.GET_CAPABILITY,
-}
-
 
 @dataclass
 class Entry:
@@ -269,7 +264,7 @@ def read_header(fields, length):
         raise Refusal("BAD_TAG")
     if size != length:
         raise Refusal("COMMAND_SIZE")
-    if code not in SERVED:
+    if code not in SHAPES:
         raise Refusal("COMMAND_CODE")
     return tag, code
 

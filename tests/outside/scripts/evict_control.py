@@ -7,7 +7,6 @@ import frames
 from caller import Use
 from frames import EVICT_CONTROL, RH_ENDORSEMENT, RH_LOCKOUT, RH_NULL, RH_OWNER, RH_PLATFORM
 from frames import SHA256, command, number, on_handles
-from general import SERVED
 from nv_caller import area
 from object_caller import HERE, OPEN, STORES, hmac_key, sealed, storage_key
 from objects import Attribute
@@ -52,9 +51,7 @@ def primary(what, hierarchy, template=None):
 
 
 def kept_handles(what, *handles):
-    """All persistent objects, as TPM2_GetCapability lists them, once it is served."""
-    if frames.GET_CAPABILITY not in SERVED:
-        return
+    """All persistent objects, as TPM2_GetCapability lists them."""
     listed = number(len(handles), 4) + b"".join(number(it, 4) for it in handles)
     given = caller.does(what, caller.capability(HANDLES, FIRST, 64))
     assert given == b"\0" + number(HANDLES, 4) + listed, what
@@ -299,14 +296,10 @@ def restarts():
 
 
 def start_again():
-    """Through TPM2_Shutdown, once it is served."""
-    if frames.SHUTDOWN in SERVED:
-        caller.does("TPM2_Shutdown(STATE)", caller.shutting_down(STATE))
-        script.power()
-        caller.start_up("TPM2_Startup(STATE)", STATE)
-    else:
-        script.power()
-        script.startup()
+    """Through TPM2_Shutdown."""
+    caller.does("TPM2_Shutdown(STATE)", caller.shutting_down(STATE))
+    script.power()
+    caller.start_up("TPM2_Startup(STATE)", STATE)
 
 
 def sessions():

@@ -4,7 +4,6 @@
 import paths
 
 import frames
-import general
 from frames import CONTINUE_SESSION, DECRYPT, ENCRYPT, GET_CAPABILITY, RH_OWNER
 from frames import SE_HMAC, SE_POLICY, SE_TRIAL, command, number
 from nv_caller import BY_VALUE, area
@@ -26,8 +25,6 @@ ATTRIBUTES = (
     *(0x14000176, 0x0000017A, 0x0000017B, 0x0000017E, 0x0200017F, 0x02000180, 0x00000181),
     *(0x02000182, 0x02000189, 0x0200018C),
 )
-SERVED = [it for it in ATTRIBUTES if it & 0xFFFF in general.SERVED]
-
 script = Script(
     "tests/get_capability.tpm",
     "TPM2_GetCapability: handles (1), commands (2), PCRs (5) and properties (6). It answers the "
@@ -212,22 +209,22 @@ def indices():
 
 def commands():
     script.chapter("Commands, by their codes; the attributes are answered.")
-    borders("From 0", COMMANDS, 0, SERVED)
-    first, last = SERVED[0] & 0xFFFF, SERVED[-1] & 0xFFFF
-    borders("From the first code", COMMANDS, first, SERVED)
-    gives("From behind it", COMMANDS, first + 1, 1, SERVED[1:2], more=True)
-    borders("From the last code", COMMANDS, last, SERVED[-1:])
+    borders("From 0", COMMANDS, 0, ATTRIBUTES)
+    first, last = ATTRIBUTES[0] & 0xFFFF, ATTRIBUTES[-1] & 0xFFFF
+    borders("From the first code", COMMANDS, first, ATTRIBUTES)
+    gives("From behind it", COMMANDS, first + 1, 1, ATTRIBUTES[1:2], more=True)
+    borders("From the last code", COMMANDS, last, ATTRIBUTES[-1:])
     borders("From behind it", COMMANDS, last + 1, [])
     gives("From FFFFFFFF", COMMANDS, MOST, 1, [])
-    gives("Attributes are no code", COMMANDS, SERVED[0], 1, [])
-    for at, attributes in enumerate(SERVED):
+    gives("Attributes are no code", COMMANDS, ATTRIBUTES[0], 1, [])
+    for at, attributes in enumerate(ATTRIBUTES):
         code = attributes & 0xFFFF
-        is_more = at + 1 < len(SERVED)
+        is_more = at + 1 < len(ATTRIBUTES)
         gives("From each code" if not at else "", COMMANDS, code, 1, [attributes], is_more)
-    for at, attributes in enumerate(SERVED):
+    for at, attributes in enumerate(ATTRIBUTES):
         code = (attributes & 0xFFFF) + 1
-        following = SERVED[at + 1 : at + 2]
-        is_more = at + 2 < len(SERVED)
+        following = ATTRIBUTES[at + 1 : at + 2]
+        is_more = at + 2 < len(ATTRIBUTES)
         gives("From behind each" if not at else "", COMMANDS, code, 1, following, is_more)
 
 
@@ -246,7 +243,7 @@ def properties():
         "TPM_PT_LOCKOUT_COUNTER (20E), TPM_PT_MAX_AUTH_FAIL (20F), TPM_PT_LOCKOUT_INTERVAL (210) "
         "and TPM_PT_LOCKOUT_RECOVERY (211)."
     )
-    family, total = (0x100, 0x322E3000), (0x129, len(SERVED))
+    family, total = (0x100, 0x322E3000), (0x129, len(ATTRIBUTES))
     whole = [family, total, (0x20E, 0), (0x20F, 3), (0x210, 1000), (0x211, 1000)]
     borders("From 0", PROPERTIES, 0, whole)
     borders("From the first", PROPERTIES, 0x100, whole)

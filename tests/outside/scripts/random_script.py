@@ -501,7 +501,7 @@ class Writer(random.Random):
             return self.choice(
                 (frames.DICTIONARY_ATTACK_LOCK_RESET, frames.DICTIONARY_ATTACK_PARAMETERS)
             )
-        codes = [it for it in self.COMMANDS if it in general.SERVED]
+        codes = list(self.COMMANDS)
         (code,) = self.choices(codes, [self.COMMANDS[it][0] for it in codes])
         return code
 

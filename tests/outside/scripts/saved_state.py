@@ -181,7 +181,7 @@ def start_again(is_kept):
 
 
 def each_command():
-    for name, is_kept, make in (COMMANDS[it] for it in COMMANDS if it in general.SERVED):
+    for name, is_kept, make in COMMANDS.values():
         script.chapter(f"TPM2_{name} {'keeps' if is_kept else 'cancels'} it.")
         prepared = make()
         save()
