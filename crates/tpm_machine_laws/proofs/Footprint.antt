@@ -65,7 +65,7 @@ use Rattle.tpm_nvactions.specs.NvUndefineSpace.{nv_undefine_space_row}
 use Rattle.tpm_nvactions.specs.NvWrite.{nv_write_row}
 use Rattle.tpm_nvactions.specs.NvWriteLock.{nv_write_lock_row}
 use Rattle.tpm_machine_step.specs.Table.{row_of}
-use Rattle.tpm_machine_laws.proofs.Binding.{ok_bind}
+use Rattle.tpm_machine_laws.proofs.Binding.{ok_bind, ok_then}
 use Rattle.tpm_machine_laws.specs.Footprint.{Beginning, Cleared, KeepsSecrets, Touches, part_of}
 
 -- another authorization value changes no seed and no proof

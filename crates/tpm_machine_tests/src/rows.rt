@@ -16,6 +16,8 @@ const GET_RANDOM: u32 = 0x17b;
 
 const PCR_READ: u32 = 0x17e;
 
+const GET_CAPABILITY: u32 = 0x17a;
+
 const SELF_TEST: u32 = 0x143;
 
 const SHUTDOWN: u32 = 0x145;
@@ -53,6 +55,13 @@ const POLICY_PASSWORD: u32 = 0x18c;
 const CLEAR_OWNER: u32 = 0x126;
 
 const CLEAR_CONTROL: u32 = 0x127;
+
+/// The capability of handles, a handle that is none, and a count.
+const HANDLES: &[u8] = &[0, 0, 0, 1];
+
+const NO_KIND: &[u8] = &[0x22, 0, 0, 0];
+
+const EIGHT: &[u8] = &[0, 0, 0, 8];
 
 const STATE: &[u8] = &[0, 1];
 
@@ -172,6 +181,17 @@ fn each_check_is_reported(rt: HostRuntime) -> Result<(), Fail> {
             &[(&[], "ok"), (&[YES], "G11")],
         ),
         rows_of(SESSIONS, READ_CLOCK, &[PASSWORD], &[(&[], "G7")]),
+        rows_of(
+            NO_SESSIONS,
+            GET_CAPABILITY,
+            &[],
+            &[
+                (&[HANDLES, PCR_0, EIGHT], "ok"),
+                (&[PCR_0, PCR_0, EIGHT], "A1"),
+                (&[HANDLES, NO_KIND, EIGHT], "A2"),
+                (&[HANDLES, PCR_0], "G11"),
+            ],
+        ),
         rows_of(
             SESSIONS,
             PCR_RESET,
