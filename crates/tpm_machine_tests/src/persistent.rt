@@ -45,7 +45,7 @@ fn exercise<P: PersistentObjects>(rt: &impl Abort, mut objects: P) {
     assert_eq!(rt; objects.next(handle(3)), Some(0x8100_0004));
     assert_eq!(rt; objects.next(handle(29)), Some(0x8100_0028));
     assert_eq!(rt; objects.next(handle(41)), None);
-    assert_eq!(rt; objects.as_slice()[1].0, 0x8100_0002);
+    assert_eq!(rt; objects.as_slice().len(), 16);
     assert!(rt; objects.get(handle(4)).is_some());
     assert!(rt; objects.get(handle(5)).is_none());
     assert!(rt; !objects.remove(handle(5)));
