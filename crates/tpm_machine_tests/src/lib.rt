@@ -7,6 +7,8 @@
 #[cfg(test)]
 mod counters;
 #[cfg(test)]
+mod nv_rows;
+#[cfg(test)]
 mod object_rows;
 #[cfg(test)]
 mod persistent;
