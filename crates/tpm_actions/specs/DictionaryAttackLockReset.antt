@@ -13,7 +13,7 @@ use Rattle.tpm_actions.specs.Rows.{Success, all_read}
 abbrev pub with_lockout : Record → LockoutState → Record
 with_lockout r lockout = record r { fixed = record r.fixed { lockout = lockout } }
 
--- lockHandle, authorized; no parameters. No failed try is left; the times go on
+-- lockHandle, authorized; no parameters. No failed try is left; the times are not touched
 unfoldable pub dictionary_attack_lock_reset_row : Record → Request → Result Success Refused
 dictionary_attack_lock_reset_row r q = do
   ended ← all_read q.parameters

@@ -100,8 +100,8 @@ start_draws Reset = 64
 start_draws Restart = 0
 start_draws Resume = 0
 
--- startupType, from whatever locality. A1: there is no state to be restored. What was saved counts
--- no more, as after any success
+-- startupType, from whatever locality. A1: there is no state to be restored. What was saved is
+-- cancelled, as by any success that does not keep it
 unfoldable pub startup_row : Record → Request → Result Success Refused
 startup_row r q = do
   type ← only (startup_type_at q.parameters)

@@ -19,7 +19,7 @@ use Rattle.tpm_actions.specs.Refusals.{action_refusal, or_refusal}
 use Rattle.tpm_actions.specs.Request.{Request}
 use Rattle.tpm_actions.specs.Rows.{Success, all_read}
 
--- lockoutAuth is open, and no failed try is left; the parameters stay, and the times go on
+-- lockoutAuth is open, and no failed try is left; the parameters and the times stay
 abbrev pub cleared_lockout : LockoutState → LockoutState
 cleared_lockout s = with_closed false (with_tries 0 s)
 

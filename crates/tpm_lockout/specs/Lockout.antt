@@ -44,8 +44,8 @@ with_parameters max_tries recovery_time lockout_recovery s = restored (record s.
   lockout_recovery = lockout_recovery;
 })
 
--- what holds of every state: numbers of their widths, and times of at most a thousand times the
--- greatest number of seconds
+-- what holds of every state: numbers of their widths, and times in milliseconds of no more seconds
+-- than a number of 32 bits counts
 pub record IsLockout (s : LockoutState) : Type 0 where
   pub failed_tries : s.fields.failed_tries < 2 ^ 32
   pub max_tries : s.fields.max_tries < 2 ^ 32

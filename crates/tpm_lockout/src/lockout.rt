@@ -145,7 +145,7 @@ impl Lockout {
         }
     }
 
-    /// Forgets all failed tries (TPM2_DictionaryAttackLockReset). The times go on.
+    /// Forgets all failed tries (TPM2_DictionaryAttackLockReset). The times stay.
     pub fn reset(&mut self)
         ensures { self.new ≡ with_tries 0 self.old }
     {

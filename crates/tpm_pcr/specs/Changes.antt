@@ -1,7 +1,7 @@
 -- How PCRs change. TPM 2.0 Library, Part 3, sections 22.2 (TPM2_PCR_Extend), 22.3 (TPM2_PCR_Event)
--- and 22.8 (TPM2_PCR_Reset); and what 24.6 (TPM2_Clear) does to the count of updates. Which PCR is for what is the PC Client Platform TPM Profile's (section
--- on PCR attributes); from where each changes is this device's own, a simplification of that
--- profile, and so is that each value counts.
+-- and 22.8 (TPM2_PCR_Reset); and what 24.6 (TPM2_Clear) does to the count of updates. Which PCR is
+-- for what is the PC Client Platform TPM Profile's (section on PCR attributes); from where each
+-- changes is this device's own, a simplification of that profile, and so is that each value counts.
 use Rattle.std.specs.Prelude.{◌≡◌, ℕ, ◌+◌, ◌-◌, ◌^◌, ◌==◌, not, nat_lt, nat_le, if◌then◌else◌}
 use Rattle.std.specs.Prelude.{Bool, true, false, List, [], ◌∷◌, ◌++◌, length, fold}
 use Rattle.std.specs.Prelude.{replicate, slice_set, Result, Ok, Err}

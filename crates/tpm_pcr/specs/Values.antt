@@ -2,7 +2,8 @@
 use Rattle.std.specs.Prelude.{◌≡◌, ℕ, ◌<◌, ◌^◌, List, length}
 use Rattle.std.specs.List.{All}
 
--- the values of the PCRs 0 to 23 in each bank, and how often a value was written
+-- the values of the PCRs 0 to 23 in each bank, and the update counter: how often a value was written,
+-- or TPM2_Clear was counted
 pub record BankValues : Type 0 where
   pub sha1 : List (List ℕ)
   pub sha256 : List (List ℕ)

@@ -1,6 +1,6 @@
--- What TPM2_Clear does to objects, transient and persistent: those of the owner and of the endorsement hierarchy are gone. TPM
--- 2.0 Library, Part 3, section 24.6. What it does to the hierarchies stands in Hierarchy, to NV
--- indices in tpm_nv/Clear.
+-- What TPM2_Clear does to objects, transient and persistent: those of the owner and of the
+-- endorsement hierarchy are gone. TPM 2.0 Library, Part 3, section 24.6. What it does to the
+-- hierarchies stands in Hierarchy, to NV indices in tpm_nv/Clear.
 use Rattle.std.specs.Prelude.{◌≡◌, ◌≤◌, ℕ, Bool, true, false, not, List, Option, Some, None, map, if◌then◌else◌}
 use Rattle.tpm_ascending.specs.Ascending.{Entries, kept_entries}
 use Rattle.tpm_object.specs.Object.{transient_byte}

@@ -1,5 +1,5 @@
 -- The commands that a policy can name: those of TPM 2.0 Library, Part 2, section 6.5.2 (TPM_CC),
--- that this device serves or is to serve, which is its own choice.
+-- that this device serves, which is its own choice.
 use Rattle.std.specs.Prelude.{ℕ, ◌==◌, Bool, List, [], ◌∷◌}
 use Rattle.std.specs.List.{list_any}
 
