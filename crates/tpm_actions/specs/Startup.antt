@@ -2,7 +2,6 @@
 use Rattle.std.specs.Prelude.{ℕ, ◌+◌, ◌-◌, ◌^◌, ◌==◌, min, true, false, List, [], take, drop, if◌then◌else◌, Result, Ok, Err}
 use Rattle.tpm_lockout.specs.Lockout.{LockoutState}
 use Rattle.tpm_lockout.specs.Recovery.{with_closed}
-use Rattle.tpm_nv.specs.Index.{NvContents}
 use Rattle.tpm_nv.specs.Startup.{started}
 use Rattle.tpm_bytes.specs.Reading.{◌>>=◌}
 use Rattle.tpm_types.specs.declared.rc.ResponseCode.TheVariants as code
@@ -49,13 +48,13 @@ begun_with banks f = record f { started = true; banks = record banks { update_co
 -- ---- what each of the three does
 
 -- platformAuth is empty after a startup with CLEAR (Part 1, section 14.3)
-abbrev pub cleared_hierarchies : Hierarchies → Hierarchies
-cleared_hierarchies h = with_hierarchy_auth h auth.Platform []
+abbrev pub without_platform_auth : Hierarchies → Hierarchies
+without_platform_auth h = with_hierarchy_auth h auth.Platform []
 
 -- after a TPM Reset the null hierarchy has a new seed and a new proof, too, the first 64 random
 -- bytes (Part 1, sections 14.3 and 14.4)
 abbrev pub reset_hierarchies : Hierarchies → List ℕ → Hierarchies
-reset_hierarchies h random = record (cleared_hierarchies h) {
+reset_hierarchies h random = record (without_platform_auth h) {
   null = record { seed = take 32 random; proof = take 32 (drop 32 random) };
 }
 
@@ -75,7 +74,7 @@ reset_fixed f random = record (begun_with f.banks f) {
 -- one restart more
 abbrev pub restart_fixed : Fixed → Fixed
 restart_fixed f = record (begun_with f.banks f) {
-  hierarchies = cleared_hierarchies f.hierarchies;
+  hierarchies = without_platform_auth f.hierarchies;
   restart_count = counted_up f.restart_count;
 }
 

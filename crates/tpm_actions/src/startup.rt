@@ -2,7 +2,7 @@ ghost use Rattle.std.specs.Prelude.{◌≡◌};
 ghost use Rattle.tpm_actions.specs.Answer.{IsEmpty};
 ghost use Rattle.tpm_actions.specs.Request.{request_of};
 ghost use Rattle.tpm_actions.specs.Rows.{Acts};
-ghost use Rattle.tpm_actions.specs.Startup.{cleared_hierarchies, reset_fixed, reset_hierarchies, reset_lockout};
+ghost use Rattle.tpm_actions.specs.Startup.{reset_fixed, reset_hierarchies, reset_lockout, without_platform_auth};
 ghost use Rattle.tpm_actions.specs.Startup.{restart_fixed, resume_fixed, start_draws, start_of, started_record, startup_row};
 
 use crate::answer::Answer;
@@ -19,8 +19,8 @@ use tpm_types::{AuthValue, HierarchyAuth, Refused, ResponseCode, StartupType};
 const RESET_DRAWS: usize = 64;
 
 /// Empties platformAuth.
-fn clear_hierarchies(hierarchies: &mut Hierarchies)
-    ensures { hierarchies.new ≡ cleared_hierarchies hierarchies.old }
+fn empty_platform_auth(hierarchies: &mut Hierarchies)
+    ensures { hierarchies.new ≡ without_platform_auth hierarchies.old }
 {
     hierarchies.set_auth_value(HierarchyAuth::Platform, AuthValue::empty());
 }
@@ -29,7 +29,7 @@ fn clear_hierarchies(hierarchies: &mut Hierarchies)
 fn reset_hierarchies(hierarchies: &mut Hierarchies, random: &[u8; 256])
     ensures { hierarchies.new ≡ reset_hierarchies hierarchies.old random.now }
 {
-    clear_hierarchies(hierarchies);
+    empty_platform_auth(hierarchies);
     let (mut seed, mut proof) = ([0; 32], [0; 32]);
     seed.copy_from_slice(&random[..32]);
     proof.copy_from_slice(&random[32..64]);
@@ -85,7 +85,7 @@ fn restart(fixed: &mut Fixed)
     ensures { fixed.new ≡ restart_fixed fixed.old }
 {
     fixed.started = true;
-    clear_hierarchies(&mut fixed.hierarchies);
+    empty_platform_auth(&mut fixed.hierarchies);
     fixed.banks.restart_update_count();
     fixed.restart_count = fixed.restart_count.saturating_add(1);
 }

@@ -7,8 +7,8 @@
 //! list that grows, [`fixed_ascending::FixedAscending`] in fixed places. The crate stands on
 //! `arrayvec` for these, and knows nothing of a TPM. Contracts see the keys in ascending order,
 //! each with its value, whatever keeps them: a value is put under a free key, or nothing changes;
-//! an [`ascending::Choice`] says which values stay. Only an insertion into a list may take memory. [`laws::ascending_laws`] says once that this is
-//! a map.
+//! an [`ascending::Choice`] says which values stay. Only an insertion into a list may take memory.
+//! [`laws::ascending_laws`] says once that this is a map.
 
 pub mod ascending;
 pub mod fixed_ascending;

@@ -1,7 +1,7 @@
 -- What TPM2_Shutdown(STATE) saves of the PCRs, and TPM2_Startup(STATE) restores: the values of those
 -- that measure the start of the platform. TPM 2.0 Library, Part 1, section 12.2.3, and Part 3,
 -- sections 9.3 and 9.4; which PCRs these are is the PC Client Platform TPM Profile's.
-use Rattle.std.specs.Prelude.{◌≡◌, ℕ, ◌++◌, List, length, take, drop}
+use Rattle.std.specs.Prelude.{◌≡◌, ℕ, ◌++◌, List, length, take, drop, replicate}
 use Rattle.std.specs.List.{All}
 use Rattle.tpm_pcr.specs.Values.{BankValues}
 
@@ -9,6 +9,10 @@ use Rattle.tpm_pcr.specs.Values.{BankValues}
 pub record SavedValues : Type 0 where
   pub sha1 : List (List ℕ)
   pub sha256 : List (List ℕ)
+
+-- zeros, in the place of values that are saved later
+abbrev pub no_values : SavedValues
+no_values = record { sha1 = replicate 16 (replicate 20 0); sha256 = replicate 16 (replicate 32 0) }
 
 abbrev pub saved_of : BankValues → SavedValues
 saved_of banks = record { sha1 = take 16 banks.sha1; sha256 = take 16 banks.sha256 }

@@ -1,3 +1,4 @@
+ghost use Rattle.std.specs.Prelude.{◌≡◌};
 ghost use Rattle.tpm_pcr.specs.Saved.{IsSavedBank};
 
 use std::marker::Model;
@@ -21,10 +22,12 @@ impl Model for SavedPcrs {
 }
 
 impl SavedPcrs {
-    ghost use Rattle.tpm_pcr.specs.Saved.{IsSaved};
+    ghost use Rattle.tpm_pcr.specs.Saved.{IsSaved, no_values};
 
     /// Zeros, in the place of values that are saved later.
-    pub fn new() -> SavedPcrs {
+    pub fn new() -> SavedPcrs
+        ensures { result ≡ no_values }
+    {
         SavedPcrs {
             sha1: [[0; 20]; 16],
             sha256: [[0; 32]; 16],
