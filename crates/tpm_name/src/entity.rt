@@ -53,6 +53,16 @@ impl Name {
         }
     }
 
+    /// A Name, or a qualified Name, of these bytes.
+    pub fn of(bytes: &[u8]) -> Name
+        requires { length bytes.now ≤ 34 }
+        ensures { result ≡ bytes.now }
+    {
+        Name {
+            bytes: copied(bytes),
+        }
+    }
+
     /// A hash algorithm, and the digest of these parts as one text by it: the Name of what has a
     /// public area of that text.
     pub fn hashed(alg: HashAlg, parts: &[&[u8]]) -> Name

@@ -70,7 +70,7 @@ fn has_attribute_conflict(by_platform: bool, attributes: NvAttributes) -> bool
 }
 
 /// Whether an index of its type has this size.
-pub(crate) fn has_type_size(public: &NvPublic) -> bool
+pub fn has_type_size(public: &NvPublic) -> bool
     ensures { result ≡ has_type_size public.now }
 {
     let size = usize::from(public.data_size);

@@ -3,8 +3,8 @@ ghost use Rattle.std.specs.Prelude.{length, option_copied, option_map, OnOk};
 ghost use Rattle.tpm_nv.specs.Access.{Changes, Shows, bits_set, check_readable, extended, incremented, read_at, read_locked, with_auth_value, write_locked, written};
 ghost use Rattle.tpm_nv.specs.Clear.{cleared};
 ghost use Rattle.tpm_nv.specs.Definition.{Defines, defined_index, has_type_size};
-ghost use Rattle.tpm_nv.specs.Head.{head_of, heads_of};
-ghost use Rattle.tpm_nv.specs.Index.{NvContents, index_at, next_index, no_indices, without_index};
+ghost use Rattle.tpm_nv.specs.Head.{head_of, heads_of, indices_of};
+ghost use Rattle.tpm_nv.specs.Index.{NvContents, data_bytes, index_at, next_index, no_indices, without_index};
 ghost use Rattle.tpm_nv.specs.IsContents.{IsContents};
 ghost use Rattle.tpm_nv.specs.Startup.{started};
 ghost use Rattle.tpm_types_nv.specs.NvAttributes.{has};
@@ -38,6 +38,13 @@ pub trait Indices: Drop + Sized {
     /// handles.
     fn heads(&self) -> &[(u32, Head)]
         ensures { result.now ≡ heads_of (contents self.now) };
+
+    /// The bytes of all indices, in ascending order of their handles: of each as many as its public
+    /// area says, which are its data once it is written.
+    fn bytes(&self) -> &[u8]
+        ensures seen { indices_of (heads_of (contents self.now)) result.now
+            ≡ (contents self.now).indices }
+        ensures whole { length result.now ≡ data_bytes (contents self.now) };
 
     /// The lowest handle of an index from this one on.
     fn next(&self, handle: Handle) -> Option<u32>

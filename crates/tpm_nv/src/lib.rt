@@ -28,7 +28,7 @@ mod startup;
 pub mod stored_indices;
 mod values;
 
-pub use definition::{DefinitionFault, check_definition};
+pub use definition::{DefinitionFault, check_definition, has_type_size};
 pub use fault::{DefineFault, NvFault};
 pub use fixed_row::FixedRow;
 pub use head::Head;

@@ -262,6 +262,10 @@ impl<H: Ascending<Head, 32>, R: Row> Indices for StoredIndices<H, R> {
         self.heads.as_slice()
     }
 
+    fn bytes(&self) -> &[u8] {
+        self.row.as_slice()
+    }
+
     fn next(&self, handle: Handle) -> Option<u32> {
         self.heads.next(handle.number)
     }

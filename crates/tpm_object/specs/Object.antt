@@ -1,9 +1,10 @@
 -- Objects. TPM 2.0 Library, Part 1, section 23 (the protected storage hierarchy).
-use Rattle.std.specs.Prelude.{ℕ, ◌<◌, ◌≤◌, ◌^◌, ◌&&◌, not, Bool, true, false, List, length}
+use Rattle.std.specs.Prelude.{ℕ, ◌≤◌, ◌&&◌, not, Bool, true, false, List, length}
 use Rattle.tpm_name.specs.Name.{qualified_name}
 use Rattle.tpm_types_object.specs.ObjectName.{object_name}
 use Rattle.tpm_types.specs.AuthValue.{IsAuthValue, trimmed}
 use Rattle.tpm_types_object.specs.ObjectAttributes.{has}
+use Rattle.tpm_types_object.specs.Public.{IsPublic}
 use Rattle.tpm_types_object.specs.declared.object_attributes.ObjectAttribute.TheVariants as attribute
 use Rattle.tpm_types_object.specs.declared.public.Public.{Public}
 use Rattle.tpm_types_object.specs.declared.public.PublicParameters.{PublicParameters}
@@ -45,13 +46,11 @@ loaded_object hierarchy public area parent_qualified_name = record {
       qualified_name public.name_alg parent_qualified_name (object_name public);
 }
 
--- what holds of every loaded object: a policy and what makes it unique of at most 32 bytes, an
--- authorization value, a seed value of at most 32 bytes and a key or data of at most 128 (Part 2,
--- sections 12.2.4 and 12.3.2.4), and a qualified Name of at most 34
+-- what holds of every loaded object: a public area that has a text, an authorization value, a seed
+-- value of at most 32 bytes and a key or data of at most 128 (Part 2, sections 12.2.4 and 12.3.2.4),
+-- and a qualified Name of at most 34
 pub record IsObject (object : Object) : Type 0 where
-  pub attributes : object.public.attributes.bits < 2 ^ 32
-  pub auth_policy : length object.public.auth_policy ≤ 32
-  pub unique : length object.public.unique ≤ 32
+  pub public : IsPublic object.public
   pub auth_value : IsAuthValue object.auth_value
   pub seed_value : length object.seed_value ≤ 32
   pub sensitive : length object.sensitive ≤ 128

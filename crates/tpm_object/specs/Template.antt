@@ -2,13 +2,12 @@
 -- (object attributes), and Part 3, section 12.1 (TPM2_Create). The order of the checks is this
 -- device's own, and so is that no KEYEDHASH decrypts: no XOR scheme and no derivation parents are
 -- served.
-use Rattle.std.specs.Prelude.{◌==◌, ◌&&◌, ◌||◌, not, Bool, false, if◌then◌else◌}
+use Rattle.std.specs.Prelude.{ℕ, ◌==◌, ◌&&◌, ◌||◌, not, Bool, false, if◌then◌else◌}
 use Rattle.std.specs.Prelude.{List, [], ◌∷◌, length, Result}
 use Rattle.std.specs.Bool.{beq}
 use Rattle.tpm_mac.specs.Digest.{digest_size}
 use Rattle.tpm_types_object.specs.ObjectAttributes.{has}
 use Rattle.tpm_types_object.specs.declared.object_attributes.ObjectAttribute.TheVariants as attribute
-use Rattle.tpm_types_object.specs.declared.object_attributes.ObjectAttributes.{ObjectAttributes}
 use Rattle.tpm_types_object.specs.declared.public.KeyedHashScheme.TheVariants.{Null, Hmac}
 use Rattle.tpm_types_object.specs.declared.public.Public.{Public}
 use Rattle.tpm_types_object.specs.declared.public.PublicParameters.{PublicParameters}
@@ -24,7 +23,7 @@ is_policy_size t = length t.auth_policy == 0 || length t.auth_policy == digest_s
 
 -- under a hierarchy or a parent with fixedTPM, an object is right to have fixedTPM exactly if it
 -- has fixedParent; under another parent it is wrong to have it
-abbrev pub has_wrong_fixing : (parent_is_fixed : Bool) → ObjectAttributes → Bool
+abbrev pub has_wrong_fixing : (parent_is_fixed : Bool) → (attributes : ℕ) → Bool
 has_wrong_fixing parent_is_fixed a =
     if parent_is_fixed then not (beq (has a attribute.FixedTpm) (has a attribute.FixedParent))
     else has a attribute.FixedTpm
@@ -43,7 +42,7 @@ attribute_conflicts parent_is_fixed t =
     ∷ (is_cipher t && restricted && sign) ∷ []
 
 -- a scheme HMAC without sign, or a restricted KEYEDHASH without a scheme
-abbrev pub has_wrong_scheme : PublicParameters → ObjectAttributes → Bool
+abbrev pub has_wrong_scheme : PublicParameters → (attributes : ℕ) → Bool
 has_wrong_scheme (parameters_of.KeyedHash (Hmac hash)) a = not (has a attribute.Sign)
 has_wrong_scheme (parameters_of.KeyedHash Null) a = has a attribute.Restricted
 has_wrong_scheme parameters_of.SymCipher a = false

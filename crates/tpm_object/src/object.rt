@@ -78,7 +78,7 @@ impl Sizes for Object {
 
     #[inline(always)]
     fn read_sizes(&self) {
-        let _attributes = self.public.attributes.bits;
+        let _attributes = self.public.attributes.bits();
         let _auth_policy = self.public.auth_policy.as_slice();
         let _unique = self.public.unique.as_slice();
         let _auth_value = self.auth_value.as_slice();
@@ -95,7 +95,7 @@ impl Default for Object {
             hierarchy: HierarchyHandle::Null,
             public: Public {
                 name_alg: HashAlg::Sha1,
-                attributes: ObjectAttributes { bits: 0 },
+                attributes: ObjectAttributes::none(),
                 auth_policy: Octets::empty(),
                 parameters: PublicParameters::SymCipher,
                 unique: Octets::empty(),

@@ -1,4 +1,4 @@
-ghost use Rattle.std.specs.Prelude.{◌≡◌};
+ghost use Rattle.std.specs.Prelude.{◌≡◌, ◌<◌, slice_set};
 ghost use Rattle.tpm_pcr.specs.Saved.{IsSavedBank};
 
 use std::marker::Model;
@@ -32,6 +32,36 @@ impl SavedPcrs {
             sha1: [[0; 20]; 16],
             sha256: [[0; 32]; 16],
         }
+    }
+
+    /// Puts another value of a PCR in the bank of SHA-1.
+    pub fn set_sha1(&mut self, place: usize, value: [u8; 20])
+        requires { place < 16 }
+        ensures { self.new ≡ record self.old { sha1 = slice_set self.old.sha1 place value } }
+    {
+        self.sha1[place] = value;
+    }
+
+    /// Puts another value of a PCR in the bank of SHA-256.
+    pub fn set_sha256(&mut self, place: usize, value: [u8; 32])
+        requires { place < 16 }
+        ensures { self.new ≡ record self.old { sha256 = slice_set self.old.sha256 place value } }
+    {
+        self.sha256[place] = value;
+    }
+
+    /// The values in the bank of SHA-1.
+    pub fn sha1(&self) -> &[[u8; 20]; 16]
+        ensures { result.now ≡ self.now.sha1 }
+    {
+        &self.sha1
+    }
+
+    /// The values in the bank of SHA-256.
+    pub fn sha256(&self) -> &[[u8; 32]; 16]
+        ensures { result.now ≡ self.now.sha256 }
+    {
+        &self.sha256
     }
 
     /// Says of the values what their types say: there are sixteen of their hash's size in each

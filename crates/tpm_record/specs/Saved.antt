@@ -1,5 +1,6 @@
 -- What the last TPM2_Shutdown saved for the next TPM2_Startup. TPM 2.0 Library, Part 1, section
 -- 12.2.3, and Part 3, sections 9.3 and 9.4.
+use Rattle.std.specs.Prelude.{Option, Some, None}
 use Rattle.tpm_pcr.specs.Saved.{IsSaved, SavedValues, restored_in, saved_of}
 use Rattle.tpm_pcr.specs.Values.{BankValues}
 use Rattle.tpm_types.specs.declared.startup_type.StartupType.{StartupType}
@@ -30,6 +31,12 @@ abbrev pub kind_of : SavedState → SavedKind
 kind_of Nothing = kind.Nothing
 kind_of Clear = kind.Clear
 kind_of (State values) = kind.State
+
+-- the values that are saved, if there are such
+abbrev pub values_of : SavedState → Option SavedValues
+values_of Nothing = None
+values_of Clear = None
+values_of (State values) = Some values
 
 -- the banks with the values that are saved, if there are such
 abbrev pub restored_from : SavedState → BankValues → BankValues

@@ -1,5 +1,5 @@
-ghost use Rattle.std.specs.Prelude.{◌≡◌, Some, None};
-ghost use Rattle.tpm_record.specs.Saved.{IsSavedState, Nothing, kind_of, restored_from, saved_by};
+ghost use Rattle.std.specs.Prelude.{◌≡◌, option_copied};
+ghost use Rattle.tpm_record.specs.Saved.{Clear, IsSavedState, Nothing, State, kind_of, restored_from, saved_by, values_of};
 
 use std::marker::Model;
 use tpm_pcr::{Banks, SavedPcrs};
@@ -37,6 +37,36 @@ impl Saved {
         Saved {
             kind: SavedKind::Nothing,
             pcrs: SavedPcrs::new(),
+        }
+    }
+
+    /// That there was a TPM2_Shutdown with CLEAR.
+    pub fn clear() -> Saved
+        ensures { result ≡ Clear }
+    {
+        Saved {
+            kind: SavedKind::Clear,
+            pcrs: SavedPcrs::new(),
+        }
+    }
+
+    /// The values that one with STATE saved.
+    pub fn state(pcrs: SavedPcrs) -> Saved
+        ensures { result ≡ State pcrs }
+    {
+        Saved {
+            kind: SavedKind::State,
+            pcrs,
+        }
+    }
+
+    /// The values that are saved, if there are such.
+    pub fn values(&self) -> Option<&SavedPcrs>
+        ensures { option_copied result ≡ values_of self.now }
+    {
+        match self.kind {
+            SavedKind::Nothing | SavedKind::Clear => None,
+            SavedKind::State => Some(&self.pcrs),
         }
     }
 

@@ -10,7 +10,6 @@ use Rattle.tpm_types.specs.Rc.{plain}
 use Rattle.tpm_types.proofs.Named.{link, named_spelled, none}
 use Rattle.tpm_types.proofs.SelectionLaws.{is_equal}
 use Rattle.tpm_types.proofs.Spelled.{Spelled}
-use Rattle.tpm_types_object.specs.declared.object_attributes.ObjectAttributes.{ObjectAttributes}
 use Rattle.tpm_types_object.specs.declared.public.ObjectType.{ObjectType}
 use Rattle.tpm_types_object.specs.declared.public.ObjectType.TheVariants as object
 use Rattle.tpm_types_object.specs.ObjectAttributes.{IsAttributes, attributes_at, attributes_text, reserved_bits}
@@ -33,8 +32,8 @@ unfolding object_type_at
 object_type_spelled = named_spelled object_type_number object_type_named code.Type object_type_named-is object_type_named-again object_type_number-small
 
 -- attributes
-abbrev attributes_of : ℕ × List ℕ → ObjectAttributes × List ℕ
-attributes_of bits = (record { bits = bits.0 }, bits.1)
+abbrev attributes_of : ℕ × List ℕ → ℕ × List ℕ
+attributes_of bits = (bits.0, bits.1)
 
 pub attributes_spelled : Spelled attributes_text IsAttributes attributes_at
 unfolding attributes_at
@@ -44,6 +43,6 @@ attributes_spelled = record {
       let b = bind_ok (refused_if (not (bit_and a.0.0 reserved_bits == 0)) (plain code.ReservedBits)) (λ named. Ok (attributes_of a.0)) x a.2 in
       let t = number_or_takes w32 (2 ^ 32) wide32 (plain code.Insufficient) bytes a.0 fits a.1 in
       let named = is_equal (bit_and a.0.0 reserved_bits) 0 (passed (not (bit_and a.0.0 reserved_bits == 0)) (plain code.ReservedBits) b.0 b.1) in
-      subst (λ (y : ObjectAttributes × List ℕ). Takes bytes (attributes_text y.0) y.1 × IsAttributes y.0) (ok_is (attributes_of a.0) x b.2) (t.0, record { fits = t.1; named = named });
-  again = λ attributes rest is. rw (number_or_again w32 (2 ^ 32) wide32 (plain code.Insufficient) attributes.bits rest is.fits, is.named) refl;
+      subst (λ (y : ℕ × List ℕ). Takes bytes (attributes_text y.0) y.1 × IsAttributes y.0) (ok_is (attributes_of a.0) x b.2) (t.0, record { fits = t.1; named = named });
+  again = λ attributes rest is. rw (number_or_again w32 (2 ^ 32) wide32 (plain code.Insufficient) attributes rest is.fits, is.named) refl;
 }

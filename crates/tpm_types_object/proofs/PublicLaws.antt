@@ -7,7 +7,6 @@ use Rattle.tpm_bytes.specs.Reading.{◌>>=◌, number_at, or_fault, refused_if}
 use Rattle.tpm_bytes.specs.Writing.{sized_text}
 use Rattle.tpm_bytes.proofs.Fields.{AreBytes, Takes, bind_ok, ok_is, passed, number_or_again, number_or_takes, wide16}
 use Rattle.tpm_mac.specs.declared.algorithm.HashAlg.{HashAlg}
-use Rattle.tpm_types_object.specs.declared.object_attributes.ObjectAttributes.{ObjectAttributes}
 use Rattle.tpm_types_object.specs.declared.public.KeyedHashScheme.{KeyedHashScheme}
 use Rattle.tpm_types_object.specs.declared.public.KeyedHashScheme.TheVariants.{Null, Hmac}
 use Rattle.tpm_types_object.specs.declared.public.ObjectType.{ObjectType}
@@ -126,7 +125,7 @@ parameters_spelled type = record {
 
 -- the fields behind the type, in their order
 abbrev Fields : Type 0
-Fields = (((HashAlg × ObjectAttributes) × List ℕ) × PublicParameters) × List ℕ
+Fields = (((HashAlg × ℕ) × List ℕ) × PublicParameters) × List ℕ
 
 abbrev fields_of : Public → Fields
 fields_of p = ((((p.name_alg, p.attributes), p.auth_policy), p.parameters), p.unique)

@@ -6,7 +6,6 @@ use Rattle.std.specs.Int.{w32, bit_at, to_be_bytes}
 use Rattle.tpm_bytes.specs.Reading.{◌>>=◌, number_at, or_fault, refused_if}
 use Rattle.tpm_types_object.specs.declared.object_attributes.ObjectAttribute.{ObjectAttribute}
 use Rattle.tpm_types_object.specs.declared.object_attributes.ObjectAttribute.TheVariants as attribute
-use Rattle.tpm_types_object.specs.declared.object_attributes.ObjectAttributes.{ObjectAttributes}
 use Rattle.tpm_types.specs.declared.rc.Rc.{Rc}
 use Rattle.tpm_types.specs.declared.rc.ResponseCode.TheVariants as code
 use Rattle.tpm_types.specs.Rc.{plain}
@@ -25,9 +24,9 @@ attribute_bit attribute.Restricted = 16
 attribute_bit attribute.Decrypt = 17
 attribute_bit attribute.Sign = 18
 
--- whether an object has an attribute
-abbrev pub has : ObjectAttributes → ObjectAttribute → Bool
-has attributes attribute = bit_at attributes.bits (attribute_bit attribute) == 1
+-- whether an object has an attribute; attributes are the number of their bits
+abbrev pub has : ℕ → ObjectAttribute → Bool
+has attributes attribute = bit_at attributes (attribute_bit attribute) == 1
 
 -- all of them
 abbrev pub all_attributes : List ObjectAttribute
@@ -49,17 +48,17 @@ all_attributes =
 abbrev pub reserved_bits : ℕ
 reserved_bits = 2 ^ 32 - 1 - sum_by (λ one. 2 ^ attribute_bit one) all_attributes
 
-abbrev pub attributes_text : ObjectAttributes → List ℕ
-attributes_text attributes = to_be_bytes w32 attributes.bits
+abbrev pub attributes_text : ℕ → List ℕ
+attributes_text attributes = to_be_bytes w32 attributes
 
 -- what has a text: no reserved bit is set
-pub record IsAttributes (attributes : ObjectAttributes) : Type 0 where
-  pub fits : attributes.bits < 2 ^ 32
-  pub named : bit_and attributes.bits reserved_bits ≡ 0
+pub record IsAttributes (attributes : ℕ) : Type 0 where
+  pub fits : attributes < 2 ^ 32
+  pub named : bit_and attributes reserved_bits ≡ 0
 
 -- attributes, and what is after them
-unfoldable pub attributes_at : List ℕ → Result (ObjectAttributes × List ℕ) Rc
+unfoldable pub attributes_at : List ℕ → Result (ℕ × List ℕ) Rc
 attributes_at text = do
   bits ← or_fault (number_at w32 text) (plain code.Insufficient)
   named ← refused_if (not (bit_and bits.0 reserved_bits == 0)) (plain code.ReservedBits)
-  Ok (record { bits = bits.0 }, bits.1)
+  Ok (bits.0, bits.1)

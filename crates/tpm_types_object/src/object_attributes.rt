@@ -1,6 +1,7 @@
 ghost use Rattle.std.specs.Prelude.{◌≡◌, ◌<◌};
 ghost use Rattle.tpm_bytes.specs.Reading.{Reads};
 
+use std::marker::Model;
 use tpm_bytes::Cursor;
 use tpm_types::{Rc, ResponseCode};
 
@@ -35,14 +36,43 @@ impl ObjectAttribute {
     }
 }
 
-/// The attributes of an object, a bit for each.
+/// The attributes of an object, a bit for each; no other bit is set. Contracts see them as the number
+/// of these bits.
 #[derive(Clone, Copy, Debug, PartialEq, Eq)]
 pub struct ObjectAttributes {
-    pub bits: u32,
+    bits: u32,
+}
+
+impl Model for ObjectAttributes {
+    ghost use Rattle.std.specs.Prelude.{◌≡◌, ℕ, bit_and};
+    ghost use Rattle.tpm_types_object.specs.ObjectAttributes.{reserved_bits};
+
+    ghost Value = { ℕ };
+
+    ghost view = { λ a. a.bits };
+
+    ghost invariant = { λ a. bit_and a.bits reserved_bits ≡ 0 };
+
+    ghost inverse = { λ n. record { bits = n } };
 }
 
 impl ObjectAttributes {
-    ghost use Rattle.tpm_types_object.specs.ObjectAttributes.{attributes_at, has};
+    ghost use Rattle.tpm_types_object.specs.ObjectAttributes.{IsAttributes, attributes_at, has};
+
+    /// No attribute.
+    pub fn none() -> ObjectAttributes
+        ensures { result ≡ 0 }
+    {
+        ObjectAttributes { bits: 0 }
+    }
+
+    /// The number of their bits.
+    pub fn bits(self) -> u32
+        ensures value { result ≡ self }
+        ensures is_attributes { IsAttributes self }
+    {
+        self.bits
+    }
 
     /// Whether the object has this attribute.
     #[tactic(auto, using(std::proofs::lemmas::Nat::Bits::shr_and_one))]

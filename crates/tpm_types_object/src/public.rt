@@ -266,7 +266,7 @@ impl Public {
         let mut text = Sink::new();
         let _ = text.put_u16(self.object_type().number());
         let _ = text.put_u16(hash_number(self.name_alg));
-        let _ = text.put_u32(self.attributes.bits);
+        let _ = text.put_u32(self.attributes.bits());
         let _ = text.put_sized(self.auth_policy.as_slice());
         let _ = self.parameters.write(&mut text);
         let _ = text.put_sized(self.unique.as_slice());
