@@ -25,7 +25,7 @@ use Rattle.tpm_types_object.specs.declared.public.PublicParameters.{PublicParame
 use Rattle.tpm_types_object.specs.declared.public.PublicParameters.TheVariants as parameters_of
 use Rattle.tpm_record.specs.Record.{Record}
 use Rattle.tpm_actions.specs.Request.{Request, second_handle}
-use Rattle.tpm_actions.specs.Startup.{start_draws as startup_drawn, start_of, startup_row}
+use Rattle.tpm_actions.specs.Startup.{start_draws as startup_drawn, startup_row}
 use Rattle.tpm_actions.specs.declared.startup.Start.{Start}
 use Rattle.tpm_actions.specs.declared.startup.Start.TheVariants.{Reset, Restart, Resume}
 use Rattle.tpm_actions.specs.Shutdown.{shutdown_row}

@@ -10,7 +10,6 @@ pub mod Handles
 pub mod Grants
 pub mod AllPlaces
 pub mod SizedParts
-pub mod WholeAreas
 pub mod SizedRows
 pub mod Draws
 pub mod SizedSteps

@@ -95,31 +95,35 @@ restart_stays r q =
     ok_bind _ (policy_session r.sessions handle) _ (λ s. policy_stays r handle (starting s.hash))))
 
 -- whether a part leaves the sessions alone
-abbrev leaves_sessions : Part → Bool
+abbrev pub leaves_sessions : Part → Bool
 leaves_sessions Sessions = false
 leaves_sessions SessionsAndObjects = false
 leaves_sessions _ = true
 
+touched_same : (p : Part) (old new : Record) → leaves_sessions p ≡ true → Touches p old new → new.sessions ≡ old.sessions
+touched_same Nothing old new leaves touches = ap (λ (r : Record). r.sessions) touches
+touched_same Sessions old new leaves touches = absurd cc
+touched_same Objects old new leaves touches = ap (λ (r : Record). r.sessions) touches
+touched_same SessionsAndObjects old new leaves touches = absurd cc
+touched_same Persistent old new leaves touches = ap (λ (r : Record). r.sessions) touches
+touched_same Nv old new leaves touches = ap (λ (r : Record). r.sessions) touches
+touched_same AuthValues old new leaves touches = ap (λ (r : Record). r.sessions) touches.0
+touched_same Lockout old new leaves touches = ap (λ (r : Record). r.sessions) touches
+touched_same Banks old new leaves touches = ap (λ (r : Record). r.sessions) touches
+touched_same Beginning old new leaves touches = ap (λ (r : Record). r.sessions) touches.0
+touched_same DisableClear old new leaves touches = ap (λ (r : Record). r.sessions) touches
+touched_same Cleared old new leaves touches = ap (λ (r : Record). r.sessions) touches
+touched_same Saved old new leaves touches = ap (λ (r : Record). r.sessions) touches
+
+-- behind a success that touches such a part the sessions are as they were
+pub row_same : (r : Record) (c : CommandCode) (q : Request) → leaves_sessions (part_of c) ≡ true → IfOk (row_of r c q) (λ s. s.after.sessions ≡ r.sessions)
+row_same r c q leaves = ok_weaker (λ s. Touches (part_of c) r s.after) _ (row_of r c q) (row_touches r c q) (λ s touches. touched_same (part_of c) r s.after leaves touches)
+
 sessions_same : (old new : Record) → new.sessions ≡ old.sessions → SessionsStay old new
 sessions_same old new same h there = ap (λ (sessions : List (Option Session)). is_some (session_at sessions h)) same ∙ there
 
-touched_stays : (p : Part) (old new : Record) → leaves_sessions p ≡ true → Touches p old new → SessionsStay old new
-touched_stays Nothing old new leaves touches = sessions_same old new (ap (λ (r : Record). r.sessions) touches)
-touched_stays Sessions old new leaves touches = absurd cc
-touched_stays Objects old new leaves touches = sessions_same old new (ap (λ (r : Record). r.sessions) touches)
-touched_stays SessionsAndObjects old new leaves touches = absurd cc
-touched_stays Persistent old new leaves touches = sessions_same old new (ap (λ (r : Record). r.sessions) touches)
-touched_stays Nv old new leaves touches = sessions_same old new (ap (λ (r : Record). r.sessions) touches)
-touched_stays AuthValues old new leaves touches = sessions_same old new (ap (λ (r : Record). r.sessions) touches.0)
-touched_stays Lockout old new leaves touches = sessions_same old new (ap (λ (r : Record). r.sessions) touches)
-touched_stays Banks old new leaves touches = sessions_same old new (ap (λ (r : Record). r.sessions) touches)
-touched_stays Beginning old new leaves touches = sessions_same old new (ap (λ (r : Record). r.sessions) touches.0)
-touched_stays DisableClear old new leaves touches = sessions_same old new (ap (λ (r : Record). r.sessions) touches)
-touched_stays Cleared old new leaves touches = sessions_same old new (ap (λ (r : Record). r.sessions) touches)
-touched_stays Saved old new leaves touches = sessions_same old new (ap (λ (r : Record). r.sessions) touches)
-
 other_stays : (r : Record) (c : CommandCode) (q : Request) → leaves_sessions (part_of c) ≡ true → IfOk (row_of r c q) (λ s. SessionsStay r s.after)
-other_stays r c q leaves = ok_weaker (λ s. Touches (part_of c) r s.after) _ (row_of r c q) (row_touches r c q) (λ s touches. touched_stays (part_of c) r s.after leaves touches)
+other_stays r c q leaves = ok_weaker (λ s. s.after.sessions ≡ r.sessions) _ (row_of r c q) (row_same r c q leaves) (λ s same. sessions_same r s.after same)
 
 pub row_stays : (r : Record) (c : CommandCode) (q : Request) → (shape_of c).forbids_sessions ≡ false → IfOk (row_of r c q) (λ s. SessionsStay r s.after)
 unfolding row_of shape_of

@@ -1,4 +1,4 @@
--- The sizes of what sessions and objects are made of.
+-- The sizes of what sessions are made of.
 use Rattle.std.proofs.Common.{rules, arith, ◌≡◌, ◌⊎◌, ℕ, Bool, List, [], ◌++◌, length, take, Option, Some, None, IfOk, refl, inl, inr, append-nil, ◌≤◌, true, false, subst, sym}
 use Rattle.std.proofs.lemmas.List.{length-replicate, length-take, length-take-le}
 use Rattle.std.specs.Prelude.{◌&&◌, nat_le}

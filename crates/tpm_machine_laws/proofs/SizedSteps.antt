@@ -1,28 +1,20 @@
--- A step, and a run, keep the sizes of sessions and objects.
+-- A step, and a run, keep the sizes of sessions.
 use Rattle.std.proofs.Common.{arith, ◌≡◌, ℕ, Bool, true, false, cond, List, [], ◌∷◌, length, take, Option, Some, None, Result, Ok, Err, IfOk, refl, ◌+◌, ◌*◌, drop, subst, sym, Bor, ◌≤◌}
 use Rattle.std.specs.Prelude.{IfSome, is_some, not}
 use Rattle.std.specs.Option.{option_map_or}
 use Rattle.std.proofs.lemmas.List.{length-drop}
-use Rattle.tpm_ascending.specs.Ascending.{AreEach, Entries}
-use Rattle.tpm_places.specs.Places.{AreAll, at_place}
 use Rattle.tpm_policy.specs.State.{starting}
 use Rattle.tpm_session.specs.Session.{with_nonce}
 use Rattle.tpm_session.specs.Sessions.{flushed, rolled, session_at, session_byte}
 use Rattle.tpm_session.specs.declared.session.Session.{Session}
-use Rattle.tpm_object.specs.Object.{IsObject}
-use Rattle.tpm_object.specs.declared.object.Object.{Object}
 use Rattle.tpm_types.specs.SessionAttributes.{has_bits}
 use Rattle.tpm_types.specs.declared.session_type.SessionType.{SessionType}
 use Rattle.tpm_types.specs.declared.session_type.SessionType.TheVariants as type
 use Rattle.tpm_types_command.specs.AuthEntry.{Entry}
-use Rattle.tpm_types_object.specs.Public.{IsPublic}
 use Rattle.tpm_types_command.specs.Command.{Whole}
 use Rattle.tpm_types_command.specs.CommandCode.{shape_of}
-use Rattle.tpm_lockout.specs.Lockout.{LockoutState}
 use Rattle.tpm_record.specs.Cycle.{cycled}
-use Rattle.tpm_record.specs.Persistent.{IsPersistent}
 use Rattle.tpm_record.specs.Record.{Record, manufactured}
-use Rattle.tpm_record.specs.IsRecord.{IsRecord}
 use Rattle.tpm_record.specs.Tick.{ticked}
 use Rattle.tpm_auth.specs.Entries.{session_of}
 use Rattle.tpm_auth.specs.Grant.{authorize}
@@ -40,26 +32,25 @@ use Rattle.std.specs.List.{AllByRecursion}
 use Rattle.std.specs.Fn.{Mut}
 use Rattle.tpm_machine_step.specs.Execution.{Executes}
 use Rattle.tpm_machine_step.specs.declared.event.Outcome.{Outcome}
-use Rattle.tpm_actions.specs.DictionaryAttackLockReset.{with_lockout}
 use Rattle.tpm_actions.specs.Request.{Request}
 use Rattle.tpm_actions.specs.Rows.{Success}
 use Rattle.tpm_actions.specs.Shutdown.{with_saved}
 use Rattle.tpm_record.specs.Saved.{Nothing}
 use Rattle.tpm_types_command.specs.declared.command_code.CommandCode.{CommandCode}
 use Rattle.tpm_machine_laws.proofs.Draws.{general_few, row_draws}
-use Rattle.tpm_machine_laws.specs.Sizes.{AreSized, IsSized, IsWhole}
+use Rattle.tpm_machine_laws.specs.Sizes.{AreSized, IsSized}
 use Rattle.tpm_machine_laws.proofs.AllPlaces.{all_changed, all_found, all_free}
 use Rattle.tpm_machine_laws.proofs.Binding.{ok_bind, ok_then, ok_in_command}
 use Rattle.tpm_machine_laws.proofs.SizedParts.{starting_sized, nonce_few, nonce_taken}
-use Rattle.tpm_machine_laws.proofs.SizedRows.{flushed_all, policy_all, row_sized, with_sessions}
+use Rattle.tpm_machine_laws.proofs.SizedRows.{flushed_all, policy_all, row_sized}
 
--- ---- no session and no object
+-- ---- no session
 
 pub manufactured_sized : (random : List ℕ) → AreSized (manufactured random)
-manufactured_sized random = record { sessions = all_free IsSized 16; objects = all_free (λ (o : Object). IsWhole o.public) 8; persistent = tt }
+manufactured_sized random = all_free IsSized 16
 
-pub cycled_sized : (r : Record) → AreSized r → AreSized (cycled r)
-cycled_sized r sized = record { sessions = all_free IsSized 16; objects = all_free (λ (o : Object). IsWhole o.public) 8; persistent = sized.persistent }
+pub cycled_sized : (r : Record) → AreSized (cycled r)
+cycled_sized r = all_free IsSized 16
 
 -- ---- new nonces
 
@@ -81,13 +72,13 @@ found_few None sized = omega arith
 
 session_found : (r : Record) (e : Entry) → AreSized r → IfSome (session_of r e) IsSized
 unfolding session_at
-session_found r e sized = all_found IsSized session_byte r.sessions e.session.number sized.sessions
+session_found r e sized = all_found IsSized session_byte r.sessions e.session.number sized
 
 entry_rolled_sized : (r : Record) (e : Entry) (left : List ℕ) → 32 ≤ length left → AreSized r → AreSized (entry_rolled r e left).after
 unfolding entry_rolled draw_of session_at rolled
 entry_rolled_sized r e left enough sized =
-    with_sessions r _ (all_changed IsSized session_byte (λ s. with_nonce s _) r.sessions e.session.number
-    (found_rolled (session_of r e) left enough (session_found r e sized)) sized.sessions) sized
+    all_changed IsSized session_byte (λ s. with_nonce s _) r.sessions e.session.number
+    (found_rolled (session_of r e) left enough (session_found r e sized)) sized
 
 -- an entry draws no more than 32 bytes
 entry_left : (r : Record) (e : Entry) (left : List ℕ) → AreSized r → length left ≤ length (entry_rolled r e left).left + 32
@@ -104,7 +95,7 @@ entries_rolled_sized r (e ∷ es) left enough sized =
 
 restarted_sized : (kind : SessionType) (r : Record) (e : Entry) (s : Session) → session_of r e ≡ Some s → AreSized r → AreSized (restarted_by kind r e s.hash)
 restarted_sized type.Hmac r e s is sized = sized
-restarted_sized type.Policy r e s is sized = with_sessions r _ (policy_all r.sessions e.session s (starting s.hash) is (starting_sized s.hash) sized.sessions) sized
+restarted_sized type.Policy r e s is sized = policy_all r.sessions e.session s (starting s.hash) is (starting_sized s.hash) sized
 restarted_sized type.Trial r e s is sized = sized
 
 entry_restarted_sized : (r : Record) (e : Entry) → AreSized r → AreSized (entry_restarted r e)
@@ -120,7 +111,7 @@ unfolding entry_ended
 entry_ended_sized r e grant sized = by (not (has_bits 0x01 e.attributes)) (is_some grant)
   where
     by : (ends grants : Bool) → AreSized (cond ends (record r { sessions = flushed r.sessions e.session }) (cond grants (entry_restarted r e) r))
-    by true grants = with_sessions r _ (flushed_all r.sessions e.session sized.sessions) sized
+    by true grants = flushed_all r.sessions e.session sized
     by false true = entry_restarted_sized r e sized
     by false false = sized
 
@@ -162,37 +153,32 @@ accepted_fits r buffer locality random enough sized =
     ok_then _ _ (general r buffer) _ (general_few r buffer) (λ c few.
     ok_in_command Fits c.code (acceptance r c locality random) (acceptance_fits r c locality random few enough sized))
 
--- neither is what was saved, which a success may cancel
+-- what was saved, which a success may cancel, is no session
 settled_sized : (keeps : Bool) (r : Record) → AreSized r → AreSized (cond keeps r (with_saved r Nothing))
 settled_sized true r sized = sized
-settled_sized false r sized = record { sessions = sized.sessions; objects = sized.objects; persistent = sized.persistent }
+settled_sized false r sized = sized
 
 success_sized : (a : Accepted) (random : List ℕ) → 256 ≤ length random → Fits a → AreSized (success_step a random).after
 success_sized a random enough fits =
     settled_sized (shape_of a.command.code).keeps_shutdown _
     (answer_sized a.command a.grants (written_of a.success.answer) a.success.after random (omega (arith, enough, fits.1)) fits.0)
 
--- what a refusal counts is neither a session nor an object
-counted_sized : (r : Record) (lockout : LockoutState) → AreSized r → AreSized (with_lockout r lockout)
-counted_sized r lockout sized = record { sessions = sized.sessions; objects = sized.objects; persistent = sized.persistent }
-
 answer_where_sized : (refused : Bool) (r : Record) (random : List ℕ) (a : Result Accepted Refusal) → 256 ≤ length random → AreSized r → IfOk a Fits → AreSized (answer_where refused r random a).after
 answer_where_sized false r random (Ok a) enough sized fits = success_sized a random enough fits
-answer_where_sized false r random (Err e) enough sized fits = counted_sized r _ sized
-answer_where_sized true r random (Err e) enough sized fits = counted_sized r _ sized
+answer_where_sized false r random (Err e) enough sized fits = sized
+answer_where_sized true r random (Err e) enough sized fits = sized
 answer_where_sized true r random (Ok a) enough sized fits = by (shape_of a.command.code).grows
   where
     by : (grows : Bool) → AreSized (cond grows (starved r a.command) (success_step a random)).after
-    by true = counted_sized r _ sized
+    by true = sized
     by false = success_sized a random enough fits
 
 pub step_sized : (refused : Bool) (r : Record) (event : Happening) → IsEvent event → AreSized r → AreSized (step_where refused r event).after
 step_sized refused r (Given buffer locality elapsed random) happens sized =
     let t = ticked r elapsed in
-    let later : AreSized t = record { sessions = sized.sessions; objects = sized.objects; persistent = sized.persistent } in
     let enough : 256 ≤ length random = omega (arith, happens.2) in
-    answer_where_sized refused t random (accepted t buffer locality random) enough later (accepted_fits t buffer locality random (omega (arith, enough)) later)
-step_sized refused r Cycled happens sized = cycled_sized r sized
+    answer_where_sized refused t random (accepted t buffer locality random) enough sized (accepted_fits t buffer locality random (omega (arith, enough)) sized)
+step_sized refused r Cycled happens sized = cycled_sized r
 
 pub execution_sized : (can : Bool) (r : Record) (event : Happening) (x : Stepped) → Executes can r event x → AreSized r → AreSized x.after
 execution_sized can r event x executes sized =
@@ -215,25 +201,3 @@ pub run_sized : {F : Type 0} (g : Mut F (Bor Outcome × Unit {0}) (Unit {0})) (c
 run_sized g can old p [] new q run sized = subst AreSized (sym run.0) sized
 run_sized g can old p (event ∷ events) new q run sized =
     run_sized g can run.1 run.2 events new q run.5 (execution_sized can old event (outcome_step run.1 run.0) run.3 sized)
-
--- ---- public areas
-
-public_found : (o : Option Object) → IfSome o IsObject → IfSome o (λ object. IsWhole object.public) → IfSome o (λ object. IsPublic object.public)
-public_found (Some object) is whole = whole is.attributes
-public_found None is whole = tt
-
-pub public_areas : (r : Record) → IsRecord r → AreSized r → AreAll (λ object. IsPublic object.public) r.objects
-public_areas r is sized place = public_found (at_place r.objects place) (is.each_object place) (sized.objects place)
-
-entries_public : (es : Entries Object) → AreEach IsPersistent es → AreEach (λ number object. IsWhole object.public) es → AreEach (λ number object. IsPublic object.public) es
-entries_public [] are whole = tt
-entries_public (e ∷ es) are whole = (whole.0 are.0.sized.attributes, entries_public es are.1 whole.1)
-
-pub persistent_areas : (r : Record) → IsRecord r → AreSized r → AreEach (λ number object. IsPublic object.public) r.persistent
-persistent_areas r is sized = entries_public r.persistent is.persistent.each sized.persistent
-
-pub execution_persistent : (can : Bool) (old : Record) (event : Happening) (x : Stepped) → Executes can old event x → AreSized old → AreEach (λ number object. IsPublic object.public) x.after.persistent
-execution_persistent can old event x executes sized = persistent_areas x.after executes.is_record (execution_sized can old event x executes sized)
-
-pub execution_public : (can : Bool) (old : Record) (event : Happening) (x : Stepped) → Executes can old event x → AreSized old → AreAll (λ object. IsPublic object.public) x.after.objects
-execution_public can old event x executes sized = public_areas x.after executes.is_record (execution_sized can old event x executes sized)

@@ -3,7 +3,7 @@
 //! Laws over the rows of all commands, each on the contract of a function that does nothing: what
 //! of the record a row's success touches, what a command's shape says of it, that sessions in use
 //! stay, and what is never refused. Behind a row, sessions are rolled and end, which is the step's
-//! and no row's; the sizes of sessions and objects stay through all of a step.
+//! and no row's; the sizes of sessions stay through all of a step.
 //!
 //! It stands on the definitions of tpm_machine_step. A row is opened here, so that theorems over
 //! histories need not open any.
@@ -12,14 +12,10 @@ ghost use Rattle.std.specs.Prelude.{◌≡◌, ℕ, ◌+◌, ◌*◌, ◌≤◌,
 ghost use Rattle.std.specs.Prelude.{false, length};
 ghost use Rattle.std.specs.List.{AllByRecursion};
 ghost use Rattle.tpm_types.specs.declared.check.Check.TheVariants as check;
-ghost use Rattle.tpm_types_object.specs.Public.{IsPublic};
 ghost use Rattle.tpm_types_command.specs.Command.{Whole};
 ghost use Rattle.tpm_types_command.specs.CommandCode.{shape_of};
 ghost use Rattle.tpm_types_command.specs.declared.command_code.CommandCode.{CommandCode};
-ghost use Rattle.tpm_ascending.specs.Ascending.{AreEach};
-ghost use Rattle.tpm_places.specs.Places.{AreAll};
 ghost use Rattle.tpm_record.specs.Cycle.{cycled};
-ghost use Rattle.tpm_record.specs.IsRecord.{IsRecord};
 ghost use Rattle.tpm_record.specs.Record.{Record, manufactured};
 ghost use Rattle.tpm_auth.specs.Entries.{entries_pass};
 ghost use Rattle.tpm_auth.specs.Grant.{authorize, grants_pass};
@@ -140,14 +136,13 @@ pub fn grants_fit_entries_and_handles()
         → IfOk (authorize r c locality) (GrantsFit c) }
 {}
 
-/// A device as it is manufactured has no session and no object, and so all of them have their
-/// sizes; and after a power cycle it has no session and no transient object, and the persistent
-/// ones that it had.
+/// A device as it is manufactured has no session, and so all of them have their sizes; and so it is
+/// after a power cycle.
 #[inline(always)]
 #[tactic(auto, using(crate::proofs::SizedSteps::manufactured_sized, crate::proofs::SizedSteps::cycled_sized))]
 pub fn devices_begin_sized()
     ensures manufactured { (random : List ℕ) → AreSized (manufactured random) }
-    ensures cycled { (r : Record) → AreSized r → AreSized (cycled r) }
+    ensures cycled { (r : Record) → AreSized (cycled r) }
 {}
 
 /// A success draws at most 96 of the event's 256 random bytes.
@@ -158,8 +153,7 @@ pub fn rows_draw_few_bytes()
         → IfOk (row_of r c q) (λ s. s.answer.drawn ≤ 96) }
 {}
 
-/// A success leaves sessions and objects of their sizes, where there are random bytes enough for a
-/// nonce.
+/// A success leaves sessions of their sizes, where there are random bytes enough for a nonce.
 #[inline(always)]
 #[tactic(auto, using(crate::proofs::SizedRows::row_sized))]
 pub fn rows_keep_sizes()
@@ -184,17 +178,11 @@ pub fn steps_keep_sizes()
         → IsEvent event → AreSized r → AreSized (step_where refused r event).after }
 {}
 
-/// Every execution of an event leaves them, and each object's public area then is one.
+/// Every execution of an event leaves them.
 #[inline(always)]
 pub fn executions_keep_sizes()
-    ensures sized { (can : Bool) (old : Record) (event : Happening) (x : Stepped)
+    ensures { (can : Bool) (old : Record) (event : Happening) (x : Stepped)
         → Executes can old event x → AreSized old → AreSized x.after }
-    ensures public { (can : Bool) (old : Record) (event : Happening) (x : Stepped)
-        → Executes can old event x → AreSized old
-        → AreAll (λ object. IsPublic object.public) x.after.objects }
-    ensures persistent { (can : Bool) (old : Record) (event : Happening) (x : Stepped)
-        → Executes can old event x → AreSized old
-        → AreEach (λ number object. IsPublic object.public) x.after.persistent }
 {}
 
 /// And every run of events leaves them.
@@ -204,20 +192,9 @@ pub fn runs_keep_sizes<F: FnMut(&Outcome)>()
         → Runs F.FnMut can old p events new q → AreSized old → AreSized new }
 {}
 
-/// Whatever happens to a device since it was manufactured, its sessions and objects have their
-/// sizes.
+/// Whatever happens to a device since it was manufactured, its sessions have their sizes.
 #[inline(always)]
 pub fn histories_keep_sizes()
     ensures { (random : List ℕ) (events : List Happening)
         → AllByRecursion IsEvent events → AreSized (after_all (manufactured random) events) }
-{}
-
-/// Where all that holds of every record holds too, each object's public area is one.
-#[inline(always)]
-#[tactic(auto, using(crate::proofs::SizedSteps::public_areas, crate::proofs::SizedSteps::persistent_areas))]
-pub fn objects_have_public_areas()
-    ensures transient { (r : Record) → IsRecord r → AreSized r
-        → AreAll (λ object. IsPublic object.public) r.objects }
-    ensures persistent { (r : Record) → IsRecord r → AreSized r
-        → AreEach (λ number object. IsPublic object.public) r.persistent }
 {}
