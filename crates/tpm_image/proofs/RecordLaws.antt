@@ -1,0 +1,43 @@
+-- The images of records, and devices that are opened from them.
+use Rattle.std.proofs.Common.{◌≡◌, ℕ, ◌<◌, ◌≤◌, Bool, List, length, take, Result, Ok, Err, IfOk, sym, ap, ◌∙◌}
+use Rattle.tpm_bytes.proofs.Fields.{AreBytes, ok_is}
+use Rattle.tpm_record.specs.IsRecord.{IsRecord}
+use Rattle.tpm_record.specs.Record.{Record}
+use Rattle.tpm_image.specs.Image.{image_of, image_text}
+use Rattle.tpm_image.specs.NonVolatile.{IsNonVolatile, NonVolatile, kept_of, powered_on}
+use Rattle.tpm_image.specs.Opening.{Opens, OpensAgain}
+use Rattle.tpm_image.specs.declared.fault.ImageFault.{ImageFault}
+use Rattle.tpm_image.specs.declared.fault.ImageFault.TheVariants as fault
+use Rattle.tpm_image.proofs.ImageLaws.{front_cut, image_again, image_taken, kept_is}
+
+pub record_again : (r : Record) → IsRecord r → image_of (image_text (kept_of r)) ≡ Ok (kept_of r)
+record_again r is = image_again (kept_of r) (kept_is r is)
+
+pub record_cut : (r : Record) (n : ℕ) → IsRecord r → 42 ≤ n → n < length (image_text (kept_of r)) → image_of (take n (image_text (kept_of r))) ≡ Err fault.Length
+record_cut r n is long less = front_cut (kept_of r) n (kept_is r is) long less
+
+module _ {M : Type 0} (record_of : M → Record) (can : Bool) (text : List ℕ) where
+  -- what is opened was spelled so
+  pub opened_found : (result : Result M ImageFault) → AreBytes text → Opens record_of can text result → IfOk result (λ machine. (kept : NonVolatile) × IsNonVolatile kept × (text ≡ image_text kept) × (record_of machine ≡ powered_on kept))
+  opened_found (Ok machine) fits opens =
+      let t = image_taken text opens.0 fits opens.1 in
+      (opens.0, t.1, t.0, opens.2)
+  opened_found (Err f) fits opens = tt
+
+  -- what is spelled so is opened
+  pub opened_only : (r : Record) (result : Result M ImageFault) → IsRecord r → text ≡ image_text (kept_of r) → Opens record_of can text result → OpensAgain record_of can r result
+  opened_only r result is same opens = by result opens
+    where
+      told : image_of text ≡ Ok (kept_of r)
+      told = ap image_of same ∙ record_again r is
+
+      one : (kept : NonVolatile) → image_of text ≡ Ok kept → kept_of r ≡ kept
+      one kept other = ok_is {E = ImageFault} (kept_of r) kept (sym told ∙ other)
+
+      never : (f : ImageFault) → (let done : Result NonVolatile ImageFault = Ok (kept_of r) in done ≡ Err f) → ⊥
+      never f e = absurd cc
+
+      by : (result : Result M ImageFault) → Opens record_of can text result → OpensAgain record_of can r result
+      by (Ok machine) opens = opens.2 ∙ ap powered_on (sym (one opens.0 opens.1))
+      by (Err fault.NoMemory) opens = opens.0
+      by (Err f) opens = absurd (never f (sym told ∙ opens))

@@ -1,0 +1,78 @@
+-- The fields of an image, each with its text and its reading. A field that is cut or that is not as
+-- it has to be is malformed, whatever other readers call that.
+use Rattle.std.specs.Prelude.{ℕ, nat_lt, not, Bool, true, false, List, ◌++◌, length, Result, Ok}
+use Rattle.std.specs.Int.{Width, w8, w16, to_be_bytes}
+use Rattle.std.specs.List.{flat_map}
+use Rattle.std.specs.Str.{bytes_eq}
+use Rattle.tpm_bytes.specs.Many.{many_at}
+use Rattle.tpm_bytes.specs.Reading.{◌>>=◌, bytes_at, number_at, or_fault, refused_if}
+use Rattle.tpm_types.specs.AuthValue.{trimmed}
+use Rattle.tpm_types.specs.Buffer.{buffer_at}
+use Rattle.tpm_types.specs.YesNo.{yes_no_at}
+use Rattle.tpm_image.specs.declared.fault.Malformed.{Malformed}
+
+abbrev pub malformed : Malformed
+malformed = record {}
+
+-- a reading whose every fault is this
+abbrev pub in_body : {X E : Type 0}
+    → (List ℕ → Result (X × List ℕ) E)
+    → List ℕ → Result (X × List ℕ) Malformed
+in_body at text = or_fault (at text) malformed
+
+-- a reading of what passes a test
+abbrev pub passing : {X : Type 0}
+    → (X → Bool)
+    → (List ℕ → Result (X × List ℕ) Malformed)
+    → List ℕ → Result (X × List ℕ) Malformed
+passing test at text = do
+  x ← at text
+  passed ← refused_if (not (test x.0)) malformed
+  Ok x
+
+-- ---- numbers, yes or no, and bytes
+
+abbrev pub number_in : Width → List ℕ → Result (ℕ × List ℕ) Malformed
+number_in width text = in_body (number_at width) text
+
+-- a byte that is 1 for yes and 0 for no
+abbrev pub yes_no_number : Bool → ℕ
+yes_no_number true = 1
+yes_no_number false = 0
+
+abbrev pub yes_no_text : Bool → List ℕ
+yes_no_text is_yes = to_be_bytes w8 (yes_no_number is_yes)
+
+abbrev pub yes_no_in : List ℕ → Result (Bool × List ℕ) Malformed
+yes_no_in text = in_body yes_no_at text
+
+-- so many bytes
+abbrev pub bytes_in : ℕ → List ℕ → Result (List ℕ × List ℕ) Malformed
+bytes_in count text = in_body (bytes_at count) text
+
+-- a sized buffer of at most so many
+abbrev pub buffer_in : ℕ → List ℕ → Result (List ℕ × List ℕ) Malformed
+buffer_in limit text = in_body (buffer_at limit) text
+
+-- an authorization value: a sized buffer of at most 32 bytes, with no zero at their end
+abbrev pub is_trimmed : List ℕ → Bool
+is_trimmed value = bytes_eq (trimmed value) value
+
+unfoldable pub auth_value_in : List ℕ → Result (List ℕ × List ℕ) Malformed
+auth_value_in text = passing is_trimmed (buffer_in 32) text
+
+-- ---- things one after another
+
+-- how many there are, and these
+abbrev pub counted_text : {X : Type 0} → (X → List ℕ) → List X → List ℕ
+counted_text text_of things = to_be_bytes w16 (length things) ++ flat_map text_of things
+
+-- at most so many
+abbrev pub counted_in : {X : Type 0}
+    → (most : ℕ)
+    → (List ℕ → Result (X × List ℕ) Malformed)
+    → List ℕ → Result (List X × List ℕ) Malformed
+counted_in most at text = do
+  count ← number_in w16 text
+  few ← refused_if (nat_lt most count.0) malformed
+  many_at at count.0 count.1

@@ -1,0 +1,10 @@
+pub mod NonVolatile
+pub mod Fields
+pub mod Body
+pub mod Frame
+pub mod Image
+pub mod Filling
+pub mod Opening
+pub use Rattle.tpm_record.specs.Record
+pub use Rattle.tpm_record.specs.Cycle
+pub use Rattle.tpm_record.specs.IsRecord

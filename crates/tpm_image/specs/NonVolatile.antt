@@ -1,0 +1,90 @@
+-- What a device keeps without power. TPM 2.0 Library, Part 1, sections 12.2.2 (_TPM_Init) and 37 (NV
+-- memory).
+use Rattle.std.specs.Prelude.{ℕ, ◌<◌, ◌^◌, Bool, false}
+use Rattle.tpm_ascending.specs.Ascending.{Entries}
+use Rattle.tpm_lockout.specs.Lockout.{IsLockout, restored}
+use Rattle.tpm_lockout.specs.declared.fields.LockoutFields.{LockoutFields}
+use Rattle.tpm_nv.specs.Index.{NvContents, NvIndex}
+use Rattle.tpm_nv.specs.IsContents.{IsContents}
+use Rattle.tpm_object.specs.declared.object.Object.{Object}
+use Rattle.tpm_pcr.specs.Banks.{new_banks}
+use Rattle.tpm_record.specs.Hierarchy.{IsHierarchies}
+use Rattle.tpm_record.specs.Persistent.{ArePersistent}
+use Rattle.tpm_record.specs.Record.{Record, no_objects, no_sessions}
+use Rattle.tpm_record.specs.Saved.{IsSavedState, SavedState}
+use Rattle.tpm_record.specs.declared.hierarchy.Hierarchies.{Hierarchies}
+
+-- the hierarchies; whether TPM2_Clear is refused; tries, parameters and whether lockoutAuth is
+-- closed; Clock and the counts of TPM Resets and TPM Restarts; the largest value that a counter ever
+-- had; and what the last TPM2_Shutdown saved
+pub record KeptState : Type 0 where
+  pub hierarchies : Hierarchies
+  pub disable_clear : Bool
+  pub lockout : LockoutFields
+  pub clock : ℕ
+  pub reset_count : ℕ
+  pub restart_count : ℕ
+  pub max_count : ℕ
+  pub saved : SavedState
+
+-- these, the persistent objects and the NV indices
+pub record NonVolatile : Type 0 where
+  pub state : KeptState
+  pub persistent : Entries Object
+  pub indices : Entries NvIndex
+
+-- what of a record is kept
+abbrev pub kept_of : Record → NonVolatile
+kept_of r = record {
+  state = record {
+    hierarchies = r.fixed.hierarchies;
+    disable_clear = r.fixed.disable_clear;
+    lockout = r.fixed.lockout.fields;
+    clock = r.fixed.clock;
+    reset_count = r.fixed.reset_count;
+    restart_count = r.fixed.restart_count;
+    max_count = r.nv.max_count;
+    saved = r.fixed.saved;
+  };
+  persistent = r.persistent;
+  indices = r.nv.indices;
+}
+
+-- the NV indices, with the largest value that a counter ever had
+abbrev pub nv_of : NonVolatile → NvContents
+nv_of kept = record { indices = kept.indices; max_count = kept.state.max_count }
+
+-- the record of a device that kept this, as power comes on
+abbrev pub powered_on : NonVolatile → Record
+powered_on kept = record {
+  fixed = record {
+    started = false;
+    saved = kept.state.saved;
+    hierarchies = kept.state.hierarchies;
+    disable_clear = kept.state.disable_clear;
+    lockout = restored kept.state.lockout;
+    banks = new_banks;
+    time = 0;
+    clock = kept.state.clock;
+    reset_count = kept.state.reset_count;
+    restart_count = kept.state.restart_count;
+  };
+  sessions = no_sessions;
+  objects = no_objects;
+  persistent = kept.persistent;
+  nv = nv_of kept;
+}
+
+-- what is kept of a record: what holds of its parts in every record, within their limits
+pub record IsKeptState (state : KeptState) : Type 0 where
+  pub hierarchies : IsHierarchies state.hierarchies
+  pub lockout : IsLockout (restored state.lockout)
+  pub clock : state.clock < 2 ^ 64
+  pub reset_count : state.reset_count < 2 ^ 32
+  pub restart_count : state.restart_count < 2 ^ 32
+  pub saved : IsSavedState state.saved
+
+pub record IsNonVolatile (kept : NonVolatile) : Type 0 where
+  pub state : IsKeptState kept.state
+  pub persistent : ArePersistent kept.persistent
+  pub nv : IsContents (nv_of kept)

@@ -1,0 +1,24 @@
+-- What opening an image answers and leaves.
+use Rattle.std.specs.Prelude.{◌≡◌, Bool, true, List, ℕ, Result, Ok, Err}
+use Rattle.tpm_record.specs.Cycle.{cycled}
+use Rattle.tpm_record.specs.Record.{Record}
+use Rattle.tpm_image.specs.Image.{image_of}
+use Rattle.tpm_image.specs.NonVolatile.{NonVolatile, powered_on}
+use Rattle.tpm_image.specs.declared.fault.ImageFault.{ImageFault}
+use Rattle.tpm_image.specs.declared.fault.ImageFault.TheVariants.{NoMemory}
+
+-- The record of the device that kept what the image says, as power comes on; or the fault of the
+-- text; or memory was refused, which stands only in place of a record.
+abbrev pub Opens : {M : Type 0} → (M → Record) → Bool → List ℕ → Result M ImageFault → Type 0
+Opens record_of can text (Ok machine) =
+    (kept : NonVolatile) × (image_of text ≡ Ok kept) × (record_of machine ≡ powered_on kept)
+Opens record_of can text (Err NoMemory) =
+    (can ≡ true) × ((kept : NonVolatile) × (image_of text ≡ Ok kept))
+Opens record_of can text (Err fault) = image_of text ≡ Err fault
+
+-- The same of the image of a record: it is opened, and gives the record after a power cycle, unless
+-- memory is refused.
+abbrev pub OpensAgain : {M : Type 0} → (M → Record) → Bool → Record → Result M ImageFault → Type 0
+OpensAgain record_of can r (Ok machine) = record_of machine ≡ cycled r
+OpensAgain record_of can r (Err NoMemory) = can ≡ true
+OpensAgain record_of can r (Err fault) = ⊥

@@ -1,0 +1,84 @@
+//! The body of an image: what a device keeps without power.
+
+ghost use Rattle.std.specs.Prelude.{◌≡◌, ◌≤◌, ◌+◌, ◌++◌, [], length, replicate};
+ghost use Rattle.tpm_image.specs.Body.{body_of, body_text, state_in, state_text};
+ghost use Rattle.tpm_image.specs.Filling.{PowersOn, Restores};
+ghost use Rattle.tpm_image.specs.NonVolatile.{kept_of};
+ghost use Rattle.tpm_record.specs.Record.{manufactured};
+
+use crate::fault::{FillFault, Malformed};
+use crate::fields::{Text, read_bool, read_u32, read_u64, write_bool, write_u32, write_u64};
+use crate::hierarchies::{read_hierarchies, write_hierarchies};
+use crate::indices::{read_indices, write_indices};
+use crate::lockout::{read_lockout, write_lockout};
+use crate::objects::{read_objects, write_objects};
+use crate::saved::{read_saved, write_saved};
+use tpm_bytes::Cursor;
+use tpm_lockout::Lockout;
+use tpm_nv::Indices;
+use tpm_record::{Fixed, Keep};
+
+/// Reads what does not grow, and gives the largest value that a counter ever had.
+#[tactic(auto, unfolding(crate::specs::Body::state_in))]
+fn read_state(fixed: &mut Fixed, text: &mut Cursor) -> Result<u64, Malformed>
+    ensures { Restores (state_in text.old) fixed.old result fixed.new text.new }
+{
+    fixed.hierarchies = read_hierarchies(text)?;
+    fixed.disable_clear = read_bool(text)?;
+    fixed.lockout = Lockout::restore(read_lockout(text)?);
+    fixed.clock = read_u64(text)?;
+    fixed.reset_count = read_u32(text)?;
+    fixed.restart_count = read_u32(text)?;
+    let max_count = read_u64(text)?;
+    fixed.saved = read_saved(text)?;
+    Ok(max_count)
+}
+
+/// Reads a whole body into a keep that was just made.
+#[tactic(auto, unfolding(crate::specs::Body::body_of))]
+pub(crate) fn read_body<K: Keep>(keep: &mut K, body: &[u8]) -> Result<(), FillFault>
+    requires { K.record_of keep.old ≡ manufactured (replicate 256 0) }
+    ensures { PowersOn K.can_refuse (body_of body.now) result (K.record_of keep.new) }
+{
+    let mut text = Cursor::new(body);
+    let Ok(max_count) = read_state(keep.fixed_mut(), &mut text) else {
+        return Err(FillFault::Malformed);
+    };
+    keep.nv_mut().set_max_count(max_count);
+    read_objects(keep.persistent_mut(), &mut text)?;
+    read_indices(keep.nv_mut(), &mut text)?;
+    if !text.is_empty() {
+        return Err(FillFault::Malformed);
+    }
+    Ok(())
+}
+
+/// Writes what does not grow: at most 1,269 bytes.
+#[tactic(auto, unfolding(crate::specs::Body::state_text))]
+fn write_state<K: Keep>(keep: &K, text: &mut Text)
+    requires { length text.old + 1269 ≤ 17465 }
+    ensures written { text.new ≡ text.old ++ state_text (kept_of (K.record_of keep.now)).state }
+    ensures small { length text.new ≤ length text.old + 1269 }
+{
+    let fixed = keep.fixed();
+    write_hierarchies(&fixed.hierarchies, text);
+    write_bool(fixed.disable_clear, text);
+    write_lockout(fixed.lockout.fields(), text);
+    write_u64(fixed.clock, text);
+    write_u32(fixed.reset_count, text);
+    write_u32(fixed.restart_count, text);
+    write_u64(keep.nv().max_count(), text);
+    write_saved(&fixed.saved, text);
+}
+
+/// Writes a whole body: at most 17,433 bytes.
+#[tactic(auto, unfolding(crate::specs::Body::body_text))]
+pub(crate) fn write_body<K: Keep>(keep: &K, text: &mut Text)
+    requires { text.old ≡ [] }
+    ensures written { text.new ≡ body_text (kept_of (K.record_of keep.now)) }
+    ensures small { length text.new ≤ 17433 }
+{
+    write_state(keep, text);
+    write_objects(keep.persistent(), text);
+    write_indices(keep.nv(), text);
+}

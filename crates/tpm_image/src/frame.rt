@@ -1,0 +1,55 @@
+//! The frame of an image: the head before its body, and the digest behind it.
+
+ghost use Rattle.std.specs.Prelude.{◌≡◌, ◌≤◌, ◌+◌, ◌++◌, List, ℕ, Result, Ok, Err, length};
+ghost use Rattle.tpm_image.specs.Frame.{Unframes, framed_body, head_text};
+
+use crate::fault::ImageFault;
+use tpm_bytes::Sink;
+use tpm_mac::{HashAlg, digest_parts};
+
+/// The word with which an image begins.
+const MAGIC: [u8; 4] = [0x54, 0x50, 0x4d, 0x49];
+
+/// The version that is written and read.
+const VERSION: u16 = 1;
+
+/// How many bytes the head has, and the digest.
+const HEAD_BYTES: usize = 10;
+
+const DIGEST_BYTES: usize = 32;
+
+/// The head of an image with a body of so many bytes.
+pub(crate) fn head(body_bytes: usize) -> Sink<10>
+    requires { body_bytes ≤ 17433 }
+    ensures { result ≡ head_text 1 (10 + body_bytes + 32) }
+{
+    let mut head = Sink::new();
+    let _ = head.put(&MAGIC);
+    let _ = head.put_u16(VERSION);
+    let _ = head.put_u32((HEAD_BYTES + body_bytes + DIGEST_BYTES) as u32);
+    head
+}
+
+/// The body of a text in its frame, or the first fault of the frame.
+#[tactic(auto, unfolding(crate::specs::Frame::framed_body))]
+pub(crate) fn framed_body(text: &[u8]) -> Result<&[u8], ImageFault>
+    ensures { Unframes (framed_body text.now) result }
+{
+    if text.len() < HEAD_BYTES + DIGEST_BYTES {
+        return Err(ImageFault::Short);
+    }
+    if !text.starts_with(&MAGIC) {
+        return Err(ImageFault::Magic);
+    }
+    if u16::from_be_bytes([text[4], text[5]]) != VERSION {
+        return Err(ImageFault::Version);
+    }
+    if u32::from_be_bytes([text[6], text[7], text[8], text[9]]) as usize != text.len() {
+        return Err(ImageFault::Length);
+    }
+    let (before, digest) = text.split_at(text.len() - DIGEST_BYTES);
+    if digest_parts(HashAlg::Sha256, &[before]).as_slice() != digest {
+        return Err(ImageFault::Digest);
+    }
+    Ok(&before[HEAD_BYTES..])
+}

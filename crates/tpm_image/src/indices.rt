@@ -1,0 +1,195 @@
+//! NV indices in an image.
+
+ghost use Rattle.std.specs.Prelude.{◌≡◌, ◌≤◌, ◌<◌, ◌+◌, ◌*◌, ◌++◌, ◌⊎◌, [], IfOk, length, true};
+ghost use Rattle.std.specs.List.{flat_map};
+ghost use Rattle.tpm_bytes.specs.Many.{many_at};
+ghost use Rattle.tpm_bytes.specs.Reading.{Reads};
+ghost use Rattle.tpm_image.specs.Body.{ascend_from, data_size, have_space, index_in, index_text, indices_in, indices_text};
+ghost use Rattle.tpm_image.specs.Fields.{in_body, passing};
+ghost use Rattle.tpm_image.specs.Filling.{AllBelow, Appends, Fills};
+ghost use Rattle.tpm_nv.specs.Definition.{has_type_size};
+ghost use Rattle.tpm_nv.specs.Head.{index_with, indices_of, total};
+ghost use Rattle.tpm_nv.specs.Index.{data_bytes};
+ghost use Rattle.tpm_types_nv.specs.NvPublic.{IsNvPublic, nv_public_at};
+ghost use Rattle.tpm_types_object.specs.Filled.{filled_by};
+
+use crate::fault::{FillFault, Malformed};
+use crate::fields::{Text, read_auth_value, read_sized, read_u16, write_sized, write_u16};
+use tpm_bytes::Cursor;
+use tpm_nv::{DefineFault, Head, Indices, has_type_size};
+use tpm_types::AuthValue;
+use tpm_types_nv::{NvAttribute, NvPublic};
+
+/// The most NV indices that a device has.
+const MOST_INDICES: u16 = 32;
+
+/// What an image says of an index.
+#[derive(Drop)]
+struct Index<'a> {
+    public: NvPublic,
+    auth_value: AuthValue,
+    bytes: &'a [u8],
+}
+
+/// How many bytes of data an index has: none until it is written.
+fn data_size(public: &NvPublic) -> usize
+    ensures { result ≡ data_size public.now }
+{
+    if public.attributes.has(NvAttribute::Written) {
+        usize::from(public.data_size)
+    } else {
+        0
+    }
+}
+
+/// Reads the public area of an index, in a sized buffer.
+fn read_public(text: &mut Cursor) -> Result<NvPublic, Malformed>
+    ensures exact { Reads (λ public. public) (in_body (filled_by nv_public_at) text.old) text.old
+        result text.new }
+    ensures is_public { IfOk result IsNvPublic }
+{
+    match NvPublic::read_sized(text) {
+        Ok(public) => Ok(public),
+        Err(_) => Err(Malformed),
+    }
+}
+
+/// Reads an index.
+#[tactic(auto, unfolding(crate::specs::Body::index_in))]
+fn read_index<'a>(text: &mut Cursor<'a>) -> Result<Index<'a>, Malformed>
+    ensures exact { Reads
+        (λ index. (
+          index.public.nv_index.number,
+          record {
+            public = index.public;
+            auth_value = index.auth_value;
+            bytes = index.bytes.now;
+          },
+        ))
+        (index_in text.old) text.old result text.new }
+    ensures is_public { IfOk result (λ index. IsNvPublic index.public) }
+    ensures sized { IfOk result (λ index. has_type_size index.public ≡ true) }
+    ensures whole { IfOk result (λ index. length index.bytes.now ≡ data_size index.public) }
+{
+    let mut ahead = Cursor::new(text.rest());
+    let public = read_public(&mut ahead)?;
+    let auth_value = read_auth_value(&mut ahead)?;
+    let bytes = read_sized(&mut ahead, 2048)?;
+    if !has_type_size(&public) || bytes.len() != data_size(&public) {
+        return Err(Malformed);
+    }
+    *text = ahead;
+    Ok(Index {
+        public,
+        auth_value,
+        bytes,
+    })
+}
+
+/// Reads an index and puts it behind those whose handles are below the lowest that it may have, if
+/// there is room for it. Gives the lowest handle that the next one may have.
+#[tactic(auto, using(crate::proofs::Appending::appended, crate::proofs::IndicesLaws::no_space))]
+fn add_index<N: Indices>(indices: &mut N, lowest: u64, text: &mut Cursor) -> Result<u64, FillFault>
+    requires below { AllBelow lowest (N.contents indices.old).indices }
+    requires room { length (N.contents indices.old).indices < 32 }
+    ensures added { Appends N.can_refuse (index_in text.old) lowest
+        (λ e. (e.0 < lowest) ⊎ (8192 < data_bytes (N.contents indices.old) + e.1.public.data_size))
+        (N.contents indices.old).indices result (N.contents indices.new).indices text.new }
+    ensures count { (N.contents indices.new).max_count ≡ (N.contents indices.old).max_count }
+{
+    let Ok(index) = read_index(text) else {
+        return Err(FillFault::Malformed);
+    };
+    let number = u64::from(index.public.nv_index.number);
+    if number < lowest {
+        return Err(FillFault::Malformed);
+    }
+    match indices.restore(index.public, index.auth_value, index.bytes) {
+        Ok(()) => Ok(number + 1),
+        Err(DefineFault::Space) => Err(FillFault::Malformed),
+        Err(DefineFault::Defined | DefineFault::NoMemory) => Err(FillFault::NoMemory),
+    }
+}
+
+/// Reads so many indices, each with a handle above those before it.
+fn add_indices<N: Indices>(indices: &mut N, count: u16, text: &mut Cursor) -> Result<(), FillFault>
+    requires none { (N.contents indices.old).indices ≡ [] }
+    requires few { count ≤ 32 }
+    ensures filled { Fills N.can_refuse
+        (passing have_space (passing (ascend_from 0) (many_at index_in count)) text.old)
+        (N.contents indices.new).indices result text.new }
+    ensures count { (N.contents indices.new).max_count ≡ (N.contents indices.old).max_count }
+{
+    let mut lowest = 0;
+    for _ in 0..count {
+        lowest = add_index(indices, lowest, text)?;
+    }
+    indices.read_sizes();
+    Ok(())
+}
+
+/// Reads the NV indices of a device that has none. The largest value of a counter stays.
+#[tactic(auto, unfolding(crate::specs::Body::indices_in))]
+pub(crate) fn read_indices<N: Indices>(indices: &mut N, text: &mut Cursor) -> Result<(), FillFault>
+    requires { (N.contents indices.old).indices ≡ [] }
+    ensures filled { Fills N.can_refuse (indices_in text.old) (N.contents indices.new).indices
+        result text.new }
+    ensures count { (N.contents indices.new).max_count ≡ (N.contents indices.old).max_count }
+{
+    let Ok(count) = read_u16(text) else {
+        return Err(FillFault::Malformed);
+    };
+    if count > MOST_INDICES {
+        return Err(FillFault::Malformed);
+    }
+    add_indices(indices, count, text)
+}
+
+/// Writes an index that has these bytes: at most 84 more than they are.
+#[tactic(auto, unfolding(crate::specs::Body::index_text))]
+fn write_index(entry: &(u32, Head), bytes: &[u8], text: &mut Text)
+    requires few { length bytes.now ≤ 8192 }
+    requires room { length text.old + (84 + length bytes.now) ≤ 17465 }
+    ensures written { text.new ≡ text.old
+        ++ index_text (entry.now.0, index_with entry.now.1 bytes.now) }
+    ensures small { length text.new ≤ length text.old + (84 + length bytes.now) }
+{
+    let head = &entry.1;
+    write_sized(head.public.text().as_slice(), 46, text);
+    write_sized(head.auth_value.as_slice(), 32, text);
+    if head.public.attributes.has(NvAttribute::Written) {
+        write_sized(bytes, bytes.len(), text);
+    } else {
+        write_sized(&[], 0, text);
+    }
+}
+
+/// Writes the indices of these heads and of this row of their bytes, one after another.
+fn write_heads(heads: &[(u32, Head)], row: &[u8], text: &mut Text)
+    requires whole { length row.now ≡ total heads.now }
+    requires few { length heads.now ≤ 32 }
+    requires small { length row.now ≤ 8192 }
+    requires room { length text.old + 10880 ≤ 17465 }
+    ensures written { text.new ≡ text.old ++ flat_map index_text (indices_of heads.now row.now) }
+    ensures small { length text.new ≤ length text.old + 10880 }
+{
+    let mut left = row;
+    for entry in heads {
+        let (bytes, others) = left.split_at(usize::from(entry.1.public.data_size));
+        write_index(entry, bytes, text);
+        left = others;
+    }
+}
+
+/// Writes the NV indices: at most 10,882 bytes.
+#[tactic(auto, unfolding(crate::specs::Body::indices_text), using(crate::proofs::IndicesLaws::heads_long))]
+pub(crate) fn write_indices<N: Indices>(indices: &N, text: &mut Text)
+    requires { length text.old + 10882 ≤ 17465 }
+    ensures written { text.new ≡ text.old ++ indices_text (N.contents indices.now).indices }
+    ensures small { length text.new ≤ length text.old + 10882 }
+{
+    indices.read_sizes();
+    let heads = indices.heads();
+    write_u16(heads.len() as u16, text);
+    write_heads(heads, indices.bytes(), text);
+}
