@@ -78,6 +78,11 @@ fn whole(alloc: Global, tag: u16, code: u32, text: &[u8]) -> Result<Vec<u8>, Fai
     Ok(buffer)
 }
 
+/// A command whose random bytes are zeros, as those of a script without a line that gives others.
+pub fn event_of_zeros(buffer: &[u8]) -> Event {
+    Event::of_command(buffer, Locality::new(0).unwrap(), 0, [0; 256])
+}
+
 pub fn event_of(buffer: &[u8]) -> Event {
     Event::of_command(buffer, Locality::new(0).unwrap(), 0, [7; 256])
 }

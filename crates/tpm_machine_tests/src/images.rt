@@ -1,0 +1,170 @@
+//! The image of a device: what it begins with, its digest as it was computed outside, the device that
+//! is opened from it, and each fault once. Each test is run over both keeps.
+
+use super::tables::{
+    CLEAR, NO_SESSIONS, OWNER, PASSWORD, SESSIONS, STARTUP, command_of, event_of_zeros,
+};
+use std::alloc::Global;
+use std::process::Abort;
+use std::test::Fail;
+use tpm_bytes::Tap;
+use tpm_image::{ImageFault, open, save};
+use tpm_machine::Machine;
+use tpm_machine_step::Event;
+use tpm_record::{Keep, ListKeep, SlotKeep};
+
+const EVICT_CONTROL: u32 = 0x120;
+
+const HIERARCHY_CHANGE_AUTH: u32 = 0x129;
+
+const NV_DEFINE_SPACE: u32 = 0x12a;
+
+const CREATE_PRIMARY: u32 = 0x131;
+
+const NV_WRITE: u32 = 0x137;
+
+const SHUTDOWN: u32 = 0x145;
+
+const STATE: &[u8] = &[0, 1];
+
+const INDEX: &[u8] = &[1, 0, 0, 3];
+
+/// An ordinary index of eight bytes without an authorization value, written and read by it.
+const PUBLIC: &[u8] = &[0, 0, 0, 14, 1, 0, 0, 3, 0, 11, 0, 4, 0, 4, 0, 0, 0, 8];
+
+/// Two bytes at the front.
+const DATA: &[u8] = &[0, 2, 7, 8, 0, 0];
+
+/// A key of HMACs with four bytes, and neither outside information nor PCRs.
+const KEY: &[u8] = &[
+    0, 8, 0, 0, 0, 4, 0x4a, 0x65, 0x66, 0x65, 0, 16, 0, 8, 0, 11, 0, 4, 4, 0x40, 0, 0, 0, 5, 0, 11,
+    0, 0, 0, 0, 0, 0, 0, 0,
+];
+
+const TRANSIENT: &[u8] = &[0x80, 0, 0, 0];
+
+const PERSISTENT: &[u8] = &[0x81, 0, 0, 1];
+
+/// ownerAuth: own.
+const VALUE: &[u8] = &[0, 3, 0x6f, 0x77, 0x6e];
+
+/// How the image of a new device begins.
+const HEAD: [u8; 10] = [0x54, 0x50, 0x4d, 0x49, 0, 1, 0, 0, 0x01, 0x63];
+
+/// The digests at the ends of the images of a new device and of a busy one, by the device in Python.
+const NEW_DIGEST: [u8; 32] = [
+    0x4a, 0x02, 0x46, 0xad, 0x20, 0x11, 0x43, 0x4e, 0xff, 0x90, 0xce, 0xa5, 0x64, 0x1a, 0x19, 0xf6,
+    0x63, 0xc7, 0x5b, 0x68, 0x59, 0x8f, 0x7c, 0x22, 0xaa, 0x8c, 0x67, 0xa4, 0x81, 0x4d, 0x7a, 0x31,
+];
+
+const BUSY_DIGEST: [u8; 32] = [
+    0x09, 0xb8, 0xdb, 0x1a, 0x4f, 0xbe, 0xf4, 0xb8, 0xce, 0x64, 0xaa, 0xb4, 0xb9, 0x9a, 0xd7, 0x47,
+    0xb9, 0x96, 0x2e, 0xbd, 0x87, 0x33, 0x6f, 0x70, 0x6f, 0x49, 0x0d, 0xfd, 0xf4, 0x0e, 0x39, 0x8b,
+];
+
+/// The random bytes of a manufacture, 0 to 255.
+fn random() -> [u8; 256] {
+    let mut random = [0; 256];
+    for byte in 0..255 {
+        random[usize::from(byte)] = byte;
+    }
+    random[255] = 255;
+    random
+}
+
+/// The image of a device.
+fn image_of<K: Keep>(alloc: Global, machine: &Machine<K>) -> Result<Vec<u8>, Fail> {
+    let mut tap = Tap::new(Vec::new(alloc));
+    save(machine, &mut tap)?;
+    Ok(tap.into_inner())
+}
+
+/// What opening a text answers, and of a device its image.
+fn reopened<K: Keep>(alloc: Global, text: &[u8]) -> Result<Result<Vec<u8>, ImageFault>, Fail> {
+    let opened: Result<Machine<K>, ImageFault> = open(alloc, text);
+    match opened {
+        Ok(machine) => Ok(Ok(image_of(alloc, &machine)?)),
+        Err(fault) => Ok(Err(fault)),
+    }
+}
+
+/// The text with another byte in a place.
+fn bent(alloc: Global, text: &[u8], place: usize, byte: u8) -> Result<Vec<u8>, Fail> {
+    let mut other = Vec::new(alloc);
+    other.extend_from_slice(&text[..place])?;
+    other.push(byte)?;
+    other.extend_from_slice(&text[place + 1..])?;
+    Ok(other)
+}
+
+/// A device with an owner's authorization value, an index, a persistent object and a saved state.
+fn busy<K: Keep, R: Abort>(rt: &R, alloc: Global) -> Result<Machine<K>, Fail> {
+    let mut machine: Machine<K> = Machine::manufacture(alloc, &random())?;
+    let commands: [(u16, u32, &[&[u8]]); 7] = [
+        (NO_SESSIONS, STARTUP, &[CLEAR]),
+        (SESSIONS, NV_DEFINE_SPACE, &[OWNER, PASSWORD, PUBLIC]),
+        (SESSIONS, NV_WRITE, &[INDEX, INDEX, PASSWORD, DATA]),
+        (SESSIONS, CREATE_PRIMARY, &[OWNER, PASSWORD, KEY]),
+        (
+            SESSIONS,
+            EVICT_CONTROL,
+            &[OWNER, TRANSIENT, PASSWORD, PERSISTENT],
+        ),
+        (SESSIONS, HIERARCHY_CHANGE_AUTH, &[OWNER, PASSWORD, VALUE]),
+        (NO_SESSIONS, SHUTDOWN, &[STATE]),
+    ];
+    for (tag, code, fields) in commands {
+        let buffer = command_of(alloc, tag, code, fields)?;
+        let row = machine.execute(&event_of_zeros(buffer.as_slice())).row;
+        assert_eq!(rt; row.check, 0);
+    }
+    Ok(machine)
+}
+
+fn check_new<K: Keep, R: Abort>(rt: &R, alloc: Global) -> Result<(), Fail> {
+    let machine: Machine<K> = Machine::manufacture(alloc, &random())?;
+    let image = image_of(alloc, &machine)?;
+    let text = image.as_slice();
+    assert_eq!(rt; text.len(), 355);
+    assert!(rt; text.starts_with(&HEAD));
+    assert!(rt; text.ends_with(&NEW_DIGEST));
+    assert!(rt; reopened::<K>(alloc, text)?.unwrap().as_slice() == text);
+    assert_eq!(rt;
+        reopened::<K>(alloc, &text[..41])?.unwrap_err(),
+        ImageFault::Short
+    );
+    assert_eq!(rt;
+        reopened::<K>(alloc, &text[..354])?.unwrap_err(),
+        ImageFault::Length
+    );
+    for (place, byte, fault) in [
+        (0, 0x55, ImageFault::Magic),
+        (5, 3, ImageFault::Version),
+        (354, 0, ImageFault::Digest),
+    ] {
+        let other = bent(alloc, text, place, byte)?;
+        assert_eq!(rt; reopened::<K>(alloc, other.as_slice())?.unwrap_err(), fault);
+    }
+    Ok(())
+}
+
+fn check_busy<K: Keep, R: Abort>(rt: &R, alloc: Global) -> Result<(), Fail> {
+    let machine: Machine<K> = busy(rt, alloc)?;
+    let image = image_of(alloc, &machine)?;
+    let text = image.as_slice();
+    assert!(rt; text.ends_with(&BUSY_DIGEST));
+    assert!(rt; reopened::<K>(alloc, text)?.unwrap().as_slice() == text);
+    Ok(())
+}
+
+#[test]
+fn new_devices(rt: HostRuntime) -> Result<(), Fail> {
+    check_new::<ListKeep, HostRuntime>(&rt, rt.alloc())?;
+    check_new::<SlotKeep, HostRuntime>(&rt, rt.alloc())
+}
+
+#[test]
+fn busy_devices(rt: HostRuntime) -> Result<(), Fail> {
+    check_busy::<ListKeep, HostRuntime>(&rt, rt.alloc())?;
+    check_busy::<SlotKeep, HostRuntime>(&rt, rt.alloc())
+}
