@@ -14,7 +14,7 @@ use Rattle.tpm_mac.specs.Digest.{hash_of}
 use Rattle.tpm_mac.specs.declared.algorithm.HashAlg.TheVariants.{Sha256}
 use Rattle.tpm_mac.proofs.DigestSize.{length-hash_of}
 use Rattle.tpm_types.proofs.Spelled.{rest_fits}
-use Rattle.tpm_image.specs.Frame.{before_digest, digest_bytes, digest_of, framed_body, framed_text, head_bytes, head_text, length_of, magic, sealed_text, version_of}
+use Rattle.tpm_image.specs.Frame.{before_digest, digest_bytes, digest_of, framed_body, framed_text, head_bytes, head_text, length_of, magic, digested_text, version_of}
 use Rattle.tpm_image.specs.declared.fault.ImageFault.{ImageFault}
 use Rattle.tpm_image.specs.declared.fault.ImageFault.TheVariants as fault
 use Rattle.tpm_image.proofs.FieldSpelling.{not_false}
@@ -131,8 +131,8 @@ framed_taken text body fits e =
     let whole : length text ≡ whole_of body = omega (arith, is.0.long, size) in
     let head : take head_bytes before ≡ head_of body = take-take head_bytes place text (omega (arith, is.0.long)) ∙ head_is text fits is.0 ∙ ap (head_text 1) whole in
     let front : before ≡ head_of body ++ body = sym (take-append-drop head_bytes before) ∙ rw (head, is.1) refl in
-    let parts : text ≡ sealed_text before = sym (take-append-drop place text) ∙ ap (λ (l : List ℕ). before ++ l) (sym is.0.digest) in
-    (parts ∙ ap sealed_text front, subst AreBytes is.1 (fits_behind before (AreBytes-take place text fits) head_bytes))
+    let parts : text ≡ digested_text before = sym (take-append-drop place text) ∙ ap (λ (l : List ℕ). before ++ l) (sym is.0.digest) in
+    (parts ∙ ap digested_text front, subst AreBytes is.1 (fits_behind before (AreBytes-take place text fits) head_bytes))
 
 -- ---- a text that was cut
 

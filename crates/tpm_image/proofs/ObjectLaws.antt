@@ -30,7 +30,7 @@ use Rattle.tpm_types_object.specs.declared.sensitive.Sensitive.{Sensitive}
 use Rattle.tpm_types_object.proofs.ObjectFields.{object_type_named-again}
 use Rattle.tpm_types_object.proofs.PublicLaws.{parameters_small, sized_public_spelled}
 use Rattle.tpm_types_object.proofs.SensitiveLaws.{sized_sensitive_spelled}
-use Rattle.tpm_image.specs.Body.{ascend_from, handle_in, is_sensitive_of, object_in, object_text, objects_in, objects_text, owner_in, sensitive_in, sensitive_of}
+use Rattle.tpm_image.specs.Body.{ascend_from, handle_in, is_sensitive_of, object_in, object_text, objects_in, objects_text, object_hierarchy_in, sensitive_in, sensitive_of}
 use Rattle.tpm_image.specs.Fields.{is_trimmed, malformed, number_in}
 use Rattle.tpm_image.specs.declared.fault.Malformed.{Malformed}
 use Rattle.tpm_image.proofs.AscendingLaws.{are_both, are_each, are_each-again, ascends, ascends-again, both}
@@ -76,8 +76,8 @@ steps (Err fault) f g = refl
 abbrev owned : HierarchyHandle × List ℕ → Result (HierarchyHandle × List ℕ) Malformed
 owned x = refused_if (not (can_persist x.0)) malformed >>= λ passed. Ok x
 
-owner_spelled : Spelled (λ owner. to_be_bytes w32 (owner_number owner)) (λ owner. can_persist owner ≡ true) owner_in
-unfolding owner_in
+owner_spelled : Spelled (λ owner. to_be_bytes w32 (owner_number owner)) (λ owner. can_persist owner ≡ true) object_hierarchy_in
+unfolding object_hierarchy_in
 owner_spelled =
     let named = names_spelled w32 (2 ^ 32) wide32 owner_number (λ n. hierarchy_of (numbered n)) malformed malformed owner_is owner_again owner_small in
     respelled (same_reading (λ bytes. same (number_in w32 bytes)) (passing_spelled can_persist named)) (λ _. refl) (λ owner is. is.1) (λ owner is. (tt, is))

@@ -8,10 +8,13 @@ use Rattle.tpm_image.specs.NonVolatile.{IsNonVolatile, NonVolatile, kept_of, pow
 use Rattle.tpm_image.specs.Opening.{Opens, OpensAgain}
 use Rattle.tpm_image.specs.declared.fault.ImageFault.{ImageFault}
 use Rattle.tpm_image.specs.declared.fault.ImageFault.TheVariants as fault
-use Rattle.tpm_image.proofs.ImageLaws.{front_cut, image_again, image_taken, kept_is}
+use Rattle.tpm_image.proofs.ImageLaws.{front_cut, image_again, image_small, image_taken, kept_is}
 
 pub record_again : (r : Record) → IsRecord r → image_of (image_text (kept_of r)) ≡ Ok (kept_of r)
 record_again r is = image_again (kept_of r) (kept_is r is)
+
+pub record_small : (r : Record) → IsRecord r → length (image_text (kept_of r)) ≤ 17475
+record_small r is = image_small (kept_of r) (kept_is r is)
 
 pub record_cut : (r : Record) (n : ℕ) → IsRecord r → 42 ≤ n → n < length (image_text (kept_of r)) → image_of (take n (image_text (kept_of r))) ≡ Err fault.Length
 record_cut r n is long less = front_cut (kept_of r) n (kept_is r is) long less

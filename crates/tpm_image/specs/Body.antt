@@ -176,8 +176,8 @@ handle_in text = do
   Ok (numbered number.0, number.1)
 
 -- a hierarchy that has persistent objects
-unfoldable pub owner_in : List ℕ → Result (HierarchyHandle × List ℕ) Malformed
-owner_in text = do
+unfoldable pub object_hierarchy_in : List ℕ → Result (HierarchyHandle × List ℕ) Malformed
+object_hierarchy_in text = do
   number ← number_in w32 text
   hierarchy ← ok_or (hierarchy_of (numbered number.0)) malformed
   owned ← refused_if (not (can_persist hierarchy)) malformed
@@ -195,7 +195,7 @@ sensitive_in p text = passing (is_sensitive_of p) (in_body (filled_by sensitive_
 unfoldable pub object_in : List ℕ → Result ((ℕ × Object) × List ℕ) Malformed
 object_in text = do
   handle ← handle_in text
-  hierarchy ← owner_in handle.1
+  hierarchy ← object_hierarchy_in handle.1
   qualified_name ← buffer_in 34 hierarchy.1
   public ← in_body (filled_by public_at) qualified_name.1
   sensitive ← sensitive_in public.0 public.1
@@ -234,10 +234,11 @@ unfoldable pub index_text : ℕ × NvIndex → List ℕ
 index_text e =
     sized_text (nv_public_text e.1.public) ++ sized_text e.1.auth_value ++ sized_text e.1.bytes
 
--- of the size of its type, and with as many bytes of data as it has where it is written, else none
+-- how many bytes of data it has: as many as it says where it is written, else none
 abbrev pub data_size : NvPublic → ℕ
 data_size p = if has p.attributes attribute.Written then p.data_size else 0
 
+-- of the size of its type, and with so many bytes of data
 abbrev pub is_index : NvIndex → Bool
 is_index index =
     has_type_size index.public && length index.bytes == data_size index.public

@@ -67,7 +67,7 @@ auth_value_in text = passing is_trimmed (buffer_in 32) text
 abbrev pub counted_text : {X : Type 0} → (X → List ℕ) → List X → List ℕ
 counted_text text_of things = to_be_bytes w16 (length things) ++ flat_map text_of things
 
--- at most so many
+-- the same, at most so many
 abbrev pub counted_in : {X : Type 0}
     → (most : ℕ)
     → (List ℕ → Result (X × List ℕ) Malformed)

@@ -26,13 +26,13 @@ abbrev pub digest_bytes : ℕ
 digest_bytes = 32
 
 -- a text with the digest of it behind it
-abbrev pub sealed_text : List ℕ → List ℕ
-sealed_text text = text ++ hash_of Sha256 text
+abbrev pub digested_text : List ℕ → List ℕ
+digested_text text = text ++ hash_of Sha256 text
 
 -- a body in its frame: the head before it, and the digest of both behind it
 abbrev pub framed_text : (version : ℕ) → List ℕ → List ℕ
 framed_text version body =
-    sealed_text (head_text version (head_bytes + length body + digest_bytes) ++ body)
+    digested_text (head_text version (head_bytes + length body + digest_bytes) ++ body)
 
 -- ---- its parts, by their places
 

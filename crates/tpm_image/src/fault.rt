@@ -7,11 +7,11 @@ pub enum ImageFault {
     Magic,
     /// Another version than 1.
     Version,
-    /// Another length than the head says.
+    /// The text is not as long as its head says.
     Length,
-    /// Another digest than the bytes have.
+    /// Its last 32 bytes are not the SHA-256 of those before them.
     Digest,
-    /// What is between head and digest is not what a device keeps.
+    /// What is between head and digest spells no state.
     Body,
     /// It is an image, and memory was refused.
     NoMemory,

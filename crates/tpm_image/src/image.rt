@@ -25,8 +25,8 @@ use tpm_machine::Machine;
 use tpm_record::{Keep, SlotKeep};
 use tpm_types::bytes_fit;
 
-/// Writes the image of a device, which stays as it is. Write stands where the writer failed, and
-/// only there; what went out before it failed is then no image.
+/// Writes the image of a device, which stays as it is. Of a tap that had not failed, Write stands
+/// just where the writer failed; what went out is then not said.
 #[tactic(auto, unfolding(crate::specs::Image::image_text), using(crate::proofs::Sent::appends_more))]
 pub fn save<K: Keep, D: Write>(machine: &Machine<K>, tap: &mut Tap<D>) -> Result<(), SaveFault>
     ensures written { OnOk result (Appends (D.contents (device_of tap.old))
@@ -82,6 +82,7 @@ pub fn open<K: Keep>(alloc: Global, text: &[u8]) -> Result<Machine<K>, ImageFaul
     open_device(alloc, text)
 }
 
+/// The same, without what is said of texts.
 fn open_device<K: Keep>(alloc: Global, text: &[u8]) -> Result<Machine<K>, ImageFault>
     ensures { Opens (state_of K.record_of) (K.empty_can_refuse || K.can_refuse) text.now result }
 {

@@ -8,17 +8,18 @@ ghost use Rattle.tpm_record.specs.Cycle.{cycled};
 ghost use Rattle.tpm_record.specs.IsRecord.{IsRecord};
 ghost use Rattle.tpm_record.specs.Record.{Record};
 
-/// The image of a device tells what the device keeps, and what it keeps is the device after a power
-/// cycle. It does nothing.
+/// The image of a device tells what the device keeps, and has at most 17,475 bytes; a device that kept
+/// just that is the device after a power cycle. The function does nothing.
 #[inline(always)]
-#[tactic(auto, using(crate::proofs::RecordLaws::record_again, crate::proofs::ImageLaws::powered_again))]
+#[tactic(auto, using(crate::proofs::RecordLaws::record_again, crate::proofs::RecordLaws::record_small, crate::proofs::ImageLaws::powered_again))]
 pub fn images_tell_devices()
     ensures told { (r : Record) → IsRecord r
         → image_of (image_text (kept_of r)) ≡ Ok (kept_of r) }
+    ensures small { (r : Record) → IsRecord r → length (image_text (kept_of r)) ≤ 17475 }
     ensures cycled { (r : Record) → powered_on (kept_of r) ≡ cycled r }
 {}
 
-/// No proper prefix of an image is one: below 42 bytes it is Short, and else its Length is another.
+/// No proper prefix of an image is one: below 42 bytes it is Short, and else it is refused by Length.
 #[inline(always)]
 #[tactic(auto, using(crate::proofs::ImageLaws::front_short, crate::proofs::RecordLaws::record_cut))]
 pub fn prefixes_are_refused()

@@ -3,7 +3,7 @@
 ghost use Rattle.std.specs.Prelude.{◌≡◌, ◌≤◌, ◌<◌, ◌+◌, ◌*◌, ◌++◌, IfOk, length, true};
 ghost use Rattle.tpm_types.specs.AuthValue.{trimmed};
 ghost use Rattle.tpm_bytes.specs.Reading.{Reads};
-ghost use Rattle.tpm_image.specs.Body.{ascend_from, handle_in, is_sensitive_of, object_in, object_text, objects_in, objects_text, owner_in, sensitive_in, sensitive_of};
+ghost use Rattle.tpm_image.specs.Body.{ascend_from, handle_in, is_sensitive_of, object_in, object_text, objects_in, objects_text, object_hierarchy_in, sensitive_in, sensitive_of};
 ghost use Rattle.std.specs.List.{flat_map};
 ghost use Rattle.tpm_bytes.specs.Many.{many_at};
 ghost use Rattle.tpm_image.specs.Fields.{passing};
@@ -38,9 +38,9 @@ fn can_persist(hierarchy: HierarchyHandle) -> bool
 }
 
 /// Reads the handle of a hierarchy that has persistent objects.
-#[tactic(auto, unfolding(crate::specs::Body::owner_in))]
-fn read_owner(text: &mut Cursor) -> Result<HierarchyHandle, Malformed>
-    ensures exact { Reads (λ hierarchy. hierarchy) (owner_in text.old) text.old result text.new }
+#[tactic(auto, unfolding(crate::specs::Body::object_hierarchy_in))]
+fn read_object_hierarchy(text: &mut Cursor) -> Result<HierarchyHandle, Malformed>
+    ensures exact { Reads (λ hierarchy. hierarchy) (object_hierarchy_in text.old) text.old result text.new }
     ensures owned { IfOk result (λ hierarchy. can_persist hierarchy ≡ true) }
 {
     let mut ahead = Cursor::new(text.rest());
@@ -109,7 +109,7 @@ fn read_object(text: &mut Cursor) -> Result<(Handle, Object), Malformed>
 {
     let mut ahead = Cursor::new(text.rest());
     let handle = read_handle(&mut ahead)?;
-    let hierarchy = read_owner(&mut ahead)?;
+    let hierarchy = read_object_hierarchy(&mut ahead)?;
     let qualified_name = Name::of(read_sized(&mut ahead, 34)?);
     let public: Public = read_structure(&mut ahead)?;
     let sensitive = read_sensitive(&public, &mut ahead)?;

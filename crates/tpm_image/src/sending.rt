@@ -8,7 +8,7 @@ use crate::fault::SaveFault;
 use std::io::Write;
 use tpm_bytes::Tap;
 
-/// Writes all of a text, in as many writes as the device needs.
+/// Writes all of a text, in as many writes as the writer needs.
 pub(crate) fn send<D: Write>(text: &[u8], tap: &mut Tap<D>) -> Result<(), SaveFault>
     ensures sent { OnOk result (Appends (D.contents (device_of tap.old))
         (D.contents (device_of tap.new)) text.now) }
