@@ -63,7 +63,7 @@ const BUSY_DIGEST: [u8; 32] = [
 ];
 
 /// The random bytes of a manufacture, 0 to 255.
-fn random() -> [u8; 256] {
+pub fn random() -> [u8; 256] {
     let mut random = [0; 256];
     for byte in 0..255 {
         random[usize::from(byte)] = byte;
@@ -73,7 +73,7 @@ fn random() -> [u8; 256] {
 }
 
 /// The image of a device.
-fn image_of<K: Keep>(alloc: Global, machine: &Machine<K>) -> Result<Vec<u8>, Fail> {
+pub fn image_of<K: Keep>(alloc: Global, machine: &Machine<K>) -> Result<Vec<u8>, Fail> {
     let mut tap = Tap::new(Vec::new(alloc));
     save(machine, &mut tap)?;
     Ok(tap.into_inner())
