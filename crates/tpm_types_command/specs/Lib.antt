@@ -1,6 +1,7 @@
 pub mod Tag
 pub mod Shape
 pub mod CommandCode
+pub mod CommandName
 pub mod HandleArea
 pub mod AuthEntry
 pub mod AuthArea

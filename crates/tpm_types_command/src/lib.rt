@@ -3,7 +3,8 @@
 //! Whole commands (TPM 2.0 Library, Part 1, section 18): the commands that are served, their
 //! headers, handles, authorization areas and entries.
 //!
-//! Every fact of a command but its number and what it does stands in its [`shape::Shape`].
+//! Every fact of a command but its number, its name and what it does stands in its
+//! [`shape::Shape`].
 //!
 //! It stands on `tpm_types` for handles and response codes. A read gives the value or the first
 //! fault, as the response code that the standard has for it, and a refused read or write changes
@@ -14,6 +15,7 @@ pub mod auth_area;
 pub mod auth_entry;
 pub mod command;
 pub mod command_code;
+pub mod command_name;
 pub mod handle_area;
 pub mod shape;
 pub mod tag;
