@@ -13,6 +13,8 @@ mod nv_rows;
 #[cfg(test)]
 mod object_rows;
 #[cfg(test)]
+mod outlasting;
+#[cfg(test)]
 mod persistent;
 #[cfg(test)]
 mod rows;
