@@ -1,0 +1,171 @@
+-- A line, read part by part.
+use Rattle.std.proofs.Common.{◌≡◌, ℕ, ◌+◌, ◌<◌, ◌≤◌, Bool, true, false, cond, List, [], ◌∷◌, ◌++◌, length, drop, Option, Some, None, IfSome, Result, Ok, Err, refl, sym, ap, ◌∙◌, subst, arith, length-append}
+use Rattle.std.specs.Prelude.{nat_le, nat_lt}
+use Rattle.std.specs.Option.{IsSome}
+use Rattle.std.specs.Int.{w32, to_be_bytes}
+use Rattle.std.proofs.lemmas.Bool.{le-ltb, leb-false, leb-true, lt-ltb}
+use Rattle.std.proofs.lemmas.List.{drop_at}
+use Rattle.tpm_bytes.specs.Reading.{◌>>=◌, refused_if}
+use Rattle.tpm_types.specs.declared.handle.Handle.{Handle}
+use Rattle.tpm_types_command.specs.declared.command_code.CommandCode.{CommandCode}
+use Rattle.tpm_types_command.specs.declared.tag.Tag.{Tag}
+use Rattle.tpm_types_command.specs.declared.tag.Tag.TheVariants.{Sessions}
+use Rattle.tpm_types_command.specs.AuthArea.{entries_text}
+use Rattle.tpm_types_command.specs.AuthEntry.{Entry}
+use Rattle.tpm_types_command.specs.Command.{body_text, command_size, command_text, handles_text, sessions_text, tag_for}
+use Rattle.tpm_types_command.specs.CommandCode.{handle_count, shape_of}
+use Rattle.tpm_types_command.specs.Header.{header_text}
+use Rattle.tpm_text.specs.declared.fault.AsmFault.{AsmFault}
+use Rattle.tpm_text.specs.declared.fault.AsmFault.TheVariants.{TooLong}
+use Rattle.tpm_text.specs.Draft.{Finishes, finished, grown, with_area}
+use Rattle.tpm_text.specs.Entry.{begins_entry, entry_in}
+use Rattle.tpm_text.specs.Fault.{at_column}
+use Rattle.tpm_text.specs.Laying.{Lays, LaysSessions, Leads, first_is_entry}
+use Rattle.tpm_text.specs.Line.{assembled, ended, entries_in, handles_in, name_in, parameters_in, spelled}
+use Rattle.tpm_text.specs.Pieces.{Token, tokens_of}
+use Rattle.tpm_text.proofs.Growing.{fits, grown-grown, none_grows, spills, too_much}
+
+-- ---- what a part gave
+
+pub leads_ok : {A E : Type 0} (read : Result (A × List Token) E) (result : Result A E) (x : A) (left : List Token) → result ≡ Ok x → Leads (λ a. a) read result left → read ≡ Ok (x, left)
+leads_ok (Ok read) (Ok y) x left e h = let same : y ≡ x = cc in ap (λ a. Ok (a, read.1)) (h.0 ∙ same) ∙ ap (λ l. Ok (x, l)) (sym h.1)
+leads_ok (Ok read) (Err found) x left e h = absurd h
+leads_ok (Err fault) (Ok y) x left e h = absurd h
+leads_ok (Err fault) (Err found) x left e h = absurd cc
+
+pub leads_err : {A E : Type 0} (read : Result (A × List Token) E) (result : Result A E) (fault : E) (left : List Token) → result ≡ Err fault → Leads (λ a. a) read result left → read ≡ Err fault
+leads_err (Ok read) (Ok y) fault left e h = absurd cc
+leads_err (Ok read) (Err found) fault left e h = absurd h
+leads_err (Err other) (Ok y) fault left e h = absurd h
+leads_err (Err other) (Err found) fault left e h = ap Err (sym h ∙ cc)
+
+pub lays_ok : {A E : Type 0} (text : A → List ℕ) (read : Result (A × List Token) E) (old new : Option (List ℕ)) (result : Result (Unit {0}) E) (left : List Token) → result ≡ Ok tt → Lays text read old result new left
+    → (a : A) × (read ≡ Ok (a, left)) × (new ≡ grown old (text a))
+lays_ok text (Ok read) old new (Ok done) left e h = (read.0, ap (λ l. Ok (read.0, l)) (sym h.1), h.0)
+lays_ok text (Ok read) old new (Err found) left e h = absurd h
+lays_ok text (Err fault) old new (Ok done) left e h = absurd h
+lays_ok text (Err fault) old new (Err found) left e h = absurd cc
+
+pub lays_err : {A E : Type 0} (text : A → List ℕ) (read : Result (A × List Token) E) (old new : Option (List ℕ)) (result : Result (Unit {0}) E) (fault : E) (left : List Token) → result ≡ Err fault → Lays text read old result new left → read ≡ Err fault
+lays_err text (Ok read) old new (Ok done) fault left e h = absurd cc
+lays_err text (Ok read) old new (Err found) fault left e h = absurd h
+lays_err text (Err other) old new (Ok done) fault left e h = absurd h
+lays_err text (Err other) old new (Err found) fault left e h = ap Err (sym h ∙ cc)
+
+pub sessions_ok : {E : Type 0} (read : Result (List Entry × List Token) E) (old new : Option (List ℕ)) (result : Result Tag E) (tag : Tag) (left : List Token) → result ≡ Ok tag → LaysSessions read old result new left
+    → (entries : List Entry) × (read ≡ Ok (entries, left)) × (tag ≡ tag_for entries) × (new ≡ grown old (sessions_text entries))
+sessions_ok (Ok read) old new (Ok found) tag left e h = let same : found ≡ tag = cc in (read.0, ap (λ l. Ok (read.0, l)) (sym h.2), sym same ∙ h.0, h.1)
+sessions_ok (Ok read) old new (Err found) tag left e h = absurd h
+sessions_ok (Err fault) old new (Ok found) tag left e h = absurd h
+sessions_ok (Err fault) old new (Err found) tag left e h = absurd cc
+
+pub sessions_err : {E : Type 0} (read : Result (List Entry × List Token) E) (old new : Option (List ℕ)) (result : Result Tag E) (fault : E) (left : List Token) → result ≡ Err fault → LaysSessions read old result new left → read ≡ Err fault
+sessions_err (Ok read) old new (Ok found) fault left e h = absurd cc
+sessions_err (Ok read) old new (Err found) fault left e h = absurd h
+sessions_err (Err other) old new (Ok found) fault left e h = absurd h
+sessions_err (Err other) old new (Err found) fault left e h = ap Err (sym h ∙ cc)
+
+-- ---- the authorization area
+
+-- an area of its own, added to the draft
+area_is : (old area : Option (List ℕ)) (text : List ℕ) → area ≡ grown (Some []) text → with_area old area ≡ grown old (to_be_bytes w32 (length text) ++ text)
+unfolding with_area
+area_is old area text e = by (nat_le (length text) 4096) refl
+  where
+    by : (b : Bool) → nat_le (length text) 4096 ≡ b → with_area old area ≡ grown old (to_be_bytes w32 (length text) ++ text)
+    by true short = let less = leb-true _ _ short in rw (e ∙ fits [] text (omega (arith, less))) refl
+    by false long = let more = leb-false _ _ long in rw (e ∙ spills [] text (omega (arith, more))) (sym (too_much old (to_be_bytes w32 (length text) ++ text) (omega (arith, more, length-append (to_be_bytes w32 (length text)) text))))
+
+pub sessions_laid : (tokens left : List Token) (old area new : Option (List ℕ)) (result : Result (Unit {0}) AsmFault) → first_is_entry tokens ≡ true → result ≡ Ok tt → Lays entries_text (entries_in 3 tokens) (Some []) result area left → new ≡ with_area old area
+    → LaysSessions (entries_in 3 tokens) old (let tag : Result Tag AsmFault = Ok Sessions in tag) new left
+unfolding entries_in
+sessions_laid [] left old area new result first done h e = absurd cc
+sessions_laid (token ∷ tokens) left old area new result first done h e =
+    let read = at_column token.column (entry_in token.text) in
+    subst (λ b. Lays entries_text (cond b (read >>= λ first. entries_in 2 tokens >>= λ others. Ok (first ∷ others.0, others.1)) (Ok ([], token ∷ tokens))) (Some []) result area left → LaysSessions (cond b (read >>= λ first. entries_in 2 tokens >>= λ others. Ok (first ∷ others.0, others.1)) (Ok ([], token ∷ tokens))) old (Ok Sessions) new left) (sym first) (by read (entries_in 2 tokens) result done) h
+  where
+    by : (first : Result Entry AsmFault) (others : Result (List Entry × List Token) AsmFault) (result : Result (Unit {0}) AsmFault) → result ≡ Ok tt
+        → Lays entries_text (first >>= λ first. others >>= λ others. Ok (first ∷ others.0, others.1)) (Some []) result area left
+        → LaysSessions (first >>= λ first. others >>= λ others. Ok (first ∷ others.0, others.1)) old (let tag : Result Tag AsmFault = Ok Sessions in tag) new left
+    by (Ok first) (Ok others) (Ok done) d h = (refl, e ∙ area_is old area (entries_text (first ∷ others.0)) h.0, h.1)
+    by (Ok first) (Ok others) (Err found) d h = absurd h
+    by (Ok first) (Err fault) (Ok done) d h = absurd h
+    by (Ok first) (Err fault) (Err found) d h = absurd cc
+    by (Err fault) others (Ok done) d h = absurd h
+    by (Err fault) others (Err found) d h = absurd cc
+
+-- ---- a whole text
+
+fitting : (tag : Tag) (code : CommandCode) (ten body : List ℕ) → length ten ≡ 10 → finished tag code (Some (ten ++ body)) ≡ Ok (header_text tag (10 + length body) code ++ body)
+unfolding finished
+fitting tag code ten body e = ap (λ n. Ok (header_text tag n code ++ drop 10 (ten ++ body))) (length-append ten body ∙ ap (λ n. n + length body) e) ∙ ap (λ l. Ok (header_text tag (10 + length body) code ++ l)) (drop_at ten body 10 e)
+
+not_fitting : (tag : Tag) (code : CommandCode) → finished tag code None ≡ Err TooLong
+unfolding finished
+not_fitting tag code = refl
+
+-- ten bytes and more
+pub still_ten : (draft : Option (List ℕ)) (bytes : List ℕ) → IfSome draft (λ text. 10 ≤ length text) → IfSome (grown draft bytes) (λ text. 10 ≤ length text)
+still_ten None bytes h = subst (λ (d : Option (List ℕ)). IfSome d (λ text. 10 ≤ length text)) (sym (none_grows bytes)) tt
+still_ten (Some text) bytes h = by (nat_le (length text + length bytes) 4096) refl
+  where
+    by : (b : Bool) → nat_le (length text + length bytes) 4096 ≡ b → IfSome (grown (Some text) bytes) (λ text. 10 ≤ length text)
+    by true short = subst (λ (d : Option (List ℕ)). IfSome d (λ text. 10 ≤ length text)) (sym (fits text bytes (leb-true _ _ short))) (omega (arith, h, length-append text bytes))
+    by false long = subst (λ (d : Option (List ℕ)). IfSome d (λ text. 10 ≤ length text)) (sym (spills text bytes (leb-false _ _ long))) tt
+
+-- a draft that began
+pub begun : (draft : Option (List ℕ)) → IsSome draft → IfSome draft (λ text. length text ≡ 10) → (ten : List ℕ) × (draft ≡ Some ten) × (length ten ≡ 10)
+begun None is h = absurd cc
+begun (Some ten) is h = (ten, refl, h)
+
+-- ---- the first fault of a line
+
+pub name_fault : (line : List ℕ) (fault : AsmFault) → name_in (tokens_of line) ≡ Err fault → assembled line ≡ Err fault
+unfolding assembled spelled
+name_fault line fault n = rw n refl
+
+module _ (line : List ℕ) (code : CommandCode) (one : List Token) (n : name_in (tokens_of line) ≡ Ok (code, one)) where
+  pub handles_fault : (fault : AsmFault) → handles_in (handle_count code) one ≡ Err fault → assembled line ≡ Err fault
+  unfolding assembled spelled
+  handles_fault fault h = rw (n, h) refl
+
+  module _ (handles : List Handle) (two : List Token) (h : handles_in (handle_count code) one ≡ Ok (handles, two)) where
+    pub entries_fault : (fault : AsmFault) → entries_in 3 two ≡ Err fault → assembled line ≡ Err fault
+    unfolding assembled spelled
+    entries_fault fault s = rw (n, h, s) refl
+
+    module _ (entries : List Entry) (three : List Token) (s : entries_in 3 two ≡ Ok (entries, three)) where
+      pub parameters_fault : (fault : AsmFault) → parameters_in (shape_of code).parameters three ≡ Err fault → assembled line ≡ Err fault
+      unfolding assembled spelled
+      parameters_fault fault p = rw (n, h, s, p) refl
+
+      module _ (parameters : List ℕ) (four : List Token) (p : parameters_in (shape_of code).parameters three ≡ Ok (parameters, four)) where
+        pub end_fault : (fault : AsmFault) → ended four ≡ Err fault → assembled line ≡ Err fault
+        unfolding assembled spelled
+        end_fault fault e = rw (n, h, s, p, e) refl
+
+        body : List ℕ
+        body = handles_text handles ++ sessions_text entries ++ parameters
+
+        whole : ended four ≡ Ok tt → assembled line ≡ (refused_if (nat_lt 4096 (10 + length body)) TooLong >>= λ fits. Ok (header_text (tag_for entries) (10 + length body) code ++ body))
+        unfolding assembled spelled command_size command_text body_text body
+        whole e = rw (n, h, s, p, e) refl
+
+        -- the text of the command, behind ten bytes
+        command_is : ended four ≡ Ok tt → (ten : List ℕ) → length ten ≡ 10 → finished (tag_for entries) code (grown (Some ten) body) ≡ assembled line
+        command_is e ten ten_is = by (nat_le (length ten + length body) 4096) refl ∙ sym (whole e)
+          where
+            by : (b : Bool) → nat_le (length ten + length body) 4096 ≡ b → finished (tag_for entries) code (grown (Some ten) body) ≡ (refused_if (nat_lt 4096 (10 + length body)) TooLong >>= λ fits. Ok (header_text (tag_for entries) (10 + length body) code ++ body))
+            by true short = let less = leb-true _ _ short in
+                rw (fits ten body less, le-ltb 4096 (10 + length body) (omega (arith, less, ten_is))) (fitting (tag_for entries) code ten body ten_is)
+            by false long = let more = leb-false _ _ long in
+                rw (spills ten body more, lt-ltb 4096 (10 + length body) (omega (arith, more, ten_is))) (not_fitting (tag_for entries) code)
+
+        pub command_finished : ended four ≡ Ok tt → (tag : Tag) → tag ≡ tag_for entries → (ten : List ℕ) → length ten ≡ 10 → (first second third new : Option (List ℕ)) (result : Result (Unit {0}) AsmFault)
+            → first ≡ grown (Some ten) (handles_text handles) → second ≡ grown first (sessions_text entries) → third ≡ grown second parameters
+            → Finishes (finished tag code third) result new → Finishes (assembled line) result new
+        unfolding body
+        command_finished e tag t ten ten_is first second third new result a b c f =
+            let all : third ≡ grown (Some ten) body =
+            c ∙ ap (λ d. grown d parameters) (b ∙ ap (λ d. grown d (sessions_text entries)) a ∙ grown-grown (Some ten) (handles_text handles) (sessions_text entries)) ∙ grown-grown (Some ten) (handles_text handles ++ sessions_text entries) parameters in
+            subst (λ r. Finishes r result new) (ap (λ d. finished tag code d) all ∙ ap (λ (x : Tag). finished x code (grown (Some ten) body)) t ∙ command_is e ten ten_is) f

@@ -1,0 +1,83 @@
+-- A draft to which one text is added behind another.
+use Rattle.std.proofs.Common.{◌≡◌, ℕ, ◌+◌, ◌/◌, ◌<◌, ◌≤◌, Bool, true, false, cond, List, [], ◌∷◌, ◌++◌, length, Option, Some, None, Result, Ok, Err, refl, sym, ap, ◌∙◌, arith, append_assoc, length-append}
+use Rattle.std.specs.Prelude.{nat_le}
+use Rattle.std.specs.Int.{w16, to_be_bytes}
+use Rattle.std.proofs.lemmas.Bool.{le-leb, leb-false, leb-true, lt-leb}
+use Rattle.tpm_bytes.specs.Reading.{◌>>=◌}
+use Rattle.tpm_bytes.specs.Writing.{sized_text}
+use Rattle.tpm_text.specs.Draft.{Drafts, grown}
+use Rattle.tpm_text.specs.Hex.{IsChecked}
+
+pub fits : (text bytes : List ℕ) → length text + length bytes ≤ 4096 → grown (Some text) bytes ≡ Some (text ++ bytes)
+unfolding grown
+fits text bytes h = rw (le-leb (length text + length bytes) 4096 h) refl
+
+pub spills : (text bytes : List ℕ) → 4096 < length text + length bytes → grown (Some text) bytes ≡ None
+unfolding grown
+spills text bytes h = rw (lt-leb (length text + length bytes) 4096 h) refl
+
+pub none_grows : (bytes : List ℕ) → grown None bytes ≡ None
+unfolding grown
+none_grows bytes = refl
+
+pub grown-grown : (draft : Option (List ℕ)) (a b : List ℕ) → grown (grown draft a) b ≡ grown draft (a ++ b)
+grown-grown None a b = ap (λ d. grown d b) (none_grows a) ∙ none_grows b ∙ sym (none_grows (a ++ b))
+grown-grown (Some text) a b = by (nat_le (length text + length a) 4096) refl (nat_le (length text + (length a + length b)) 4096) refl
+  where
+    by : (fits_a : Bool) → nat_le (length text + length a) 4096 ≡ fits_a → (fits_both : Bool) → nat_le (length text + (length a + length b)) 4096 ≡ fits_both → grown (grown (Some text) a) b ≡ grown (Some text) (a ++ b)
+    by true e true f =
+        let short = leb-true _ _ e in let whole = leb-true _ _ f in
+        ap (λ d. grown d b) (fits text a short) ∙ fits (text ++ a) b (omega (arith, whole, length-append text a)) ∙ ap Some (append_assoc text a b) ∙ sym (fits text (a ++ b) (omega (arith, whole, length-append a b)))
+    by true e false f =
+        let short = leb-true _ _ e in let long = leb-false _ _ f in
+        ap (λ d. grown d b) (fits text a short) ∙ spills (text ++ a) b (omega (arith, long, length-append text a)) ∙ sym (spills text (a ++ b) (omega (arith, long, length-append a b)))
+    by false e _ f =
+        let long = leb-false _ _ e in
+        ap (λ d. grown d b) (spills text a long) ∙ none_grows b ∙ sym (spills text (a ++ b) (omega (arith, long, length-append a b)))
+
+-- what a part of a text leaves, and then its rest
+pub drafted_behind : {E : Type 0} (front : List ℕ) (rest : Result (List ℕ) E) (old middle : Option (List ℕ)) (result : Result (Unit {0}) E) (new : Option (List ℕ))
+    → middle ≡ grown old front → Drafts rest middle result new → Drafts (rest >>= λ bytes. Ok (front ++ bytes)) old result new
+drafted_behind front (Ok bytes) old middle (Ok done) new m h = h ∙ ap (λ d. grown d bytes) m ∙ grown-grown old front bytes
+drafted_behind front (Ok bytes) old middle (Err fault) new m h = absurd h
+drafted_behind front (Err fault) old middle (Ok done) new m h = absurd h
+drafted_behind front (Err fault) old middle (Err found) new m h = h
+
+-- the same where the part is the size of the rest
+pub sized_behind : {E : Type 0} (count : ℕ) (rest : Result (List ℕ) E) (old middle : Option (List ℕ)) (result : Result (Unit {0}) E) (new : Option (List ℕ))
+    → ((bytes : List ℕ) → rest ≡ Ok bytes → count ≡ length bytes) → middle ≡ grown old (to_be_bytes w16 count) → Drafts rest middle result new
+    → Drafts (rest >>= λ bytes. Ok (sized_text bytes)) old result new
+sized_behind count (Ok bytes) old middle (Ok done) new size m h = h ∙ ap (λ d. grown d bytes) m ∙ grown-grown old (to_be_bytes w16 count) bytes ∙ ap (λ n. grown old (to_be_bytes w16 n ++ bytes)) (size bytes refl)
+sized_behind count (Ok bytes) old middle (Err fault) new size m h = absurd h
+sized_behind count (Err fault) old middle (Ok done) new size m h = absurd h
+sized_behind count (Err fault) old middle (Err found) new size m h = h
+
+-- more bytes than a command may have leave no text, whatever is before them
+pub too_much : (draft : Option (List ℕ)) (bytes : List ℕ) → 4096 < length bytes → grown draft bytes ≡ None
+too_much None bytes long = none_grows bytes
+too_much (Some text) bytes long = spills text bytes (omega (arith, long))
+
+pub sized_too_long : {E : Type 0} (rest : Result (List ℕ) E) (old : Option (List ℕ)) (result : Result (Unit {0}) E)
+    → ((bytes : List ℕ) → rest ≡ Ok bytes → 4096 < length bytes) → IsChecked rest result
+    → Drafts (rest >>= λ bytes. Ok (sized_text bytes)) old result None
+sized_too_long (Ok bytes) old (Ok done) long h = let more = long bytes refl in sym (too_much old (sized_text bytes) (omega (arith, more, length-append (to_be_bytes w16 (length bytes)) bytes)))
+sized_too_long (Ok bytes) old (Err fault) long h = absurd h
+sized_too_long (Err fault) old (Ok done) long h = absurd h
+sized_too_long (Err fault) old (Err found) long h = h
+
+-- what a write was of
+pub drafts_ok : {E : Type 0} (read : Result (List ℕ) E) (old new : Option (List ℕ)) (result : Result (Unit {0}) E) → result ≡ Ok tt → Drafts read old result new → (text : List ℕ) × (read ≡ Ok text) × (new ≡ grown old text)
+drafts_ok (Ok text) old new (Ok done) e h = (text, refl, h)
+drafts_ok (Ok text) old new (Err found) e h = absurd h
+drafts_ok (Err fault) old new (Ok done) e h = absurd h
+drafts_ok (Err fault) old new (Err found) e h = absurd cc
+
+pub drafts_err : {E : Type 0} (read : Result (List ℕ) E) (old new : Option (List ℕ)) (result : Result (Unit {0}) E) (fault : E) → result ≡ Err fault → Drafts read old result new → read ≡ Err fault
+drafts_err (Ok text) old new (Ok done) fault e h = absurd cc
+drafts_err (Ok text) old new (Err found) fault e h = absurd h
+drafts_err (Err other) old new (Ok done) fault e h = absurd h
+drafts_err (Err other) old new (Err found) fault e h = ap Err (sym h ∙ cc)
+
+-- a fault leaves nothing to be said
+pub drafts_fault : {E : Type 0} (read : Result (List ℕ) E) (old new : Option (List ℕ)) (result : Result (Unit {0}) E) (fault : E) → read ≡ Err fault → result ≡ Err fault → Drafts read old result new
+drafts_fault read old new result fault e f = rw (e, f) refl

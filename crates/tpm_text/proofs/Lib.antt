@@ -1,0 +1,15 @@
+pub mod Cutting
+pub mod Numerals
+pub mod HexDigits
+pub mod Growing
+pub mod Pairs
+pub mod WordSizes
+pub mod Lists
+pub mod Counting
+pub mod EntryTexts
+pub mod Laid
+pub mod Areas
+pub mod Assembling
+pub mod HexText
+pub mod Traceable
+pub mod Spelling

@@ -1,0 +1,44 @@
+-- What a command's text is while it is being written.
+use Rattle.std.specs.Prelude.{◌≡◌, ℕ, ◌+◌, nat_le, if◌then◌else◌, List, ◌++◌, length, take, drop}
+use Rattle.std.specs.Prelude.{Option, Some, None, option_map, Result, Ok, Err}
+use Rattle.std.specs.Int.{w32, to_be_bytes}
+use Rattle.tpm_types_command.specs.declared.command_code.CommandCode.{CommandCode}
+use Rattle.tpm_types_command.specs.declared.tag.Tag.{Tag}
+use Rattle.tpm_types_command.specs.Header.{header_text}
+use Rattle.tpm_text.specs.declared.fault.AsmFault.{AsmFault}
+use Rattle.tpm_text.specs.declared.fault.AsmFault.TheVariants.{TooLong}
+use Rattle.tpm_text.specs.declared.draft.Draft.{Draft}
+
+-- the bytes so far; None once they were more than a command may have
+abbrev pub drafted : Draft → Option (List ℕ)
+drafted draft = option_map (λ size. take size draft.bytes) draft.used
+
+-- the same with more bytes
+unfoldable pub grown : Option (List ℕ) → List ℕ → Option (List ℕ)
+grown None bytes = None
+grown (Some text) bytes =
+    if nat_le (length text + length bytes) 4096 then Some (text ++ bytes) else None
+
+-- the same with an authorization area: the size of its entries, and these
+unfoldable pub with_area : Option (List ℕ) → Option (List ℕ) → Option (List ℕ)
+with_area draft None = None
+with_area draft (Some entries) = grown draft (to_be_bytes w32 (length entries) ++ entries)
+
+-- the whole text of a command, in place of whose header ten bytes stand
+unfoldable pub finished : Tag → CommandCode → Option (List ℕ) → Result (List ℕ) AsmFault
+finished tag code None = Err TooLong
+finished tag code (Some text) = Ok (header_text tag (length text) code ++ drop 10 text)
+
+-- A write of what a definition gives, or its fault.
+abbrev pub Drafts : {E : Type 0}
+    → Result (List ℕ) E → Option (List ℕ) → Result (Unit {0}) E → Option (List ℕ) → Type 0
+Drafts (Ok text) old (Ok done) new = new ≡ grown old text
+Drafts (Err fault) old (Err found) new = found ≡ fault
+Drafts _ old _ new = ⊥
+
+-- A command was finished, or it is too long.
+abbrev pub Finishes : {E : Type 0}
+    → Result (List ℕ) E → Result (Unit {0}) E → Option (List ℕ) → Type 0
+Finishes (Ok text) (Ok done) new = new ≡ Some text
+Finishes (Err fault) (Err found) new = found ≡ fault
+Finishes _ _ new = ⊥

@@ -1,0 +1,21 @@
+-- The faults of a line.
+use Rattle.std.specs.Prelude.{◌≡◌, ℕ, Result, Ok, Err}
+use Rattle.tpm_text.specs.declared.fault.AsmFault.{AsmFault}
+use Rattle.tpm_text.specs.declared.fault.AsmFault.TheVariants as line
+use Rattle.tpm_text.specs.declared.fault.TokenFault.{TokenFault}
+use Rattle.tpm_text.specs.declared.fault.TokenFault.TheVariants as token
+
+-- the fault of a line whose token at this column is at fault
+abbrev pub fault_at : ℕ → TokenFault → AsmFault
+fault_at column token.Bad = line.BadField column
+fault_at column token.Range = line.Range column
+
+-- what was read of a token at this column
+abbrev pub at_column : {A : Type 0} → ℕ → Result A TokenFault → Result A AsmFault
+at_column column (Ok x) = Ok x
+at_column column (Err fault) = Err (fault_at column fault)
+
+-- A reading gave what its definition gives, or its fault.
+abbrev pub Gives : {X Y E : Type 0} → (X → Y) → Result Y E → Result X E → Type 0
+Gives view definition (Ok x) = definition ≡ Ok (view x)
+Gives view definition (Err fault) = definition ≡ Err fault

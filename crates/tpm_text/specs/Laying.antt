@@ -1,0 +1,51 @@
+-- What is written of tokens that are read.
+use Rattle.std.specs.Prelude.{◌≡◌, ℕ, Bool, true, false, List, [], ◌∷◌, Option, Some, None, Result, Ok, Err}
+use Rattle.tpm_types_command.specs.declared.tag.Tag.{Tag}
+use Rattle.tpm_types_command.specs.AuthEntry.{Entry}
+use Rattle.tpm_types_command.specs.Command.{sessions_text, tag_for}
+use Rattle.tpm_text.specs.Draft.{grown}
+use Rattle.tpm_text.specs.Entry.{begins_entry}
+use Rattle.tpm_text.specs.Pieces.{Token}
+use Rattle.tpm_text.specs.declared.fault.AsmFault.{AsmFault}
+use Rattle.tpm_text.specs.declared.fault.AsmFault.TheVariants.{Missing}
+
+-- A reading of tokens wrote the text of what its definition gives, and left the tokens that it
+-- leaves; or it has its fault.
+abbrev pub Lays : {A E : Type 0} → (A → List ℕ) → Result (A × List Token) E
+    → Option (List ℕ) → Result (Unit {0}) E → Option (List ℕ) → List Token → Type 0
+Lays text (Ok read) old (Ok done) new left = (new ≡ grown old (text read.0)) × (left ≡ read.1)
+Lays text (Err fault) old (Err found) new left = found ≡ fault
+Lays text _ old _ new left = ⊥
+
+-- A wanted token was taken, or none was left.
+abbrev pub Takes : {X : Type 0} → (X → Token) → List Token → Result X AsmFault → List Token → Type 0
+Takes view old (Ok token) new = old ≡ view token ∷ new
+Takes view old (Err found) new = (old ≡ []) × (found ≡ Missing)
+
+-- whether the first token begins like an entry
+abbrev pub first_is_entry : List Token → Bool
+first_is_entry [] = false
+first_is_entry (token ∷ tokens) = begins_entry token.text
+
+-- A token that begins like an entry was taken; else nothing was, and none stands there.
+abbrev pub TakesEntry : {X : Type 0} → (X → Token) → List Token → Option X → List Token → Type 0
+TakesEntry view old (Some token) new =
+    (old ≡ view token ∷ new) × (begins_entry (view token).text ≡ true)
+TakesEntry view old None new = (new ≡ old) × (first_is_entry old ≡ false)
+
+-- A reading of tokens gave what its definition gives and left the tokens that it leaves, or it has
+-- its fault.
+abbrev pub Leads : {X A E : Type 0} → (X → A) → Result (A × List Token) E
+    → Result X E → List Token → Type 0
+Leads view (Ok read) (Ok x) left = (read.0 ≡ view x) × (left ≡ read.1)
+Leads view (Err fault) (Err found) left = found ≡ fault
+Leads view _ _ left = ⊥
+
+-- The authorization area of the entries was written, if there are some, and the tag that says so
+-- given.
+abbrev pub LaysSessions : {E : Type 0} → Result (List Entry × List Token) E
+    → Option (List ℕ) → Result Tag E → Option (List ℕ) → List Token → Type 0
+LaysSessions (Ok read) old (Ok tag) new left =
+    (tag ≡ tag_for read.0) × (new ≡ grown old (sessions_text read.0)) × (left ≡ read.1)
+LaysSessions (Err fault) old (Err found) new left = found ≡ fault
+LaysSessions _ old _ new left = ⊥

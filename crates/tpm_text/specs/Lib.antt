@@ -1,0 +1,14 @@
+pub mod Pieces
+pub mod Tokens
+pub mod Fault
+pub mod Number
+pub mod Hex
+pub mod Parameter
+pub mod Entry
+pub mod EntryPieces
+pub mod Line
+pub mod Draft
+pub mod Laying
+pub mod Trace
+pub use Rattle.tpm_types_command.specs.Command
+pub use Rattle.tpm_types_command.specs.CommandName

@@ -1,0 +1,96 @@
+-- Lines: a command in words, one space between two tokens. First its name, then its handles, its
+-- authorization entries, and its parameters, in the order of TPM 2.0 Library, Part 3.
+use Rattle.std.specs.Prelude.{◌≡◌, ℕ, zero, suc, nat_lt, cond, if◌then◌else◌, Bool, true, false, List, [], ◌∷◌, ◌++◌}
+use Rattle.std.specs.Prelude.{Result, Ok, Err, ok_or}
+use Rattle.tpm_bytes.specs.Reading.{◌>>=◌, refused_if}
+use Rattle.tpm_types.specs.declared.handle.Handle.{Handle}
+use Rattle.tpm_types_command.specs.declared.command_code.CommandCode.{CommandCode}
+use Rattle.tpm_types_command.specs.declared.shape.ParameterKind.{ParameterKind}
+use Rattle.tpm_types_command.specs.AuthEntry.{Entry}
+use Rattle.tpm_types_command.specs.Command.{Whole, command_size, command_text}
+use Rattle.tpm_types_command.specs.CommandCode.{handle_count, shape_of}
+use Rattle.tpm_types_command.specs.CommandName.{code_called}
+use Rattle.tpm_text.specs.declared.fault.AsmFault.{AsmFault}
+use Rattle.tpm_text.specs.declared.fault.AsmFault.TheVariants as fault
+use Rattle.tpm_text.specs.declared.fault.TokenFault.{TokenFault}
+use Rattle.tpm_text.specs.Entry.{begins_entry, entry_in, handle_in}
+use Rattle.tpm_text.specs.Fault.{at_column}
+use Rattle.tpm_text.specs.Parameter.{parameter_text}
+use Rattle.tpm_text.specs.Pieces.{Token, tokens_of}
+
+-- the first token, as it is read, and those behind it
+abbrev pub token_in : {A : Type 0}
+    → (List ℕ → Result A TokenFault) → List Token → Result (A × List Token) AsmFault
+token_in read [] = Err fault.Missing
+token_in read (token ∷ tokens) = do
+  value ← at_column token.column (read token.text)
+  Ok (value, tokens)
+
+-- the name of a command, which is a fault of its own where it is none
+abbrev pub name_in : List Token → Result (CommandCode × List Token) AsmFault
+name_in [] = Err fault.BadName
+name_in (token ∷ tokens) = do
+  code ← ok_or (code_called token.text) fault.BadName
+  Ok (code, tokens)
+
+-- so many handles
+unfoldable pub handles_in : ℕ → List Token → Result (List Handle × List Token) AsmFault
+handles_in zero tokens = Ok ([], tokens)
+handles_in (suc count) tokens = do
+  first ← token_in handle_in tokens
+  others ← handles_in count first.1
+  Ok (first.0 ∷ others.0, others.1)
+
+-- at most so many entries: as many tokens as begin like one
+unfoldable pub entries_in : ℕ → List Token → Result (List Entry × List Token) AsmFault
+entries_in zero tokens = Ok ([], tokens)
+entries_in (suc most) [] = Ok ([], [])
+entries_in (suc most) (token ∷ tokens) = cond (begins_entry token.text) (do
+  first ← at_column token.column (entry_in token.text)
+  others ← entries_in most tokens
+  Ok (first ∷ others.0, others.1))
+    (Ok ([], token ∷ tokens))
+
+-- a parameter of each kind, as their text
+unfoldable pub parameters_in : List ParameterKind → List Token → Result (List ℕ × List Token) AsmFault
+parameters_in [] tokens = Ok ([], tokens)
+parameters_in (kind ∷ kinds) tokens = do
+  first ← token_in (parameter_text kind) tokens
+  others ← parameters_in kinds first.1
+  Ok (first.0 ++ others.0, others.1)
+
+-- no token is left over
+abbrev pub ended : List Token → Result (Unit {0}) AsmFault
+ended [] = Ok tt
+ended (token ∷ tokens) = Err (fault.BadField token.column)
+
+-- the command that a line spells, or the first fault from the left
+unfoldable pub spelled : List ℕ → Result Whole AsmFault
+spelled line = do
+  name ← name_in (tokens_of line)
+  handles ← handles_in (handle_count name.0) name.1
+  entries ← entries_in 3 handles.1
+  parameters ← parameters_in (shape_of name.0).parameters entries.1
+  whole ← ended parameters.1
+  Ok (record {
+    code = name.0;
+    handles = handles.0;
+    entries = entries.0;
+    parameters = parameters.0;
+  })
+
+-- the text of that command, which is too long only where nothing else is wrong
+unfoldable pub assembled : List ℕ → Result (List ℕ) AsmFault
+assembled line = do
+  command ← spelled line
+  fits ← refused_if (nat_lt 4096 (command_size command)) fault.TooLong
+  Ok (command_text command)
+
+-- A call gave the text of the command that a line spells, or the fault of the line, or had no memory
+-- for a text.
+abbrev pub Assembles : {X : Type 0} → (X → List ℕ)
+    → Result (List ℕ) AsmFault → Result X AsmFault → Type 0
+Assembles view (Ok text) (Ok buffer) = view buffer ≡ text
+Assembles view (Ok text) (Err found) = found ≡ fault.NoMemory
+Assembles view (Err other) (Ok buffer) = ⊥
+Assembles view (Err other) (Err found) = found ≡ other

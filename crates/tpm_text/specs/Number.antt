@@ -1,0 +1,62 @@
+-- Numbers and hex in a token.
+use Rattle.std.specs.Prelude.{ℕ, ◌==◌, ◌&&◌, nat_eq, nat_le, nat_lt, if◌then◌else◌, Bool, List, [], ◌∷◌, length, drop, codes}
+use Rattle.std.specs.Prelude.{Option, Some, None, Result, Ok, Err, ok_or}
+use Rattle.std.specs.Char.{digit_value}
+use Rattle.std.specs.Cmp.Lexicographic.{pointwise}
+use Rattle.std.specs.Int.{Width, to_be_bytes}
+use Rattle.std.specs.List.{list_all, starts_with}
+use Rattle.std.specs.Str.Parse.{digits_value}
+use Rattle.hex.specs.Hex.{decode_of}
+use Rattle.tpm_bytes.specs.Reading.{◌>>=◌, or_fault, refused_if}
+use Rattle.tpm_text.specs.declared.number.Radix.{Radix}
+use Rattle.tpm_text.specs.declared.number.Radix.TheVariants as radix
+use Rattle.tpm_text.specs.declared.fault.TokenFault.{TokenFault}
+use Rattle.tpm_text.specs.declared.fault.TokenFault.TheVariants.{Bad, Range}
+
+abbrev pub is_word : List ℕ → List ℕ → Bool
+is_word word text = pointwise nat_eq text word
+
+abbrev pub radix_number : Radix → ℕ
+radix_number radix.Decimal = 10
+radix_number radix.Hexadecimal = 16
+
+abbrev pub is_digit : ℕ → ℕ → Bool
+is_digit radix digit = nat_lt (digit_value digit) radix
+
+-- the number that digits of a radix write: at least one, and leading zeros count for nothing
+unfoldable pub numeral : ℕ → List ℕ → Option ℕ
+numeral radix [] = None
+numeral radix (digit ∷ digits) =
+    if list_all (is_digit radix) (digit ∷ digits)
+    then Some (digits_value radix (digit ∷ digits)) else None
+
+-- the number that a token writes: 0x and hex digits of either case, or decimal digits
+unfoldable pub number_of : List ℕ → Option ℕ
+number_of token =
+    if starts_with nat_eq token (codes "0x") then numeral 16 (drop 2 token) else numeral 10 token
+
+-- a number of at most this, if one was written
+unfoldable pub at_most : ℕ → Option ℕ → Result ℕ TokenFault
+at_most most written = do
+  number ← ok_or written Bad
+  small ← refused_if (nat_lt most number) Range
+  Ok number
+
+abbrev pub number_in : ℕ → List ℕ → Result ℕ TokenFault
+number_in most token = at_most most (number_of token)
+
+-- a number as so many bytes, of which this is the largest number
+abbrev pub number_text : Width → (most : ℕ) → List ℕ → Result (List ℕ) TokenFault
+number_text width most token = do
+  number ← number_in most token
+  Ok (to_be_bytes width number)
+
+-- the bytes that hex digits of either case write, two digits a byte
+abbrev pub hex_in : List ℕ → Result (List ℕ) TokenFault
+hex_in digits = or_fault (decode_of digits) Bad
+
+-- bytes in hex; none at all are written as -
+unfoldable pub bytes_in : List ℕ → Result (List ℕ) TokenFault
+bytes_in token =
+    if is_word (codes "-") token then Ok []
+    else (if length token == 0 then Err Bad else hex_in token)

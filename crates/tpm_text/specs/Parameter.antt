@@ -1,0 +1,130 @@
+-- Parameters in a line: the word for each kind, and its text on the wire.
+use Rattle.std.specs.Prelude.{ℕ, zero, suc, ◌==◌, not, nat_le, if◌then◌else◌, Bool, List, [], ◌∷◌, ◌++◌, ◌*◌, length, codes}
+use Rattle.std.specs.Prelude.{Option, Some, None, Result, Ok, Err}
+use Rattle.std.specs.List.{flat_map, fold}
+use Rattle.std.specs.Int.{w8, w16, w32, w64, to_be_bytes}
+use Rattle.tpm_bytes.specs.Reading.{◌>>=◌, refused_if}
+use Rattle.tpm_bytes.specs.Writing.{sized_text}
+use Rattle.tpm_mac.specs.declared.algorithm.HashAlg.{HashAlg}
+use Rattle.tpm_mac.specs.declared.algorithm.HashAlg.TheVariants.{Sha1, Sha256}
+use Rattle.tpm_mac.specs.Digest.{digest_size}
+use Rattle.tpm_types.specs.declared.pcr_selection.BankSelection.{BankSelection}
+use Rattle.tpm_types.specs.declared.symmetric.SymmetricDefinition.{SymmetricDefinition}
+use Rattle.tpm_types.specs.declared.symmetric.SymmetricDefinition.TheVariants as symmetric
+use Rattle.tpm_types.specs.Algorithm.{hash_number, hash_or_null_number}
+use Rattle.tpm_types.specs.Pcr.{with_pcr}
+use Rattle.tpm_types.specs.PcrSelection.{bank_text}
+use Rattle.tpm_types.specs.Symmetric.{symmetric_text}
+use Rattle.tpm_types_command.specs.declared.shape.ParameterKind.{ParameterKind}
+use Rattle.tpm_types_command.specs.declared.shape.ParameterKind.TheVariants as kind
+use Rattle.tpm_text.specs.declared.element.Element.{Element}
+use Rattle.tpm_text.specs.declared.element.Element.TheVariants as element
+use Rattle.tpm_text.specs.declared.fault.TokenFault.{TokenFault}
+use Rattle.tpm_text.specs.declared.fault.TokenFault.TheVariants.{Bad}
+use Rattle.tpm_text.specs.Number.{bytes_in, hex_in, is_word, number_in, number_text}
+use Rattle.tpm_text.specs.Pieces.{each_in, pieces_of}
+
+abbrev pub hash_in : List ℕ → Result HashAlg TokenFault
+hash_in word =
+    if is_word (codes "sha1") word then Ok Sha1
+    else (if is_word (codes "sha256") word then Ok Sha256 else Err Bad)
+
+-- a hash algorithm, or null
+unfoldable pub hash_text : List ℕ → Result (List ℕ) TokenFault
+hash_text word = do
+  algorithm ← if is_word (codes "null") word then Ok None else (hash_in word >>= λ hash. Ok (Some hash))
+  Ok (to_be_bytes w16 (hash_or_null_number algorithm))
+
+abbrev pub symmetric_in : List ℕ → Result SymmetricDefinition TokenFault
+symmetric_in word =
+    if is_word (codes "null") word then Ok symmetric.Null
+    else (if is_word (codes "aes") word then Ok symmetric.Aes128Cfb else Err Bad)
+
+-- how a session encrypts parameters
+unfoldable pub symmetric_word_text : List ℕ → Result (List ℕ) TokenFault
+symmetric_word_text word = do
+  definition ← symmetric_in word
+  Ok (symmetric_text definition)
+
+-- a buffer with its size (TPM2B)
+unfoldable pub buffer_text : List ℕ → Result (List ℕ) TokenFault
+buffer_text token = do
+  bytes ← bytes_in token
+  Ok (sized_text bytes)
+
+-- the two pieces of a text with one colon
+abbrev pub two_of : List (List ℕ) → Result (List ℕ × List ℕ) TokenFault
+two_of (first ∷ second ∷ []) = Ok (first, second)
+two_of other = Err Bad
+
+-- a hash algorithm, and what stands behind its colon
+unfoldable pub hash_and_rest_in : List ℕ → Result (HashAlg × List ℕ) TokenFault
+hash_and_rest_in piece = do
+  parts ← two_of (pieces_of 58 piece)
+  hash ← hash_in parts.0
+  Ok (hash, parts.1)
+
+-- the PCRs of these numbers, joined by commas: each at most 23
+unfoldable pub pcrs_in : List ℕ → Result ℕ TokenFault
+pcrs_in numbers = do
+  pcrs ← each_in (number_in 23) (pieces_of 44 numbers)
+  Ok (fold with_pcr 0 pcrs)
+
+-- a bank's hash algorithm, and the PCRs that are selected there: sha256:0,10
+unfoldable pub bank_in : List ℕ → Result (List ℕ) TokenFault
+bank_in piece = do
+  bank ← hash_and_rest_in piece
+  select ← pcrs_in bank.1
+  Ok (bank_text (record { hash = bank.0; select = select }))
+
+-- a hash algorithm, and a digest of its size: sha1:HEX
+unfoldable pub digest_in : List ℕ → Result (List ℕ) TokenFault
+digest_in piece = do
+  parts ← hash_and_rest_in piece
+  whole ← refused_if (not (length parts.1 == 2 * digest_size parts.0)) Bad
+  digest ← hex_in parts.1
+  Ok (to_be_bytes w16 (hash_number parts.0) ++ digest)
+
+abbrev pub element_text : Element → List ℕ → Result (List ℕ) TokenFault
+element_text element.Bank piece = bank_in piece
+element_text element.Digest piece = digest_in piece
+element_text element.Buffer piece = buffer_text piece
+
+-- the elements of a list, one behind the other
+unfoldable pub elements_text : Element → List (List ℕ) → Result (List ℕ) TokenFault
+elements_text element pieces = do
+  texts ← each_in (element_text element) pieces
+  Ok (flat_map (λ text. text) texts)
+
+-- a list, whose elements are joined by +: how many there are, and these
+unfoldable pub list_text : Element → List ℕ → Result (List ℕ) TokenFault
+list_text element token = do
+  elements ← elements_text element (pieces_of 43 token)
+  Ok (to_be_bytes w32 (length (pieces_of 43 token)) ++ elements)
+
+-- the same, where - is a list of none
+unfoldable pub list_or_none_text : Element → List ℕ → Result (List ℕ) TokenFault
+list_or_none_text element token =
+    if is_word (codes "-") token then Ok (to_be_bytes w32 0) else list_text element token
+
+-- a parameter of a kind
+unfoldable pub parameter_text : ParameterKind → List ℕ → Result (List ℕ) TokenFault
+parameter_text kind.StartupType token = number_text w16 0xffff token
+parameter_text kind.SessionType token = number_text w8 0xff token
+parameter_text kind.U8 token = number_text w8 0xff token
+parameter_text kind.U16 token = number_text w16 0xffff token
+parameter_text kind.U32 token = number_text w32 0xffff_ffff token
+parameter_text kind.U64 token = number_text w64 0xffff_ffff_ffff_ffff token
+parameter_text kind.Hash token = hash_text token
+parameter_text kind.HashOrNull token = hash_text token
+parameter_text kind.Symmetric token = symmetric_word_text token
+parameter_text kind.Selection token = list_or_none_text element.Bank token
+parameter_text kind.Digests token = list_or_none_text element.Digest token
+parameter_text kind.DigestList token = list_text element.Buffer token
+parameter_text (kind.Buffer most) token = buffer_text token
+parameter_text kind.SensitiveCreate token = buffer_text token
+parameter_text kind.Public token = buffer_text token
+parameter_text kind.NvPublic token = buffer_text token
+parameter_text kind.Operation token = number_text w16 0xffff token
+parameter_text kind.PersistentHandle token = number_text w32 0xffff_ffff token
+parameter_text kind.YesNo token = number_text w8 0xff token

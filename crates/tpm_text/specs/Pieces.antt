@@ -1,0 +1,43 @@
+-- How a line falls into tokens, and a token into pieces.
+use Rattle.std.specs.Prelude.{◌≡◌, ℕ, ◌+◌, ◌==◌, List, [], ◌∷◌, ◌++◌, length, Option, Some, None}
+use Rattle.std.specs.Prelude.{Result, Ok}
+use Rattle.std.specs.List.{slice_split}
+use Rattle.tpm_bytes.specs.Reading.{◌>>=◌}
+use Rattle.tpm_text.specs.declared.token.Token as declared
+use Rattle.tpm_text.specs.declared.fault.TokenFault.{TokenFault}
+
+-- the pieces of a text that stand between its separators: one more than there are separators
+abbrev pub pieces_of : ℕ → List ℕ → List (List ℕ)
+pieces_of separator text = slice_split (λ byte. byte == separator) text
+
+-- a token of a line, and the place of its first byte, from 1
+pub record Token : Type 0 where
+  pub column : ℕ
+  pub text : List ℕ
+
+-- the tokens that stand one behind the other from a column on, a space between two
+abbrev pub placed : ℕ → List (List ℕ) → List Token
+placed column [] = []
+placed column (text ∷ texts) =
+    record { column = column; text = text } ∷ placed (column + length text + 1) texts
+
+-- the tokens of a line
+unfoldable pub tokens_of : List ℕ → List Token
+tokens_of line = placed 1 (pieces_of 32 line)
+
+abbrev pub token_of : declared.Token → Token
+token_of token = record { column = token.column; text = token.text.now }
+
+-- what is read of each piece, or the first fault from the left
+unfoldable pub each_in : {A : Type 0}
+    → (List ℕ → Result A TokenFault) → List (List ℕ) → Result (List A) TokenFault
+each_in read [] = Ok []
+each_in read (piece ∷ pieces) = do
+  first ← read piece
+  others ← each_in read pieces
+  Ok (first ∷ others)
+
+-- The first was taken from what was left, or nothing was left.
+abbrev pub TakesFirst : {X Y : Type 0} → (X → Y) → List Y → Option X → List Y → Type 0
+TakesFirst view old None new = (old ≡ []) × (new ≡ [])
+TakesFirst view old (Some x) new = old ≡ view x ∷ new

@@ -1,0 +1,56 @@
+-- The trace of an event: in one line who sent what, which row of the table it took, and what was
+-- answered.
+use Rattle.std.specs.Prelude.{◌≡◌, ℕ, ◌-◌, ◌≤◌, ◌==◌, nat_le, if◌then◌else◌, ◌⊎◌}
+use Rattle.std.specs.Prelude.{List, ◌++◌, length, codes, option_map, unwrap_or}
+use Rattle.std.specs.List.{slice_range}
+use Rattle.std.specs.Fmt.{decimal}
+use Rattle.hex.specs.Hex.{encode_lower}
+use Rattle.tpm_types.specs.Check.{check_number}
+use Rattle.tpm_types.specs.declared.check.Check.{Check}
+use Rattle.tpm_types_command.specs.CommandCode.{code_named, code_number}
+use Rattle.tpm_types_command.specs.CommandName.{code_name}
+use Rattle.tpm_types_command.specs.declared.command_code.CommandCode.{CommandCode}
+use Rattle.tpm_machine_step.specs.Events.{Happening, Given, Cycled}
+use Rattle.tpm_machine_step.specs.Step.{Stepped}
+use Rattle.tpm_machine_step.specs.declared.event.Row.{Row}
+
+-- A row of the table names a command that is served, or none by 0, and the check that refused it,
+-- or none by 0.
+abbrev pub IsRow : Row → Type 0
+IsRow row =
+    ((row.code ≡ 0) ⊎ ((code : CommandCode) × (row.code ≡ code_number code)))
+    × ((row.check ≡ 0) ⊎ ((check : Check) × (row.check ≡ check_number check)))
+
+-- A command is answered by at least a header, which has ten bytes.
+abbrev pub IsAnswered : Happening → List ℕ → Type 0
+IsAnswered (Given buffer locality elapsed random) response = 10 ≤ length response
+IsAnswered Cycled response = Unit {0}
+
+-- and both of what an event gives
+abbrev pub IsTraceable : Happening → Stepped → Type 0
+IsTraceable event x = IsRow x.row × IsAnswered event x.response
+
+-- the name of the command of this number; ? where there is none
+unfoldable pub name_text : ℕ → List ℕ
+name_text number = unwrap_or (option_map code_name (code_named number)) (codes "?")
+
+-- the check of this number: ok where none refused; G1 to G11 are those of every command, A1 to A7
+-- the command's own, and M is want of memory
+unfoldable pub check_text : ℕ → List ℕ
+check_text number =
+    if number == 0 then codes "ok"
+    else if nat_le number 11 then codes "G" ++ decimal number
+    else if number == 255 then codes "M"
+    else codes "A" ++ decimal (number - 20)
+
+-- the response code, which stands behind a response's tag and size
+abbrev pub response_code_text : List ℕ → List ℕ
+response_code_text response = encode_lower (slice_range response 6 10)
+
+-- a power cycle; or a command with its name, the locality that it came from, the milliseconds that
+-- passed before it, the check that refused it, and the response code
+abbrev pub trace_text : Happening → Row → (response : List ℕ) → List ℕ
+trace_text Cycled row response = codes "power"
+trace_text (Given buffer locality elapsed random) row response =
+    name_text row.code ++ codes " L" ++ decimal locality ++ codes " +" ++ decimal elapsed
+    ++ codes " " ++ check_text row.check ++ codes " " ++ response_code_text response

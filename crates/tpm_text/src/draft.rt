@@ -1,0 +1,146 @@
+ghost use Rattle.std.specs.Prelude.{◌≡◌, ◌≤◌, length, [], Some, IfSome, IsSome};
+ghost use Rattle.std.specs.Option.{ForSome};
+ghost use Rattle.tpm_types_command.specs.Header.{header_text};
+
+use crate::digits::{check_hex, digits_of};
+use crate::fault::{AsmFault, TokenFault};
+use tpm_bytes::Sink;
+use tpm_types_command::{CommandCode, HEADER_SIZE, Tag};
+
+/// The most bytes that a command may have.
+pub const LIMIT: usize = 4_096;
+
+/// A command's text that is being written, and that knows when it has become too long.
+#[derive(Drop)]
+pub struct Draft {
+    bytes: [u8; 4096],
+    /// How many bytes were written; none once they were too many.
+    used: Option<usize>,
+    ghost capacity: { length bytes ≡ 4096 },
+    ghost within: { ForSome used (λ size. size ≤ 4096) },
+}
+
+impl Draft {
+    ghost use Rattle.tpm_text.specs.Draft.{Drafts, Finishes, drafted, finished, grown, with_area};
+    ghost use Rattle.tpm_text.specs.Number.{hex_in};
+    ghost use Rattle.tpm_text.specs.Parameter.{buffer_text};
+
+    /// No bytes.
+    pub fn new() -> Draft
+        ensures { drafted result ≡ Some [] }
+    {
+        Draft {
+            bytes: [0; 4096],
+            used: Some(0),
+        }
+    }
+
+    /// Begins anew, behind the ten bytes of a header.
+    pub fn begin(&mut self)
+        ensures ten { IfSome (drafted self.new) (λ text. length text ≡ 10) }
+        ensures some { IsSome (drafted self.new) }
+    {
+        self.used = Some(HEADER_SIZE);
+    }
+
+    /// Adds bytes.
+    #[tactic(auto, unfolding(crate::specs::Draft::grown))]
+    pub fn put(&mut self, bytes: &[u8])
+        ensures { drafted self.new ≡ grown (drafted self.old) bytes.now }
+    {
+        let Some(size) = self.used else {
+            return;
+        };
+        if bytes.len() > LIMIT - size {
+            self.used = None;
+            return;
+        }
+        let end = size + bytes.len();
+        self.bytes[size..end].copy_from_slice(bytes);
+        self.used = Some(end);
+    }
+
+    /// Adds the bytes that hex digits write: Bad where they write none.
+    #[tactic(auto, unfolding(crate::specs::Draft::grown))]
+    pub fn put_hex(&mut self, digits: &[u8]) -> Result<(), TokenFault>
+        ensures { Drafts (hex_in digits.now) (drafted self.old) result (drafted self.new) }
+    {
+        let count = digits.len() / 2;
+        let Some(size) = self.used else {
+            return check_hex(digits);
+        };
+        if count > LIMIT - size {
+            self.used = None;
+            return check_hex(digits);
+        }
+        let end = size + count;
+        if hex::decode_to_slice(digits, &mut self.bytes[size..end]).is_err() {
+            return Err(TokenFault::Bad);
+        }
+        self.used = Some(end);
+        Ok(())
+    }
+
+    /// Adds a buffer with its size (TPM2B), whose bytes a token has in hex.
+    #[tactic(auto, unfolding(crate::specs::Parameter::buffer_text))]
+    pub fn put_buffer(&mut self, token: &[u8]) -> Result<(), TokenFault>
+        ensures { Drafts (buffer_text token.now) (drafted self.old) result (drafted self.new) }
+    {
+        let digits = digits_of(token)?;
+        let count = digits.len() / 2;
+        if count > LIMIT {
+            self.used = None;
+            return check_hex(digits);
+        }
+        self.put(&(count as u16).to_be_bytes());
+        self.put_hex(digits)
+    }
+
+    /// Adds an authorization area: the size of its entries, and these.
+    pub fn put_area(&mut self, entries: &Draft)
+        ensures { drafted self.new ≡ with_area (drafted self.old) (drafted entries.now) }
+    {
+        match entries.used {
+            Some(size) => {
+                self.put(&(size as u32).to_be_bytes());
+                self.put(&entries.bytes[..size]);
+            }
+            None => self.used = None,
+        }
+    }
+
+    /// Writes the header of the command: TooLong where its text is too long.
+    #[tactic(auto, unfolding(crate::specs::Draft::finished))]
+    pub fn finish(&mut self, tag: Tag, code: CommandCode) -> Result<(), AsmFault>
+        requires { IfSome (drafted self.old) (λ text. 10 ≤ length text) }
+        ensures { Finishes (finished tag code (drafted self.old)) result (drafted self.new) }
+    {
+        let Some(size) = self.used else {
+            return Err(AsmFault::TooLong);
+        };
+        let header = header_of(tag, size as u32, code);
+        self.bytes[0..HEADER_SIZE].copy_from_slice(header.as_slice());
+        Ok(())
+    }
+
+    /// The bytes so far; none once they were too many.
+    pub fn as_slice(&self) -> &[u8]
+        ensures value { IfSome (drafted self.now) (λ text. result.now ≡ text) }
+        ensures small { length result.now ≤ 4096 }
+    {
+        &self.bytes[..self.used.unwrap_or(0)]
+    }
+}
+
+/// The header of a command of this length.
+#[tactic(auto, unfolding(tpm_types_command::specs::Header::header_text))]
+fn header_of(tag: Tag, size: u32, code: CommandCode) -> Sink<10>
+    ensures value { result ≡ header_text tag size code }
+    ensures ten { length result ≡ 10 }
+{
+    let mut header: Sink<10> = Sink::new();
+    let _ = header.put_u16(tag.number());
+    let _ = header.put_u32(size);
+    let _ = header.put_u32(code.number());
+    header
+}

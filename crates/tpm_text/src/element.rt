@@ -1,0 +1,10 @@
+/// What the elements of a list are.
+#[derive(Clone, Copy, Debug, PartialEq, Eq)]
+pub enum Element {
+    /// The PCRs that are selected in a bank: TPMS_PCR_SELECTION.
+    Bank,
+    /// A digest with its hash algorithm: TPMT_HA.
+    Digest,
+    /// A digest as a sized buffer: TPM2B_DIGEST.
+    Buffer,
+}

@@ -1,0 +1,140 @@
+ghost use Rattle.std.specs.Prelude.{◌≡◌};
+ghost use Rattle.tpm_text.specs.Draft.{Drafts, drafted};
+ghost use Rattle.tpm_text.specs.Entry.{begins_entry, entry_in, handle_in, hex_handle_in, octet_in, password_entry, session_entry, session_pieces_of, text_of_entry};
+ghost use Rattle.tpm_text.specs.EntryPieces.{four_of};
+ghost use Rattle.tpm_text.specs.Fault.{Gives};
+ghost use Rattle.tpm_text.specs.Pieces.{pieces_of};
+
+use crate::draft::Draft;
+use crate::fault::TokenFault;
+use crate::number::is_word;
+use crate::token::cut;
+use tpm_types::Handle;
+
+/// The handle that eight hex digits write.
+#[tactic(auto, unfolding(crate::specs::Entry::hex_handle_in))]
+fn hex_handle_in(token: &[u8]) -> Result<Handle, TokenFault>
+    ensures { Gives (λ handle. handle) (hex_handle_in token.now) result }
+{
+    if token.len() != 8 {
+        return Err(TokenFault::Bad);
+    }
+    let mut bytes = [0; 4];
+    if hex::decode_to_slice(token, &mut bytes).is_err() {
+        return Err(TokenFault::Bad);
+    }
+    Ok(Handle {
+        number: u32::from_be_bytes(bytes),
+    })
+}
+
+/// A handle: the name of a permanent entity, or eight hex digits.
+#[tactic(auto, unfolding(crate::specs::Entry::handle_in))]
+pub fn handle_in(token: &[u8]) -> Result<Handle, TokenFault>
+    ensures { Gives (λ handle. handle) (handle_in token.now) result }
+{
+    if is_word("OWNER", token) {
+        Ok(Handle::OWNER)
+    } else if is_word("NULL", token) {
+        Ok(Handle::NULL)
+    } else if is_word("LOCKOUT", token) {
+        Ok(Handle::LOCKOUT)
+    } else if is_word("ENDORSEMENT", token) {
+        Ok(Handle::ENDORSEMENT)
+    } else if is_word("PLATFORM", token) {
+        Ok(Handle::PLATFORM)
+    } else {
+        hex_handle_in(token)
+    }
+}
+
+/// An octet: two hex digits.
+#[tactic(auto, unfolding(crate::specs::Entry::octet_in))]
+fn octet_in(piece: &[u8]) -> Result<u8, TokenFault>
+    ensures { Gives (λ octet. octet) (octet_in piece.now) result }
+{
+    if piece.len() != 2 {
+        return Err(TokenFault::Bad);
+    }
+    let mut octet = [0; 1];
+    if hex::decode_to_slice(piece, &mut octet).is_err() {
+        return Err(TokenFault::Bad);
+    }
+    Ok(octet[0])
+}
+
+/// The four pieces of a session's entry.
+#[derive(Clone, Copy)]
+struct SessionPieces<'a> {
+    session: &'a [u8],
+    nonce: &'a [u8],
+    attributes: &'a [u8],
+    hmac: &'a [u8],
+}
+
+fn session_pieces(text: &[u8]) -> Result<SessionPieces, TokenFault>
+    ensures { Gives four_of (session_pieces_of (pieces_of 58 text.now)) result }
+{
+    let (session, Some(rest)) = cut(b':', text) else {
+        return Err(TokenFault::Bad);
+    };
+    let (nonce, Some(rest)) = cut(b':', rest) else {
+        return Err(TokenFault::Bad);
+    };
+    let (attributes, Some(rest)) = cut(b':', rest) else {
+        return Err(TokenFault::Bad);
+    };
+    match cut(b':', rest) {
+        (hmac, None) => Ok(SessionPieces {
+            session,
+            nonce,
+            attributes,
+            hmac,
+        }),
+        (_, Some(_)) => Err(TokenFault::Bad),
+    }
+}
+
+/// Writes the entry of a password: TPM_RS_PW, no nonce, a session that goes on, and the password.
+fn put_password(password: &[u8], draft: &mut Draft) -> Result<(), TokenFault>
+    ensures { Drafts (text_of_entry (password_entry password.now)) (drafted draft.old) result
+        (drafted draft.new) }
+{
+    draft.put(&Handle::PASSWORD.number.to_be_bytes());
+    draft.put(&[0, 0, 1]);
+    draft.put_buffer(password)
+}
+
+/// Writes the entry of a session: its handle, nonce, attributes and HMAC.
+fn put_session(text: &[u8], draft: &mut Draft) -> Result<(), TokenFault>
+    ensures { Drafts (text_of_entry (session_entry text.now)) (drafted draft.old) result
+        (drafted draft.new) }
+{
+    let pieces = session_pieces(text)?;
+    draft.put(&handle_in(pieces.session)?.number.to_be_bytes());
+    draft.put_buffer(pieces.nonce)?;
+    draft.put(&octet_in(pieces.attributes)?.to_be_bytes());
+    draft.put_buffer(pieces.hmac)
+}
+
+/// Whether a token is to be read as an entry.
+pub fn begins_entry(token: &[u8]) -> bool
+    ensures { result ≡ begins_entry token.now }
+{
+    token.starts_with(b"pw:") || token.starts_with(b"s:")
+}
+
+/// Writes an entry.
+#[tactic(auto, unfolding(crate::specs::Entry::entry_in))]
+pub fn put_entry(token: &[u8], draft: &mut Draft) -> Result<(), TokenFault>
+    ensures { Drafts (text_of_entry (entry_in token.now)) (drafted draft.old) result
+        (drafted draft.new) }
+{
+    if token.starts_with(b"pw:") {
+        put_password(&token[3..], draft)
+    } else if token.starts_with(b"s:") {
+        put_session(&token[2..], draft)
+    } else {
+        Err(TokenFault::Bad)
+    }
+}

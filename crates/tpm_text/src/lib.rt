@@ -1,0 +1,31 @@
+#![tactic(auto)]
+
+//! Commands and traces as people write and read them.
+//!
+//! A line is a command in words: its name, its handles, its authorization entries and its
+//! parameters, a space between two. [`line`] reads it token by token ([`token`]) by the shape of
+//! the command, which says what is wanted where, and writes the buffer of the command
+//! ([`draft`]): handles and entries ([`entry`]), and parameters ([`parameter`]), which are numbers
+//! ([`number`]), words ([`word`]), bytes in hex ([`digits`]) and lists ([`list`]). The first fault
+//! from the left is told with its column ([`fault`]).
+//!
+//! A trace ([`trace`]) tells of an event in one line who sent what, which row of the table it took,
+//! and what was answered.
+
+mod digits;
+pub mod draft;
+mod element;
+mod entry;
+pub mod fault;
+pub mod line;
+mod list;
+mod number;
+mod parameter;
+mod token;
+pub mod trace;
+mod word;
+
+pub use draft::Draft;
+pub use fault::AsmFault;
+pub use line::{assemble, assemble_in, lines_are_read_back};
+pub use trace::{executions_are_traceable, trace_line, trace_text};

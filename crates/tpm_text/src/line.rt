@@ -1,0 +1,142 @@
+ghost use Rattle.std.specs.Prelude.{◌≡◌, ◌≤◌, ℕ, List, [], length, IfOk, Ok};
+ghost use Rattle.std.specs.List.{flat_map};
+ghost use Rattle.tpm_types_command.specs.AuthArea.{entries_text};
+ghost use Rattle.tpm_types_command.specs.Command.{Whole, command_at, command_size, command_text, handles_text};
+ghost use Rattle.tpm_text.specs.Draft.{Finishes, drafted};
+ghost use Rattle.tpm_text.specs.Fault.{Gives};
+ghost use Rattle.tpm_text.specs.Laying.{Lays, LaysSessions, Leads};
+ghost use Rattle.tpm_text.specs.Line.{Assembles, assembled, ended, entries_in, handles_in, name_in, parameters_in, spelled};
+ghost use Rattle.tpm_text.specs.Tokens.{tokens_left};
+
+use crate::draft::Draft;
+use crate::entry::{handle_in, put_entry};
+use crate::fault::AsmFault;
+use crate::parameter::put_parameter;
+use crate::token::Tokens;
+use std::alloc::Global;
+use tpm_types_command::{CommandCode, ParameterKind, Tag};
+
+/// Writes so many handles.
+fn put_handles(count: usize, tokens: &mut Tokens, draft: &mut Draft) -> Result<(), AsmFault>
+    ensures { Lays handles_text (handles_in count (tokens_left tokens.old)) (drafted draft.old)
+        result (drafted draft.new) (tokens_left tokens.new) }
+{
+    if count == 0 {
+        return Ok(());
+    }
+    let token = tokens.wanted()?;
+    let handle = token.told(handle_in(token.text))?;
+    draft.put(&handle.number.to_be_bytes());
+    put_handles(count - 1, tokens, draft)
+}
+
+/// Writes at most so many entries: as many as the tokens begin like one.
+fn put_entries(most: usize, tokens: &mut Tokens, draft: &mut Draft) -> Result<(), AsmFault>
+    ensures { Lays entries_text (entries_in most (tokens_left tokens.old)) (drafted draft.old)
+        result (drafted draft.new) (tokens_left tokens.new) }
+{
+    if most == 0 {
+        return Ok(());
+    }
+    let Some(token) = tokens.next_entry() else {
+        return Ok(());
+    };
+    token.told(put_entry(token.text, draft))?;
+    put_entries(most - 1, tokens, draft)
+}
+
+/// Writes a parameter of each kind.
+fn put_parameters(
+    kinds: &[ParameterKind],
+    tokens: &mut Tokens,
+    draft: &mut Draft,
+) -> Result<(), AsmFault>
+    ensures { Lays (λ text. text) (parameters_in kinds.now (tokens_left tokens.old))
+        (drafted draft.old) result (drafted draft.new) (tokens_left tokens.new) }
+{
+    let Some((kind, others)) = kinds.split_first() else {
+        return Ok(());
+    };
+    let token = tokens.wanted()?;
+    token.told(put_parameter(*kind, token.text, draft))?;
+    put_parameters(others, tokens, draft)
+}
+
+/// Writes the authorization area, if the next token begins like an entry, and tells whether it did.
+fn put_sessions(tokens: &mut Tokens, draft: &mut Draft) -> Result<Tag, AsmFault>
+    ensures { LaysSessions (entries_in 3 (tokens_left tokens.old)) (drafted draft.old)
+        result (drafted draft.new) (tokens_left tokens.new) }
+{
+    if !tokens.begins_entry() {
+        return Ok(Tag::NoSessions);
+    }
+    let mut area = Draft::new();
+    put_entries(3, tokens, &mut area)?;
+    draft.put_area(&area);
+    Ok(Tag::Sessions)
+}
+
+/// The command that the first token names.
+fn read_name(tokens: &mut Tokens) -> Result<CommandCode, AsmFault>
+    ensures { Leads (λ code. code) (name_in (tokens_left tokens.old)) result
+        (tokens_left tokens.new) }
+{
+    let Some(token) = tokens.next() else {
+        return Err(AsmFault::BadName);
+    };
+    CommandCode::called(token.text).ok_or(AsmFault::BadName)
+}
+
+/// Tells whether no token is left over.
+fn check_end(tokens: &mut Tokens) -> Result<(), AsmFault>
+    ensures { Gives (λ done. done) (ended (tokens_left tokens.old)) result }
+{
+    match tokens.next() {
+        Some(token) => Err(AsmFault::BadField {
+            column: token.column,
+        }),
+        None => Ok(()),
+    }
+}
+
+/// The buffer of the command that a line spells, or the first fault of the line from the left.
+pub fn assemble_in<'a>(line: &[u8], draft: &'a mut Draft) -> Result<&'a [u8], AsmFault>
+    ensures value { Gives (λ bytes. bytes.now) (assembled line.now) result }
+    ensures fits { IfOk result (λ bytes. length bytes.now ≤ 4096) }
+{
+    write_command(line, draft)?;
+    Ok(draft.as_slice())
+}
+
+/// Writes the command that a line spells.
+fn write_command(line: &[u8], draft: &mut Draft) -> Result<(), AsmFault>
+    ensures { Finishes (assembled line.now) result (drafted draft.new) }
+{
+    let mut tokens = Tokens::of(line);
+    let code = read_name(&mut tokens)?;
+    let shape = code.shape();
+    draft.begin();
+    put_handles(shape.handles.len(), &mut tokens, draft)?;
+    let tag = put_sessions(&mut tokens, draft)?;
+    put_parameters(shape.parameters, &mut tokens, draft)?;
+    check_end(&mut tokens)?;
+    draft.finish(tag, code)
+}
+
+/// The buffer of the command that a line spells, or the first fault of the line from the left.
+/// NoMemory comes only where the line spells one that fits a buffer.
+pub fn assemble(alloc: Global, line: &str) -> Result<Vec<u8>, AsmFault>
+    ensures { Assembles (λ buffer. buffer.items) (assembled line.now) result }
+{
+    let mut draft = Draft::new();
+    let bytes = assemble_in(line.as_bytes(), &mut draft)?;
+    let mut buffer = Vec::new(alloc);
+    buffer.extend_from_slice(bytes)?;
+    Ok(buffer)
+}
+
+/// The buffer of a line is read as the command that the line spells.
+pub fn lines_are_read_back()
+    ensures { (line : List ℕ) (c : Whole) → spelled line ≡ Ok c → command_size c ≤ 4096
+        → command_at (command_text c) ≡ Ok (c, []) }
+{}

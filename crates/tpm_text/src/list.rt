@@ -1,0 +1,145 @@
+ghost use Rattle.std.specs.Prelude.{◌≡◌, ◌==◌, length};
+ghost use Rattle.std.specs.Int.{w32, to_be_bytes};
+ghost use Rattle.std.specs.List.{count_by};
+ghost use Rattle.tpm_text.specs.Draft.{Drafts, drafted};
+ghost use Rattle.tpm_text.specs.Fault.{Gives};
+ghost use Rattle.tpm_text.specs.Number.{number_in};
+ghost use Rattle.tpm_text.specs.Parameter.{bank_in, digest_in, element_text, hash_and_rest_in, elements_text, list_or_none_text, list_text, pcrs_in};
+ghost use Rattle.tpm_text.specs.Pieces.{pieces_of};
+
+use crate::draft::Draft;
+use crate::element::Element;
+use crate::fault::TokenFault;
+use crate::number::{is_word, number_in};
+use crate::token::cut;
+use crate::word::hash_in;
+use tpm_bytes::Sink;
+use tpm_mac::HashAlg;
+use tpm_types::{BankSelection, PcrIndex, PcrSelect, hash_number};
+
+/// A hash algorithm, and what stands behind its colon.
+#[tactic(auto, unfolding(crate::specs::Parameter::hash_and_rest_in))]
+fn hash_and_rest_in(piece: &[u8]) -> Result<(HashAlg, &[u8]), TokenFault>
+    ensures { Gives (λ pair. (pair.0, pair.1.now)) (hash_and_rest_in piece.now) result }
+{
+    let (word, Some(rest)) = cut(b':', piece) else {
+        return Err(TokenFault::Bad);
+    };
+    match cut(b':', rest) {
+        (rest, None) => Ok((hash_in(word)?, rest)),
+        (_, Some(_)) => Err(TokenFault::Bad),
+    }
+}
+
+/// The PCR of a number, 0 to 23.
+fn pcr_in(piece: &[u8]) -> Result<PcrIndex, TokenFault>
+    ensures { Gives (λ pcr. pcr) (number_in 23 piece.now) result }
+{
+    let number = number_in(23, piece)?;
+    PcrIndex::new(number as u8).ok_or(TokenFault::Range)
+}
+
+/// The PCRs of these numbers, joined by commas.
+fn pcrs_in(numbers: &[u8]) -> Result<PcrSelect, TokenFault>
+    ensures { Gives (λ select. select) (pcrs_in numbers.now) result }
+{
+    let mut select = PcrSelect::none();
+    let mut left = numbers;
+    loop {
+        let (piece, others) = cut(b',', left);
+        select.insert(pcr_in(piece)?);
+        match others {
+            Some(text) => left = text,
+            None => return Ok(select),
+        }
+    }
+}
+
+/// Writes a bank's selection.
+#[tactic(auto, unfolding(crate::specs::Parameter::bank_in))]
+fn put_bank(piece: &[u8], draft: &mut Draft) -> Result<(), TokenFault>
+    ensures { Drafts (bank_in piece.now) (drafted draft.old) result (drafted draft.new) }
+{
+    let (hash, numbers) = hash_and_rest_in(piece)?;
+    let select = pcrs_in(numbers)?;
+    let mut text: Sink<6> = Sink::new();
+    let _ = BankSelection { hash, select }.write(&mut text);
+    draft.put(text.as_slice());
+    Ok(())
+}
+
+/// Writes a digest with its hash algorithm.
+#[tactic(auto, unfolding(crate::specs::Parameter::digest_in))]
+fn put_digest(piece: &[u8], draft: &mut Draft) -> Result<(), TokenFault>
+    ensures { Drafts (digest_in piece.now) (drafted draft.old) result (drafted draft.new) }
+{
+    let (hash, digits) = hash_and_rest_in(piece)?;
+    if digits.len() != 2 * hash.size() {
+        return Err(TokenFault::Bad);
+    }
+    draft.put(&hash_number(hash).to_be_bytes());
+    draft.put_hex(digits)
+}
+
+fn put_element(element: Element, piece: &[u8], draft: &mut Draft) -> Result<(), TokenFault>
+    ensures { Drafts (element_text element piece.now) (drafted draft.old) result
+        (drafted draft.new) }
+{
+    match element {
+        Element::Bank => put_bank(piece, draft),
+        Element::Digest => put_digest(piece, draft),
+        Element::Buffer => draft.put_buffer(piece),
+    }
+}
+
+/// Writes the elements of a list, joined by +.
+fn put_elements(element: Element, token: &[u8], draft: &mut Draft) -> Result<(), TokenFault>
+    ensures { Drafts (elements_text element (pieces_of 43 token.now)) (drafted draft.old) result
+        (drafted draft.new) }
+{
+    let mut left = token;
+    loop {
+        let (piece, others) = cut(b'+', left);
+        put_element(element, piece, draft)?;
+        match others {
+            Some(text) => left = text,
+            None => return Ok(()),
+        }
+    }
+}
+
+fn separator_count(separator: u8, text: &[u8]) -> usize
+    ensures { result ≡ count_by (λ byte. byte == separator) text.now }
+{
+    text.iter().filter(|byte| **byte == separator).count()
+}
+
+/// How many pieces a separator makes of a text, in 32 bits. A text with more pieces than these can
+/// count is that of a command that is too long.
+fn piece_count(separator: u8, text: &[u8]) -> u32
+    ensures { to_be_bytes w32 result ≡ to_be_bytes w32 (length (pieces_of separator text.now)) }
+{
+    ((separator_count(separator, text) % 0x1_0000_0000 + 1) % 0x1_0000_0000) as u32
+}
+
+/// Writes a list, whose elements are joined by +.
+#[tactic(auto, unfolding(crate::specs::Parameter::list_text))]
+pub fn put_list(element: Element, token: &[u8], draft: &mut Draft) -> Result<(), TokenFault>
+    ensures { Drafts (list_text element token.now) (drafted draft.old) result (drafted draft.new) }
+{
+    draft.put(&piece_count(b'+', token).to_be_bytes());
+    put_elements(element, token, draft)
+}
+
+/// The same, where `-` is a list of none.
+#[tactic(auto, unfolding(crate::specs::Parameter::list_or_none_text))]
+pub fn put_list_or_none(element: Element, token: &[u8], draft: &mut Draft) -> Result<(), TokenFault>
+    ensures { Drafts (list_or_none_text element token.now) (drafted draft.old) result
+        (drafted draft.new) }
+{
+    if is_word("-", token) {
+        draft.put(&0u32.to_be_bytes());
+        return Ok(());
+    }
+    put_list(element, token, draft)
+}

@@ -1,0 +1,80 @@
+ghost use Rattle.std.specs.Prelude.{◌≡◌, ◌<◌, ◌≤◌, ◌^◌, ◌-◌, IfOk};
+ghost use Rattle.std.specs.List.{list_all};
+ghost use Rattle.tpm_text.specs.Fault.{Gives};
+ghost use Rattle.tpm_text.specs.Number.{at_most, is_digit, is_word, number_in, number_of, numeral, radix_number};
+
+use crate::fault::TokenFault;
+use std::str;
+
+/// Whether a text is this word.
+pub fn is_word(word: &str, text: &[u8]) -> bool
+    ensures { result ≡ is_word word.now text.now }
+{
+    text == word.as_bytes()
+}
+
+/// In what a number is written.
+#[derive(Clone, Copy, Debug, PartialEq, Eq)]
+enum Radix {
+    Decimal,
+    Hexadecimal,
+}
+
+impl Radix {
+    fn number(self) -> u32
+        ensures value { result ≡ radix_number self }
+        ensures lower { 2 ≤ result }
+        ensures upper { result ≤ 36 }
+    {
+        match self {
+            Radix::Decimal => 10,
+            Radix::Hexadecimal => 16,
+        }
+    }
+
+    fn has_digit(self, byte: u8) -> bool
+        ensures { result ≡ is_digit (radix_number self) byte }
+    {
+        char::from(byte).is_digit(self.number())
+    }
+
+    fn has_digits(self, bytes: &[u8]) -> bool
+        ensures { result ≡ list_all (is_digit (radix_number self)) bytes.now }
+    {
+        bytes.iter().all(|byte| self.has_digit(*byte))
+    }
+
+    /// The number that digits write: Bad where they write none, Range from 2^64 on.
+    fn read(self, digits: &[u8]) -> Result<u64, TokenFault>
+        ensures { Gives (λ number. number)
+            (at_most (2 ^ 64 - 1) (numeral (radix_number self) digits.now)) result }
+    {
+        if digits.is_empty() || !self.has_digits(digits) {
+            return Err(TokenFault::Bad);
+        }
+        let Ok(text) = str::from_utf8(digits) else {
+            return Err(TokenFault::Bad);
+        };
+        let Ok(number) = u64::from_str_radix(text, self.number()) else {
+            return Err(TokenFault::Range);
+        };
+        Ok(number)
+    }
+}
+
+/// The number that a token writes, 0x and hex digits or decimal digits: Bad where it writes none,
+/// Range where it is over `most`.
+#[tactic(auto, unfolding(crate::specs::Number::number_of, crate::specs::Number::at_most))]
+pub fn number_in(most: u64, token: &[u8]) -> Result<u64, TokenFault>
+    ensures value { Gives (λ number. number) (number_in most token.now) result }
+    ensures small { IfOk result (λ number. number ≤ most) }
+{
+    let number = match token.strip_prefix(b"0x") {
+        Some(digits) => Radix::Hexadecimal.read(digits)?,
+        None => Radix::Decimal.read(token)?,
+    };
+    if number > most {
+        return Err(TokenFault::Range);
+    }
+    Ok(number)
+}

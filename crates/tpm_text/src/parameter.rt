@@ -1,0 +1,45 @@
+ghost use Rattle.std.specs.Prelude.{◌≡◌, MatchResult};
+ghost use Rattle.tpm_text.specs.Draft.{Drafts, drafted};
+ghost use Rattle.tpm_text.specs.Fault.{Gives};
+ghost use Rattle.tpm_text.specs.Number.{number_text};
+ghost use Rattle.tpm_text.specs.Parameter.{bank_in, buffer_text, digest_in, element_text, hash_in, hash_text, list_or_none_text, list_text, parameter_text, symmetric_in};
+
+use crate::digits::digits_of;
+use crate::draft::Draft;
+use crate::element::Element;
+use crate::fault::TokenFault;
+use crate::list::{put_list, put_list_or_none};
+use crate::number::{is_word, number_in};
+use crate::word::{hash_in, put_hash, put_symmetric};
+use tpm_types_command::ParameterKind;
+
+/// Writes a parameter of a kind, given as a token.
+#[tactic(auto, unfolding(crate::specs::Parameter::parameter_text))]
+pub fn put_parameter(kind: ParameterKind, token: &[u8], draft: &mut Draft) -> Result<(), TokenFault>
+    ensures { Drafts (parameter_text kind token.now) (drafted draft.old) result (drafted draft.new) }
+{
+    match kind {
+        ParameterKind::SessionType | ParameterKind::U8 | ParameterKind::YesNo => {
+            draft.put(&(number_in(0xff, token)? as u8).to_be_bytes());
+        }
+        ParameterKind::StartupType | ParameterKind::U16 | ParameterKind::Operation => {
+            draft.put(&(number_in(0xffff, token)? as u16).to_be_bytes());
+        }
+        ParameterKind::U32 | ParameterKind::PersistentHandle => {
+            draft.put(&(number_in(0xffff_ffff, token)? as u32).to_be_bytes());
+        }
+        ParameterKind::U64 => {
+            draft.put(&number_in(0xffff_ffff_ffff_ffff, token)?.to_be_bytes());
+        }
+        ParameterKind::Hash | ParameterKind::HashOrNull => put_hash(token, draft)?,
+        ParameterKind::Symmetric => put_symmetric(token, draft)?,
+        ParameterKind::Selection => put_list_or_none(Element::Bank, token, draft)?,
+        ParameterKind::Digests => put_list_or_none(Element::Digest, token, draft)?,
+        ParameterKind::DigestList => put_list(Element::Buffer, token, draft)?,
+        ParameterKind::Buffer(_)
+        | ParameterKind::SensitiveCreate
+        | ParameterKind::Public
+        | ParameterKind::NvPublic => draft.put_buffer(token)?,
+    }
+    Ok(())
+}

@@ -1,0 +1,63 @@
+ghost use Rattle.std.specs.Prelude.{◌≡◌};
+ghost use Rattle.tpm_text.specs.Draft.{Drafts, drafted};
+ghost use Rattle.tpm_text.specs.Fault.{Gives};
+ghost use Rattle.tpm_text.specs.Parameter.{hash_in, hash_text, symmetric_in, symmetric_word_text};
+
+use crate::draft::Draft;
+use crate::fault::TokenFault;
+use crate::number::is_word;
+use tpm_bytes::Sink;
+use tpm_mac::HashAlg;
+use tpm_types::{SymmetricDefinition, hash_number, hash_or_null_number};
+
+/// The hash algorithm of a word.
+pub fn hash_in(word: &[u8]) -> Result<HashAlg, TokenFault>
+    ensures { Gives (λ hash. hash) (hash_in word.now) result }
+{
+    if is_word("sha1", word) {
+        Ok(HashAlg::Sha1)
+    } else if is_word("sha256", word) {
+        Ok(HashAlg::Sha256)
+    } else {
+        Err(TokenFault::Bad)
+    }
+}
+
+/// Writes the number of a hash algorithm, or of NULL.
+#[tactic(auto, unfolding(crate::specs::Parameter::hash_text))]
+pub fn put_hash(word: &[u8], draft: &mut Draft) -> Result<(), TokenFault>
+    ensures { Drafts (hash_text word.now) (drafted draft.old) result (drafted draft.new) }
+{
+    let algorithm = if is_word("null", word) {
+        None
+    } else {
+        Some(hash_in(word)?)
+    };
+    draft.put(&hash_or_null_number(algorithm).to_be_bytes());
+    Ok(())
+}
+
+/// The symmetric definition of a word.
+fn symmetric_in(word: &[u8]) -> Result<SymmetricDefinition, TokenFault>
+    ensures { Gives (λ definition. definition) (symmetric_in word.now) result }
+{
+    if is_word("null", word) {
+        Ok(SymmetricDefinition::Null)
+    } else if is_word("aes", word) {
+        Ok(SymmetricDefinition::Aes128Cfb)
+    } else {
+        Err(TokenFault::Bad)
+    }
+}
+
+/// Writes a symmetric definition.
+#[tactic(auto, unfolding(crate::specs::Parameter::symmetric_word_text))]
+pub fn put_symmetric(word: &[u8], draft: &mut Draft) -> Result<(), TokenFault>
+    ensures { Drafts (symmetric_word_text word.now) (drafted draft.old) result (drafted draft.new) }
+{
+    let definition = symmetric_in(word)?;
+    let mut text: Sink<6> = Sink::new();
+    let _ = definition.write(&mut text);
+    draft.put(text.as_slice());
+    Ok(())
+}
