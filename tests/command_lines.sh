@@ -1,5 +1,6 @@
-# Which words make a command line: `run SCRIPT`, where `-` is standard input, and nothing else. All
-# others are refused, though the files that they name are there and hold scripts.
+# Which words make a command line: `run [--trace] SCRIPT`, where `-` is standard input, and
+# `asm LINE`, whose line is one word. Help and the version are told on standard output. All others are
+# refused, though the files that they name are there and hold scripts.
 . "$(dirname "$0")/common/cases.sh"
 
 # Each of the three scripts is answered in its own way.
@@ -31,9 +32,29 @@ words run a b
 words run - a
 words run a -
 
-# Options, of which there is none.
+# The one option, before the script or behind it.
 words run --trace a
 words run a --trace
+words run --trace ./-
+words run --trace -
+
+# It alone, and before the command.
+words run --trace
+words --trace run a
+
+# A command in words; assemble.sh has more of them.
+run "tpmsim asm 'Startup 0'" asm 'Startup 0'
+run "tpmsim asm Bogus" asm Bogus
+run "tpmsim asm ''" asm ''
+
+# None, or more than one word.
+words asm
+run "tpmsim asm Startup 0" asm Startup 0
+run "tpmsim asm 'Startup 0' a" asm 'Startup 0' a
+run "tpmsim asm --trace 'Startup 0'" asm --trace 'Startup 0'
+run "tpmsim --trace asm 'Startup 0'" --trace asm 'Startup 0'
+
+# Other options; help and the version.
 words run -x
 words run -h
 words run --help
@@ -54,3 +75,4 @@ words version
 
 # A word that is not UTF-8.
 echo cmd | run 'tpmsim run \377' run "$(printf '\377')"
+run "tpmsim asm 'Startup \377'" asm "$(printf 'Startup \377')"

@@ -20,6 +20,10 @@ for bytes in 65536 65538; do
     { echo; echo "$startup"; } >>script
     run "a command in a line of $bytes bytes" run script
 done
+for bytes in 65536 65537; do
+    { echo "$startup"; padded 'do GetRandom ' "$bytes"; } >script
+    run "a command in words in a line of $bytes bytes" run script
+done
 { echo "$startup"; padded '#' 1000000; echo; echo "$startup"; } >script
 run 'a comment of 1000000 bytes' run script
 for _ in 1 2 3; do

@@ -9,8 +9,9 @@
 #
 # NAME.tpm is run as `PROGRAM run NAME.tpm`, or as `tpmsim_lists <NAME.tpm`, and NAME.sh as `sh
 # NAME.sh PROGRAM`. NAME.out is what standard output must be, NAME.err what standard error must be
-# (no file: empty), and NAME.status the exit status (no file: 0). The last line is `N passed, M
-# failed`.
+# (no file: empty), and NAME.status the exit status (no file: 0). Where there is a NAME.trace,
+# NAME.tpm is run as `PROGRAM run --trace NAME.tpm` too, which is a further test, and NAME.trace is
+# what standard output must be. The last line is `N passed, M failed`.
 set -u
 
 top=$(CDPATH='' cd "$(dirname "$0")/.." && pwd -P) || exit 1
@@ -26,12 +27,17 @@ fail() {
     failed=$((failed + 1))
 }
 
-# first_difference TEST: the first line of standard output that differs, and of a script the command
-# that it answers, which is the script's cmd line of the same number.
+# first_difference TEST WANTED: the first line of standard output that differs from what is wanted,
+# and of a script the line that it comes of. Each cmd and do line prints a line, in a trace two, and
+# there `power` prints one.
 first_difference() {
-    awk -v test="${1#"$top/"}" -v out="${base#"$top/"}.out" '
+    awk -v test="${1#"$top/"}" -v out="${2#"$top/"}" '
+        BEGIN { traces = out ~ /trace$/ }
         FILENAME == ARGV[1] {
-            if (test ~ /tpm$/ && /^cmd( |$)/) command[++commands] = test ":" FNR ": " $0
+            prints = 0
+            if (test ~ /tpm$/ && /^(cmd|do)( |$)/) prints = traces ? 2 : 1
+            if (test ~ /tpm$/ && /^power$/) prints = traces ? 1 : 0
+            while (prints-- > 0) line[++lines] = test ":" FNR ": " $0
             next
         }
         FILENAME == ARGV[2] { wanted[++wanted_lines] = $0; next }
@@ -39,11 +45,11 @@ first_difference() {
         END {
             most = wanted_lines > given_lines ? wanted_lines : given_lines
             for (n = 1; n <= most; n++) if (wanted[n] "" != given[n] "") break
-            print "    " (n <= commands ? command[n] : out ":" n)
+            print "    " (n <= lines ? line[n] : out ":" n)
             print "        wanted: " (n <= wanted_lines ? wanted[n] : "no more")
             print "        given:  " (n <= given_lines ? given[n] : "no more")
         }
-    ' "$1" "$base.out" "$work/output"
+    ' "$1" "$2" "$work/output"
 }
 
 # status_of TEST: the exit status that is wanted.
@@ -51,37 +57,38 @@ status_of() {
     if [ -f "${1%.*}.status" ]; then cat "${1%.*}.status"; else echo 0; fi
 }
 
-# run TEST PROGRAM: runs a test with a program.
+# run TEST PROGRAM [OPTION]: runs a test with a program.
 run() {
     case $1,$2 in
     *.sh,*) timeout 120 sh "$1" "$2" </dev/null ;;
     *,"$lists") timeout 120 "$2" <"$1" ;;
-    *) timeout 120 "$2" run "$1" </dev/null ;;
+    *) timeout 120 "$2" run ${3:+"$3"} "$1" </dev/null ;;
     esac
 }
 
-# check TEST PROGRAM: counts a test that is run with a program, and says what differs.
+# check TEST PROGRAM WANTED [OPTION]: counts a test that is run with a program, and says what differs
+# from the file of what is wanted.
 check() {
     base=${1%.*}
-    named="${1#"$top/"} with ${2##*/}"
-    if [ ! -f "$base.out" ]; then
-        fail "$named: ${base#"$top/"}.out is not there"
+    named="${1#"$top/"} with ${2##*/}${4:+ $4}"
+    if [ ! -f "$3" ]; then
+        fail "$named: ${3#"$top/"} is not there"
         return
     fi
     status=0
-    run "$1" "$2" >"$work/output" 2>"$work/error" || status=$?
+    run "$1" "$2" "${4:-}" >"$work/output" 2>"$work/error" || status=$?
     wanted_status=$(status_of "$1")
     wanted_error=$work/empty
     [ ! -f "$base.err" ] || wanted_error=$base.err
 
-    if [ "$status" = "$wanted_status" ] && cmp -s "$base.out" "$work/output" &&
+    if [ "$status" = "$wanted_status" ] && cmp -s "$3" "$work/output" &&
         cmp -s "$wanted_error" "$work/error"; then
         echo "ok: $named"
         passed=$((passed + 1))
         return
     fi
     fail "$named"
-    cmp -s "$base.out" "$work/output" || first_difference "$1"
+    cmp -s "$3" "$work/output" || first_difference "$1" "$3"
     [ "$status" = "$wanted_status" ] || echo "    status wanted: $wanted_status, given: $status"
     cmp -s "$wanted_error" "$work/error" || {
         echo "    standard error wanted: $(cat "$wanted_error")"
@@ -113,7 +120,10 @@ for program in "$top/crates/tpmsim/out/tpmsim" "$top/crates/tpmsim/out/tpmsim.by
     fi
     programs=$((programs + 1))
     for test do
-        check "$test" "$program"
+        check "$test" "$program" "${test%.*}.out"
+        case $test in
+        *.tpm) [ ! -f "${test%.*}.trace" ] || check "$test" "$program" "${test%.*}.trace" --trace ;;
+        esac
     done
 done
 [ "$programs" -gt 0 ] || fail 'no program was there to be run'
@@ -121,7 +131,7 @@ done
 if [ -x "$lists" ]; then
     for test do
         case $test,$(status_of "$test") in
-        *.tpm,0) check "$test" "$lists" ;;
+        *.tpm,0) check "$test" "$lists" "${test%.*}.out" ;;
         esac
     done
 else

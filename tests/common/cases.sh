@@ -4,9 +4,11 @@ LC_ALL=C
 export LC_ALL
 
 [ "$#" -eq 1 ] || { echo "usage: sh $0 PROGRAM" >&2; exit 2; }
-program=$(cd "$(dirname "$1")" && pwd -P)/$(basename "$1")
 room=$(mktemp -d) || exit 1
 trap 'rm -rf "$room"' EXIT
+# A help says by what name the program was called, and that is tpmsim whatever its file is called.
+program=$room/tpmsim
+ln -s "$(cd "$(dirname "$1")" && pwd -P)/$(basename "$1")" "$program" || exit 1
 mkdir "$room/folder" && cd "$room/folder" || exit 1
 
 # TPM2_Startup(CLEAR), which is answered SUCCESS (80010000000a00000000), and INITIALIZE

@@ -6,7 +6,9 @@ use Rattle.std.specs.declared.io.ErrorKind.TheVariants.{OutOfMemory}
 use Rattle.clap.specs.declared.error.kind.ErrorKind as clap
 use Rattle.clap.specs.declared.error.kind.ErrorKind.TheVariants as refused
 use Rattle.tpmsim.specs.declared.fault.Fault.{Fault}
-use Rattle.tpmsim.specs.declared.fault.Fault.TheVariants.{Usage, ScriptLine, File, Memory}
+use Rattle.tpmsim.specs.declared.fault.Fault.TheVariants.{Usage, ScriptLine, Asm, File, Memory}
+use Rattle.tpm_text.specs.declared.fault.AsmFault.{AsmFault}
+use Rattle.tpm_text.specs.declared.fault.AsmFault.TheVariants as line
 use Rattle.tpmsim_script.specs.declared.fault.ScriptFault.{ScriptFault}
 use Rattle.tpmsim_script.specs.declared.fault.ScriptFault.TheVariants.{Line, Read, TooManyLines, Write, NoMemory}
 
@@ -28,17 +30,33 @@ fault_of TooManyLines = File
 fault_of Write = File
 fault_of NoMemory = Memory
 
+-- the fault of a line that was not assembled: memory ran out, or it spells no command
+abbrev pub fault_of_line : AsmFault → Fault
+fault_of_line line.NoMemory = Memory
+fault_of_line fault = Asm fault
+
 -- the exit status: 2 where what was asked for makes no sense, 3 where a file, a stream or memory
 -- refused it
 abbrev pub status_of : Fault → ℕ
 status_of Usage = 2
 status_of (ScriptLine number) = 2
+status_of (Asm fault) = 2
 status_of File = 3
 status_of Memory = 3
+
+-- the name of a line's fault, with the column of the token at fault
+abbrev pub asm_text : AsmFault → List ℕ
+asm_text line.BadName = codes "BadName"
+asm_text (line.BadField column) = codes "BadField " ++ decimal column
+asm_text line.Missing = codes "Missing"
+asm_text (line.Range column) = codes "Range " ++ decimal column
+asm_text line.TooLong = codes "TooLong"
+asm_text line.NoMemory = codes "NoMemory"
 
 -- what follows the program's name on standard error
 abbrev pub fault_text : Fault → List ℕ
 fault_text Usage = codes "usage"
 fault_text (ScriptLine number) = codes "script line " ++ decimal number
+fault_text (Asm fault) = codes "asm " ++ asm_text fault
 fault_text File = codes "file"
 fault_text Memory = codes "memory"

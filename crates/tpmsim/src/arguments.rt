@@ -6,10 +6,15 @@ use std::alloc::{AllocError, Global};
 use std::convert::AsStr;
 
 /// What the command line asks for.
-#[derive(Clone, Copy, Debug, PartialEq, Eq)]
+#[derive(Drop)]
 pub enum Arguments<'a> {
-    /// To run the script in this file, or on standard input where the word is `-`.
-    Run { script: &'a str },
+    /// To run the script in this file, or on standard input where the word is `-`; and to print the
+    /// trace of each event.
+    Run { script: &'a str, trace: bool },
+    /// To print the buffer of the command that this line spells.
+    Assemble { line: &'a str },
+    /// To print its help or its version, which clap tells in place of matches.
+    Tell(clap::Error),
 }
 
 impl<'a> Arguments<'a> {
@@ -18,8 +23,11 @@ impl<'a> Arguments<'a> {
     pub fn parse<S: AsStr>(alloc: Global, words: &'a [S]) -> Result<Arguments<'a>, Fault>
         ensures { IfErr result (λ fault. (fault ≡ Fault.Usage) ⊎ (fault ≡ Fault.Memory)) }
     {
-        let matches = command(alloc)?.try_get_matches_from(words)?;
-        Arguments::of_matches(&matches).ok_or(Fault::Usage)
+        match command(alloc)?.try_get_matches_from(words) {
+            Ok(matches) => Arguments::of_matches(&matches).ok_or(Fault::Usage),
+            Err(error) if error.use_stderr() => Err(Fault::from(error)),
+            Err(error) => Ok(Arguments::Tell(error)),
+        }
     }
 
     fn of_matches(matches: &ArgMatches<'a>) -> Option<Arguments<'a>> {
@@ -27,6 +35,10 @@ impl<'a> Arguments<'a> {
         match name {
             "run" => Some(Arguments::Run {
                 script: options.get_str("script")?,
+                trace: options.get_flag("trace"),
+            }),
+            "asm" => Some(Arguments::Assemble {
+                line: options.get_str("line")?,
             }),
             _ => None,
         }
@@ -34,14 +46,39 @@ impl<'a> Arguments<'a> {
 }
 
 fn command<'a>(alloc: Global) -> Result<Command<'a>, AllocError> {
-    let script = Arg::new(alloc, "script")
-        .required(true)
-        .action(ArgAction::Set);
-    let run = Command::new(alloc, "run").arg(script)?;
     Command::new(alloc, "tpmsim")
-        .disable_help_flag(true)
-        .disable_help_subcommand(true)
-        .disable_version_flag(true)
+        .about("A TPM 2.0 in software: runs scripts of commands on a new device")
+        .version("0.1.0")
         .subcommand_required(true)
-        .subcommand(run)
+        .subcommand(run_command(alloc)?)?
+        .subcommand(asm_command(alloc)?)
+}
+
+fn run_command<'a>(alloc: Global) -> Result<Command<'a>, AllocError> {
+    let trace = Arg::new(alloc, "trace")
+        .long("trace")
+        .action(ArgAction::SetTrue)
+        .help("Prints before each response which row of the table the command took");
+    let script = Arg::new(alloc, "script")
+        .value_name("SCRIPT")
+        .required(true)
+        .action(ArgAction::Set)
+        .help("The file of the script, or - for standard input");
+    Command::new(alloc, "run")
+        .about("Runs a script, and prints the responses in hex, one a line")
+        .after_help("Example: tpmsim run --trace examples/measured_boot.tpm")
+        .arg(trace)?
+        .arg(script)
+}
+
+fn asm_command<'a>(alloc: Global) -> Result<Command<'a>, AllocError> {
+    let line = Arg::new(alloc, "line")
+        .value_name("LINE")
+        .required(true)
+        .action(ArgAction::Set)
+        .help("The command in words, as it stands behind `do ` in a script");
+    Command::new(alloc, "asm")
+        .about("Prints the buffer of a command in hex")
+        .after_help("Example: tpmsim asm 'PCR_Read sha256:0,4'")
+        .arg(line)
 }

@@ -3,6 +3,7 @@ ghost use Rattle.std.specs.Prelude.{◌≡◌};
 use std::alloc::AllocError;
 use std::io::ErrorKind;
 use std::{fmt, io};
+use tpm_text::AsmFault;
 use tpmsim_script::ScriptFault;
 
 /// Why the program failed. It prints as the line on standard error says it.
@@ -12,6 +13,8 @@ pub enum Fault {
     Usage,
     /// The line of this number, from 1, is none of a script's lines.
     ScriptLine(u32),
+    /// The line to be assembled spells no command.
+    Asm(AsmFault),
     /// A file, or standard input or output, could not be opened, read or written.
     File,
     Memory,
@@ -37,7 +40,7 @@ impl Fault {
         ensures { result ≡ status_of self }
     {
         match self {
-            Fault::Usage | Fault::ScriptLine(_) => 2,
+            Fault::Usage | Fault::ScriptLine(_) | Fault::Asm(_) => 2,
             Fault::File | Fault::Memory => 3,
         }
     }
@@ -53,6 +56,12 @@ impl fmt::Display for Fault {
         match self {
             Fault::Usage => write!(f, "usage"),
             Fault::ScriptLine(number) => write!(f, "script line {number}"),
+            Fault::Asm(AsmFault::BadName) => write!(f, "asm BadName"),
+            Fault::Asm(AsmFault::BadField { column }) => write!(f, "asm BadField {column}"),
+            Fault::Asm(AsmFault::Missing) => write!(f, "asm Missing"),
+            Fault::Asm(AsmFault::Range { column }) => write!(f, "asm Range {column}"),
+            Fault::Asm(AsmFault::TooLong) => write!(f, "asm TooLong"),
+            Fault::Asm(AsmFault::NoMemory) => write!(f, "asm NoMemory"),
             Fault::File => write!(f, "file"),
             Fault::Memory => write!(f, "memory"),
         }
@@ -79,6 +88,19 @@ impl From<ScriptFault> for Fault {
             ScriptFault::Line(number) => Fault::ScriptLine(number),
             ScriptFault::Read | ScriptFault::TooManyLines | ScriptFault::Write => Fault::File,
             ScriptFault::NoMemory => Fault::Memory,
+        }
+    }
+}
+
+impl From<AsmFault> for Fault {
+    ghost use Rattle.tpmsim.specs.Fault.{fault_of_line};
+
+    ghost from_gives = { λ asm_fault fault. fault ≡ fault_of_line asm_fault };
+
+    fn from(fault: AsmFault) -> Fault {
+        match fault {
+            AsmFault::NoMemory => Fault::Memory,
+            fault => Fault::Asm(fault),
         }
     }
 }

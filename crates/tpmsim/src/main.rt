@@ -1,9 +1,10 @@
 #![tactic(auto)]
 
-//! A TPM 2.0 simulator that runs scripts of commands: `tpmsim run SCRIPT`.
+//! A TPM 2.0 simulator that runs scripts of commands, `tpmsim run SCRIPT`, and assembles commands
+//! from words, `tpmsim asm LINE`.
 //!
-//! Standard output holds the responses alone, in hex, one a line. A run that fails says why in one
-//! line on standard error.
+//! Standard output holds the responses in hex, one a line, with `--trace` behind their traces; or
+//! the buffer in hex; or a help. A run that fails says why in one line on standard error.
 
 mod arguments;
 mod fault;
@@ -13,6 +14,7 @@ use fault::Fault;
 use std::process::ExitCode;
 use std::{env, fs};
 use tpm_record::SlotKeep;
+use tpm_text::assemble;
 use tpmsim_script::run_script;
 
 fn main(rt: HostRuntime) -> ExitCode {
@@ -30,13 +32,25 @@ fn try_main(rt: &HostRuntime) -> Result<(), Fault> {
         .map_err(|error| Fault::of_io(error, Fault::Usage))?
         .collect(rt.alloc())?;
     match Arguments::parse(rt.alloc(), words.as_slice())? {
-        Arguments::Run { script: "-" } => {
-            run_script::<SlotKeep, _, _>(rt.alloc(), &mut rt.stdin(), &mut rt.stdout())?;
+        Arguments::Run { script, trace } => run(rt, script, trace),
+        Arguments::Assemble { line } => {
+            let text = hex::encode(rt.alloc(), assemble(rt.alloc(), line)?)?;
+            println!(rt; "{text}").map_err(|error| Fault::of_io(error, Fault::File))
         }
-        Arguments::Run { script } => {
-            let mut file = fs::open(rt, script).map_err(|error| Fault::of_io(error, Fault::File))?;
-            run_script::<SlotKeep, _, _>(rt.alloc(), &mut file, &mut rt.stdout())?;
+        Arguments::Tell(text) => {
+            print!(rt; "{text}").map_err(|error| Fault::of_io(error, Fault::File))
         }
+    }
+}
+
+/// Runs the script of a file, or on standard input.
+fn run(rt: &HostRuntime, script: &str, trace: bool) -> Result<(), Fault> {
+    let output = &mut rt.stdout();
+    if script == "-" {
+        run_script::<SlotKeep, _, _>(rt.alloc(), &mut rt.stdin(), output, trace)?;
+    } else {
+        let mut file = fs::open(rt, script).map_err(|error| Fault::of_io(error, Fault::File))?;
+        run_script::<SlotKeep, _, _>(rt.alloc(), &mut file, output, trace)?;
     }
     Ok(())
 }

@@ -9,7 +9,7 @@ use tpmsim_script::run_script;
 
 /// Ends with status 1 on a fault.
 fn main(rt: HostRuntime) -> ExitCode {
-    match run_script::<ListKeep, _, _>(rt.alloc(), &mut rt.stdin(), &mut rt.stdout()) {
+    match run_script::<ListKeep, _, _>(rt.alloc(), &mut rt.stdin(), &mut rt.stdout(), false) {
         Ok(()) => ExitCode::SUCCESS,
         Err(_) => ExitCode::FAILURE,
     }

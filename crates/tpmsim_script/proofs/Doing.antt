@@ -1,16 +1,16 @@
 -- A line that says something is done, and one that says nothing is bad.
-use Rattle.std.proofs.Common.{◌≡◌, ℕ, ◌<◌, ◌≤◌, List, [], Bool, true, false, cond, length, Option, Some, None, Result, Ok, Err, refl, sym, ap, ◌∙◌, append-nil}
+use Rattle.std.proofs.Common.{◌≡◌, ℕ, ◌<◌, ◌≤◌, List, [], ◌++◌, Bool, true, false, cond, length, Option, Some, None, Result, Ok, Err, refl, sym, ap, ◌∙◌, append-nil, append_assoc}
 use Rattle.std.specs.Prelude.{nat_le, option_and_then}
 use Rattle.std.proofs.lemmas.Bool.{false≢true, le-leb, lt-leb}
 use Rattle.std.specs.Io.KnownBytes.{Appends}
 use Rattle.std.specs.Prelude.{OnOk, OnErr}
-use Rattle.tpm_machine_step.specs.Events.{Given}
+use Rattle.tpm_machine_step.specs.Events.{Cycled}
 use Rattle.tpm_machine_step.specs.Step.{Stepped, step}
 use Rattle.tpmsim_script.specs.Line.{Meaning, line_meaning}
 use Rattle.tpmsim_script.specs.Player.{Did}
 use Rattle.tpmsim_script.specs.declared.line_fault.LineFault.{LineFault}
 use Rattle.tpmsim_script.specs.declared.line_fault.LineFault.TheVariants.{Bad, Write}
-use Rattle.tpmsim_script.specs.Script.{Playing, Effect, answer, execute, perform, perform_line}
+use Rattle.tpmsim_script.specs.Script.{Playing, Effect, answer, command_of, cycle, cycle_to, execute, perform, perform_line, printed_response, printed_trace}
 
 said_done : (p : Playing) (line : List ℕ) (said : Meaning) → length line ≤ 65536 → line_meaning line ≡ Some said → perform_line p line ≡ perform p said
 unfolding perform_line
@@ -48,10 +48,39 @@ is_bad other = false
 bad_is_no_write : (let bad : Result (Unit {0}) LineFault = Err Bad in bad ≡ Err Write) → ⊥
 bad_is_no_write e = false≢true (sym (ap is_bad e))
 
--- a command that was executed, and whose response was printed
-pub executed : (p : Playing) (buffer : List ℕ) (s : Stepped) (old : Option (List ℕ)) (result : Result (Unit {0}) LineFault) (new : Option (List ℕ)) (after : Playing)
-    → s ≡ step p.device (Given buffer p.locality p.waited p.random) → OnOk result (Appends old new (answer p s).text) → after ≡ (answer p s).next → OnErr result (result ≡ Err Write)
-    → Did (Some (execute p buffer)) old p result new after
-executed p buffer s old (Ok done) new after is ok next err = (answer p s, ap (λ s. Some (answer p s)) (sym is), ok, next)
-executed p buffer s old (Err Bad) new after is ok next err = absurd (bad_is_no_write err)
-executed p buffer s old (Err Write) new after is ok next err = tt
+abbrev is_write : Result (Unit {0}) LineFault → Bool
+is_write (Err Write) = true
+is_write other = false
+
+ok_is_no_write : (done : Unit {0}) → (let ok : Result (Unit {0}) LineFault = Ok done in ok ≡ Err Write) → ⊥
+ok_is_no_write done e = false≢true (ap is_write e)
+
+-- what was appended in two turns
+appended_twice : (old mid new : Option (List ℕ)) (first more : List ℕ) → Appends old mid first → Appends mid new more → Appends old new (first ++ more)
+appended_twice None mid new first more h k = tt
+appended_twice (Some old) None new first more h k = absurd h
+appended_twice (Some old) (Some mid) None first more h k = absurd k
+appended_twice (Some old) (Some mid) (Some new) first more h k = k ∙ ap (λ (l : List ℕ). l ++ more) h ∙ append_assoc old first more
+
+-- a command that was executed, whose trace was printed where that is asked for, and then its response
+pub executed : (p : Playing) (buffer : List ℕ) (s : Stepped) (old mid : Option (List ℕ)) (result : Result (Unit {0}) LineFault) (new : Option (List ℕ)) (after : Playing)
+    → s ≡ step p.device (command_of p buffer) → Appends old mid (printed_trace p.traced (command_of p buffer) s) → OnOk result (Appends mid new (printed_response s.response))
+    → after ≡ (answer p (command_of p buffer) s).next → OnErr result (result ≡ Err Write) → Did (Some (execute p buffer)) old p result new after
+executed p buffer s old mid (Ok done) new after is traced printed next err =
+    (answer p (command_of p buffer) s, ap (λ s. Some (answer p (command_of p buffer) s)) (sym is), appended_twice old mid new _ _ traced printed, next)
+executed p buffer s old mid (Err Bad) new after is traced printed next err = absurd (bad_is_no_write err)
+executed p buffer s old mid (Err Write) new after is traced printed next err = tt
+
+-- and what could not be printed
+pub untraced : (line : Option Effect) (p : Playing) (old : Option (List ℕ)) (result : Result (Unit {0}) LineFault) (new : Option (List ℕ)) (after : Playing) → result ≡ Err Write → Did line old p result new after
+untraced line p old (Ok done) new after e = absurd (ok_is_no_write done e)
+untraced line p old (Err Bad) new after e = absurd (bad_is_no_write e)
+untraced line p old (Err Write) new after e = tt
+
+-- a power cycle, whose trace was printed where that is asked for
+pub cycled : (p : Playing) (s : Stepped) (old : Option (List ℕ)) (result : Result (Unit {0}) LineFault) (new : Option (List ℕ)) (after : Playing)
+    → s ≡ step p.device Cycled → OnOk result (Appends old new (printed_trace p.traced Cycled s)) → after ≡ (cycle_to p s).next → OnErr result (result ≡ Err Write)
+    → Did (Some (cycle p)) old p result new after
+cycled p s old (Ok done) new after is printed next err = (cycle_to p s, ap (λ s. Some (cycle_to p s)) (sym is), printed, next)
+cycled p s old (Err Bad) new after is printed next err = absurd (bad_is_no_write err)
+cycled p s old (Err Write) new after is printed next err = tt

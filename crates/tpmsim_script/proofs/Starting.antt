@@ -2,14 +2,14 @@
 use Rattle.std.proofs.Common.{◌≡◌, ℕ, ◌+◌, ◌<◌, List, length, slice_index, sym, ◌∙◌, arith}
 use Rattle.std.proofs.lemmas.Grind.{same_number_lists}
 use Rattle.std.proofs.lemmas.List.FromFn.{get_or-range_with_len, length-range_with_len}
-use Rattle.std.specs.Prelude.{replicate}
+use Rattle.std.specs.Prelude.{Bool, replicate}
 use Rattle.tpm_record.specs.Record.{Record, manufactured}
 use Rattle.tpmsim_script.specs.Script.{at_first, script_bytes}
 
-pub starts : (locality waited : ℕ) (random : List ℕ) (device : Record) → locality ≡ 0 → waited ≡ 0 → random ≡ replicate 256 0 → device ≡ manufactured script_bytes
-    → record { locality = locality; waited = waited; random = random; device = device } ≡ at_first
+pub starts : (traced : Bool) (locality waited : ℕ) (random : List ℕ) (device : Record) → locality ≡ 0 → waited ≡ 0 → random ≡ replicate 256 0 → device ≡ manufactured script_bytes
+    → record { traced = traced; locality = locality; waited = waited; random = random; device = device } ≡ at_first traced
 unfolding at_first
-starts locality waited random device l w r d = λ i. record { locality = l i; waited = w i; random = r i; device = d i }
+starts traced locality waited random device l w r d = λ i. record { traced = traced; locality = l i; waited = w i; random = r i; device = d i }
 
 -- a list that holds each place is the bytes 00 to ff
 pub counted_up : (bytes : List ℕ) → length bytes ≡ 256 → ((place : ℕ) → place < 256 → slice_index bytes place ≡ place) → bytes ≡ script_bytes

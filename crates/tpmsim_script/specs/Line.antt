@@ -18,10 +18,12 @@ abbrev pub lines_of : List ℕ → List (List ℕ)
 lines_of [] = []
 lines_of (byte ∷ text) = if byte == 10 then [] ∷ lines_of text else onto_first byte (lines_of text)
 
--- What a line says: a command or entropy, whose hex is not looked at here; the locality of later
--- commands; the milliseconds before the next one; a power cycle; or nothing.
+-- What a line says: a command in hex, which is not looked at here, or in words, which are not either;
+-- the locality of later commands; the milliseconds before the next one; entropy, in hex; a power
+-- cycle; or nothing.
 pub data Meaning : Type 0 where
   Executes : (digits : List ℕ) → Meaning
+  ExecutesWords : (words : List ℕ) → Meaning
   SetsLocality : (number : ℕ) → Meaning
   Waits : (milliseconds : ℕ) → Meaning
   SetsEntropy : (digits : List ℕ) → Meaning
@@ -62,6 +64,7 @@ meaning_alone word =
 unfoldable pub meaning_with : List ℕ → List ℕ → Option Meaning
 meaning_with word argument =
     if is_word (codes "cmd") word then Some (Executes argument)
+    else if is_word (codes "do") word then Some (ExecutesWords argument)
     else if is_word (codes "loc") word
     then option_map SetsLocality (option_and_then locality_of (decimal_of argument))
     else if is_word (codes "wait") word then option_map Waits (decimal_of argument)
@@ -84,6 +87,7 @@ line_meaning (first ∷ text) =
 -- what the code's reading of a line means
 abbrev pub meaning_of : declared.Line → Meaning
 meaning_of (code.Command digits) = Executes digits.now
+meaning_of (code.Words words) = ExecutesWords words.now
 meaning_of (code.Locality locality) = SetsLocality (locality_number locality)
 meaning_of (code.Wait milliseconds) = Waits milliseconds
 meaning_of (code.Entropy digits) = SetsEntropy digits.now

@@ -10,7 +10,8 @@ use Rattle.tpmsim_script.specs.declared.player.Player.{Player}
 
 -- how a script is being played, by the record that its device's keep stands for
 abbrev pub playing_of : {K S O P N : Type 0} → (K → Record) → Player K S O P N → Playing
-playing_of record_of player = playing player.script (state_of record_of player.machine)
+playing_of record_of player =
+    playing player.traced player.script (state_of record_of player.machine)
 
 -- A line had its effect and printed its text, from known bytes to known ones; or it is bad, and did
 -- and printed nothing. Of a writer that failed nothing is said.

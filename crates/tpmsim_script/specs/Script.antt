@@ -1,30 +1,36 @@
 -- What a script prints: a device plays the script's lines in order, and the response to each
--- command is a line of hex.
-use Rattle.std.specs.Prelude.{◌≡◌, ℕ, ◌+◌, ◌%◌, ◌^◌, ◌&&◌, nat_le, nat_lt, if◌then◌else◌}
+-- command is a line of hex, before which its trace may stand.
+use Rattle.std.specs.Prelude.{◌≡◌, ℕ, ◌+◌, ◌%◌, ◌^◌, ◌&&◌, nat_le, nat_lt, Bool, if◌then◌else◌}
 use Rattle.std.specs.Prelude.{List, [], ◌∷◌, ◌++◌, length, map, replicate, slice_index}
 use Rattle.std.specs.Prelude.{Option, Some, None, option_map, option_and_then}
 use Rattle.std.specs.List.{range_with_len}
 use Rattle.std.specs.Io.KnownBytes.{Appends}
+use Rattle.std.specs.Result.{result_ok}
 use Rattle.hex.specs.Hex.{encode_lower}
 use Rattle.tpm_types.specs.Locality.{locality_number}
 use Rattle.tpm_record.specs.Record.{Record, manufactured}
-use Rattle.tpm_machine_step.specs.Events.{Given, Cycled}
+use Rattle.tpm_machine_step.specs.Events.{Happening, Given, Cycled}
 use Rattle.tpm_machine_step.specs.Step.{Stepped, step}
-use Rattle.tpmsim_script.specs.Line.{Meaning, Executes, SetsLocality, Waits, SetsEntropy}
-use Rattle.tpmsim_script.specs.Line.{CyclesPower, DoesNothing, bytes_of, line_meaning, lines_of}
+use Rattle.tpm_text.specs.Line.{assembled}
+use Rattle.tpm_text.specs.Trace.{trace_text}
+use Rattle.tpmsim_script.specs.Line.{Meaning, Executes, ExecutesWords, SetsLocality, Waits}
+use Rattle.tpmsim_script.specs.Line.{SetsEntropy, CyclesPower, DoesNothing}
+use Rattle.tpmsim_script.specs.Line.{bytes_of, line_meaning, lines_of}
 use Rattle.tpmsim_script.specs.declared.script.Script.{Script}
 
--- A script that is being played: the locality of its commands, the sum of the waits since the last
--- one, across power cycles, the random bytes of each, and the device.
+-- A script that is being played: whether its events are traced, the locality of its commands, the
+-- sum of the waits since the last one, across power cycles, the random bytes of each, and the device.
 pub record Playing : Type 0 where
+  pub traced : Bool
   pub locality : ℕ
   pub waited : ℕ
   pub random : List ℕ
   pub device : Record
 
--- what the code's script means, with the record of its device
-abbrev pub playing : Script → Record → Playing
-playing script device = record {
+-- what the code's script means, with whether it is traced and the record of its device
+abbrev pub playing : Bool → Script → Record → Playing
+playing traced script device = record {
+  traced = traced;
   locality = locality_number script.locality;
   waited = script.waited;
   random = script.random;
@@ -36,8 +42,9 @@ abbrev pub script_bytes : List ℕ
 script_bytes = range_with_len 0 256
 
 -- at first locality 0, no time, random bytes that are all 0, and a new device
-unfoldable pub at_first : Playing
-at_first = record {
+unfoldable pub at_first : (traced : Bool) → Playing
+at_first traced = record {
+  traced = traced;
   locality = 0;
   waited = 0;
   random = replicate 256 0;
@@ -62,16 +69,35 @@ printed_response response = encode_lower response ++ 10 ∷ []
 abbrev pub silence : Playing → Effect
 silence p = record { text = []; next = p }
 
+-- the trace of an event with this outcome, and the end of its line; nothing where none is traced
+unfoldable pub printed_trace : (traced : Bool) → Happening → Stepped → List ℕ
+printed_trace traced event s =
+    if traced then trace_text event s.row s.response ++ 10 ∷ [] else []
+
 -- what a command with this outcome does
-abbrev pub answer : Playing → Stepped → Effect
-answer p s = record {
-  text = printed_response s.response;
+abbrev pub answer : Playing → Happening → Stepped → Effect
+answer p event s = record {
+  text = printed_trace p.traced event s ++ printed_response s.response;
   next = record p { waited = 0; device = s.after };
 }
 
+-- the event of a command
+abbrev pub command_of : Playing → List ℕ → Happening
+command_of p buffer = Given buffer p.locality p.waited p.random
+
 -- what a command does
 abbrev pub execute : Playing → List ℕ → Effect
-execute p buffer = answer p (step p.device (Given buffer p.locality p.waited p.random))
+execute p buffer = answer p (command_of p buffer) (step p.device (command_of p buffer))
+
+-- what a power cycle does, with the outcome of one
+abbrev pub cycle_to : Playing → Stepped → Effect
+cycle_to p s = record {
+  text = printed_trace p.traced Cycled s;
+  next = record p { device = s.after };
+}
+
+abbrev pub cycle : Playing → Effect
+cycle p = cycle_to p (step p.device Cycled)
 
 abbrev pub wait : Playing → ℕ → Option Effect
 wait p milliseconds =
@@ -87,10 +113,11 @@ set_entropy p entropy =
 -- what is said, performed; None where it cannot be
 abbrev pub perform : Playing → Meaning → Option Effect
 perform p (Executes digits) = option_map (execute p) (bytes_of digits)
+perform p (ExecutesWords words) = option_map (execute p) (result_ok (assembled words))
 perform p (SetsLocality number) = Some (silence (record p { locality = number }))
 perform p (Waits milliseconds) = wait p milliseconds
 perform p (SetsEntropy digits) = option_and_then (set_entropy p) (bytes_of digits)
-perform p CyclesPower = Some (silence (record p { device = (step p.device Cycled).after }))
+perform p CyclesPower = Some (cycle p)
 perform p DoesNothing = Some (silence p)
 
 -- what a line does; None where it is bad, as every line of over 65,536 bytes is

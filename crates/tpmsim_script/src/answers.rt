@@ -1,4 +1,4 @@
-ghost use Rattle.std.specs.Prelude.{◌≡◌, ◌+◌, ◌*◌, ◌≤◌, length, vec_len};
+ghost use Rattle.std.specs.Prelude.{◌≡◌, ◌+◌, ◌*◌, ◌≤◌, ◌++◌, ◌∷◌, [], length, vec_len};
 ghost use Rattle.tpmsim_script.specs.Script.{printed_response};
 ghost use Rattle.tpm_machine_step.specs.declared.event.TheConstants.{RESPONSE_LIMIT};
 ghost use Rattle.tpmsim_script.specs.declared.answers.TheConstants.{CAPACITY};
@@ -11,7 +11,7 @@ use tpm_machine_step::RESPONSE_LIMIT;
 /// How many bytes of text are held before they are written.
 const CAPACITY: usize = 65_536;
 
-/// Responses that are written in lower-case hex, one a line.
+/// Lines of text, and responses that are written in lower-case hex, one a line.
 #[derive(Drop)]
 pub struct Answers {
     text: Vec<u8>,
@@ -21,7 +21,7 @@ pub struct Answers {
 }
 
 impl Answers {
-    ghost use Rattle.std.specs.Prelude.{◌++◌, [], IfOk, OnOk};
+    ghost use Rattle.std.specs.Prelude.{IfOk, OnOk};
     ghost use Rattle.std.specs.Io.KnownBytes.{Appends, Keeps};
     ghost use Rattle.tpmsim_script.specs.Answers.{backlog, printout};
 
@@ -32,7 +32,7 @@ impl Answers {
         Ok(Answers { text, used: 0 })
     }
 
-    /// Adds a line. It may stay in memory until [`Answers::flush`].
+    /// Adds the line of a response. It may stay in memory until [`Answers::flush`].
     pub fn put<W: Write>(&mut self, writer: &mut W, response: &[u8]) -> io::Result<()>
         requires { length response.now ≤ RESPONSE_LIMIT }
         ensures { OnOk result (Appends
@@ -40,10 +40,35 @@ impl Answers {
             (printout (W.contents writer.new) self.new)
             (printed_response response.now)) }
     {
-        if CAPACITY - self.used <= 2 * response.len() {
+        self.make_room(writer, 2 * response.len() + 1)?;
+        self.hold(response);
+        Ok(())
+    }
+
+    /// Adds a line of text. It may stay in memory until [`Answers::flush`].
+    pub fn put_text<W: Write>(&mut self, writer: &mut W, text: &[u8]) -> io::Result<()>
+        requires { length text.now ≤ RESPONSE_LIMIT }
+        ensures { OnOk result (Appends
+            (printout (W.contents writer.old) self.old)
+            (printout (W.contents writer.new) self.new)
+            (text.now ++ 10 ∷ [])) }
+    {
+        self.make_room(writer, text.len() + 1)?;
+        self.hold_text(text);
+        Ok(())
+    }
+
+    /// Makes room for a line of this many bytes with its end.
+    fn make_room<W: Write>(&mut self, writer: &mut W, size: usize) -> io::Result<()>
+        requires { size ≤ CAPACITY }
+        ensures room { OnOk result (self.new.used + size ≤ CAPACITY) }
+        ensures printed { OnOk result (Keeps
+            (printout (W.contents writer.old) self.old)
+            (printout (W.contents writer.new) self.new)) }
+    {
+        if CAPACITY - self.used < size {
             self.write(writer)?;
         }
-        self.hold(response);
         Ok(())
     }
 
@@ -53,6 +78,15 @@ impl Answers {
     {
         let end = self.used + 2 * response.len() + 1;
         print(response, &mut self.text[self.used..end]);
+        self.used = end;
+    }
+
+    fn hold_text(&mut self, text: &[u8])
+        requires { self.old.used + length text.now + 1 ≤ CAPACITY }
+        ensures { backlog self.new ≡ backlog self.old ++ (text.now ++ 10 ∷ []) }
+    {
+        let end = self.used + text.len() + 1;
+        print_text(text, &mut self.text[self.used..end]);
         self.used = end;
     }
 
@@ -90,5 +124,15 @@ fn print(response: &[u8], line: &mut [u8])
 {
     let (digits, end) = line.split_at_mut(2 * response.len());
     hex::encode_to_slice(response, digits).unwrap();
+    end[0] = b'\n';
+}
+
+/// A text, and the end of its line.
+fn print_text(text: &[u8], line: &mut [u8])
+    requires { length line.old ≡ length text.now + 1 }
+    ensures { line.new ≡ text.now ++ 10 ∷ [] }
+{
+    let (start, end) = line.split_at_mut(text.len());
+    start.copy_from_slice(text);
     end[0] = b'\n';
 }

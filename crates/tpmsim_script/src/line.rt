@@ -14,6 +14,8 @@ use tpm_types::Locality;
 pub enum Line<'a> {
     /// `cmd HEX`: a command, in hex.
     Command(&'a [u8]),
+    /// `do LINE`: a command, in words.
+    Words(&'a [u8]),
     /// `loc N`: the locality of the commands that follow.
     Locality(Locality),
     /// `wait MS`: milliseconds that pass before the next command.
@@ -31,7 +33,7 @@ pub enum Line<'a> {
 pub struct BadLine;
 
 impl<'a> Line<'a> {
-    /// Reads a line, given without its 0a. Hex is not looked at yet: [`decode`] does that.
+    /// Reads a line, given without its 0a. Hex and the words of a command are not looked at yet.
     #[tactic(auto, unfolding(crate::specs::Line::line_meaning), using(crate::proofs::SaidLemmas::said_by_words))]
     pub fn parse(text: &'a [u8]) -> Result<Line<'a>, BadLine>
         ensures meaning { Tells meaning_of result (line_meaning text.now) }
@@ -79,6 +81,8 @@ impl<'a> Line<'a> {
     {
         if is_word("cmd", word) {
             Ok(Line::Command(argument))
+        } else if is_word("do", word) {
+            Ok(Line::Words(argument))
         } else if is_word("loc", word) {
             Ok(Line::Locality(locality(argument).ok_or(BadLine)?))
         } else if is_word("wait", word) {

@@ -1,15 +1,20 @@
-ghost use Rattle.std.specs.Prelude.{◌≡◌, ◌*◌, ◌+◌, ◌≤◌, [], false, length, IfOk, OnOk, OnErr};
-ghost use Rattle.std.specs.Io.KnownBytes.{Keeps};
+ghost use Rattle.std.specs.Prelude.{◌≡◌, ◌≤◌, [], false, length, IfOk, OnOk, OnErr};
+ghost use Rattle.std.specs.Io.KnownBytes.{Appends, Keeps};
+ghost use Rattle.tpm_machine.specs.State.{state_of};
+ghost use Rattle.tpm_machine_step.specs.Events.{happening};
+ghost use Rattle.tpm_machine_step.specs.Step.{outcome_step};
+ghost use Rattle.tpm_text.specs.Trace.{IsTraceable};
 ghost use Rattle.tpmsim_script.specs.Answers.{backlog, printout};
 ghost use Rattle.tpmsim_script.specs.Line.{hex_of, meaning_of};
 ghost use Rattle.tpmsim_script.specs.Player.{Did, playing_of};
-ghost use Rattle.tpmsim_script.specs.Script.{at_first, execute, perform, perform_line};
-ghost use Rattle.tpmsim_script.specs.Script.{script_bytes, set_entropy};
+ghost use Rattle.tpmsim_script.specs.Script.{at_first, cycle, execute, perform, perform_line};
+ghost use Rattle.tpmsim_script.specs.Script.{printed_trace, script_bytes, set_entropy};
 
 use crate::answers::Answers;
 use crate::fault::ScriptFault;
-use crate::line::{Line, decode};
+use crate::line::Line;
 use crate::line_fault::LineFault;
+use crate::room::Room;
 use crate::script::Script;
 use std::alloc::Global;
 use std::array;
@@ -17,11 +22,14 @@ use std::io::Write;
 use tpm_machine::Machine;
 use tpm_machine_step::{Event, Outcome};
 use tpm_record::Keep;
+use tpm_text::{executions_are_traceable, trace_text};
 
 /// A device, by a way of keeping its state, and what the lines of a script so far say of its next
 /// command.
 #[derive(Drop)]
 pub struct Player<K: Keep> {
+    /// Whether the trace of each event is printed.
+    traced: bool,
     script: Script,
     machine: Machine<K>,
     /// That of the event before, which the next is written over.
@@ -31,14 +39,16 @@ pub struct Player<K: Keep> {
 
 impl<K: Keep> Player<K> {
     /// A new device that was manufactured with the bytes 00 to ff.
-    pub fn new(alloc: Global) -> Result<Player<K>, ScriptFault>
+    pub fn new(alloc: Global, traced: bool) -> Result<Player<K>, ScriptFault>
         ensures fault { OnErr result (result ≡ Err ScriptFault.NoMemory) }
-        ensures playing { IfOk result (λ player. playing_of K.record_of player ≡ at_first) }
+        ensures playing { IfOk result
+            (λ player. playing_of K.record_of player ≡ at_first traced) }
         ensures answers { IfOk result (λ player. backlog player.answers ≡ []) }
     {
         let answers = Answers::new(alloc)?;
         let machine = Machine::manufacture(alloc, &first_bytes())?;
         Ok(Player {
+            traced,
             script: Script::new(),
             machine,
             outcome: Outcome::empty(),
@@ -46,17 +56,17 @@ impl<K: Keep> Player<K> {
         })
     }
 
-    /// Does what a line says, and prints the response to a command. What is written in hex goes to
-    /// `room`. Of a keep that can be refused memory nothing is said.
+    /// Does what a line says, and prints the response to a command, and traces where they are asked
+    /// for. What is written in hex or in words goes to `room`. Of a keep that can be refused memory
+    /// nothing is said.
     #[tactic(auto, using(crate::proofs::Doing::unsaid_done))]
     pub fn line<W: Write>(
         &mut self,
         line: &[u8],
-        room: &mut [u8],
+        room: &mut Room,
         writer: &mut W,
     ) -> Result<(), LineFault>
-        requires limit { length line.now ≤ 65536 }
-        requires room { length line.now ≤ 2 * length room.old }
+        requires { length line.now ≤ 65536 }
         ensures { K.can_refuse ≡ false → Did
             (perform_line (playing_of K.record_of self.old) line.now)
             (printout (W.contents writer.old) self.old.answers) (playing_of K.record_of self.old)
@@ -67,7 +77,7 @@ impl<K: Keep> Player<K> {
         self.perform(said, room, writer)
     }
 
-    /// Writes all responses so far.
+    /// Writes all lines so far.
     pub fn flush<W: Write>(&mut self, writer: &mut W) -> Result<(), ScriptFault>
         ensures fault { OnErr result (result ≡ Err ScriptFault.Write) }
         ensures playing { playing_of K.record_of self.new ≡ playing_of K.record_of self.old }
@@ -84,10 +94,10 @@ impl<K: Keep> Player<K> {
     fn perform<W: Write>(
         &mut self,
         line: Line,
-        room: &mut [u8],
+        room: &mut Room,
         writer: &mut W,
     ) -> Result<(), LineFault>
-        requires { length (hex_of (meaning_of line)) ≤ 2 * length room.old }
+        requires { length (hex_of (meaning_of line)) ≤ 65536 }
         ensures { K.can_refuse ≡ false → Did
             (perform (playing_of K.record_of self.old) (meaning_of line.entry))
             (printout (W.contents writer.old) self.old.answers) (playing_of K.record_of self.old)
@@ -95,20 +105,18 @@ impl<K: Keep> Player<K> {
             (printout (W.contents writer.new) self.new.answers) (playing_of K.record_of self.new) }
     {
         match line {
-            Line::Command(digits) => self.execute(decode(digits, room)?, writer)?,
+            Line::Command(digits) => self.execute(room.decode(digits)?, writer)?,
+            Line::Words(words) => self.execute(room.assemble(words)?, writer)?,
             Line::Locality(locality) => self.script.set_locality(locality),
             Line::Wait(milliseconds) => self.script.wait(milliseconds)?,
-            Line::Entropy(digits) => self.script.set_entropy(decode(digits, room)?)?,
-            Line::PowerCycle => {
-                self.machine
-                    .execute_into(&Event::PowerCycle, &mut self.outcome);
-            }
+            Line::Entropy(digits) => self.script.set_entropy(room.decode(digits)?)?,
+            Line::PowerCycle => self.cycle_power(writer)?,
             Line::Nothing => {}
         }
         Ok(())
     }
 
-    /// Executes a command, and prints the response.
+    /// Executes a command, and prints the response, behind its trace where that is asked for.
     fn execute<W: Write>(&mut self, buffer: &[u8], writer: &mut W) -> Result<(), LineFault>
         ensures { K.can_refuse ≡ false → Did
             (Some (execute (playing_of K.record_of self.old) buffer.now))
@@ -118,9 +126,47 @@ impl<K: Keep> Player<K> {
     {
         let event = self.script.command(buffer);
         self.machine.execute_into(&event, &mut self.outcome);
+        executions_are_traceable();
+        self.trace(&event, writer)?;
         let response = self.outcome.response.as_slice();
         self.answers
             .put(writer, response)
+            .map_err(|_| LineFault::Write)
+    }
+
+    /// Cycles the device's power, and prints the trace of that where it is asked for.
+    fn cycle_power<W: Write>(&mut self, writer: &mut W) -> Result<(), LineFault>
+        ensures { K.can_refuse ≡ false → Did
+            (Some (cycle (playing_of K.record_of self.old)))
+            (printout (W.contents writer.old) self.old.answers) (playing_of K.record_of self.old)
+            result
+            (printout (W.contents writer.new) self.new.answers) (playing_of K.record_of self.new) }
+    {
+        let event = Event::PowerCycle;
+        self.machine.execute_into(&event, &mut self.outcome);
+        executions_are_traceable();
+        self.trace(&event, writer)
+    }
+
+    /// Prints the trace of an event with the outcome that was written last, where it is asked for.
+    #[tactic(auto, unfolding(crate::specs::Script::printed_trace), using(crate::proofs::Doing::nothing_printed))]
+    fn trace<W: Write>(&mut self, event: &Event, writer: &mut W) -> Result<(), LineFault>
+        requires { IsTraceable (happening event.now)
+            (outcome_step (state_of K.record_of self.old.machine) self.old.outcome) }
+        ensures fault { OnErr result (result ≡ Err LineFault.Write) }
+        ensures kept { self.new ≡ record self.old { answers = self.new.answers } }
+        ensures printed { OnOk result (Appends
+            (printout (W.contents writer.old) self.old.answers)
+            (printout (W.contents writer.new) self.new.answers)
+            (printed_trace self.old.traced (happening event.now)
+            (outcome_step (state_of K.record_of self.old.machine) self.old.outcome))) }
+    {
+        if !self.traced {
+            return Ok(());
+        }
+        let text = trace_text(event, self.outcome.row, self.outcome.response.as_slice());
+        self.answers
+            .put_text(writer, text.as_str().as_bytes())
             .map_err(|_| LineFault::Write)
     }
 }

@@ -1,4 +1,4 @@
-ghost use Rattle.std.specs.Prelude.{◌≡◌, [], false, length, vec_len, IfOk, OnOk, OnErr};
+ghost use Rattle.std.specs.Prelude.{◌≡◌, [], false, IfOk, OnOk, OnErr};
 ghost use Rattle.std.specs.Io.KnownBytes.{Keeps};
 ghost use Rattle.tpmsim_script.specs.Answers.{backlog, printout};
 ghost use Rattle.tpmsim_script.specs.Lines.{Agrees, LosesStart, line_of, rest_of, text_left};
@@ -11,57 +11,52 @@ ghost use Rattle.tpmsim_script.specs.Script.{Plays, at_first};
 use crate::fault::ScriptFault;
 use crate::lines::{Lines, Next};
 use crate::player::Player;
-use std::alloc::{AllocError, Global};
+use crate::room::Room;
+use std::alloc::Global;
 use std::io::{Read, Write};
 use tpm_record::Keep;
 
 /// How many lines a script may have.
 pub const SCRIPT_LINES: u32 = 1_048_576;
 
-/// How many bytes a line can write in hex.
-const DECODED_LIMIT: usize = 32_768;
-
 /// Runs the script that `reader` gives on a new device, whose state is kept by `K`, and writes the
-/// response to each command to `writer`. But for the keep it takes memory at the start alone.
+/// response to each command to `writer`; with `trace` the trace of each command before its response,
+/// and that of each power cycle. But for the keep it takes memory at the start alone.
 /// Whatever the fault, the lines before it were run, and their responses written, but for those
 /// that a `Write` fault cut off. Of a script of more than [`SCRIPT_LINES`] lines so many are run.
 pub fn run_script<K: Keep, R: Read, W: Write>(
     alloc: Global,
     reader: &mut R,
     writer: &mut W,
+    trace: bool,
 ) -> Result<(), ScriptFault>
     // What is written is what the script prints, to its end or up to its first bad line. This is
     // said of a keep that can never be refused memory.
     ensures played { K.can_refuse ≡ false → Ran (Plays (R.remaining reader.old)
-        (W.contents writer.old) (W.contents writer.new) at_first 1) result }
+        (W.contents writer.old) (W.contents writer.new) (at_first trace) 1) result }
 
     // Where the reader failed, the whole lines of what it had given were played and written, and
     // only the start of one more was not.
     ensures read { K.can_refuse ≡ false → OnUnread result (PlaysToFailure
         (R.remaining reader.old) (R.remaining reader.new)
-        (W.contents writer.old) (W.contents writer.new) at_first) }
+        (W.contents writer.old) (W.contents writer.new)
+        (at_first trace)) }
 
     // There are too many lines only where as many as a script may have were played and written, and
     // one more is there.
     ensures too_many { K.can_refuse ≡ false → OnTooMany result (PlaysAllAllowed
-        (R.remaining reader.old) (W.contents writer.old) (W.contents writer.new) at_first) }
+        (R.remaining reader.old) (W.contents writer.old) (W.contents writer.new)
+        (at_first trace)) }
 
     // Where there is no memory, nothing was read or written.
     ensures no_memory { OnNoMemory result
         ((reader.new ≡ reader.old) × (writer.new ≡ writer.old)) }
 {
-    let mut run = Run::<K>::new(alloc)?;
-    let mut room = room(alloc)?;
+    let mut run = Run::<K>::new(alloc, trace)?;
+    let mut room = Room::new(alloc)?;
     let outcome = run.lines(reader, writer, &mut room);
     run.player.flush(writer)?;
     outcome
-}
-
-/// Room for what a line writes in hex.
-fn room(alloc: Global) -> Result<Vec<u8>, AllocError>
-    ensures { IfOk result (λ room. vec_len room ≡ DECODED_LIMIT) }
-{
-    vec![in alloc; 0u8; DECODED_LIMIT]
 }
 
 /// A script, and what plays it.
@@ -72,29 +67,29 @@ struct Run<K: Keep> {
 }
 
 impl<K: Keep> Run<K> {
-    fn new(alloc: Global) -> Result<Run<K>, ScriptFault>
+    fn new(alloc: Global, traced: bool) -> Result<Run<K>, ScriptFault>
         ensures fault { OnErr result (result ≡ Err ScriptFault.NoMemory) }
-        ensures playing { IfOk result (λ run. playing_of K.record_of run.player ≡ at_first) }
+        ensures playing { IfOk result
+            (λ run. playing_of K.record_of run.player ≡ at_first traced) }
         ensures lines { IfOk result (λ run. rest_of run.lines ≡ []) }
         ensures ended { IfOk result (λ run. run.lines.ended ≡ false) }
         ensures answers { IfOk result (λ run. backlog run.player.answers ≡ []) }
     {
         Ok(Run {
             lines: Lines::new(alloc)?,
-            player: Player::new(alloc)?,
+            player: Player::new(alloc, traced)?,
         })
     }
 
-    /// Runs the lines, to the end of the script or to a fault. What they write in hex goes to
-    /// `room`.
+    /// Runs the lines, to the end of the script or to a fault. What they write in hex or in words
+    /// goes to `room`.
     fn lines<R: Read, W: Write>(
         &mut self,
         reader: &mut R,
         writer: &mut W,
-        room: &mut [u8],
+        room: &mut Room,
     ) -> Result<(), ScriptFault>
-        requires room { length room.old ≡ DECODED_LIMIT }
-        requires agrees { Agrees (R.remaining reader.old) self.old.lines }
+        requires { Agrees (R.remaining reader.old) self.old.lines }
         ensures played { K.can_refuse ≡ false → Ran (Plays
             (text_left (R.remaining reader.old) self.old.lines)
             (printout (W.contents writer.old) self.old.player.answers)

@@ -1,7 +1,9 @@
 #![tactic(auto)]
 
-//! What no clause says and no script under `tests/` shows of scripts: readers and writers that
-//! fail.
+//! What no clause says and no script under `tests/` shows of scripts and lines: readers and writers
+//! that fail, and that there is a buffer and a trace where there is memory.
 
+#[cfg(test)]
+mod lines;
 #[cfg(test)]
 mod streams;

@@ -51,7 +51,7 @@ fn a_reader_is_not_asked_again(rt: HostRuntime) -> Result<(), Fail> {
         let turns = [Turn::Gives(STARTUP), turn, Turn::Gives(b"\ncmd\n")];
         let mut reader = Reader { turns: &turns };
         let mut writer = Vec::new(rt.alloc());
-        let given = run_script::<SlotKeep, _, _>(rt.alloc(), &mut reader, &mut writer);
+        let given = run_script::<SlotKeep, _, _>(rt.alloc(), &mut reader, &mut writer, false);
         assert_eq!(rt; given, outcome);
         assert_eq!(rt; writer.as_slice(), written);
         assert_eq!(rt; reader.turns.len(), 1);
@@ -101,7 +101,7 @@ fn a_writer_may_take_pieces_and_fail(rt: HostRuntime) -> Result<(), Fail> {
             room,
             flushes,
         };
-        let given = run_script::<SlotKeep, _, _>(rt.alloc(), &mut reader, &mut writer);
+        let given = run_script::<SlotKeep, _, _>(rt.alloc(), &mut reader, &mut writer, false);
         assert_eq!(rt; given, outcome, "room for {room}");
         assert_eq!(rt;
             Some(writer.taken.as_slice()),

@@ -65,7 +65,7 @@ class Commands:
         if capability == PROPERTIES:
             properties = sorted(self.properties().items())
             return [number(key, 4) + value for key, value in properties if key >= wanted]
-        raise Refusal("VALUE/p1")
+        raise Refusal("VALUE/p1", "A1")
 
     def handles_from(self, wanted):
         """The handles of the kind that the first byte of the wanted one says."""
@@ -83,7 +83,7 @@ class Commands:
         if kind == POLICY_SESSION:
             return []
         if kind not in held:
-            raise Refusal("HANDLE/p2")
+            raise Refusal("HANDLE/p2", "A2")
         return sorted(it for it in held[kind] if general.first_byte(it) == kind and it >= wanted)
 
     def sessions_from(self, place):

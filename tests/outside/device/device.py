@@ -86,6 +86,30 @@ class Session:
         return self.kind == frames.SE_TRIAL
 
 
+@dataclass(frozen=True)
+class Row:
+    """What is reported of a command: its code, or 0 where a check of the header refuses it; and the
+    name of the check, or `ok`.
+    """
+
+    code: int
+    check: str
+
+    @classmethod
+    def of(cls, buffer, check):
+        is_known = check not in general.HEADER_CHECKS
+        return cls(int.from_bytes(buffer[6:10], "big") if is_known else 0, check)
+
+
+@dataclass(frozen=True)
+class Outcome:
+    """What comes of a command: `refused` names the response code, or is None for a success."""
+
+    response: bytes
+    row: Row
+    refused: str = None
+
+
 class Device(
     pcrs.Commands,
     policy_commands.Commands,
@@ -125,9 +149,7 @@ class Device(
         self.lockout.power_cycle()
 
     def execute(self, buffer, locality, random, elapsed=0):
-        """The response to a command, so many milliseconds after the one before, and the name of its
-        refusal, or None for a success.
-        """
+        """What comes of a command, so many milliseconds after the one before."""
         self.tick(elapsed)
         try:
             command = general.decode(
@@ -138,11 +160,11 @@ class Device(
             answer = ROWS[command.code](self, command.handles, parameters, locality, random)
         except Refusal as refusal:
             self.lockout.count(refusal.touched)
-            (name,) = refusal.args
-            return frames.refusal(frames.code_of(name)), name
+            response = frames.refusal(frames.code_of(refusal.name))
+            return Outcome(response, Row.of(buffer, refusal.check), refusal.name)
         if command.code not in KEEPING_SAVED:
             self.saved = state.Saved.NONE
-        return self.success(command, answer, random), None
+        return Outcome(self.success(command, answer, random), Row(command.code, "ok"))
 
     # Entities.
 
@@ -278,15 +300,17 @@ class Device(
 
     def authorize(self, command, locality):
         for place, entry, handle in command.places():
+            check = "G10" if handle is None else "G9"
             if handle is not None and general.is_policy(entry.handle):
                 self.check_policy(command, place, entry, handle, locality)
             elif handle is not None and not self.takes_auth_value(handle, command.code):
-                raise Refusal("AUTH_UNAVAILABLE")
+                raise Refusal("AUTH_UNAVAILABLE", check)
             touched = self.touched(entry, handle)
             if self.lockout.refuses(touched):
-                raise Refusal("LOCKOUT")
+                raise Refusal("LOCKOUT", check)
             if not self.accepts(command, place, entry, handle):
-                raise Refusal(f"{'AUTH_FAIL' if touched else 'BAD_AUTH'}/s{place}", touched)
+                name = "AUTH_FAIL" if touched else "BAD_AUTH"
+                raise Refusal(f"{name}/s{place}", check, touched)
 
     def plain_parameters(self, command):
         """The parameters, with the bytes of the first one decrypted where a session asks for it."""
@@ -297,7 +321,7 @@ class Device(
         try:
             Fields(command.parameters).sized()
         except Short:
-            raise Refusal("INSUFFICIENT/p1") from None
+            raise Refusal("INSUFFICIENT/p1", "G10") from None
         session = self.sessions[entry.handle]
         key = self.encryption_key(session, handle)
         return sessions.on_first_buffer(
@@ -390,10 +414,10 @@ class Device(
         parameters.end()
         kind = general.first_byte(handle)
         if kind not in (frames.HMAC_SESSION, frames.POLICY_SESSION, frames.TRANSIENT):
-            raise Refusal("VALUE/p1")
+            raise Refusal("VALUE/p1", "A1")
         held = self.objects if kind == TRANSIENT else self.sessions
         if handle not in held:
-            raise Refusal("HANDLE/p1")
+            raise Refusal("HANDLE/p1", "A2")
         del held[handle]
         return Answer()
 
@@ -407,13 +431,13 @@ class Device(
 
         size = len(nonce_caller)
         if not LEAST_NONCE <= size <= digest_bytes(algorithm):
-            raise Refusal("SIZE/p1")
+            raise Refusal("SIZE/p1", "A1")
         if salt:
-            raise Refusal("VALUE/p2")
+            raise Refusal("VALUE/p2", "A2")
         taken = [it & PLACE_BITS for it in self.sessions]
         free = [it for it in range(SESSIONS) if it not in taken]
         if not free:
-            raise Refusal("SESSION_MEMORY")
+            raise Refusal("SESSION_MEMORY", "A3")
 
         _, bind = handles
         nonce_tpm, key, bind_auth = random[:size], b"", self.auth_value(bind)

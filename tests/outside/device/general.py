@@ -32,14 +32,19 @@ HIERARCHIES = (RH_OWNER, RH_ENDORSEMENT, RH_PLATFORM, RH_LOCKOUT)
 PRIMARY_HIERARCHIES = (RH_OWNER, RH_ENDORSEMENT, RH_PLATFORM, RH_NULL)
 
 
+# The checks of a command's header, which come before it is known which command it is.
+HEADER_CHECKS = "G1", "G2", "G3", "G4"
+
+
 class Refusal(Exception):
-    """A command that is refused; its one argument names the code, as HASH/p1. `touched` is what
-    dictionary attack protection counts it at, if at anything.
+    """A command that is refused; `name` is that of the code, as HASH/p1, and `check` that of the
+    check which refuses it, as G11 or A1. `touched` is what dictionary attack protection counts it
+    at, if at anything.
     """
 
-    def __init__(self, name, touched=None):
+    def __init__(self, name, check, touched=None):
         super().__init__(name)
-        self.touched = touched
+        self.name, self.check, self.touched = name, check, touched
 
 
 class Short(Exception):
@@ -258,14 +263,14 @@ class Answer:
 
 def read_header(fields, length):
     if not HEADER_BYTES <= length <= COMMAND_BYTES:
-        raise Refusal("COMMAND_SIZE")
+        raise Refusal("COMMAND_SIZE", "G1")
     tag, size, code = fields.number(2), fields.number(4), fields.number(4)
     if tag not in (frames.NO_SESSIONS, frames.SESSIONS):
-        raise Refusal("BAD_TAG")
+        raise Refusal("BAD_TAG", "G2")
     if size != length:
-        raise Refusal("COMMAND_SIZE")
+        raise Refusal("COMMAND_SIZE", "G3")
     if code not in SHAPES:
-        raise Refusal("COMMAND_CODE")
+        raise Refusal("COMMAND_CODE", "G4")
     return tag, code
 
 
@@ -275,17 +280,17 @@ def read_handles(fields, kinds, sessions, objects, indices):
         try:
             handle = fields.number(4)
         except Short:
-            raise Refusal(f"INSUFFICIENT/h{place}") from None
+            raise Refusal(f"INSUFFICIENT/h{place}", "G6") from None
         if not is_of_kind(handle):
-            raise Refusal(f"VALUE/h{place}")
+            raise Refusal(f"VALUE/h{place}", "G6")
         if is_policy(handle) and handle not in sessions:
-            raise Refusal(f"REFERENCE_H{place - 1}")
+            raise Refusal(f"REFERENCE_H{place - 1}", "G6")
         if first_byte(handle) == TRANSIENT and handle not in objects:
-            raise Refusal(f"REFERENCE_H{place - 1}")
+            raise Refusal(f"REFERENCE_H{place - 1}", "G6")
         if is_index(handle) and handle not in indices:
-            raise Refusal(f"HANDLE/h{place}")
+            raise Refusal(f"HANDLE/h{place}", "G6")
         if first_byte(handle) == PERSISTENT and handle not in objects:
-            raise Refusal(f"HANDLE/h{place}")
+            raise Refusal(f"HANDLE/h{place}", "G6")
         handles.append(handle)
     return handles
 
@@ -294,15 +299,15 @@ def read_area(fields):
     try:
         size = fields.number(4)
         if size < LEAST_AREA:
-            raise Refusal("AUTHSIZE")
+            raise Refusal("AUTHSIZE", "G8")
         area, entries = Fields(fields.take(size)), []
         while area.data:
             entry = Entry(area.number(4), area.sized(), area.number(1), area.sized())
             entries.append(entry)
     except Short:
-        raise Refusal("AUTHSIZE") from None
+        raise Refusal("AUTHSIZE", "G8") from None
     if len(entries) > MOST_ENTRIES:
-        raise Refusal("AUTHSIZE")
+        raise Refusal("AUTHSIZE", "G8")
     return entries
 
 
@@ -310,30 +315,30 @@ def check_entry(command, place, entry, handle, sessions):
     """What is wrong with an entry, whatever its hmac is."""
     shape, before = command.shape, command.entries[: place - 1]
     if max(len(entry.nonce), len(entry.hmac)) > MOST_NONCE_OR_HMAC:
-        raise Refusal(f"SIZE/s{place}")
+        raise Refusal(f"SIZE/s{place}", "G8")
     is_password = entry.handle == RS_PW
     if not is_password and first_byte(entry.handle) not in (HMAC_SESSION, POLICY_SESSION):
-        raise Refusal(f"VALUE/s{place}")
+        raise Refusal(f"VALUE/s{place}", "G8")
     if not is_password and entry.handle not in sessions:
-        raise Refusal(f"REFERENCE_S{place - 1}")
+        raise Refusal(f"REFERENCE_S{place - 1}", "G8")
     if is_password and handle is None:
-        raise Refusal(f"HANDLE/s{place}")
+        raise Refusal(f"HANDLE/s{place}", "G8")
     if not is_password and entry.handle in [it.handle for it in before]:
-        raise Refusal(f"HANDLE/s{place}")
+        raise Refusal(f"HANDLE/s{place}", "G8")
 
     if entry.attributes & RESERVED:
-        raise Refusal(f"RESERVED_BITS/s{place}")
+        raise Refusal(f"RESERVED_BITS/s{place}", "G8")
     if entry.attributes & (AUDIT_EXCLUSIVE | AUDIT_RESET | AUDIT):
-        raise Refusal(f"ATTRIBUTES/s{place}")
+        raise Refusal(f"ATTRIBUTES/s{place}", "G8")
     for attribute, has_buffer in (
         (DECRYPT, shape.sized_parameter),
         (ENCRYPT, shape.sized_answer),
     ):
         taken = any(it.attributes & attribute for it in before)
         if entry.attributes & attribute and (is_password or taken or not has_buffer):
-            raise Refusal(f"ATTRIBUTES/s{place}")
+            raise Refusal(f"ATTRIBUTES/s{place}", "G8")
     if entry.attributes & (DECRYPT | ENCRYPT) and not sessions[entry.handle].aes:
-        raise Refusal(f"SYMMETRIC/s{place}")
+        raise Refusal(f"SYMMETRIC/s{place}", "G8")
 
 
 def decode(buffer, started, sessions, objects, indices):
@@ -342,12 +347,12 @@ def decode(buffer, started, sessions, objects, indices):
     tag, code = read_header(fields, len(buffer))
     shape = SHAPES[code]
     if started == (code == frames.STARTUP):
-        raise Refusal("INITIALIZE")
+        raise Refusal("INITIALIZE", "G5")
     handles = read_handles(fields, shape.handles, sessions, objects, indices)
     if tag == frames.SESSIONS and not shape.sessions:
-        raise Refusal("AUTH_CONTEXT")
+        raise Refusal("AUTH_CONTEXT", "G7")
     if tag == frames.NO_SESSIONS and shape.authorized:
-        raise Refusal("AUTH_MISSING")
+        raise Refusal("AUTH_MISSING", "G7")
     entries = read_area(fields) if tag == frames.SESSIONS else None
     command = Command(code, handles, entries, fields.data)
     for place, entry, handle in command.places():

@@ -171,19 +171,19 @@ def has_wrong_size(public):
 def check_definition(public, auth_value, hierarchy, indices):
     """What an index that is to be defined has to be, beside those that there are."""
     if len(auth_value) > digest_bytes(public.name_algorithm):
-        raise Refusal("SIZE/p1")
+        raise Refusal("SIZE/p1", "A1")
     if len(public.auth_policy) not in (0, digest_bytes(public.name_algorithm)):
-        raise Refusal("SIZE/p2")
+        raise Refusal("SIZE/p2", "A2")
     if has_wrong_attributes(public, hierarchy):
-        raise Refusal("ATTRIBUTES/p2")
+        raise Refusal("ATTRIBUTES/p2", "A3")
     if has_wrong_size(public):
-        raise Refusal("SIZE/p2")
+        raise Refusal("SIZE/p2", "A4")
     if public.index in indices:
-        raise Refusal("NV_DEFINED")
+        raise Refusal("NV_DEFINED", "A5")
     # The bytes of an index are counted whether it is written or not.
     taken = sum(it.public.data_size for it in indices.values())
     if len(indices) == INDICES or taken + public.data_size > ALL_BYTES:
-        raise Refusal("NV_SPACE")
+        raise Refusal("NV_SPACE", "A6")
 
 
 # Authorization by an index itself: what its attributes allow of a command. They are those of the
@@ -214,7 +214,7 @@ def check_asker(public, asker, by_owner, by_platform):
     else:
         may = asker == public.index
     if not may:
-        raise Refusal("NV_AUTHORIZATION")
+        raise Refusal("NV_AUTHORIZATION", "A1")
 
 
 def check_writer(public, asker):
@@ -229,22 +229,22 @@ def check_writing(public, asker, kind):
     """Before every change of an index that is to be of some type."""
     check_writer(public, asker)
     if public.has(Attribute.WRITELOCKED):
-        raise Refusal("NV_LOCKED")
+        raise Refusal("NV_LOCKED", "A2")
     if public.kind != kind:
-        raise Refusal("ATTRIBUTES/h2")
+        raise Refusal("ATTRIBUTES/h2", "A3")
 
 
 def check_reading(public, asker):
     check_reader(public, asker)
     if public.has(Attribute.READLOCKED):
-        raise Refusal("NV_LOCKED")
+        raise Refusal("NV_LOCKED", "A2")
     if not public.has(Attribute.WRITTEN):
-        raise Refusal("NV_UNINITIALIZED")
+        raise Refusal("NV_UNINITIALIZED", "A3")
 
 
-def check_range(public, offset, size):
+def check_range(public, offset, size, check):
     if offset + size > public.data_size:
-        raise Refusal("NV_RANGE")
+        raise Refusal("NV_RANGE", check)
 
 
 def start_up(indices):
@@ -295,10 +295,10 @@ def read_policy_nv(parameters):
 
 def check_comparison(index, asker, operand, offset, operation):
     check_reading(index.public, asker)
-    check_range(index.public, offset, len(operand))
+    check_range(index.public, offset, len(operand), "A4")
     held = index.data[offset : offset + len(operand)]
     if not OPERATIONS[operation](held, operand):
-        raise Refusal("POLICY")
+        raise Refusal("POLICY", "A5")
 
 
 class Commands:
@@ -317,7 +317,7 @@ class Commands:
         parameters.end()
         hierarchy, handle = handles
         if hierarchy == RH_OWNER and self.indices[handle].public.has(Attribute.PLATFORMCREATE):
-            raise Refusal("NV_AUTHORIZATION")
+            raise Refusal("NV_AUTHORIZATION", "A1")
         del self.indices[handle]
         return Answer()
 
@@ -335,9 +335,9 @@ class Commands:
         index = self.indices[handle]
         size = index.public.data_size
         check_writing(index.public, asker, Type.ORDINARY)
-        check_range(index.public, offset, len(data))
+        check_range(index.public, offset, len(data), "A4")
         if index.public.has(Attribute.WRITEALL) and len(data) != size:
-            raise Refusal("NV_RANGE")
+            raise Refusal("NV_RANGE", "A4")
         # What the first write leaves out is all ones.
         old = index.data if index.public.has(Attribute.WRITTEN) else b"\xff" * size
         index.write(old[:offset] + data + old[offset + len(data) :])
@@ -353,7 +353,7 @@ class Commands:
         if index.public.has(Attribute.WRITTEN):
             old = unsigned(index.data)
         if old == LARGEST:
-            raise Refusal("NV_RANGE")
+            raise Refusal("NV_RANGE", "A4")
         self.largest_counter = max(self.largest_counter, old + 1)
         index.write(number(old + 1, NUMBER_BYTES))
         return Answer()
@@ -385,8 +385,8 @@ class Commands:
         index = self.indices[handle]
         check_reading(index.public, asker)
         if size > BUFFER_BYTES:
-            raise Refusal("VALUE/p1")
-        check_range(index.public, offset, size)
+            raise Refusal("VALUE/p1", "A4")
+        check_range(index.public, offset, size, "A5")
         return Answer(sized(index.data[offset : offset + size]))
 
     def nv_write_lock(self, handles, parameters, locality, random):
@@ -395,7 +395,7 @@ class Commands:
         index = self.indices[handle]
         check_writer(index.public, asker)
         if not index.public.has(Attribute.WRITEDEFINE | Attribute.WRITE_STCLEAR):
-            raise Refusal("ATTRIBUTES/h2")
+            raise Refusal("ATTRIBUTES/h2", "A2")
         index.mark(Attribute.WRITELOCKED)
         return Answer()
 
@@ -405,7 +405,7 @@ class Commands:
         index = self.indices[handle]
         check_reader(index.public, asker)
         if not index.public.has(Attribute.READ_STCLEAR):
-            raise Refusal("ATTRIBUTES/h2")
+            raise Refusal("ATTRIBUTES/h2", "A2")
         index.mark(Attribute.READLOCKED)
         return Answer()
 
@@ -414,6 +414,6 @@ class Commands:
         parameters.end()
         index = self.indices[handles[0]]
         if len(new) > digest_bytes(index.public.name_algorithm):
-            raise Refusal("SIZE/p1")
+            raise Refusal("SIZE/p1", "A1")
         index.auth_value = new
         return Answer()

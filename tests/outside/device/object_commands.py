@@ -19,18 +19,18 @@ class Commands:
     `proofs`.
     """
 
-    def free_object(self):
+    def free_object(self, check):
         """The lowest number that is free, as a transient object's handle."""
         places = [TRANSIENT << 24 | it for it in range(OBJECTS)]
         free = [it for it in places if it not in self.objects]
         if not free:
-            raise Refusal("OBJECT_MEMORY")
+            raise Refusal("OBJECT_MEMORY", check)
         return free[0]
 
     def parent(self, handle):
         parent = self.objects[handle]
         if not parent.public.is_parent:
-            raise Refusal("TYPE/h1")
+            raise Refusal("TYPE/h1", "A1")
         return parent
 
     def creation(self, template, public, parent, hierarchy, locality):
@@ -49,8 +49,8 @@ class Commands:
         parameters.end()
 
         objects.check_public(template.public, parent=None)
-        objects.check_sensitive(template)
-        handle = self.free_object()
+        objects.check_sensitive(template, parent=None)
+        handle = self.free_object("A7")
 
         (hierarchy,) = handles
         primary = objects.primary(template, hierarchy, self.seeds[hierarchy])
@@ -64,7 +64,7 @@ class Commands:
 
         parent = self.parent(handles[0])
         objects.check_public(template.public, parent)
-        objects.check_sensitive(template)
+        objects.check_sensitive(template, parent)
 
         public, sensitive, drawn = objects.created(template, random)
         iv = random[drawn : drawn + aes.BLOCK]
@@ -80,7 +80,7 @@ class Commands:
         parent = self.parent(handles[0])
         objects.check_public(public, parent)
         sensitive = objects.unwrapped(parent, public, private)
-        handle = self.free_object()
+        handle = self.free_object("A6")
 
         sensitive = replace(sensitive, auth_value=trimmed(sensitive.auth_value))
         self.objects[handle] = objects.loaded(
@@ -97,9 +97,9 @@ class Commands:
         parameters.end()
         sealed = self.objects[handles[0]]
         if sealed.public.kind != KEYEDHASH:
-            raise Refusal("TYPE/h1")
+            raise Refusal("TYPE/h1", "A1")
         if sealed.public.has(Attribute.SIGN):
-            raise Refusal("ATTRIBUTES/h1")
+            raise Refusal("ATTRIBUTES/h1", "A2")
         return Answer(sized(sealed.sensitive.data))
 
     def hmac(self, handles, parameters, locality, random):
@@ -110,14 +110,14 @@ class Commands:
         key = self.objects[handles[0]]
         scheme = key.public.scheme
         if key.public.kind != KEYEDHASH:
-            raise Refusal("TYPE/h1")
+            raise Refusal("TYPE/h1", "A1")
         if key.public.has(Attribute.RESTRICTED):
-            raise Refusal("ATTRIBUTES/h1")
+            raise Refusal("ATTRIBUTES/h1", "A2")
         if not key.public.has(Attribute.SIGN):
-            raise Refusal("KEY/h1")
+            raise Refusal("KEY/h1", "A3")
         # The scheme's hash algorithm is the key's; with scheme NULL its user names one.
         chosen = {scheme, asked} - {ALG_NULL}
         if len(chosen) != 1:
-            raise Refusal("VALUE/p2")
+            raise Refusal("VALUE/p2", "A4")
         (algorithm,) = chosen
         return Answer(sized(mac(algorithm, key.sensitive.data, data)))

@@ -22,6 +22,9 @@ DATA_BYTES = 128
 NAME_BYTES = 34
 PRIVATE_BYTES = 256
 
+# How many checks a public area has, before those of a sensitive one.
+PUBLIC_CHECKS = 3
+
 
 class Attribute(enum.IntFlag):
     """TPMA_OBJECT (Part 2, section 8.3)."""
@@ -201,27 +204,34 @@ def has_wrong_scheme(public):
     return not public.has(Attribute.SIGN)
 
 
+def checks_before(parent):
+    """How many checks come before those of a template: whether the parent is one."""
+    return 0 if parent is None else 1
+
+
 def check_public(public, parent):
     """What the public area of an object that is created or loaded has to be."""
+    before = checks_before(parent)
     if len(public.auth_policy) not in (0, digest_bytes(public.name_algorithm)):
-        raise Refusal("SIZE/p2")
+        raise Refusal("SIZE/p2", f"A{before + 1}")
     if has_wrong_attributes(public, parent):
-        raise Refusal("ATTRIBUTES/p2")
+        raise Refusal("ATTRIBUTES/p2", f"A{before + 2}")
     if has_wrong_scheme(public):
-        raise Refusal("SCHEME/p2")
+        raise Refusal("SCHEME/p2", f"A{before + 3}")
 
 
-def check_sensitive(template):
+def check_sensitive(template, parent):
     """What is asked of the sensitive area of an object that is created."""
+    before = checks_before(parent) + PUBLIC_CHECKS
     public, is_given = template.public, bool(template.data)
     if len(trimmed(template.user_auth)) > digest_bytes(public.name_algorithm):
-        raise Refusal("SIZE/p1")
+        raise Refusal("SIZE/p1", f"A{before + 1}")
     generates = public.has(Attribute.SENSITIVE_DATA_ORIGIN)
     is_sealed = public.kind == KEYEDHASH and not public.has(Attribute.SIGN)
     if generates == is_given or generates and is_sealed:
-        raise Refusal("ATTRIBUTES/p2")
+        raise Refusal("ATTRIBUTES/p2", f"A{before + 2}")
     if public.kind == SYMCIPHER and is_given and len(template.data) != AES_KEY_BYTES:
-        raise Refusal("SIZE/p1")
+        raise Refusal("SIZE/p1", f"A{before + 3}")
 
 
 # Creation.
@@ -326,7 +336,7 @@ def read_sensitive(fields):
 
 def unwrapped(parent, public, private):
     """The sensitive area of a private one that the parent made, for this public area."""
-    name, wrong = public.name, Refusal("INTEGRITY/p1")
+    name, wrong = public.name, Refusal("INTEGRITY/p1", "A5")
     fields = Fields(private)
     try:
         given = fields.sized()

@@ -24,7 +24,7 @@ class Parameters:
         return self
 
     def refusal(self, code):
-        return Refusal(f"{code}/p{self.place}")
+        return Refusal(f"{code}/p{self.place}", "G11")
 
     def take(self, count):
         try:
@@ -90,4 +90,4 @@ class Parameters:
 
     def end(self):
         if self.fields.data:
-            raise Refusal("SIZE")
+            raise Refusal("SIZE", "G11")

@@ -62,7 +62,7 @@ class Commands:
         if handle == RH_NULL:
             return
         if locality not in extended_from(handle):
-            raise Refusal("LOCALITY")
+            raise Refusal("LOCALITY", "A1")
         for algorithm, value in values:
             bank = self.banks[algorithm]
             bank[handle] = digest(algorithm, bank[handle] + value)
@@ -89,7 +89,7 @@ class Commands:
         parameters.end()
         (pcr,) = handles
         if locality not in reset_from(pcr):
-            raise Refusal("LOCALITY")
+            raise Refusal("LOCALITY", "A1")
         for algorithm, bank in self.banks.items():
             bank[pcr] = bytes(digest_bytes(algorithm))
             self.update_counter += 1

@@ -22,14 +22,14 @@ def check_hierarchy(asker, held, removes):
     else:
         allowed = held.hierarchy in (RH_OWNER, RH_ENDORSEMENT)
     if not allowed:
-        raise Refusal("HIERARCHY/h2")
+        raise Refusal("HIERARCHY/h2", "A1")
 
 
 def check_range(asker, handle, removes):
     """The lower half of the handles is the owner's, the upper half the platform's."""
     is_upper = handle >= FIRST_OF_PLATFORM
     if asker == RH_OWNER and is_upper or asker == RH_PLATFORM and not removes and not is_upper:
-        raise Refusal("RANGE/p1")
+        raise Refusal("RANGE/p1", "A3")
 
 
 class Commands:
@@ -38,18 +38,18 @@ class Commands:
     def evict_control(self, handles, parameters, locality, random):
         wanted = parameters.next().number(4)
         if not is_persistent(wanted):
-            raise Refusal("VALUE/p1")
+            raise parameters.refusal("VALUE")
         parameters.end()
 
         asker, handle = handles
         held, removes = self.objects[handle], is_persistent(handle)
         check_hierarchy(asker, held, removes)
         if held.public.has(Attribute.ST_CLEAR):
-            raise Refusal("ATTRIBUTES/h2")
+            raise Refusal("ATTRIBUTES/h2", "A2")
         check_range(asker, wanted, removes)
         if removes:
             if handle != wanted:
-                raise Refusal("HANDLE/h2")
+                raise Refusal("HANDLE/h2", "A4")
             del self.objects[handle]
         else:
             self.check_place(wanted)
@@ -58,6 +58,6 @@ class Commands:
 
     def check_place(self, handle):
         if handle in self.objects:
-            raise Refusal("NV_DEFINED")
+            raise Refusal("NV_DEFINED", "A5")
         if len([it for it in self.objects if is_persistent(it)]) == PERSISTENT_OBJECTS:
-            raise Refusal("NV_SPACE")
+            raise Refusal("NV_SPACE", "A6")

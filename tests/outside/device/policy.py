@@ -124,16 +124,16 @@ def check_use(session, entity, use, place):
     """
     told = session.policy
     if session.is_trial:
-        raise Refusal(f"ATTRIBUTES/s{place}")
+        raise Refusal(f"ATTRIBUTES/s{place}", "G9")
     if entity is None:
-        raise Refusal("AUTH_UNAVAILABLE")
+        raise Refusal("AUTH_UNAVAILABLE", "G9")
     if told.update_counter not in (None, use.update_counter):
-        raise Refusal("PCR_CHANGED")
+        raise Refusal("PCR_CHANGED", "G9")
     if told.code not in (None, use.code):
-        raise Refusal(f"POLICY_CC/s{place}")
+        raise Refusal(f"POLICY_CC/s{place}", "G9")
     if use.is_admin and told.code is None or told.cp_hash not in (None, use.cp_hash):
-        raise Refusal(f"POLICY_FAIL/s{place}")
+        raise Refusal(f"POLICY_FAIL/s{place}", "G9")
     if not told.localities >> use.locality & 1:
-        raise Refusal("LOCALITY")
+        raise Refusal("LOCALITY", "G9")
     if (session.algorithm, told.digest) != (entity.name_algorithm, entity.auth_policy):
-        raise Refusal(f"POLICY_FAIL/s{place}")
+        raise Refusal(f"POLICY_FAIL/s{place}", "G9")

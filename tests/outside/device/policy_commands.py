@@ -30,9 +30,9 @@ class Commands:
         told, algorithm = session.policy, session.algorithm
         values_digest = digest(algorithm, self.values(selection))
         if not session.is_trial and told.update_counter not in (None, self.update_counter):
-            raise Refusal("PCR_CHANGED")
+            raise Refusal("PCR_CHANGED", "A1")
         if not session.is_trial and given not in (b"", values_digest):
-            raise Refusal("VALUE/p1")
+            raise Refusal("VALUE/p1", "A2")
         told.digest = policy.after_pcr(
             algorithm, told.digest, frames.selection(*selection), given or values_digest
         )
@@ -45,7 +45,7 @@ class Commands:
 
         session = self.sessions[handles[0]]
         if not session.is_trial and session.policy.digest not in branches:
-            raise Refusal("VALUE/p1")
+            raise Refusal("VALUE/p1", "A1")
         session.policy.digest = policy.after_or(session.algorithm, branches)
         return Answer()
 
@@ -71,9 +71,9 @@ class Commands:
         session = self.sessions[handles[0]]
         told = session.policy
         if told.code not in (None, code):
-            raise Refusal("VALUE/p1")
+            raise Refusal("VALUE/p1", "A1")
         if code not in policy.COMMANDS:
-            raise Refusal("POLICY_CC/p1")
+            raise Refusal("POLICY_CC/p1", "A2")
         told.digest = policy.after_command_code(session.algorithm, told.digest, code)
         told.code = code
         return Answer()
@@ -86,7 +86,7 @@ class Commands:
         session = self.sessions[handles[0]]
         told = session.policy
         if localities > policy.ALL_LOCALITIES or not localities & told.localities:
-            raise Refusal("RANGE/p1")
+            raise Refusal("RANGE/p1", "A1")
         told.digest = policy.after_locality(session.algorithm, told.digest, localities)
         told.localities &= localities
         return Answer()
@@ -102,14 +102,14 @@ class Commands:
         session = self.sessions[handle]
         told, algorithm = session.policy, session.algorithm
         if expiration:
-            raise Refusal("VALUE/p4")
+            raise Refusal("VALUE/p4", "A1")
         if len(cp_hash) not in (0, digest_bytes(algorithm)):
-            raise Refusal("SIZE/p2")
+            raise Refusal("SIZE/p2", "A2")
         if not session.is_trial and nonce_tpm not in (b"", session.nonce_tpm):
-            raise Refusal("NONCE/p1")
+            raise Refusal("NONCE/p1", "A3")
         other = cp_hash and told.cp_hash not in (None, cp_hash)
         if not session.is_trial and other:
-            raise Refusal("CPHASH")
+            raise Refusal("CPHASH", "A4")
         told.digest = policy.after_secret(
             algorithm, told.digest, self.name(entity), policy_ref
         )

@@ -59,7 +59,7 @@ class Commands:
         parameters.end()
         was_saved = self.saved
         if kind == STATE and was_saved != Saved.STATE:
-            raise Refusal("VALUE/p1")
+            raise Refusal("VALUE/p1", "A1")
 
         self.started, self.saved = True, Saved.NONE
         self.update_counter = 0
@@ -103,7 +103,7 @@ class Commands:
     def clear(self, handles, parameters, locality, random):
         parameters.end()
         if self.disable_clear:
-            raise Refusal("DISABLED")
+            raise Refusal("DISABLED", "A1")
 
         (
             self.seeds[RH_OWNER],
@@ -132,6 +132,6 @@ class Commands:
         parameters.end()
         # Only the platform takes it back.
         if handles[0] == RH_LOCKOUT and not disables:
-            raise Refusal("AUTH_FAIL")
+            raise Refusal("AUTH_FAIL", "A1")
         self.disable_clear = bool(disables)
         return Answer()

@@ -11,6 +11,8 @@ from frames import number
 
 HEADER_BYTES = 10
 
+AS_BYTES = "# All commands stand as bytes, whole ones too, so that cuts can be held against them.\n"
+
 # Where the first piece of a command with a handle ends, and the area with one empty password.
 HANDLE = (14, "within its handle", "INSUFFICIENT/h1")
 AREA = (27, "within the authorization area", "AUTHSIZE")
@@ -55,5 +57,5 @@ def cuts(name, whole, pieces, outcome):
 
 def write(name, head, commands):
     """A script of commands: each one's name, its whole buffer, the pieces, and what it comes to."""
-    text = head + "".join(cuts(*it) for it in commands)
+    text = head + AS_BYTES + "".join(cuts(*it) for it in commands)
     (paths.TESTS / name).write_text(text, "ascii")

@@ -1,5 +1,6 @@
 #!/usr/bin/env python3
-"""Writes the expected output NAME.out beside scripts NAME.tpm, without running the simulator.
+"""Writes the expected output NAME.out beside scripts NAME.tpm, without running the simulator; and
+NAME.trace, which `--trace` prints, where there is such a file already, be it an empty one.
 
     python3 tests/outside/scripts/expected.py                    for every script in tests/
     python3 tests/outside/scripts/expected.py tests/startup.tpm  for these
@@ -17,7 +18,9 @@ import sys
 import paths
 
 import frames
+import lines
 from device import Device
+from outputs import POWER, Played, write_outputs
 
 WANTED = re.compile(r": (SUCCESS|[A-Z][A-Z0-9_]+(?:/[hps][1-9])?)(?: \(([0-9A-F]{3})\))?[.,;]")
 OUTCOMES = {"SUCCESS", *frames.CODES}
@@ -38,23 +41,36 @@ def wanted_of(comment):
     return name
 
 
-def responses_of(script, device):
-    """The responses that a script prints, up to its end or to a line of no known word."""
+def buffer_of(line):
+    """The buffer of a script's line, or None where it has none."""
+    word, _, argument = line.partition(" ")
+    if word == "do":
+        return lines.assemble(argument.encode("ascii"))
+    return bytes.fromhex(argument) if word == "cmd" else None
+
+
+def played_by(script, device):
+    """What comes of a script's events, up to its end or to a bad line."""
     locality, random = 0, bytes(RANDOM_BYTES)
     comment, in_comment, elapsed = "", False, 0
     for line in script.splitlines():
         word, _, argument = line.partition(" ")
+        try:
+            buffer = buffer_of(line)
+        except lines.Fault:
+            return
         if line.startswith("#"):
             comment = (comment if in_comment else "") + line[1:]
         elif word == "":
             comment = ""
-        elif word == "cmd":
+        elif buffer is not None:
             wanted = wanted_of(comment)
-            response, refused = device.execute(bytes.fromhex(argument), locality, random, elapsed)
+            outcome = device.execute(buffer, locality, random, elapsed)
+            if outcome.refused != wanted:
+                named = outcome.refused or "a success"
+                raise ValueError(f"it is {named}, which is not said:{comment}")
+            yield Played(outcome, locality, elapsed)
             elapsed = 0
-            if refused != wanted:
-                raise ValueError(f"it is {refused or 'a success'}, which is not said:{comment}")
-            yield response
         elif word == "loc":
             locality = int(argument)
         elif word == "entropy":
@@ -62,6 +78,7 @@ def responses_of(script, device):
             random = (entropy * RANDOM_BYTES)[:RANDOM_BYTES]
         elif word == "power":
             device.power_cycle()
+            yield POWER
         elif word == "wait":
             elapsed += int(argument)
         else:
@@ -71,13 +88,13 @@ def responses_of(script, device):
 
 def main(names):
     for path in map(pathlib.Path, names) if names else sorted(paths.TESTS.glob("*.tpm")):
-        lines = []
+        played = []
         try:
-            for response in responses_of(path.read_text("ascii"), Device()):
-                lines.append(response.hex() + "\n")
+            for event in played_by(path.read_text("ascii"), Device()):
+                played.append(event)
         except ValueError as fault:
-            sys.exit(f"{path}, command {len(lines) + 1}: {fault}")
-        path.with_suffix(".out").write_text("".join(lines), "ascii")
+            sys.exit(f"{path}, event {len(played) + 1}: {fault}")
+        write_outputs(path, played)
 
 
 if __name__ == "__main__":

@@ -234,6 +234,6 @@ caller.accepted(
         *(caller.start("A session with a nonce of 32 bytes", RH_OWNER, size=32) for _ in range(3)),
     ),
 )
-assert len(script.answers[-1]) == 601
+assert len(script.last_response) == 601
 
 script.write()

@@ -19,7 +19,7 @@ import paths
 import full_device
 import nv
 from device import Device
-from expected import responses_of
+from expected import played_by
 from frames import RH_NULL, RH_OWNER, SHA256, number
 from image import DIGEST_AT_END, Fault, image, open_image
 from nv import Attribute
@@ -160,7 +160,7 @@ def main(names):
         return
     for name in names:
         device = Device()
-        for _ in responses_of(pathlib.Path(name).read_text("ascii"), device):
+        for _ in played_by(pathlib.Path(name).read_text("ascii"), device):
             pass
         print(f"{name}: {checked(device).hex()}")
     if not names:

@@ -8,6 +8,7 @@ import paths
 
 import frames
 from frames import SHA1, SHA256, command, digests, number, on_handle, selection
+from script import line
 
 SCRIPT = paths.TESTS / "localities.tpm"
 
@@ -28,10 +29,6 @@ USES = [
 ]
 
 
-def line(buffer):
-    return f"cmd {buffer.hex()}\n"
-
-
 def extend(pcr):
     return on_handle(frames.PCR_EXTEND, pcr, digests((SHA1, bytes(20))))
 
@@ -43,19 +40,20 @@ def reset(pcr):
 def changes(name, of, pcrs, use, accepted):
     named = f"PCR {pcrs[0]}" + (f" to {pcrs[-1]}" if len(pcrs) > 1 else "")
     outcome = "SUCCESS" if accepted else "LOCALITY (907)"
-    return f"\n# {name} of {named}, {use}: {outcome}.\n" + "".join(line(of(pcr)) for pcr in pcrs)
+    return f"\n# {name} of {named}, {use}: {outcome}.\n" + "".join(line(of(pcr)) + "\n" for pcr in pcrs)
 
 
 def reading(algorithm, name):
     """The 24 PCRs of a bank, eight at a time."""
     text = f"\n# TPM2_PCR_Read of the {name} bank: SUCCESS.\n"
     for first in (0, 8, 16):
-        text += line(command(frames.PCR_READ, selection((algorithm, range(first, first + 8)))))
+        buffer = command(frames.PCR_READ, selection((algorithm, range(first, first + 8))))
+        text += line(buffer) + "\n"
     return text
 
 
 def script():
-    text = HEAD + line(command(frames.STARTUP, number(0, 2)))
+    text = HEAD + line(command(frames.STARTUP, number(0, 2))) + "\n"
     for locality in range(5):
         text += f"\n# Locality {locality}.\nloc {locality}\n"
         for pcrs, use, extended_from, reset_from in USES:

@@ -47,7 +47,7 @@ caller.fails(
     "TPM2_NV_Read", "NV_UNINITIALIZED", caller.reading(SECOND, 8, by=RH_OWNER)
 )
 count("TPM2_NV_Increment: it goes on behind 3", SECOND, 4)
-assert script.answers[-1] == bytes.fromhex(
+assert script.last_response == bytes.fromhex(
     "8002 0000001D 00000000 0000000A 0008 0000000000000004 0000 01 0000"
 )
 

@@ -38,7 +38,7 @@ caller.does(
     caller.writing(FIRST, b"\x5a", offset=2),
 )
 caller.does("TPM2_NV_Read of all: what was not written is FF", caller.reading(FIRST, 8))
-assert script.answers[-1] == bytes.fromhex(
+assert script.last_response == bytes.fromhex(
     "8002 0000001D 00000000 0000000A 0008 FFFF5AFFFFFFFFFF 0000 01 0000"
 )
 caller.is_now("TPM2_NV_ReadPublic: it has WRITTEN now, and so another Name", FIRST)

@@ -110,7 +110,7 @@ answer = caller.does(
     "sent them",
     read,
 )
-assert answer[2:] == SECRET and SECRET not in script.answers[-1]
+assert answer[2:] == SECRET and SECRET not in script.last_response
 caller.fails("Somebody who listened sends the same buffer again", "AUTH_FAIL/s1", read)
 caller.does(
     "TPM2_NV_ReadLock by the session. It sets READLOCKED, so the Name is another, the session is "

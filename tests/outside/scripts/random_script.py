@@ -26,6 +26,8 @@ from frames import ALG_NULL, CONTINUE_SESSION, DECRYPT, ENCRYPT, KEYEDHASH, RH_N
 from frames import SHA1, SHA256, SYMCIPHER, number, sized
 from general import Entry, Refusal, Short
 from objects import Attribute, Public
+from outputs import POWER, Played, write_outputs
+from script import line
 
 SELDOM = 0.04
 AUTH_VALUES = b"", b"a", b"secret"
@@ -56,7 +58,7 @@ class Writer(random.Random):
     def __init__(self, seed):
         super().__init__(seed)
         self.device, self.locality = Device(), 0
-        self.lines, self.answers = [f"# Random script {seed}."], []
+        self.lines, self.played = [f"# Random script {seed}."], []
         self.made, self.digests = [], [b""]
 
     # Choices.
@@ -548,6 +550,7 @@ class Writer(random.Random):
         is_saved = self.device.saved != state.Saved.NONE
         if self.happens(0.2 if is_saved else 0.003):
             self.device.power_cycle()
+            self.played.append(POWER)
             self.lines.append("power")
         if self.happens(0.02):
             self.locality = self.randrange(5)
@@ -562,11 +565,11 @@ class Writer(random.Random):
         if self.happens(0.1) or self.device.lockout.is_closed and self.happens(0.2):
             elapsed = self.choice((*WAITS, self.randrange(2**32)))
             self.lines.append(f"wait {elapsed}")
-        self.lines += [f"entropy {seed.hex()}", f"cmd {buffer.hex()}"]
-        response, refused = self.device.execute(buffer, self.locality, drawn, elapsed)
-        self.answers.append(response)
-        self.note(buffer, response, refused)
-        return refused
+        self.lines += [f"entropy {seed.hex()}", line(buffer)]
+        outcome = self.device.execute(buffer, self.locality, drawn, elapsed)
+        self.played.append(Played(outcome, self.locality, elapsed))
+        self.note(buffer, outcome.response, outcome.refused)
+        return outcome.refused
 
     def note(self, buffer, response, refused):
         """Keeps what TPM2_Create answered in plain, and the digests that policies have."""
@@ -585,8 +588,7 @@ def main(seed, count, folder):
     outcomes = [writer.step() for _ in range(int(count))]
     path = pathlib.Path(folder) / f"{seed}.tpm"
     path.write_text("\n".join(writer.lines) + "\n", "ascii")
-    answers = "".join(it.hex() + "\n" for it in writer.answers)
-    path.with_suffix(".out").write_text(answers, "ascii")
+    write_outputs(path, writer.played)
     return outcomes
 
 

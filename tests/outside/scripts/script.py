@@ -6,7 +6,9 @@ import textwrap
 import paths
 
 import frames
+import lines
 from device import Device
+from outputs import POWER, Played, write_outputs
 
 COLUMNS = 100
 RANDOM_BYTES = 256
@@ -15,14 +17,24 @@ RANDOM_BYTES = 256
 SEED_BYTES = 7
 
 
+def line(buffer):
+    """The script's line that executes a buffer: in words, where some say just these bytes."""
+    words = lines.line_of(buffer)
+    return f"cmd {buffer.hex()}" if words is None else f"do {words}"
+
+
 class Script:
     """Lines, and a device that executes them as they are written."""
 
     def __init__(self, path, head):
-        self.path, self.lines, self.answers = paths.TOP / path, [], []
+        self.path, self.lines, self.played = paths.TOP / path, [], []
         self.device, self.locality, self.random = Device(), 0, bytes(RANDOM_BYTES)
         self.seeds, self.elapsed, self.pause = 0, 0, 0
         self.write_comment(f"{head} Written by tests/outside/scripts/{self.path.stem}.py.")
+
+    @property
+    def last_response(self):
+        return self.played[-1].outcome.response
 
     def write_comment(self, text):
         self.lines += textwrap.wrap(
@@ -39,11 +51,12 @@ class Script:
 
     def power(self):
         self.device.power_cycle()
+        self.played.append(POWER)
         self.lines += ["", "power"]
 
     def wait(self, milliseconds):
         """They pass before the next command."""
-        if self.lines[-1].startswith("cmd"):
+        if self.lines[-1].startswith(("cmd", "do ")):
             self.lines.append("")
         self.let_pass(milliseconds)
 
@@ -73,15 +86,14 @@ class Script:
         for buffer in buffers:
             if self.pause:
                 self.let_pass(self.pause)
-            self.lines.append(f"cmd {buffer.hex()}")
-            response, refused = self.device.execute(
-                buffer, self.locality, self.random, self.elapsed
-            )
-            self.elapsed = 0
+            self.lines.append(line(buffer))
+            answered = self.device.execute(buffer, self.locality, self.random, self.elapsed)
+            refused = answered.refused
             if (refused or "SUCCESS") != outcome:
                 raise ValueError(f"{self.path.name}, {what}: it is {refused or 'a success'}")
-            self.answers.append(response)
-        return response
+            self.played.append(Played(answered, self.locality, self.elapsed))
+            self.elapsed = 0
+        return answered.response
 
     def startup(self):
         return self.command(
@@ -115,5 +127,4 @@ class Script:
 
     def write(self):
         self.path.write_text("\n".join(self.lines) + "\n", "ascii")
-        answers = "".join(it.hex() + "\n" for it in self.answers)
-        self.path.with_suffix(".out").write_text(answers, "ascii")
+        write_outputs(self.path, self.played)

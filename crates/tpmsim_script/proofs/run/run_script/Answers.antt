@@ -14,7 +14,7 @@ returns-clause-read g c = λ cannot.
     let flushed = c.flush.new in
     ran_unread (text_left (remaining c.args.reader.now) run.lines) (remaining c.args.reader.now) (remaining last.reader)
     (printout (contents c.args.writer.now) run.player.answers) (contents c.args.writer.now) (printout (contents last.writer) last.self.player.answers)
-    (printout (contents flushed.writer) flushed.self.answers) (contents flushed.writer) (playing_of g.K.Keep.record_of run.player) at_first c.lines-outcome.result
+    (printout (contents flushed.writer) flushed.self.answers) (contents flushed.writer) (playing_of g.K.Keep.record_of run.player) (at_first c.args.trace) c.lines-outcome.result
     (nothing_before (remaining c.args.reader.now) (rest_of run.lines) c.in_ok-run.ensures.lines) (nothing_behind (contents c.args.writer.now) (backlog run.player.answers) c.in_ok-run.ensures.answers)
     c.in_ok-run.ensures.playing c.in_ok-flush.ensures.printed (nothing_behind (contents flushed.writer) (backlog flushed.self.answers) c.in_ok-flush.ensures.empty) (c.lines-outcome.ensures.read cannot)
 
@@ -27,6 +27,6 @@ returns-clause-too_many g c = λ cannot.
     let flushed = c.flush.new in
     ran_too_many (text_left (remaining c.args.reader.now) run.lines) (remaining c.args.reader.now)
     (printout (contents c.args.writer.now) run.player.answers) (contents c.args.writer.now) (printout (contents last.writer) last.self.player.answers)
-    (printout (contents flushed.writer) flushed.self.answers) (contents flushed.writer) (playing_of g.K.Keep.record_of run.player) at_first c.lines-outcome.result
+    (printout (contents flushed.writer) flushed.self.answers) (contents flushed.writer) (playing_of g.K.Keep.record_of run.player) (at_first c.args.trace) c.lines-outcome.result
     (nothing_before (remaining c.args.reader.now) (rest_of run.lines) c.in_ok-run.ensures.lines) (nothing_behind (contents c.args.writer.now) (backlog run.player.answers) c.in_ok-run.ensures.answers)
     c.in_ok-run.ensures.playing c.in_ok-flush.ensures.printed (nothing_behind (contents flushed.writer) (backlog flushed.self.answers) c.in_ok-flush.ensures.empty) (c.lines-outcome.ensures.too_many cannot)

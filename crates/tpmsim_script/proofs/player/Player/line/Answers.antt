@@ -4,4 +4,4 @@ use Rattle.tpmsim_script.proofs.player.Player.line.Goals as goal
 
 pub returns : goal.returns
 returns g c =
-    λ cannot. did_said _ _ (meaning_of c.in_ok-said.said) _ _ _ _ _ c.requires.limit c.in_ok-said.ensures.meaning (c.perform.ensures cannot)
+    λ cannot. did_said _ _ (meaning_of c.in_ok-said.said) _ _ _ _ _ c.requires c.in_ok-said.ensures.meaning (c.perform.ensures cannot)

@@ -1,0 +1,46 @@
+ghost use Rattle.std.specs.Prelude.{◌≡◌, ◌≤◌, length, vec_len};
+ghost use Rattle.std.specs.Result.{result_ok};
+ghost use Rattle.tpm_text.specs.Line.{assembled};
+ghost use Rattle.tpmsim_script.specs.Line.{Tells, bytes_of};
+ghost use Rattle.tpmsim_script.specs.declared.room.TheConstants.{DECODED_LIMIT};
+
+use crate::line::{BadLine, decode};
+use std::alloc::{AllocError, Global};
+use tpm_text::{Draft, assemble_in};
+
+/// How many bytes a line can write in hex.
+const DECODED_LIMIT: usize = 32_768;
+
+/// Room for what a line writes, in hex or in words.
+#[derive(Drop)]
+pub struct Room {
+    decoded: Vec<u8>,
+    draft: Draft,
+    ghost capacity: { vec_len decoded ≡ DECODED_LIMIT },
+}
+
+impl Room {
+    pub fn new(alloc: Global) -> Result<Room, AllocError> {
+        let decoded = vec![in alloc; 0u8; DECODED_LIMIT]?;
+        Ok(Room {
+            decoded,
+            draft: Draft::new(),
+        })
+    }
+
+    /// The bytes that hex digits of either case write. It refuses other digits, and an odd number of
+    /// them.
+    pub fn decode(&mut self, digits: &[u8]) -> Result<&[u8], BadLine>
+        requires { length digits.now ≤ 65536 }
+        ensures { Tells (λ bytes. bytes.now) result (bytes_of digits.now) }
+    {
+        decode(digits, &mut self.decoded)
+    }
+
+    /// The command that words spell. It refuses words that spell none.
+    pub fn assemble(&mut self, words: &[u8]) -> Result<&[u8], BadLine>
+        ensures { Tells (λ bytes. bytes.now) result (result_ok (assembled words.now)) }
+    {
+        assemble_in(words, &mut self.draft).map_err(|_| BadLine)
+    }
+}

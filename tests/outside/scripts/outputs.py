@@ -1,0 +1,42 @@
+"""What a script prints, by the device in Python: NAME.out, and NAME.trace where there is one."""
+
+from dataclasses import dataclass
+
+import lines
+from device import Outcome
+
+
+@dataclass(frozen=True)
+class Played:
+    """What came of a command, from its locality and so many milliseconds after the one before."""
+
+    outcome: Outcome
+    locality: int
+    elapsed: int
+
+    @property
+    def response(self):
+        return self.outcome.response.hex() + "\n"
+
+    @property
+    def traced(self):
+        return lines.traced(self.outcome, self.locality, self.elapsed) + "\n" + self.response
+
+
+@dataclass(frozen=True)
+class Power:
+    """A power cycle, of which nothing is printed but what is traced."""
+
+    response: str = ""
+    traced: str = "power\n"
+
+
+POWER = Power()
+
+
+def write_outputs(path, played):
+    """Writes NAME.out beside a script NAME.tpm, and NAME.trace anew where that is there already."""
+    path.with_suffix(".out").write_text("".join(it.response for it in played), "ascii")
+    trace = path.with_suffix(".trace")
+    if trace.exists():
+        trace.write_text("".join(it.traced for it in played), "ascii")
