@@ -21,7 +21,7 @@ use Rattle.tpm_text.specs.Draft.{Finishes, finished, grown, with_area}
 use Rattle.tpm_text.specs.Entry.{begins_entry, entry_in}
 use Rattle.tpm_text.specs.Fault.{at_column}
 use Rattle.tpm_text.specs.Laying.{Lays, LaysSessions, Leads, first_is_entry}
-use Rattle.tpm_text.specs.Line.{assembled, ended, entries_in, handles_in, name_in, parameters_in, spelled}
+use Rattle.tpm_text.specs.Line.{assembled, ended, entry_tokens_in, handles_in, name_in, parameters_in, spelled}
 use Rattle.tpm_text.specs.Pieces.{Token, tokens_of}
 use Rattle.tpm_text.proofs.Growing.{fits, grown-grown, none_grows, spills, too_much}
 
@@ -76,13 +76,13 @@ area_is old area text e = by (nat_le (length text) 4096) refl
     by true short = let less = leb-true _ _ short in rw (e ∙ fits [] text (omega (arith, less))) refl
     by false long = let more = leb-false _ _ long in rw (e ∙ spills [] text (omega (arith, more))) (sym (too_much old (to_be_bytes w32 (length text) ++ text) (omega (arith, more, length-append (to_be_bytes w32 (length text)) text))))
 
-pub sessions_laid : (tokens left : List Token) (old area new : Option (List ℕ)) (result : Result (Unit {0}) AsmFault) → first_is_entry tokens ≡ true → result ≡ Ok tt → Lays entries_text (entries_in 3 tokens) (Some []) result area left → new ≡ with_area old area
-    → LaysSessions (entries_in 3 tokens) old (let tag : Result Tag AsmFault = Ok Sessions in tag) new left
-unfolding entries_in
+pub sessions_laid : (tokens left : List Token) (old area new : Option (List ℕ)) (result : Result (Unit {0}) AsmFault) → first_is_entry tokens ≡ true → result ≡ Ok tt → Lays entries_text (entry_tokens_in 3 tokens) (Some []) result area left → new ≡ with_area old area
+    → LaysSessions (entry_tokens_in 3 tokens) old (let tag : Result Tag AsmFault = Ok Sessions in tag) new left
+unfolding entry_tokens_in
 sessions_laid [] left old area new result first done h e = absurd cc
 sessions_laid (token ∷ tokens) left old area new result first done h e =
     let read = at_column token.column (entry_in token.text) in
-    subst (λ b. Lays entries_text (cond b (read >>= λ first. entries_in 2 tokens >>= λ others. Ok (first ∷ others.0, others.1)) (Ok ([], token ∷ tokens))) (Some []) result area left → LaysSessions (cond b (read >>= λ first. entries_in 2 tokens >>= λ others. Ok (first ∷ others.0, others.1)) (Ok ([], token ∷ tokens))) old (Ok Sessions) new left) (sym first) (by read (entries_in 2 tokens) result done) h
+    subst (λ b. Lays entries_text (cond b (read >>= λ first. entry_tokens_in 2 tokens >>= λ others. Ok (first ∷ others.0, others.1)) (Ok ([], token ∷ tokens))) (Some []) result area left → LaysSessions (cond b (read >>= λ first. entry_tokens_in 2 tokens >>= λ others. Ok (first ∷ others.0, others.1)) (Ok ([], token ∷ tokens))) old (Ok Sessions) new left) (sym first) (by read (entry_tokens_in 2 tokens) result done) h
   where
     by : (first : Result Entry AsmFault) (others : Result (List Entry × List Token) AsmFault) (result : Result (Unit {0}) AsmFault) → result ≡ Ok tt
         → Lays entries_text (first >>= λ first. others >>= λ others. Ok (first ∷ others.0, others.1)) (Some []) result area left
@@ -130,11 +130,11 @@ module _ (line : List ℕ) (code : CommandCode) (one : List Token) (n : name_in 
   handles_fault fault h = rw (n, h) refl
 
   module _ (handles : List Handle) (two : List Token) (h : handles_in (handle_count code) one ≡ Ok (handles, two)) where
-    pub entries_fault : (fault : AsmFault) → entries_in 3 two ≡ Err fault → assembled line ≡ Err fault
+    pub entries_fault : (fault : AsmFault) → entry_tokens_in 3 two ≡ Err fault → assembled line ≡ Err fault
     unfolding assembled spelled
     entries_fault fault s = rw (n, h, s) refl
 
-    module _ (entries : List Entry) (three : List Token) (s : entries_in 3 two ≡ Ok (entries, three)) where
+    module _ (entries : List Entry) (three : List Token) (s : entry_tokens_in 3 two ≡ Ok (entries, three)) where
       pub parameters_fault : (fault : AsmFault) → parameters_in (shape_of code).parameters three ≡ Err fault → assembled line ≡ Err fault
       unfolding assembled spelled
       parameters_fault fault p = rw (n, h, s, p) refl

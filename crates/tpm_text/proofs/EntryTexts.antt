@@ -10,7 +10,7 @@ use Rattle.tpm_text.specs.Draft.{Drafts, grown}
 use Rattle.tpm_text.specs.Entry.{SessionPieces, handle_in, octet_in, password_entry, session_entry, session_pieces_of, text_of_entry}
 use Rattle.tpm_text.specs.Number.{bytes_in}
 use Rattle.tpm_text.specs.Parameter.{buffer_text}
-use Rattle.tpm_text.specs.Pieces.{pieces_of}
+use Rattle.tpm_text.specs.Pieces.{colon, pieces_of}
 use Rattle.tpm_text.proofs.Growing.{grown-grown}
 use Rattle.tpm_text.specs.declared.fault.TokenFault.{TokenFault}
 use Rattle.tpm_text.specs.declared.fault.TokenFault.TheVariants.{Bad}
@@ -32,8 +32,8 @@ five_are_bad : (a b c d : List ℕ) (others : List (List ℕ)) → 0 < length ot
 five_are_bad a b c d [] some = absurd (omega (arith, some))
 five_are_bad a b c d (e ∷ others) some = refl
 
-pub other_pieces : (text a b c d rest : List ℕ) → pieces_of 58 text ≡ a ∷ b ∷ c ∷ d ∷ pieces_of 58 rest → session_pieces_of (pieces_of 58 text) ≡ Err Bad
-other_pieces text a b c d rest e = ap session_pieces_of e ∙ five_are_bad a b c d (pieces_of 58 rest) (omega (arith, length-slice_split (λ byte. byte == 58) rest))
+pub other_pieces : (text a b c d rest : List ℕ) → pieces_of colon text ≡ a ∷ b ∷ c ∷ d ∷ pieces_of colon rest → session_pieces_of (pieces_of colon text) ≡ Err Bad
+other_pieces text a b c d rest e = ap session_pieces_of e ∙ five_are_bad a b c d (pieces_of colon rest) (omega (arith, length-slice_split (λ byte. byte == 58) rest))
 
 -- an entry's text, part by part
 abbrev pub parts_of : SessionPieces → Result (List ℕ) TokenFault
@@ -44,7 +44,7 @@ parts_of pieces =
     buffer_text pieces.hmac >>= λ hmac.
     Ok (to_be_bytes w32 session.number ++ nonce ++ to_be_bytes w8 octet ++ hmac)
 
-pub session_text : (text : List ℕ) (pieces : SessionPieces) → session_pieces_of (pieces_of 58 text) ≡ Ok pieces → text_of_entry (session_entry text) ≡ parts_of pieces
+pub session_text : (text : List ℕ) (pieces : SessionPieces) → session_pieces_of (pieces_of colon text) ≡ Ok pieces → text_of_entry (session_entry text) ≡ parts_of pieces
 unfolding session_entry buffer_text
 session_text text pieces e = rw e (by (handle_in pieces.session) (bytes_in pieces.nonce) (octet_in pieces.attributes) (bytes_in pieces.hmac))
   where
@@ -57,7 +57,7 @@ session_text text pieces e = rw e (by (handle_in pieces.session) (bytes_in piece
     by (Ok session) (Ok nonce) (Ok octet) (Err fault) = refl
     by (Ok session) (Ok nonce) (Ok octet) (Ok hmac) = refl
 
-pub no_session_text : (text : List ℕ) (fault : TokenFault) → session_pieces_of (pieces_of 58 text) ≡ Err fault → text_of_entry (session_entry text) ≡ Err fault
+pub no_session_text : (text : List ℕ) (fault : TokenFault) → session_pieces_of (pieces_of colon text) ≡ Err fault → text_of_entry (session_entry text) ≡ Err fault
 unfolding session_entry
 no_session_text text fault e = rw e refl
 

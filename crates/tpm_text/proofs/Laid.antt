@@ -17,7 +17,7 @@ use Rattle.tpm_text.specs.Draft.{Drafts, drafted, grown}
 use Rattle.tpm_text.specs.Entry.{begins_entry, entry_in, handle_in, text_of_entry}
 use Rattle.tpm_text.specs.Fault.{Gives, at_column, fault_at}
 use Rattle.tpm_text.specs.Laying.{Lays, first_is_entry}
-use Rattle.tpm_text.specs.Line.{entries_in, handles_in, parameters_in, token_in}
+use Rattle.tpm_text.specs.Line.{entry_tokens_in, handles_in, parameters_in, token_in}
 use Rattle.tpm_text.specs.Parameter.{parameter_text}
 use Rattle.tpm_text.specs.Pieces.{Token}
 use Rattle.tpm_text.proofs.Growing.{fits, grown-grown, none_grows}
@@ -89,25 +89,25 @@ handle_before handle handles = refl
 
 -- ---- entries
 
-pub no_entries : (most : ℕ) (tokens : List Token) → most ≡ 0 → entries_in most tokens ≡ Ok ([], tokens)
-unfolding entries_in
+pub no_entries : (most : ℕ) (tokens : List Token) → most ≡ 0 → entry_tokens_in most tokens ≡ Ok ([], tokens)
+unfolding entry_tokens_in
 no_entries zero tokens e = refl
 no_entries (suc most) tokens e = absurd (omega (arith, e))
 
-pub entries_end : (most : ℕ) (tokens : List Token) → first_is_entry tokens ≡ false → entries_in most tokens ≡ Ok ([], tokens)
-unfolding entries_in
+pub entries_end : (most : ℕ) (tokens : List Token) → first_is_entry tokens ≡ false → entry_tokens_in most tokens ≡ Ok ([], tokens)
+unfolding entry_tokens_in
 entries_end zero tokens e = refl
 entries_end (suc most) [] e = refl
 entries_end (suc most) (token ∷ tokens) e = rw e refl
 
-pub entry_bad : (most : ℕ) (tokens rest : List Token) (token : Token) (found : AsmFault) → (most ≡ 0 → ⊥) → tokens ≡ token ∷ rest → begins_entry token.text ≡ true → (fault : TokenFault) → entry_in token.text ≡ Err fault → found ≡ fault_at token.column fault → entries_in most tokens ≡ Err found
-unfolding entries_in
+pub entry_bad : (most : ℕ) (tokens rest : List Token) (token : Token) (found : AsmFault) → (most ≡ 0 → ⊥) → tokens ≡ token ∷ rest → begins_entry token.text ≡ true → (fault : TokenFault) → entry_in token.text ≡ Err fault → found ≡ fault_at token.column fault → entry_tokens_in most tokens ≡ Err found
+unfolding entry_tokens_in
 entry_bad zero tokens rest token found some e is fault f g = absurd (some refl)
 entry_bad (suc most) tokens rest token found some e is fault f g = rw (e, is, f, g) refl
 
 pub entry_first : (most less : ℕ) (tokens rest : List Token) (token : Token) (entry : Entry) → most ≡ suc less → tokens ≡ token ∷ rest → begins_entry token.text ≡ true → entry_in token.text ≡ Ok entry
-    → entries_in most tokens ≡ (entries_in less rest >>= λ others. Ok (entry ∷ others.0, others.1))
-unfolding entries_in
+    → entry_tokens_in most tokens ≡ (entry_tokens_in less rest >>= λ others. Ok (entry ∷ others.0, others.1))
+unfolding entry_tokens_in
 entry_first most less tokens rest token entry some e is f = rw (some, e, is, f) refl
 
 pub entry_read : (read : Result Entry TokenFault) (text : List ℕ) → text_of_entry read ≡ Ok text → (entry : Entry) × (read ≡ Ok entry) × (text ≡ auth_entry_text entry)

@@ -6,7 +6,7 @@ use Rattle.tpm_types.specs.Pcr.{with_pcr}
 use Rattle.tpm_text.specs.Draft.{Drafts, grown}
 use Rattle.tpm_text.specs.Number.{number_in}
 use Rattle.tpm_text.specs.Parameter.{element_text, elements_text, pcrs_in}
-use Rattle.tpm_text.specs.Pieces.{each_in, pieces_of}
+use Rattle.tpm_text.specs.Pieces.{comma, each_in, pieces_of}
 use Rattle.tpm_text.specs.declared.element.Element.{Element}
 use Rattle.tpm_text.specs.declared.fault.TokenFault.{TokenFault}
 use Rattle.tpm_bytes.proofs.Fields.{ok_is}
@@ -18,7 +18,7 @@ use Rattle.tpm_text.proofs.Growing.{grown-grown}
 unfoldable pub pcrs_left : ℕ → List (List ℕ) → Result ℕ TokenFault
 pcrs_left select pieces = each_in (number_in 23) pieces >>= λ pcrs. Ok (fold with_pcr select pcrs)
 
-pub pcrs_begun : (numbers : List ℕ) → pcrs_left 0 (pieces_of 44 numbers) ≡ pcrs_in numbers
+pub pcrs_begun : (numbers : List ℕ) → pcrs_left 0 (pieces_of comma numbers) ≡ pcrs_in numbers
 unfolding pcrs_left pcrs_in
 pcrs_begun numbers = refl
 

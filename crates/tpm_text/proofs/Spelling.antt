@@ -19,9 +19,9 @@ use Rattle.tpm_text.specs.declared.fault.TokenFault.TheVariants.{Bad}
 use Rattle.tpm_text.specs.declared.fault.AsmFault.{AsmFault}
 use Rattle.tpm_text.specs.Entry.{begins_entry, begins_password, begins_session, entry_in, handle_in, hex_handle_in, octet_in, password_entry, session_entry, session_pieces_of}
 use Rattle.tpm_text.specs.Fault.{at_column}
-use Rattle.tpm_text.specs.Line.{ended, entries_in, handles_in, name_in, parameters_in, spelled}
+use Rattle.tpm_text.specs.Line.{ended, entry_tokens_in, handles_in, name_in, parameters_in, spelled}
 use Rattle.tpm_text.specs.Number.{bytes_in, hex_in}
-use Rattle.tpm_text.specs.Pieces.{Token, pieces_of, tokens_of}
+use Rattle.tpm_text.specs.Pieces.{Token, colon, pieces_of, tokens_of}
 use Rattle.tpm_text.proofs.Laid.{column_ok}
 
 -- ---- numbers
@@ -71,7 +71,7 @@ password_spells password entry e =
 session_spells : (text : List ℕ) (entry : Entry) → session_entry text ≡ Ok entry → Spells entry
 unfolding session_entry
 session_spells text entry e =
-    let pieces = bind_ok (session_pieces_of (pieces_of 58 text)) _ entry e in
+    let pieces = bind_ok (session_pieces_of (pieces_of colon text)) _ entry e in
     let session = bind_ok (handle_in pieces.0.session) _ entry pieces.2 in
     let nonce = bind_ok (bytes_in pieces.0.nonce) _ entry session.2 in
     let octet = bind_ok (octet_in pieces.0.attributes) _ entry nonce.2 in
@@ -87,17 +87,17 @@ entry_spells token entry e = by (begins_password token) (begins_session token) e
     by false true e = session_spells (drop 2 token) entry e
     by false false e = absurd cc
 
-entries_spell : (most : ℕ) (tokens : List Token) (x : List Entry × List Token) → entries_in most tokens ≡ Ok x → (length x.0 ≤ most) × AllByRecursion Spells x.0
-unfolding entries_in
+entries_spell : (most : ℕ) (tokens : List Token) (x : List Entry × List Token) → entry_tokens_in most tokens ≡ Ok x → (length x.0 ≤ most) × AllByRecursion Spells x.0
+unfolding entry_tokens_in
 entries_spell zero tokens x e = subst (λ (x : List Entry × List Token). (length x.0 ≤ 0) × AllByRecursion Spells x.0) (ok_is ([], tokens) x e) (omega arith, tt)
 entries_spell (suc most) [] x e = subst (λ (x : List Entry × List Token). (length x.0 ≤ suc most) × AllByRecursion Spells x.0) (ok_is ([], []) x e) (omega arith, tt)
 entries_spell (suc most) (token ∷ tokens) x e = by (entries_spell most tokens) (begins_entry token.text) e
   where
-    by : ((y : List Entry × List Token) → entries_in most tokens ≡ Ok y → (length y.0 ≤ most) × AllByRecursion Spells y.0)
-        → (b : Bool) → cond b (at_column token.column (entry_in token.text) >>= λ first. entries_in most tokens >>= λ others. Ok (first ∷ others.0, others.1)) (Ok ([], token ∷ tokens)) ≡ Ok x → (length x.0 ≤ suc most) × AllByRecursion Spells x.0
+    by : ((y : List Entry × List Token) → entry_tokens_in most tokens ≡ Ok y → (length y.0 ≤ most) × AllByRecursion Spells y.0)
+        → (b : Bool) → cond b (at_column token.column (entry_in token.text) >>= λ first. entry_tokens_in most tokens >>= λ others. Ok (first ∷ others.0, others.1)) (Ok ([], token ∷ tokens)) ≡ Ok x → (length x.0 ≤ suc most) × AllByRecursion Spells x.0
     by fewer true e =
         let first = bind_ok (at_column token.column (entry_in token.text)) _ x e in
-        let others = bind_ok (entries_in most tokens) _ x first.2 in
+        let others = bind_ok (entry_tokens_in most tokens) _ x first.2 in
         let rest = fewer others.0 others.1 in
         let one = entry_spells token.text first.0 (column_ok token.column (entry_in token.text) first.0 first.1) in
         subst (λ (x : List Entry × List Token). (length x.0 ≤ suc most) × AllByRecursion Spells x.0) (ok_is (first.0 ∷ others.0.0, others.0.1) x others.2) (omega (arith, rest.0), (one, rest.1))
@@ -138,7 +138,7 @@ unfolding spelled
 spelled_is_command line c e small =
     let name = bind_ok (name_in (tokens_of line)) _ c e in
     let handles = bind_ok (handles_in (handle_count name.0.0) name.0.1) _ c name.2 in
-    let entries = bind_ok (entries_in 3 handles.0.1) _ c handles.2 in
+    let entries = bind_ok (entry_tokens_in 3 handles.0.1) _ c handles.2 in
     let parameters = bind_ok (parameters_in (shape_of name.0.0).parameters entries.0.1) _ c entries.2 in
     let whole = bind_ok (ended parameters.0.1) _ c parameters.2 in
     let h = handles_spell (handle_count name.0.0) name.0.1 handles.0 handles.1 in

@@ -13,18 +13,18 @@ use Rattle.tpm_text.specs.declared.draft.Draft.{Draft}
 abbrev pub drafted : Draft → Option (List ℕ)
 drafted draft = option_map (λ size. take size draft.bytes) draft.used
 
--- the same with more bytes
+-- a draft with more bytes
 unfoldable pub grown : Option (List ℕ) → List ℕ → Option (List ℕ)
 grown None bytes = None
 grown (Some text) bytes =
     if nat_le (length text + length bytes) 4096 then Some (text ++ bytes) else None
 
--- the same with an authorization area: the size of its entries, and these
+-- a draft with an authorization area: the size of its entries, and these
 unfoldable pub with_area : Option (List ℕ) → Option (List ℕ) → Option (List ℕ)
 with_area draft None = None
 with_area draft (Some entries) = grown draft (to_be_bytes w32 (length entries) ++ entries)
 
--- the whole text of a command, in place of whose header ten bytes stand
+-- the command of a draft, whose first ten bytes only keep the header's place
 unfoldable pub finished : Tag → CommandCode → Option (List ℕ) → Result (List ℕ) AsmFault
 finished tag code None = Err TooLong
 finished tag code (Some text) = Ok (header_text tag (length text) code ++ drop 10 text)

@@ -10,7 +10,7 @@ use Rattle.tpm_types_command.specs.AuthEntry.{Entry, auth_entry_text}
 use Rattle.tpm_text.specs.declared.fault.TokenFault.{TokenFault}
 use Rattle.tpm_text.specs.declared.fault.TokenFault.TheVariants.{Bad}
 use Rattle.tpm_text.specs.Number.{bytes_in, hex_in, is_word}
-use Rattle.tpm_text.specs.Pieces.{pieces_of}
+use Rattle.tpm_text.specs.Pieces.{colon, pieces_of}
 
 unfoldable pub hex_handle_in : List ℕ → Result Handle TokenFault
 hex_handle_in token = do
@@ -35,7 +35,8 @@ octet_in piece = do
   bytes ← hex_in piece
   Ok (from_be_bytes w8 bytes)
 
--- a password, whose session goes on
+-- the entry of a password: of TPM_RS_PW, without a nonce, with continueSession, and with the password
+-- in the HMAC's place
 unfoldable pub password_entry : List ℕ → Result Entry TokenFault
 password_entry password = do
   bytes ← bytes_in password
@@ -61,7 +62,7 @@ session_pieces_of other = Err Bad
 -- a session's handle, nonce, attributes and HMAC, with a colon between two
 unfoldable pub session_entry : List ℕ → Result Entry TokenFault
 session_entry text = do
-  pieces ← session_pieces_of (pieces_of 58 text)
+  pieces ← session_pieces_of (pieces_of colon text)
   session ← handle_in pieces.session
   nonce ← bytes_in pieces.nonce
   octet ← octet_in pieces.attributes

@@ -18,7 +18,7 @@ use Rattle.tpm_text.specs.Fault.{at_column}
 use Rattle.tpm_text.specs.Parameter.{parameter_text}
 use Rattle.tpm_text.specs.Pieces.{Token, tokens_of}
 
--- the first token, as it is read, and those behind it
+-- what is read of the first token, and the tokens behind it; Missing where there is none
 abbrev pub token_in : {A : Type 0}
     → (List ℕ → Result A TokenFault) → List Token → Result (A × List Token) AsmFault
 token_in read [] = Err fault.Missing
@@ -26,7 +26,8 @@ token_in read (token ∷ tokens) = do
   value ← at_column token.column (read token.text)
   Ok (value, tokens)
 
--- the name of a command, which is a fault of its own where it is none
+-- the command that the first token names; what names none is a fault of its own. Each line has a
+-- first token, though it may be empty
 abbrev pub name_in : List Token → Result (CommandCode × List Token) AsmFault
 name_in [] = Err fault.BadName
 name_in (token ∷ tokens) = do
@@ -41,13 +42,13 @@ handles_in (suc count) tokens = do
   others ← handles_in count first.1
   Ok (first.0 ∷ others.0, others.1)
 
--- at most so many entries: as many tokens as begin like one
-unfoldable pub entries_in : ℕ → List Token → Result (List Entry × List Token) AsmFault
-entries_in zero tokens = Ok ([], tokens)
-entries_in (suc most) [] = Ok ([], [])
-entries_in (suc most) (token ∷ tokens) = cond (begins_entry token.text) (do
+-- the entries in front, at most so many; the first token that does not begin like one ends them
+unfoldable pub entry_tokens_in : ℕ → List Token → Result (List Entry × List Token) AsmFault
+entry_tokens_in zero tokens = Ok ([], tokens)
+entry_tokens_in (suc most) [] = Ok ([], [])
+entry_tokens_in (suc most) (token ∷ tokens) = cond (begins_entry token.text) (do
   first ← at_column token.column (entry_in token.text)
-  others ← entries_in most tokens
+  others ← entry_tokens_in most tokens
   Ok (first ∷ others.0, others.1))
     (Ok ([], token ∷ tokens))
 
@@ -69,7 +70,7 @@ unfoldable pub spelled : List ℕ → Result Whole AsmFault
 spelled line = do
   name ← name_in (tokens_of line)
   handles ← handles_in (handle_count name.0) name.1
-  entries ← entries_in 3 handles.1
+  entries ← entry_tokens_in 3 handles.1
   parameters ← parameters_in (shape_of name.0).parameters entries.1
   whole ← ended parameters.1
   Ok (record {

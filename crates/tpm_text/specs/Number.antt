@@ -13,6 +13,7 @@ use Rattle.tpm_text.specs.declared.number.Radix.TheVariants as radix
 use Rattle.tpm_text.specs.declared.fault.TokenFault.{TokenFault}
 use Rattle.tpm_text.specs.declared.fault.TokenFault.TheVariants.{Bad, Range}
 
+-- whether a text is this word
 abbrev pub is_word : List ℕ → List ℕ → Bool
 is_word word text = pointwise nat_eq text word
 
@@ -35,7 +36,7 @@ unfoldable pub number_of : List ℕ → Option ℕ
 number_of token =
     if starts_with nat_eq token (codes "0x") then numeral 16 (drop 2 token) else numeral 10 token
 
--- a number of at most this, if one was written
+-- what was written: Bad where it is no number, Range where it is over this
 unfoldable pub at_most : ℕ → Option ℕ → Result ℕ TokenFault
 at_most most written = do
   number ← ok_or written Bad

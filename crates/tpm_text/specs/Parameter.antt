@@ -1,14 +1,13 @@
 -- Parameters in a line: the word for each kind, and its text on the wire.
-use Rattle.std.specs.Prelude.{ℕ, zero, suc, ◌==◌, not, nat_le, if◌then◌else◌, Bool, List, [], ◌∷◌, ◌++◌, ◌*◌, length, codes}
-use Rattle.std.specs.Prelude.{Option, Some, None, Result, Ok, Err}
-use Rattle.std.specs.List.{flat_map, fold}
+use Rattle.std.specs.Prelude.{ℕ, ◌==◌, ◌+◌, ◌*◌, not, if◌then◌else◌, List, ◌++◌, length, take, drop, codes}
+use Rattle.std.specs.Prelude.{Some, None, Result, Ok, Err, ok_or}
+use Rattle.std.specs.List.{flat_map, fold, position}
 use Rattle.std.specs.Int.{w8, w16, w32, w64, to_be_bytes}
 use Rattle.tpm_bytes.specs.Reading.{◌>>=◌, refused_if}
 use Rattle.tpm_bytes.specs.Writing.{sized_text}
 use Rattle.tpm_mac.specs.declared.algorithm.HashAlg.{HashAlg}
 use Rattle.tpm_mac.specs.declared.algorithm.HashAlg.TheVariants.{Sha1, Sha256}
 use Rattle.tpm_mac.specs.Digest.{digest_size}
-use Rattle.tpm_types.specs.declared.pcr_selection.BankSelection.{BankSelection}
 use Rattle.tpm_types.specs.declared.symmetric.SymmetricDefinition.{SymmetricDefinition}
 use Rattle.tpm_types.specs.declared.symmetric.SymmetricDefinition.TheVariants as symmetric
 use Rattle.tpm_types.specs.Algorithm.{hash_number, hash_or_null_number}
@@ -22,7 +21,7 @@ use Rattle.tpm_text.specs.declared.element.Element.TheVariants as element
 use Rattle.tpm_text.specs.declared.fault.TokenFault.{TokenFault}
 use Rattle.tpm_text.specs.declared.fault.TokenFault.TheVariants.{Bad}
 use Rattle.tpm_text.specs.Number.{bytes_in, hex_in, is_word, number_in, number_text}
-use Rattle.tpm_text.specs.Pieces.{each_in, pieces_of}
+use Rattle.tpm_text.specs.Pieces.{colon, comma, each_in, pieces_of, plus}
 
 abbrev pub hash_in : List ℕ → Result HashAlg TokenFault
 hash_in word =
@@ -52,42 +51,37 @@ buffer_text token = do
   bytes ← bytes_in token
   Ok (sized_text bytes)
 
--- the two pieces of a text with one colon
-abbrev pub two_of : List (List ℕ) → Result (List ℕ × List ℕ) TokenFault
-two_of (first ∷ second ∷ []) = Ok (first, second)
-two_of other = Err Bad
-
--- a hash algorithm, and what stands behind its colon
+-- a hash algorithm, and all that stands behind the first colon
 unfoldable pub hash_and_rest_in : List ℕ → Result (HashAlg × List ℕ) TokenFault
 hash_and_rest_in piece = do
-  parts ← two_of (pieces_of 58 piece)
-  hash ← hash_in parts.0
-  Ok (hash, parts.1)
+  place ← ok_or (position (λ byte. byte == colon) piece) Bad
+  hash ← hash_in (take place piece)
+  Ok (hash, drop (place + 1) piece)
 
 -- the PCRs of these numbers, joined by commas: each at most 23
 unfoldable pub pcrs_in : List ℕ → Result ℕ TokenFault
 pcrs_in numbers = do
-  pcrs ← each_in (number_in 23) (pieces_of 44 numbers)
+  pcrs ← each_in (number_in 23) (pieces_of comma numbers)
   Ok (fold with_pcr 0 pcrs)
 
 -- a bank's hash algorithm, and the PCRs that are selected there: sha256:0,10
-unfoldable pub bank_in : List ℕ → Result (List ℕ) TokenFault
-bank_in piece = do
+unfoldable pub bank_word_text : List ℕ → Result (List ℕ) TokenFault
+bank_word_text piece = do
   bank ← hash_and_rest_in piece
   select ← pcrs_in bank.1
   Ok (bank_text (record { hash = bank.0; select = select }))
 
 -- a hash algorithm, and a digest of its size: sha1:HEX
-unfoldable pub digest_in : List ℕ → Result (List ℕ) TokenFault
-digest_in piece = do
+unfoldable pub digest_word_text : List ℕ → Result (List ℕ) TokenFault
+digest_word_text piece = do
   parts ← hash_and_rest_in piece
   whole ← refused_if (not (length parts.1 == 2 * digest_size parts.0)) Bad
   digest ← hex_in parts.1
   Ok (to_be_bytes w16 (hash_number parts.0) ++ digest)
 
 abbrev pub element_text : Element → List ℕ → Result (List ℕ) TokenFault
-element_text element.Bank piece = bank_in piece
-element_text element.Digest piece = digest_in piece
+element_text element.Bank piece = bank_word_text piece
+element_text element.Digest piece = digest_word_text piece
 element_text element.Buffer piece = buffer_text piece
 
 -- the elements of a list, one behind the other
@@ -99,15 +93,15 @@ elements_text element pieces = do
 -- a list, whose elements are joined by +: how many there are, and these
 unfoldable pub list_text : Element → List ℕ → Result (List ℕ) TokenFault
 list_text element token = do
-  elements ← elements_text element (pieces_of 43 token)
-  Ok (to_be_bytes w32 (length (pieces_of 43 token)) ++ elements)
+  elements ← elements_text element (pieces_of plus token)
+  Ok (to_be_bytes w32 (length (pieces_of plus token)) ++ elements)
 
 -- the same, where - is a list of none
 unfoldable pub list_or_none_text : Element → List ℕ → Result (List ℕ) TokenFault
 list_or_none_text element token =
     if is_word (codes "-") token then Ok (to_be_bytes w32 0) else list_text element token
 
--- a parameter of a kind
+-- a parameter of a kind; how long a buffer may be is the device's to check
 unfoldable pub parameter_text : ParameterKind → List ℕ → Result (List ℕ) TokenFault
 parameter_text kind.StartupType token = number_text w16 0xffff token
 parameter_text kind.SessionType token = number_text w8 0xff token

@@ -6,6 +6,19 @@ use Rattle.tpm_bytes.specs.Reading.{◌>>=◌}
 use Rattle.tpm_text.specs.declared.token.Token as declared
 use Rattle.tpm_text.specs.declared.fault.TokenFault.{TokenFault}
 
+-- what separates: tokens, the elements of a list, numbers, and a word from what stands behind it
+abbrev pub space : ℕ
+space = 32
+
+abbrev pub plus : ℕ
+plus = 43
+
+abbrev pub comma : ℕ
+comma = 44
+
+abbrev pub colon : ℕ
+colon = 58
+
 -- the pieces of a text that stand between its separators: one more than there are separators
 abbrev pub pieces_of : ℕ → List ℕ → List (List ℕ)
 pieces_of separator text = slice_split (λ byte. byte == separator) text
@@ -23,7 +36,7 @@ placed column (text ∷ texts) =
 
 -- the tokens of a line
 unfoldable pub tokens_of : List ℕ → List Token
-tokens_of line = placed 1 (pieces_of 32 line)
+tokens_of line = placed 1 (pieces_of space line)
 
 abbrev pub token_of : declared.Token → Token
 token_of token = record { column = token.column; text = token.text.now }

@@ -2,9 +2,9 @@
 use Rattle.std.specs.Prelude.{ℕ, ◌+◌, ◌-◌, List, [], length}
 use Rattle.std.specs.Option.{option_map_or}
 use Rattle.tpm_text.specs.declared.token.Tokens.{Tokens}
-use Rattle.tpm_text.specs.Pieces.{Token, pieces_of, placed}
+use Rattle.tpm_text.specs.Pieces.{Token, pieces_of, placed, space}
 
 abbrev pub tokens_left : Tokens → List Token
 tokens_left tokens =
-    option_map_or (λ rest. placed (tokens.size - length rest.now + 1) (pieces_of 32 rest.now))
+    option_map_or (λ rest. placed (tokens.size - length rest.now + 1) (pieces_of space rest.now))
     tokens.rest []

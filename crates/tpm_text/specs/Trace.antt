@@ -1,5 +1,5 @@
--- The trace of an event: in one line who sent what, which row of the table it took, and what was
--- answered.
+-- The trace of an event: in one line which command came from which locality after how long, which
+-- row of the table it took, and what was answered.
 use Rattle.std.specs.Prelude.{◌≡◌, ℕ, ◌-◌, ◌≤◌, ◌==◌, nat_le, if◌then◌else◌, ◌⊎◌}
 use Rattle.std.specs.Prelude.{List, ◌++◌, length, codes, option_map, unwrap_or}
 use Rattle.std.specs.List.{slice_range}
@@ -26,7 +26,7 @@ abbrev pub IsAnswered : Happening → List ℕ → Type 0
 IsAnswered (Given buffer locality elapsed random) response = 10 ≤ length response
 IsAnswered Cycled response = Unit {0}
 
--- and both of what an event gives
+-- An event and its step have a trace.
 abbrev pub IsTraceable : Happening → Stepped → Type 0
 IsTraceable event x = IsRow x.row × IsAnswered event x.response
 

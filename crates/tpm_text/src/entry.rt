@@ -3,7 +3,7 @@ ghost use Rattle.tpm_text.specs.Draft.{Drafts, drafted};
 ghost use Rattle.tpm_text.specs.Entry.{begins_entry, entry_in, handle_in, hex_handle_in, octet_in, password_entry, session_entry, session_pieces_of, text_of_entry};
 ghost use Rattle.tpm_text.specs.EntryPieces.{four_of};
 ghost use Rattle.tpm_text.specs.Fault.{Gives};
-ghost use Rattle.tpm_text.specs.Pieces.{pieces_of};
+ghost use Rattle.tpm_text.specs.Pieces.{colon, pieces_of};
 
 use crate::draft::Draft;
 use crate::fault::TokenFault;
@@ -73,7 +73,7 @@ struct SessionPieces<'a> {
 }
 
 fn session_pieces(text: &[u8]) -> Result<SessionPieces, TokenFault>
-    ensures { Gives four_of (session_pieces_of (pieces_of 58 text.now)) result }
+    ensures { Gives four_of (session_pieces_of (pieces_of colon text.now)) result }
 {
     let (session, Some(rest)) = cut(b':', text) else {
         return Err(TokenFault::Bad);

@@ -9,8 +9,8 @@
 //! ([`number`]), words ([`word`]), bytes in hex ([`digits`]) and lists ([`list`]). The first fault
 //! from the left is told with its column ([`fault`]).
 //!
-//! A trace ([`trace`]) tells of an event in one line who sent what, which row of the table it took,
-//! and what was answered.
+//! A trace ([`trace`]) tells of an event in one line which command came from which locality, which
+//! row of the table it took, and what was answered.
 
 mod digits;
 pub mod draft;

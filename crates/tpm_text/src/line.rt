@@ -5,7 +5,7 @@ ghost use Rattle.tpm_types_command.specs.Command.{Whole, command_at, command_siz
 ghost use Rattle.tpm_text.specs.Draft.{Finishes, drafted};
 ghost use Rattle.tpm_text.specs.Fault.{Gives};
 ghost use Rattle.tpm_text.specs.Laying.{Lays, LaysSessions, Leads};
-ghost use Rattle.tpm_text.specs.Line.{Assembles, assembled, ended, entries_in, handles_in, name_in, parameters_in, spelled};
+ghost use Rattle.tpm_text.specs.Line.{Assembles, assembled, ended, entry_tokens_in, handles_in, name_in, parameters_in, spelled};
 ghost use Rattle.tpm_text.specs.Tokens.{tokens_left};
 
 use crate::draft::Draft;
@@ -32,7 +32,7 @@ fn put_handles(count: usize, tokens: &mut Tokens, draft: &mut Draft) -> Result<(
 
 /// Writes at most so many entries: as many as the tokens begin like one.
 fn put_entries(most: usize, tokens: &mut Tokens, draft: &mut Draft) -> Result<(), AsmFault>
-    ensures { Lays entries_text (entries_in most (tokens_left tokens.old)) (drafted draft.old)
+    ensures { Lays entries_text (entry_tokens_in most (tokens_left tokens.old)) (drafted draft.old)
         result (drafted draft.new) (tokens_left tokens.new) }
 {
     if most == 0 {
@@ -64,7 +64,7 @@ fn put_parameters(
 
 /// Writes the authorization area, if the next token begins like an entry, and tells whether it did.
 fn put_sessions(tokens: &mut Tokens, draft: &mut Draft) -> Result<Tag, AsmFault>
-    ensures { LaysSessions (entries_in 3 (tokens_left tokens.old)) (drafted draft.old)
+    ensures { LaysSessions (entry_tokens_in 3 (tokens_left tokens.old)) (drafted draft.old)
         result (drafted draft.new) (tokens_left tokens.new) }
 {
     if !tokens.begins_entry() {

@@ -4,31 +4,29 @@ ghost use Rattle.std.specs.List.{count_by};
 ghost use Rattle.tpm_text.specs.Draft.{Drafts, drafted};
 ghost use Rattle.tpm_text.specs.Fault.{Gives};
 ghost use Rattle.tpm_text.specs.Number.{number_in};
-ghost use Rattle.tpm_text.specs.Parameter.{bank_in, digest_in, element_text, hash_and_rest_in, elements_text, list_or_none_text, list_text, pcrs_in};
-ghost use Rattle.tpm_text.specs.Pieces.{pieces_of};
+ghost use Rattle.tpm_text.specs.Parameter.{bank_word_text, digest_word_text, element_text, hash_and_rest_in, elements_text, list_or_none_text, list_text, pcrs_in};
+ghost use Rattle.tpm_text.specs.Pieces.{pieces_of, plus};
 
 use crate::draft::Draft;
 use crate::element::Element;
 use crate::fault::TokenFault;
 use crate::number::{is_word, number_in};
-use crate::token::cut;
+use crate::token::{cut, place_of};
 use crate::word::hash_in;
 use tpm_bytes::Sink;
 use tpm_mac::HashAlg;
 use tpm_types::{BankSelection, PcrIndex, PcrSelect, hash_number};
 
-/// A hash algorithm, and what stands behind its colon.
+/// A hash algorithm, and all that stands behind the first colon.
 #[tactic(auto, unfolding(crate::specs::Parameter::hash_and_rest_in))]
 fn hash_and_rest_in(piece: &[u8]) -> Result<(HashAlg, &[u8]), TokenFault>
     ensures { Gives (λ pair. (pair.0, pair.1.now)) (hash_and_rest_in piece.now) result }
 {
-    let (word, Some(rest)) = cut(b':', piece) else {
+    let Some(place) = place_of(b':', piece) else {
         return Err(TokenFault::Bad);
     };
-    match cut(b':', rest) {
-        (rest, None) => Ok((hash_in(word)?, rest)),
-        (_, Some(_)) => Err(TokenFault::Bad),
-    }
+    let hash = hash_in(&piece[..place])?;
+    Ok((hash, &piece[place + 1..]))
 }
 
 /// The PCR of a number, 0 to 23.
@@ -56,9 +54,9 @@ fn pcrs_in(numbers: &[u8]) -> Result<PcrSelect, TokenFault>
 }
 
 /// Writes a bank's selection.
-#[tactic(auto, unfolding(crate::specs::Parameter::bank_in))]
+#[tactic(auto, unfolding(crate::specs::Parameter::bank_word_text))]
 fn put_bank(piece: &[u8], draft: &mut Draft) -> Result<(), TokenFault>
-    ensures { Drafts (bank_in piece.now) (drafted draft.old) result (drafted draft.new) }
+    ensures { Drafts (bank_word_text piece.now) (drafted draft.old) result (drafted draft.new) }
 {
     let (hash, numbers) = hash_and_rest_in(piece)?;
     let select = pcrs_in(numbers)?;
@@ -69,9 +67,9 @@ fn put_bank(piece: &[u8], draft: &mut Draft) -> Result<(), TokenFault>
 }
 
 /// Writes a digest with its hash algorithm.
-#[tactic(auto, unfolding(crate::specs::Parameter::digest_in))]
+#[tactic(auto, unfolding(crate::specs::Parameter::digest_word_text))]
 fn put_digest(piece: &[u8], draft: &mut Draft) -> Result<(), TokenFault>
-    ensures { Drafts (digest_in piece.now) (drafted draft.old) result (drafted draft.new) }
+    ensures { Drafts (digest_word_text piece.now) (drafted draft.old) result (drafted draft.new) }
 {
     let (hash, digits) = hash_and_rest_in(piece)?;
     if digits.len() != 2 * hash.size() {
@@ -94,7 +92,7 @@ fn put_element(element: Element, piece: &[u8], draft: &mut Draft) -> Result<(), 
 
 /// Writes the elements of a list, joined by +.
 fn put_elements(element: Element, token: &[u8], draft: &mut Draft) -> Result<(), TokenFault>
-    ensures { Drafts (elements_text element (pieces_of 43 token.now)) (drafted draft.old) result
+    ensures { Drafts (elements_text element (pieces_of plus token.now)) (drafted draft.old) result
         (drafted draft.new) }
 {
     let mut left = token;

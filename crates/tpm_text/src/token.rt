@@ -7,7 +7,7 @@ use crate::entry::begins_entry;
 use crate::fault::{AsmFault, TokenFault};
 
 /// The first place of a byte.
-fn place_of(byte: u8, bytes: &[u8]) -> Option<usize>
+pub fn place_of(byte: u8, bytes: &[u8]) -> Option<usize>
     ensures { result ≡ position (λ other. other == byte) bytes.now }
 {
     bytes.iter().position(|other| *other == byte)

@@ -257,7 +257,8 @@ def sections():
             *("sha1:0-7", "sha1 0"),
             *("null:0", "null", "SHA1:0", "sha384:0", ":0", "0", "sha1:0:1", "sha1:0;1", "+"),
             *("sha1:0+", "+sha1:0", "sha1:0++sha1:0", "sha1:0+-", "-+sha1:0", "--"),
-            *("sha1:0,sha256:0", "4:0", "0004:0", "sha1:\\303\\251", "sha1:24\\303\\251"),
+            *("sha1:0,sha256:0", "sha1:24,sha256:0", "sha1:24,0:1", "sha1:24:1"),
+            *("4:0", "0004:0", "sha1:\\303\\251", "sha1:24\\303\\251"),
         ],
     )
     yield "Of two faults in a selection the first from the left, whichever it is.", each(

@@ -1,12 +1,12 @@
 use Rattle.std.proofs.Common.{◌≡◌, length}
 use Rattle.tpm_text.specs.Parameter.{pcrs_in}
-use Rattle.tpm_text.specs.Pieces.{pieces_of}
+use Rattle.tpm_text.specs.Pieces.{comma, pieces_of}
 use Rattle.tpm_text.proofs.Lists.{pcrs_left}
 use Rattle.tpm_text.proofs.list.pcrs_in.Given as goal
 
 -- the PCRs so far and those that are left are all
 abbrev pub invariant-loop-text : goal.invariant-loop-text
-invariant-loop-text l = pcrs_left l.select (pieces_of 44 l.left) ≡ pcrs_in l.fn.numbers
+invariant-loop-text l = pcrs_left l.select (pieces_of comma l.left) ≡ pcrs_in l.fn.numbers
 
 abbrev pub decreases-loop-text : goal.decreases-loop-text
 decreases-loop-text l = length l.left
