@@ -1,5 +1,5 @@
 -- Authorization areas that are added to a draft, and headers that are put in front of it.
-use Rattle.std.proofs.Common.{◌≡◌, ℕ, ◌+◌, ◌-◌, ◌≤◌, Result, Ok, List, [], ◌∷◌, ◌++◌, length, take, drop, Option, Some, None, IfSome, subst, refl, sym, ap, ◌∙◌, arith}
+use Rattle.std.proofs.Common.{◌≡◌, ℕ, ◌+◌, ◌-◌, ◌≤◌, Ok, List, ◌++◌, length, take, drop, Option, Some, None, IfSome, subst, refl, sym, ap, ◌∙◌, arith}
 use Rattle.std.specs.Option.{option_map}
 use Rattle.std.specs.Int.{w32, to_be_bytes}
 use Rattle.std.proofs.lemmas.List.{drop-take, length-take-le}

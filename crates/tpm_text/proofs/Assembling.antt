@@ -1,5 +1,5 @@
 -- A line, read part by part.
-use Rattle.std.proofs.Common.{◌≡◌, ℕ, ◌+◌, ◌<◌, ◌≤◌, Bool, true, false, cond, List, [], ◌∷◌, ◌++◌, length, drop, Option, Some, None, IfSome, Result, Ok, Err, refl, sym, ap, ◌∙◌, subst, arith, length-append}
+use Rattle.std.proofs.Common.{◌≡◌, ℕ, ◌+◌, ◌≤◌, Bool, true, false, cond, List, [], ◌∷◌, ◌++◌, length, drop, Option, Some, None, IfSome, Result, Ok, Err, refl, sym, ap, ◌∙◌, subst, arith, length-append}
 use Rattle.std.specs.Prelude.{nat_le, nat_lt}
 use Rattle.std.specs.Option.{IsSome}
 use Rattle.std.specs.Int.{w32, to_be_bytes}
@@ -18,7 +18,7 @@ use Rattle.tpm_types_command.specs.Header.{header_text}
 use Rattle.tpm_text.specs.declared.fault.AsmFault.{AsmFault}
 use Rattle.tpm_text.specs.declared.fault.AsmFault.TheVariants.{TooLong}
 use Rattle.tpm_text.specs.Draft.{Finishes, finished, grown, with_area}
-use Rattle.tpm_text.specs.Entry.{begins_entry, entry_in}
+use Rattle.tpm_text.specs.Entry.{entry_in}
 use Rattle.tpm_text.specs.Fault.{at_column}
 use Rattle.tpm_text.specs.Laying.{Lays, LaysSessions, Leads, first_is_entry}
 use Rattle.tpm_text.specs.Line.{assembled, ended, entry_tokens_in, handles_in, name_in, parameters_in, spelled}

@@ -1,23 +1,21 @@
 -- Tokens that are read one after another, and what is written of them.
-use Rattle.std.proofs.Common.{◌≡◌, ℕ, zero, suc, ◌+◌, ◌-◌, ◌<◌, ◌≤◌, Bool, true, false, cond, List, [], ◌∷◌, ◌++◌, length, take, Option, Some, None, Result, Ok, Err, refl, sym, ap, ◌∙◌, subst, append-nil, arith}
-use Rattle.std.specs.List.{flat_map}
+use Rattle.std.proofs.Common.{◌≡◌, ℕ, zero, suc, ◌≤◌, true, false, List, [], ◌∷◌, ◌++◌, length, take, Option, Some, None, Result, Ok, Err, refl, sym, ap, ◌∙◌, append-nil, arith}
 use Rattle.std.specs.Option.{ForSome, option_map}
 use Rattle.std.proofs.lemmas.Grind.{common_steps}
 use Rattle.tpm_bytes.specs.Reading.{◌>>=◌}
 use Rattle.tpm_types.specs.declared.handle.Handle.{Handle}
 use Rattle.tpm_types_command.specs.declared.shape.ParameterKind.{ParameterKind}
-use Rattle.tpm_types_command.specs.AuthArea.{entries_text}
 use Rattle.tpm_types_command.specs.AuthEntry.{Entry, auth_entry_text}
 use Rattle.tpm_types_command.specs.Command.{handle_text, handles_text}
 use Rattle.tpm_text.specs.declared.draft.Draft.{Draft}
 use Rattle.tpm_text.specs.declared.fault.AsmFault.{AsmFault}
 use Rattle.tpm_text.specs.declared.fault.AsmFault.TheVariants as fault
 use Rattle.tpm_text.specs.declared.fault.TokenFault.{TokenFault}
-use Rattle.tpm_text.specs.Draft.{Drafts, drafted, grown}
+use Rattle.tpm_text.specs.Draft.{drafted, grown}
 use Rattle.tpm_text.specs.Entry.{begins_entry, entry_in, handle_in, text_of_entry}
 use Rattle.tpm_text.specs.Fault.{Gives, at_column, fault_at}
 use Rattle.tpm_text.specs.Laying.{Lays, first_is_entry}
-use Rattle.tpm_text.specs.Line.{entry_tokens_in, handles_in, parameters_in, token_in}
+use Rattle.tpm_text.specs.Line.{entry_tokens_in, handles_in, parameters_in}
 use Rattle.tpm_text.specs.Parameter.{parameter_text}
 use Rattle.tpm_text.specs.Pieces.{Token}
 use Rattle.tpm_text.proofs.Growing.{fits, grown-grown, none_grows}

@@ -1,5 +1,5 @@
 -- What digits of a radix write.
-use Rattle.std.proofs.Common.{◌≡◌, ℕ, zero, suc, ◌<◌, ◌≤◌, ◌^◌, ◌-◌, ◌≢◌, ◌&&◌, nat_lt, Bool, true, false, cond, List, [], ◌∷◌, length, slice_index, Option, Result, Ok, Err, Some, None, arith, subst, refl, ap, sym, ◌∙◌}
+use Rattle.std.proofs.Common.{◌≡◌, ℕ, zero, suc, ◌<◌, ◌≤◌, ◌^◌, ◌-◌, ◌≢◌, true, false, List, [], ◌∷◌, length, slice_index, Result, Ok, Err, Some, arith, subst, refl, ap, sym, ◌∙◌}
 use Rattle.std.specs.Bool.{Decides}
 use Rattle.std.specs.Char.{digit_value}
 use Rattle.std.specs.List.{list_all}
@@ -12,7 +12,6 @@ use Rattle.std.proofs.lemmas.Str.{IsUtf8-from_ascii}
 use Rattle.std.proofs.lemmas.Str.Parse.{without_leading_plus_none}
 use Rattle.tpm_bytes.proofs.Fields.{ok_is}
 use Rattle.tpm_text.specs.Number.{at_most, is_digit, numeral}
-use Rattle.tpm_text.specs.declared.fault.TokenFault.{TokenFault}
 use Rattle.tpm_text.specs.declared.fault.TokenFault.TheVariants.{Bad, Range}
 
 each_decides : (radix : ℕ) (digits : List ℕ) → Decides (list_all (is_digit radix) digits) (AllDigits radix digits)

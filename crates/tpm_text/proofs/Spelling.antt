@@ -1,5 +1,5 @@
 -- The command that a line spells is one that is read back.
-use Rattle.std.proofs.Common.{◌≡◌, ℕ, zero, suc, ◌+◌, ◌<◌, ◌≤◌, ◌^◌, Bool, true, false, cond, List, [], ◌∷◌, ◌++◌, length, drop, Result, Ok, Err, refl, sym, ap, ◌∙◌, subst, arith, length-append}
+use Rattle.std.proofs.Common.{◌≡◌, ℕ, zero, suc, ◌<◌, ◌≤◌, ◌^◌, Bool, true, false, cond, List, [], ◌∷◌, length, drop, Result, Ok, Err, refl, ap, subst, arith, length-append}
 use Rattle.std.specs.Int.{Width, w8, w32, from_be_bytes, to_be_bytes}
 use Rattle.std.specs.List.{AllByRecursion}
 use Rattle.std.specs.Prelude.{◌==◌, not}
@@ -10,13 +10,12 @@ use Rattle.tpm_types.specs.declared.handle.Handle.{Handle}
 use Rattle.tpm_types.specs.Handle.{endorsement_handle, lockout_handle, null_handle, owner_handle, password_handle, platform_handle}
 use Rattle.tpm_types_command.specs.AuthArea.{entries_text}
 use Rattle.tpm_types_command.specs.AuthEntry.{Entry, IsEntry, auth_entry_text}
-use Rattle.tpm_types_command.specs.Command.{IsCommand, IsHandle, Whole, body_text, command_at, command_size, command_text, sessions_text}
+use Rattle.tpm_types_command.specs.Command.{IsCommand, IsHandle, Whole, command_at, command_size, command_text, sessions_text}
 use Rattle.tpm_types_command.specs.CommandCode.{handle_count, shape_of}
 use Rattle.tpm_types_command.proofs.CommandLaws.{command_again, command_size-is, length-body}
 use Rattle.tpm_types_command.proofs.EntryLaws.{length-auth_entry_text}
 use Rattle.tpm_text.specs.declared.fault.TokenFault.{TokenFault}
 use Rattle.tpm_text.specs.declared.fault.TokenFault.TheVariants.{Bad}
-use Rattle.tpm_text.specs.declared.fault.AsmFault.{AsmFault}
 use Rattle.tpm_text.specs.Entry.{begins_entry, begins_password, begins_session, entry_in, handle_in, hex_handle_in, octet_in, password_entry, session_entry, session_pieces_of}
 use Rattle.tpm_text.specs.Fault.{at_column}
 use Rattle.tpm_text.specs.Line.{ended, entry_tokens_in, handles_in, name_in, parameters_in, spelled}

@@ -1,5 +1,5 @@
 -- How long what words stand for is on the wire.
-use Rattle.std.proofs.Common.{ℕ, ◌≤◌, length, arith}
+use Rattle.std.proofs.Common.{◌≤◌, length, arith}
 use Rattle.tpm_types.specs.declared.symmetric.SymmetricDefinition.{SymmetricDefinition}
 use Rattle.tpm_types.specs.declared.symmetric.SymmetricDefinition.TheVariants.{Null, Aes128Cfb}
 use Rattle.tpm_types.specs.declared.pcr_selection.BankSelection.{BankSelection}

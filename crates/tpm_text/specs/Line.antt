@@ -1,6 +1,6 @@
 -- Lines: a command in words, one space between two tokens. First its name, then its handles, its
 -- authorization entries, and its parameters, in the order of TPM 2.0 Library, Part 3.
-use Rattle.std.specs.Prelude.{◌≡◌, ℕ, zero, suc, nat_lt, cond, if◌then◌else◌, Bool, true, false, List, [], ◌∷◌, ◌++◌}
+use Rattle.std.specs.Prelude.{◌≡◌, ℕ, zero, suc, nat_lt, cond, List, [], ◌∷◌, ◌++◌}
 use Rattle.std.specs.Prelude.{Result, Ok, Err, ok_or}
 use Rattle.tpm_bytes.specs.Reading.{◌>>=◌, refused_if}
 use Rattle.tpm_types.specs.declared.handle.Handle.{Handle}

@@ -1,5 +1,5 @@
 -- What a reader of a line has left.
-use Rattle.std.specs.Prelude.{ℕ, ◌+◌, ◌-◌, List, [], length}
+use Rattle.std.specs.Prelude.{◌+◌, ◌-◌, List, [], length}
 use Rattle.std.specs.Option.{option_map_or}
 use Rattle.tpm_text.specs.declared.token.Tokens.{Tokens}
 use Rattle.tpm_text.specs.Pieces.{Token, pieces_of, placed, space}

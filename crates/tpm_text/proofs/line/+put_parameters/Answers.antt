@@ -1,4 +1,4 @@
-use Rattle.std.proofs.Common.{rules, arith, refl, sym, ap, ◌∙◌, ◌++◌}
+use Rattle.std.proofs.Common.{rules, refl, sym, ◌∙◌, ◌++◌}
 use Rattle.std.proofs.lemmas.Result.{err_from_is_err_and}
 use Rattle.tpm_text.specs.Draft.{drafted}
 use Rattle.tpm_text.specs.Pieces.{token_of}

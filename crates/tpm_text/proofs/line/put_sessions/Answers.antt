@@ -1,5 +1,5 @@
-use Rattle.std.proofs.Common.{rules, refl, sym, ap, ◌∙◌}
-use Rattle.tpm_text.specs.Draft.{drafted, with_area}
+use Rattle.std.proofs.Common.{rules, refl, sym}
+use Rattle.tpm_text.specs.Draft.{drafted}
 use Rattle.tpm_text.specs.Tokens.{tokens_left}
 use Rattle.tpm_text.proofs.Assembling.{sessions_laid}
 use Rattle.tpm_text.proofs.Laid.{entries_end, nothing_grows}

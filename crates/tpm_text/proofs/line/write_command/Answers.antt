@@ -1,7 +1,6 @@
-use Rattle.std.proofs.Common.{rules, arith, refl, sym, ap, ◌∙◌, length, subst, Ok, Err}
+use Rattle.std.proofs.Common.{arith, refl, sym, ap, ◌∙◌, length, subst}
 use Rattle.std.specs.Prelude.{IfSome, ◌≤◌}
 use Rattle.std.proofs.lemmas.Result.{err_from_is_err_and}
-use Rattle.tpm_types_command.specs.AuthArea.{entries_text}
 use Rattle.tpm_types_command.specs.Command.{handles_text, sessions_text}
 use Rattle.tpm_text.specs.Draft.{drafted, grown}
 use Rattle.tpm_text.specs.Line.{ended, handles_in, name_in, parameters_in}

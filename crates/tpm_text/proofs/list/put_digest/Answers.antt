@@ -1,4 +1,4 @@
-use Rattle.std.proofs.Common.{rules, arith, length, ◌*◌}
+use Rattle.std.proofs.Common.{rules, length, ◌*◌}
 use Rattle.std.proofs.lemmas.Bool.{eq-eqb}
 use Rattle.tpm_mac.specs.Digest.{digest_size}
 use Rattle.tpm_types.specs.Algorithm.{hash_number}

@@ -1,4 +1,4 @@
-use Rattle.std.proofs.Common.{rules, arith, ap, ◌∙◌, [], ◌++◌, length}
+use Rattle.std.proofs.Common.{arith, ap, ◌∙◌, ◌++◌, length}
 use Rattle.tpm_bytes.proofs.Putting.{put_fits}
 use Rattle.tpm_types.specs.Symmetric.{symmetric_text}
 use Rattle.tpm_text.specs.Draft.{drafted, grown}

@@ -1,4 +1,4 @@
-use Rattle.std.proofs.Common.{rules, arith, ap, ◌∙◌, ◌/◌, length}
+use Rattle.std.proofs.Common.{rules, arith, ◌/◌, length}
 use Rattle.tpm_text.specs.Parameter.{buffer_text}
 use Rattle.tpm_text.proofs.Growing.{sized_behind, sized_too_long}
 use Rattle.tpm_text.proofs.HexDigits.{half_of}

@@ -1,4 +1,4 @@
-use Rattle.std.proofs.Common.{rules, arith}
+use Rattle.std.proofs.Common.{rules}
 use Rattle.std.specs.Prelude.{take}
 use Rattle.tpm_text.proofs.HexDigits.{hex_too_long}
 use Rattle.tpm_text.proofs.draft.Draft.put_hex.Goals as goal

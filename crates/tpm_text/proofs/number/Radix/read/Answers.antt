@@ -1,6 +1,5 @@
-use Rattle.std.proofs.Common.{rules, arith, ◌≡◌, ◌^◌, ◌-◌, length, true, sym, ap, ◌∙◌, subst}
-use Rattle.std.specs.List.{list_all}
-use Rattle.tpm_text.specs.Number.{is_digit, radix_number}
+use Rattle.std.proofs.Common.{rules}
+use Rattle.tpm_text.specs.Number.{radix_number}
 use Rattle.tpm_text.proofs.Numerals.{digits_are_utf8, no_digits, number_read, number_too_large, other_bytes}
 use Rattle.tpm_text.proofs.number.Radix.read.Goals as goal
 use Rattle.tpm_text.proofs.number.Radix.read.Goals.{then-is_empty-via-then-is_empty, then-is_empty-via-else-is_empty+then-not-has_digits}
