@@ -1,5 +1,6 @@
 //! Each call of a map whose keys ascend once, on both maps.
 
+use super::comparison::check;
 use std::process::Abort;
 use tpm_ascending::{Ascending, FixedAscending, KeyFault, ListAscending};
 
@@ -15,31 +16,31 @@ fn set<M: Ascending<u32, 3>>(map: &mut M, key: u32, value: u32) -> bool {
 }
 
 /// What a map of at most three values answers.
-fn exercise<M: Ascending<u32, 3>>(rt: &impl Abort, mut map: M) {
-    assert_eq!(rt; map.len(), 0);
-    assert_eq!(rt; map.next(0), None);
-    assert_eq!(rt; map.insert(5, 50), Ok(()));
-    assert_eq!(rt; map.insert(9, 90), Ok(()));
-    assert_eq!(rt; map.insert(5, 51), Err(KeyFault::Taken));
-    assert_eq!(rt; map.insert(7, 70), Ok(()));
-    assert_eq!(rt; map.insert(4, 40), Err(KeyFault::Full));
-    assert_eq!(rt; map.insert(9, 40), Err(KeyFault::Taken));
-    assert_eq!(rt; map.next(0), Some(5));
-    assert_eq!(rt; map.next(5), Some(5));
-    assert_eq!(rt; map.next(6), Some(7));
-    assert_eq!(rt; map.next(8), Some(9));
-    assert_eq!(rt; map.next(10), None);
-    assert_eq!(rt; map.get(7), Some(&70));
-    assert_eq!(rt; map.get(8), None);
-    assert_eq!(rt; set(&mut map, 7, 71), true);
-    assert_eq!(rt; set(&mut map, 8, 71), false);
-    assert_eq!(rt; map.get(7), Some(&71));
-    assert_eq!(rt; map.remove(5), true);
-    assert_eq!(rt; map.remove(5), false);
-    assert_eq!(rt; map.len(), 2);
-    assert_eq!(rt; map.next(0), Some(7));
+fn exercise<R: Abort, M: Ascending<u32, 3>>(rt: &R, mut map: M) {
+    check(rt, map.len(), 0);
+    check(rt, map.next(0), None);
+    check(rt, map.insert(5, 50), Ok(()));
+    check(rt, map.insert(9, 90), Ok(()));
+    check(rt, map.insert(5, 51), Err(KeyFault::Taken));
+    check(rt, map.insert(7, 70), Ok(()));
+    check(rt, map.insert(4, 40), Err(KeyFault::Full));
+    check(rt, map.insert(9, 40), Err(KeyFault::Taken));
+    check(rt, map.next(0), Some(5));
+    check(rt, map.next(5), Some(5));
+    check(rt, map.next(6), Some(7));
+    check(rt, map.next(8), Some(9));
+    check(rt, map.next(10), None);
+    check(rt, map.get(7), Some(&70));
+    check(rt, map.get(8), None);
+    check(rt, set(&mut map, 7, 71), true);
+    check(rt, set(&mut map, 8, 71), false);
+    check(rt, map.get(7), Some(&71));
+    check(rt, map.remove(5), true);
+    check(rt, map.remove(5), false);
+    check(rt, map.len(), 2);
+    check(rt, map.next(0), Some(7));
     map.clear();
-    assert_eq!(rt; map.len(), 0);
+    check(rt, map.len(), 0);
 }
 
 #[test]

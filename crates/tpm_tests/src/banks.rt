@@ -1,5 +1,6 @@
 //! The digest of a selection of PCRs, by numbers of Python's `hashlib`; and values that are saved.
 
+use super::comparison::check;
 use arrayvec::ArrayVec;
 use tpm_mac::HashAlg;
 use tpm_pcr::{Banks, SavedPcrs};
@@ -33,7 +34,7 @@ fn a_digest_is_over_all_selected_values(rt: HostRuntime) {
     let selection = PcrSelection { banks };
     for (hash, digest) in DIGESTS {
         let found = Banks::new().select_digest(hash, &selection);
-        assert_eq!(rt; found.as_slice(), digest);
+        check(&rt, found.as_slice(), digest);
     }
 }
 
@@ -48,6 +49,6 @@ fn saved_values_are_restored_up_to_pcr_15(rt: HostRuntime) {
     banks.restore(&saved);
     for (number, restored) in [(15, true), (16, false)] {
         let value = banks.value(HashAlg::Sha1, PcrIndex::new(number).unwrap());
-        assert_eq!(rt; value.as_slice() == [0; 20].as_slice(), restored);
+        check(&rt, value.as_slice() == [0; 20].as_slice(), restored);
     }
 }

@@ -1,5 +1,6 @@
 //! Each reader and writer of bytes once, and what a tap tells of its device.
 
+use super::comparison::check;
 use std::io;
 use std::io::{ErrorKind, Read, Write};
 use tpm_bytes::{Cursor, Full, Short, Sink, SizedFault, Tap};
@@ -16,24 +17,24 @@ fn unknown(bytes: &[u8]) -> &[u8] {
 #[test]
 fn numbers_are_big_endian(rt: HostRuntime) {
     let mut cursor = Cursor::new(unknown(TEXT));
-    assert_eq!(rt; cursor.u8(), Ok(0x10));
-    assert_eq!(rt; cursor.u16(), Ok(0x2132));
-    assert_eq!(rt; cursor.u32(), Ok(0x4354_6576));
-    assert_eq!(rt; cursor.u64(), Ok(0x8798_a9ba_cbdc_edfe));
-    assert_eq!(rt; cursor.u16(), Err(Short));
-    assert_eq!(rt; cursor.len(), 1);
-    assert_eq!(rt; cursor.take(1), Ok([0x0f].as_slice()));
-    assert!(rt; cursor.is_empty());
+    check(&rt, cursor.u8(), Ok(0x10));
+    check(&rt, cursor.u16(), Ok(0x2132));
+    check(&rt, cursor.u32(), Ok(0x4354_6576));
+    check(&rt, cursor.u64(), Ok(0x8798_a9ba_cbdc_edfe));
+    check(&rt, cursor.u16(), Err(Short));
+    check(&rt, cursor.len(), 1);
+    check(&rt, cursor.take(1), Ok([0x0f].as_slice()));
+    check(&rt, cursor.is_empty(), true);
 }
 
 #[test]
 fn a_sized_buffer_has_a_limit(rt: HostRuntime) {
     let text = b"\x00\x03abc";
     let mut cursor = Cursor::new(unknown(text));
-    assert_eq!(rt; cursor.sized(2), Err(SizedFault::TooLong));
-    assert_eq!(rt; cursor.rest(), text.as_slice());
-    assert_eq!(rt; cursor.sized(3), Ok(b"abc".as_slice()));
-    assert_eq!(rt; cursor.sized(3), Err(SizedFault::Short));
+    check(&rt, cursor.sized(2), Err(SizedFault::TooLong));
+    check(&rt, cursor.rest(), text.as_slice());
+    check(&rt, cursor.sized(3), Ok(b"abc".as_slice()));
+    check(&rt, cursor.sized(3), Err(SizedFault::Short));
 }
 
 /// Puts fifteen bytes by numbers of each width, and three sized and two bare ones.
@@ -49,13 +50,14 @@ fn fill(sink: &mut Sink<20>) -> Result<(), Full> {
 #[test]
 fn a_sink_takes_what_fits(rt: HostRuntime) {
     let mut sink = Sink::new();
-    assert_eq!(rt; fill(&mut sink), Ok(()));
-    assert_eq!(rt; sink.put(b"d"), Err(Full));
-    assert_eq!(rt; sink.len(), 20);
-    assert_eq!(rt; sink.as_slice().get(..15), TEXT.get(..15));
-    assert_eq!(rt;
+    check(&rt, fill(&mut sink), Ok(()));
+    check(&rt, sink.put(b"d"), Err(Full));
+    check(&rt, sink.len(), 20);
+    check(&rt, sink.as_slice().get(..15), TEXT.get(..15));
+    check(
+        &rt,
         sink.into_bytes().as_slice().get(15..),
-        Some(b"\0\x01abc".as_slice())
+        Some(b"\0\x01abc".as_slice()),
     );
 }
 
@@ -124,6 +126,11 @@ fn outcome_of(given: io::Result<usize>) -> Result<usize, ErrorKind> {
     }
 }
 
+/// Whether a tap's device failed or ended, and how many reads it had.
+fn marks_of(tap: &Tap<Device>) -> (bool, bool, u64) {
+    (tap.failed(), tap.ended(), tap.reads())
+}
+
 #[test]
 fn a_tap_tells_what_a_reader_did(rt: HostRuntime) {
     let conducts = &[
@@ -137,7 +144,7 @@ fn a_tap_tells_what_a_reader_did(rt: HostRuntime) {
     ];
     let mut tap = Tap::new(Device { conducts });
     let mut buffer = [0u8; 2];
-    assert!(rt; !tap.failed() && !tap.ended() && tap.reads() == 0);
+    check(&rt, marks_of(&tap), (false, false, 0));
     for (room, outcome, failed, ended, reads) in [
         (2, Ok(1), false, false, 1),
         (0, Ok(0), false, false, 1),
@@ -149,13 +156,11 @@ fn a_tap_tells_what_a_reader_did(rt: HostRuntime) {
     ] {
         let room: usize = room;
         let got = outcome_of(tap.read(&mut buffer[..room.min(2)]));
-        assert_eq!(rt; got, outcome);
-        assert_eq!(rt; tap.failed(), failed);
-        assert_eq!(rt; tap.ended(), ended);
-        assert_eq!(rt; tap.reads(), reads);
+        check(&rt, got, outcome);
+        check(&rt, marks_of(&tap), (failed, ended, reads));
     }
-    assert_eq!(rt; buffer, [7, 0]);
-    assert!(rt; tap.into_inner().conducts.is_empty());
+    check(&rt, buffer, [7, 0]);
+    check(&rt, tap.into_inner().conducts.is_empty(), true);
 }
 
 #[test]
@@ -175,8 +180,7 @@ fn a_tap_tells_what_a_writer_did(rt: HostRuntime) {
     for (conducts, piece, outcome, failed) in cases {
         let mut tap = Tap::new(Device { conducts });
         let got = outcome_of(tap.write(piece));
-        assert_eq!(rt; got, outcome, "at {piece:?}");
-        assert_eq!(rt; tap.failed(), failed, "at {piece:?}");
-        assert!(rt; !tap.ended() && tap.reads() == 0);
+        check(&rt, (piece, got), (piece, outcome));
+        check(&rt, marks_of(&tap), (failed, false, 0));
     }
 }

@@ -1,5 +1,6 @@
 //! The examples of FIPS 197 (appendices B and C) and of SP 800-38A (F.3.13 and F.3.14).
 
+use super::comparison::check;
 use tpm_aes::Aes128;
 
 struct BlockCase {
@@ -66,7 +67,7 @@ const CIPHER: [u8; 64] = [
 #[test]
 fn blocks_of_published_keys(rt: HostRuntime) {
     for case in &BLOCKS {
-        assert_eq!(rt; Aes128::new(&case.key).block(&case.plain), case.cipher);
+        check(&rt, Aes128::new(&case.key).block(&case.plain), case.cipher);
     }
 }
 
@@ -79,8 +80,8 @@ fn feedback_of_every_length_there_and_back(rt: HostRuntime) {
         let mut text = PLAIN;
         let (front, _) = text.split_at_mut(length);
         cipher.cfb_encrypt(&IV, front);
-        assert!(rt; CIPHER.starts_with(front));
+        check(&rt, CIPHER.starts_with(front), true);
         cipher.cfb_decrypt(&IV, front);
-        assert_eq!(rt; text, PLAIN);
+        check(&rt, text, PLAIN);
     }
 }

@@ -1,6 +1,7 @@
 //! Published digests (FIPS 180-4 examples) and HMACs (RFC 2202, RFC 4231), and keys by KDFa that
 //! were computed by Python's `hmac`.
 
+use super::comparison::check;
 use tpm_mac::{Digest, HashAlg, Hasher, digest_parts, hmac_parts, kdfa};
 
 const TWO_BLOCKS: &[u8] = b"abcdbcdecdefdefgefghfghighijhijkijkljklmklmnlmnomnopnopq";
@@ -153,7 +154,7 @@ fn digests_of_published_messages_at_every_cut(rt: HostRuntime) {
         for cut in 0..case.message.len() + 1 {
             let (front, back) = case.message.split_at(cut);
             let digest = digest_parts(case.alg, &[front, back]);
-            assert_eq!(rt; digest.as_slice(), case.digest);
+            check(&rt, digest.as_slice(), case.digest);
         }
     }
 }
@@ -165,7 +166,7 @@ fn digests_of_published_messages_piece_by_piece(rt: HostRuntime) {
         for piece in case.message.chunks(7) {
             hasher.update(piece);
         }
-        assert_eq!(rt; hasher.finish().as_slice(), case.digest);
+        check(&rt, hasher.finish().as_slice(), case.digest);
     }
 }
 
@@ -175,7 +176,7 @@ fn macs_of_published_texts_at_every_cut(rt: HostRuntime) {
         for cut in 0..case.text.len() + 1 {
             let (front, back) = case.text.split_at(cut);
             let mac = hmac_parts(case.alg, case.key, &[front, back]);
-            assert_eq!(rt; mac.as_slice(), case.mac);
+            check(&rt, mac.as_slice(), case.mac);
         }
     }
 }
@@ -214,9 +215,12 @@ fn keys_are_derived(rt: HostRuntime) {
     for case in &KEYS {
         let mut key = [0x55; 45];
         kdfa(case.alg, KEY, LABEL, CONTEXT_U, CONTEXT_V, &mut key);
-        assert_eq!(rt; key.as_slice(), case.derived);
+        check(&rt, key.as_slice(), case.derived);
     }
 }
+
+/// A buffer before a key is derived into its front.
+const UNTOUCHED: [u8; 80] = [0x55; 80];
 
 // The block of the counter by HMAC alone, of which KDFa wants so many bits in all.
 fn block_by_hmac(alg: HashAlg, counter: u32, bits: u32) -> Digest {
@@ -233,14 +237,14 @@ fn block_by_hmac(alg: HashAlg, counter: u32, bits: u32) -> Digest {
 fn derived_keys_are_the_front_of_the_blocks(rt: HostRuntime) {
     for alg in [HashAlg::Sha1, HashAlg::Sha256] {
         for size in [0, 1, 20, 32, 33, 64u32] {
-            let mut buffer = [0x55u8; 80];
+            let mut buffer = UNTOUCHED;
             let (out, behind) = buffer.split_at_mut(size as usize);
             kdfa(alg, KEY, LABEL, CONTEXT_U, CONTEXT_V, out);
             for (counter, written) in (1..5u32).zip(out.chunks(alg.size())) {
                 let block = block_by_hmac(alg, counter, size * 8);
-                assert!(rt; block.as_slice().starts_with(written));
+                check(&rt, block.as_slice().starts_with(written), true);
             }
-            assert!(rt; behind.iter().all(|byte| *byte == 0x55));
+            check(&rt, UNTOUCHED.starts_with(behind), true);
         }
     }
 }

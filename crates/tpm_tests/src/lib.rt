@@ -13,6 +13,8 @@ mod bytes;
 #[cfg(test)]
 mod ciphers;
 #[cfg(test)]
+mod comparison;
+#[cfg(test)]
 mod digests;
 #[cfg(test)]
 mod lockout;

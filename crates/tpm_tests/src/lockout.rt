@@ -1,6 +1,6 @@
 //! Failed tries and lockoutAuth to the millisecond, and at the ends of their numbers.
 
-use std::test::Fail;
+use super::comparison::check;
 use tpm_lockout::{Lockout, LockoutFields};
 
 /// So many failed tries of at most three, each forgiven after so many seconds, and a closed
@@ -20,77 +20,74 @@ fn tries(lockout: &Lockout) -> u32 {
 }
 
 #[test]
-fn three_tries_lock_for_a_thousand_seconds(rt: HostRuntime) -> Result<(), Fail> {
+fn three_tries_lock_for_a_thousand_seconds(rt: HostRuntime) {
     let mut lockout = Lockout::new();
     lockout.failed();
     lockout.failed();
-    assert!(rt; !lockout.is_locked());
+    check(&rt, lockout.is_locked(), false);
     lockout.failed();
-    assert!(rt; lockout.is_locked());
+    check(&rt, lockout.is_locked(), true);
     lockout.failed();
-    assert_eq!(rt; tries(&lockout), 3);
+    check(&rt, tries(&lockout), 3);
     lockout.tick(999_999);
-    assert!(rt; lockout.is_locked());
+    check(&rt, lockout.is_locked(), true);
     lockout.tick(1);
-    assert_eq!(rt; (tries(&lockout), lockout.is_locked()), (2, false));
-    Ok(())
+    check(&rt, (tries(&lockout), lockout.is_locked()), (2, false));
 }
 
 #[test]
-fn lockout_auth_closes_for_a_thousand_seconds(rt: HostRuntime) -> Result<(), Fail> {
+fn lockout_auth_closes_for_a_thousand_seconds(rt: HostRuntime) {
     let mut lockout = Lockout::new();
     lockout.lockout_failed();
     lockout.tick(999_999);
     lockout.lockout_failed();
-    assert!(rt; lockout.lockout_closed());
+    check(&rt, lockout.lockout_closed(), true);
     lockout.tick(1);
-    assert!(rt; !lockout.lockout_closed());
-    Ok(())
+    check(&rt, lockout.lockout_closed(), false);
 }
 
 #[test]
-fn times_begin_anew(rt: HostRuntime) -> Result<(), Fail> {
+fn times_begin_anew(rt: HostRuntime) {
     let mut lockout = locked(2, 1);
     lockout.tick(999);
     lockout.power_cycle();
     lockout.tick(999);
-    assert_eq!(rt; (tries(&lockout), lockout.lockout_closed()), (2, true));
+    check(&rt, (tries(&lockout), lockout.lockout_closed()), (2, true));
     lockout.set_parameters(3, 1, 1);
     lockout.tick(999);
-    assert_eq!(rt; (tries(&lockout), lockout.lockout_closed()), (2, true));
+    check(&rt, (tries(&lockout), lockout.lockout_closed()), (2, true));
     lockout.reset();
     lockout.lockout_open();
-    assert_eq!(rt; (tries(&lockout), lockout.lockout_closed()), (0, false));
-    Ok(())
+    check(&rt, (tries(&lockout), lockout.lockout_closed()), (0, false));
 }
 
 #[test]
-fn the_longest_elapsed_time_forgives_many(rt: HostRuntime) -> Result<(), Fail> {
+fn the_longest_elapsed_time_forgives_many(rt: HostRuntime) {
     let mut lockout = locked(5_000_000, 1);
     // 4,294,967 seconds, and 295 milliseconds that carry on
     lockout.tick(u32::MAX);
-    assert_eq!(rt; tries(&lockout), 705_033);
+    check(&rt, tries(&lockout), 705_033);
     lockout.tick(704);
-    assert_eq!(rt; tries(&lockout), 705_033);
+    check(&rt, tries(&lockout), 705_033);
     lockout.tick(1);
-    assert_eq!(rt; tries(&lockout), 705_032);
-    Ok(())
+    check(&rt, tries(&lockout), 705_032);
 }
 
 #[test]
-fn the_longest_times_end(rt: HostRuntime) -> Result<(), Fail> {
+fn the_longest_times_end(rt: HostRuntime) {
     let mut lockout = locked(u32::MAX, u32::MAX);
     for _ in 0..999 {
         lockout.tick(u32::MAX);
     }
-    assert_eq!(rt;
+    check(
+        &rt,
         (tries(&lockout), lockout.lockout_closed()),
-        (u32::MAX, true)
+        (u32::MAX, true),
     );
     lockout.tick(u32::MAX);
-    assert_eq!(rt;
+    check(
+        &rt,
         (tries(&lockout), lockout.lockout_closed()),
-        (u32::MAX - 1, false)
+        (u32::MAX - 1, false),
     );
-    Ok(())
 }

@@ -1,6 +1,7 @@
 //! NV indices: each call once, over lists and over fixed places, with a digest that was computed
 //! outside, by Python's `hashlib`.
 
+use super::comparison::check;
 use std::process::Abort;
 use tpm_bytes::Cursor;
 use tpm_nv::{
@@ -67,55 +68,100 @@ fn has_auth<N: Indices>(indices: &N, handle: Handle, bytes: &[u8]) -> bool {
 }
 
 fn ordinary<N: Indices>(rt: &impl Abort, mut indices: N) {
-    assert_eq!(rt; indices.next(Handle::default()), None);
-    assert_eq!(rt; defined(&mut indices, ORDINARY), Outcome::Answered(Ok(())));
-    assert_eq!(rt;
+    check(rt, indices.next(Handle::default()), None);
+    check(
+        rt,
         defined(&mut indices, ORDINARY),
-        Outcome::Answered(Err(DefineFault::Defined))
+        Outcome::Answered(Ok(())),
     );
-    assert_eq!(rt; indices.check_readable(FIRST), Err(NvFault::Uninitialized));
-    assert_eq!(rt; indices.write(FIRST, 2, b"\x5a"), Ok(()));
-    assert!(rt; is_read(&indices, FIRST, 8, b"\xff\xff\x5a\xff\xff\xff\xff\xff"));
-    assert_eq!(rt; indices.write(FIRST, 1, b"abcdefgh"), Err(NvFault::Range));
-    assert_eq!(rt; indices.lock_write(FIRST), Err(NvFault::Attributes));
-    assert_eq!(rt; indices.increment(FIRST), Err(NvFault::Attributes));
-    assert_eq!(rt; indices.write(SECOND, 0, b"a"), Err(NvFault::Undefined));
-    assert!(rt; has_auth(&indices, FIRST, b"a"));
-    assert_eq!(rt; indices.change_auth(FIRST, AuthValue::of(b"bc")), Ok(()));
-    assert!(rt; has_auth(&indices, FIRST, b"bc"));
-    assert_eq!(rt; indices.next(Handle::default()), Some(FIRST.number));
-    assert!(rt; indices.undefine(FIRST));
-    assert_eq!(rt; indices.undefine(FIRST), false);
+    check(
+        rt,
+        defined(&mut indices, ORDINARY),
+        Outcome::Answered(Err(DefineFault::Defined)),
+    );
+    check(
+        rt,
+        indices.check_readable(FIRST),
+        Err(NvFault::Uninitialized),
+    );
+    check(rt, indices.write(FIRST, 2, b"\x5a"), Ok(()));
+    check(
+        rt,
+        is_read(&indices, FIRST, 8, b"\xff\xff\x5a\xff\xff\xff\xff\xff"),
+        true,
+    );
+    check(
+        rt,
+        indices.write(FIRST, 1, b"abcdefgh"),
+        Err(NvFault::Range),
+    );
+    check(rt, indices.lock_write(FIRST), Err(NvFault::Attributes));
+    check(rt, indices.increment(FIRST), Err(NvFault::Attributes));
+    check(rt, indices.write(SECOND, 0, b"a"), Err(NvFault::Undefined));
+    check(rt, has_auth(&indices, FIRST, b"a"), true);
+    check(rt, indices.change_auth(FIRST, AuthValue::of(b"bc")), Ok(()));
+    check(rt, has_auth(&indices, FIRST, b"bc"), true);
+    check(rt, indices.next(Handle::default()), Some(FIRST.number));
+    check(rt, indices.undefine(FIRST), true);
+    check(rt, indices.undefine(FIRST), false);
 }
 
 fn counters<N: Indices>(rt: &impl Abort, mut indices: N) {
-    assert_eq!(rt; defined(&mut indices, COUNTER), Outcome::Answered(Ok(())));
+    check(
+        rt,
+        defined(&mut indices, COUNTER),
+        Outcome::Answered(Ok(())),
+    );
     indices.set_max_count(7);
-    assert_eq!(rt; indices.increment(SECOND), Ok(()));
-    assert_eq!(rt; defined(&mut indices, BITS), Outcome::Answered(Ok(())));
-    assert_eq!(rt; indices.increment(SECOND), Ok(()));
-    assert!(rt; is_read(&indices, SECOND, 8, b"\0\0\0\0\0\0\0\x09"));
-    assert_eq!(rt; indices.max_count(), 9);
-    assert_eq!(rt; indices.set_bits(FIRST, 0x0102), Ok(()));
-    assert_eq!(rt; indices.set_bits(FIRST, 0x0201), Ok(()));
-    assert!(rt; is_read(&indices, FIRST, 8, b"\0\0\0\0\0\0\x03\x03"));
-    assert_eq!(rt; indices.lock_write(FIRST), Ok(()));
-    assert_eq!(rt; indices.set_bits(FIRST, 1), Err(NvFault::Locked));
-    assert_eq!(rt; indices.lock_read(SECOND), Ok(()));
-    assert_eq!(rt; indices.check_readable(SECOND), Err(NvFault::Locked));
+    check(rt, indices.increment(SECOND), Ok(()));
+    check(rt, defined(&mut indices, BITS), Outcome::Answered(Ok(())));
+    check(rt, indices.increment(SECOND), Ok(()));
+    check(
+        rt,
+        is_read(&indices, SECOND, 8, b"\0\0\0\0\0\0\0\x09"),
+        true,
+    );
+    check(rt, indices.max_count(), 9);
+    check(rt, indices.set_bits(FIRST, 0x0102), Ok(()));
+    check(rt, indices.set_bits(FIRST, 0x0201), Ok(()));
+    check(
+        rt,
+        is_read(&indices, FIRST, 8, b"\0\0\0\0\0\0\x03\x03"),
+        true,
+    );
+    check(rt, indices.lock_write(FIRST), Ok(()));
+    check(rt, indices.set_bits(FIRST, 1), Err(NvFault::Locked));
+    check(rt, indices.lock_read(SECOND), Ok(()));
+    check(rt, indices.check_readable(SECOND), Err(NvFault::Locked));
     indices.startup();
-    assert_eq!(rt; indices.check_readable(FIRST), Err(NvFault::Uninitialized));
-    assert_eq!(rt; indices.set_bits(FIRST, 1), Ok(()));
-    assert!(rt; is_read(&indices, SECOND, 8, b"\0\0\0\0\0\0\0\x09"));
-    assert!(rt; indices.undefine(FIRST));
-    assert!(rt; is_read(&indices, SECOND, 8, b"\0\0\0\0\0\0\0\x09"));
+    check(
+        rt,
+        indices.check_readable(FIRST),
+        Err(NvFault::Uninitialized),
+    );
+    check(rt, indices.set_bits(FIRST, 1), Ok(()));
+    check(
+        rt,
+        is_read(&indices, SECOND, 8, b"\0\0\0\0\0\0\0\x09"),
+        true,
+    );
+    check(rt, indices.undefine(FIRST), true);
+    check(
+        rt,
+        is_read(&indices, SECOND, 8, b"\0\0\0\0\0\0\0\x09"),
+        true,
+    );
     indices.read_sizes();
 }
 
 fn extended<N: Indices>(rt: &impl Abort, mut indices: N) {
-    assert_eq!(rt; defined(&mut indices, EXTENDED), Outcome::Answered(Ok(())));
-    assert_eq!(rt; indices.extend(FIRST, b"abc"), Ok(()));
-    assert!(rt; is_read(&indices, FIRST, 20, DIGEST));
+    check(
+        rt,
+        defined(&mut indices, EXTENDED),
+        Outcome::Answered(Ok(())),
+    );
+    check(rt, indices.extend(FIRST, b"abc"), Ok(()));
+    check(rt, is_read(&indices, FIRST, 20, DIGEST), true);
 }
 
 #[test]

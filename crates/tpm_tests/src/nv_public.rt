@@ -1,6 +1,7 @@
 //! The public areas of NV indices: each public call once, with Names that were computed outside, by
 //! Python's `hashlib`.
 
+use super::comparison::check;
 use arrayvec::ArrayVec;
 use tpm_bytes::{Cursor, Sink};
 use tpm_types::ResponseCode;
@@ -65,48 +66,57 @@ fn fault_of(text: &[u8]) -> Option<ResponseCode> {
 
 #[test]
 fn public_areas_are_written_as_they_were_read(rt: HostRuntime) {
-    assert!(rt; is_rewritten(ORDINARY));
-    assert!(rt; is_rewritten(WITH_POLICY));
+    check(&rt, is_rewritten(ORDINARY), true);
+    check(&rt, is_rewritten(WITH_POLICY), true);
 }
 
 #[test]
 fn names_are_those_computed_outside(rt: HostRuntime) {
-    assert!(rt; has_name(ORDINARY, ORDINARY_NAME));
-    assert!(rt; has_name(WITH_POLICY, WITH_POLICY_NAME));
+    check(&rt, has_name(ORDINARY, ORDINARY_NAME), true);
+    check(&rt, has_name(WITH_POLICY, WITH_POLICY_NAME), true);
 }
 
 #[test]
 fn public_areas_are_refused(rt: HostRuntime) {
-    assert_eq!(rt;
+    check(
+        &rt,
         fault_of(b"\x02\0\0\x01\0\x0b\0\x04\0\x04\0\0\0\x08"),
-        Some(ResponseCode::Value)
+        Some(ResponseCode::Value),
     );
-    assert_eq!(rt;
+    check(
+        &rt,
         fault_of(b"\x01\0\0\x01\0\x0c\0\x04\0\x04\0\0\0\x08"),
-        Some(ResponseCode::Hash)
+        Some(ResponseCode::Hash),
     );
-    assert_eq!(rt;
+    check(
+        &rt,
         fault_of(b"\x01\0\0\x01\0\x0b\0\x14\0\x04\0\0\0\x08"),
-        Some(ResponseCode::ReservedBits)
+        Some(ResponseCode::ReservedBits),
     );
-    assert_eq!(rt;
+    check(
+        &rt,
         fault_of(b"\x01\0\0\x01\0\x0b\0\x04\0\x04\0\0\0"),
-        Some(ResponseCode::Insufficient)
+        Some(ResponseCode::Insufficient),
     );
 }
 
 #[test]
 fn attributes_have_bits_and_a_type(rt: HostRuntime) {
     let counter = NvAttributes { bits: 0x0004_0014 };
-    assert_eq!(rt; counter.index_type(), Some(NvType::Counter));
-    assert_eq!(rt; NvAttributes { bits: 0x30 }.index_type(), None);
-    assert_eq!(rt;
+    check(&rt, counter.index_type(), Some(NvType::Counter));
+    check(&rt, NvAttributes { bits: 0x30 }.index_type(), None);
+    check(
+        &rt,
         NvType::named(NvType::Extend.number()),
-        Some(NvType::Extend)
+        Some(NvType::Extend),
     );
-    assert!(rt; counter.is_of(NvType::Counter));
-    assert!(rt; counter.has(NvAttribute::AuthRead));
-    assert_eq!(rt; counter.with(NvAttribute::Written).bits, 0x2004_0014);
-    assert_eq!(rt; counter.without(NvAttribute::AuthWrite).bits, 0x0004_0010);
-    assert_eq!(rt; NvAttribute::ReadStClear.bit(), 31);
+    check(&rt, counter.is_of(NvType::Counter), true);
+    check(&rt, counter.has(NvAttribute::AuthRead), true);
+    check(&rt, counter.with(NvAttribute::Written).bits, 0x2004_0014);
+    check(
+        &rt,
+        counter.without(NvAttribute::AuthWrite).bits,
+        0x0004_0010,
+    );
+    check(&rt, NvAttribute::ReadStClear.bit(), 31);
 }

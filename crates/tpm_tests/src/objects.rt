@@ -1,6 +1,7 @@
 //! The areas of objects, and what is made of them: each public call once, with a Name that was
 //! computed outside, by Python's `hashlib` and `hmac`.
 
+use super::comparison::check;
 use arrayvec::ArrayVec;
 use tpm_bytes::{Cursor, Sink};
 use tpm_mac::HashAlg;
@@ -78,12 +79,12 @@ fn is_rest<const N: usize>(bytes: Option<ArrayVec<u8, N>>, text: &[u8]) -> bool 
 
 #[test]
 fn structures_are_written_as_they_were_read(rt: HostRuntime) {
-    assert!(rt; is_rest(rewritten_public(KEY), KEY));
-    assert!(rt; is_rest(rewritten_public(STORAGE), STORAGE));
+    check(&rt, is_rest(rewritten_public(KEY), KEY), true);
+    check(&rt, is_rest(rewritten_public(STORAGE), STORAGE), true);
     let area = b"\0\x0b\0\x08\0\x01a\0\0\0\x02bc";
-    assert!(rt; is_rest(rewritten_sensitive(area), area));
+    check(&rt, is_rest(rewritten_sensitive(area), area), true);
     let creation = b"\0\x13\0\0\0\0\0\0\x01\0\x10\0\x01n\0\x01q\0\x02oi";
-    assert!(rt; is_rest(rewritten_creation(creation), creation));
+    check(&rt, is_rest(rewritten_creation(creation), creation), true);
 }
 
 /// Whether the object has this Name, and its copy too.
@@ -98,8 +99,8 @@ fn is_named(object: Option<Object>, name: &[u8]) -> bool {
 
 #[test]
 fn a_primary_object_has_the_name_that_was_computed_outside(rt: HostRuntime) {
-    assert!(rt; is_named(primary_of(KEY, JEFE), NAME));
-    assert!(rt; !is_named(primary_of(STORAGE, NOTHING), NAME));
+    check(&rt, is_named(primary_of(KEY, JEFE), NAME), true);
+    check(&rt, is_named(primary_of(STORAGE, NOTHING), NAME), false);
 }
 
 /// What refuses a template and what is given beside it, if anything does.
@@ -112,9 +113,9 @@ fn faults_of(template: &[u8], given: &[u8]) -> Option<(bool, bool)> {
 
 #[test]
 fn templates_are_checked(rt: HostRuntime) {
-    assert_eq!(rt; faults_of(KEY, JEFE), Some((false, false)));
-    assert_eq!(rt; faults_of(STORAGE, JEFE), Some((true, true)));
-    assert_eq!(rt; faults_of(KEY, NOTHING), Some((false, true)));
+    check(&rt, faults_of(KEY, JEFE), Some((false, false)));
+    check(&rt, faults_of(STORAGE, JEFE), Some((true, true)));
+    check(&rt, faults_of(KEY, NOTHING), Some((false, true)));
 }
 
 /// Whether what is created under a storage key and wrapped is unwrapped, for the public area that it
@@ -133,7 +134,7 @@ fn is_unwrapped() -> Option<bool> {
 
 #[test]
 fn what_is_wrapped_is_unwrapped(rt: HostRuntime) {
-    assert_eq!(rt; is_unwrapped(), Some(true));
+    check(&rt, is_unwrapped(), Some(true));
     let name = Name::qualified(HashAlg::Sha1, b"\x40\0\0\x01", NAME);
-    assert_eq!(rt; name.as_slice().len(), 22);
+    check(&rt, name.as_slice().len(), 22);
 }

@@ -1,5 +1,6 @@
 //! Digests that were computed outside, by Python's `hashlib`, and what refuses the use of a policy.
 
+use super::comparison::check;
 use tpm_bytes::Cursor;
 use tpm_mac::HashAlg;
 use tpm_name::Name;
@@ -79,22 +80,22 @@ fn secret<'a>(name: &'a Name, cp_hash: &'a [u8]) -> SecretAssertion<'a> {
 fn digests_are_those_of_the_standard(rt: HostRuntime) {
     let mut state = PolicyState::new(HashAlg::Sha256);
     state.auth_value(HashAlg::Sha256);
-    assert_eq!(rt; state.digest(), AUTH_VALUE);
-    assert_eq!(rt; state.demand(), Demand::AuthValue);
+    check(&rt, state.digest(), AUTH_VALUE);
+    check(&rt, state.demand(), Demand::AuthValue);
     state.restart(HashAlg::Sha256);
     state.password(HashAlg::Sha256);
-    assert_eq!(rt; state.copy().digest(), AUTH_VALUE);
-    assert_eq!(rt; state.demand(), Demand::Password);
+    check(&rt, state.copy().digest(), AUTH_VALUE);
+    check(&rt, state.demand(), Demand::Password);
     state.restart(HashAlg::Sha256);
     let name = Name::of_handle(Handle::ENDORSEMENT);
     let done = state.secret(HashAlg::Sha256, false, &secret(&name, &[]));
-    assert_eq!(rt; done, Ok(()));
-    assert_eq!(rt; state.digest(), SECRET);
+    check(&rt, done, Ok(()));
+    check(&rt, state.digest(), SECRET);
     state.restart(HashAlg::Sha256);
     let selection = PcrSelection::read(&mut Cursor::new(SELECTION)).expect(&rt, "PCR 0");
     let done = state.pcr(HashAlg::Sha256, false, &pcr(&selection));
-    assert_eq!(rt; done, Ok(()));
-    assert_eq!(rt; state.digest(), PCR);
+    check(&rt, done, Ok(()));
+    check(&rt, state.digest(), PCR);
 }
 
 #[test]
@@ -105,16 +106,16 @@ fn either_branch_leads_to_one_digest(rt: HostRuntime) {
         check: ActionCheck::First,
         rc: ResponseCode::Value.anywhere().at_parameter(1),
     };
-    assert_eq!(rt; state.or(HashAlg::Sha256, false, &list), Err(refused));
-    assert_eq!(rt; state.locality(HashAlg::Sha256, 0x08), Ok(()));
-    assert_eq!(rt; state.digest(), LOCALITY);
-    assert_eq!(rt; state.or(HashAlg::Sha256, false, &list), Ok(()));
-    assert_eq!(rt; state.digest(), OR);
+    check(&rt, state.or(HashAlg::Sha256, false, &list), Err(refused));
+    check(&rt, state.locality(HashAlg::Sha256, 0x08), Ok(()));
+    check(&rt, state.digest(), LOCALITY);
+    check(&rt, state.or(HashAlg::Sha256, false, &list), Ok(()));
+    check(&rt, state.digest(), OR);
     state.restart(HashAlg::Sha256);
-    assert_eq!(rt; state.command_code(HashAlg::Sha256, GET_RANDOM), Ok(()));
-    assert_eq!(rt; state.digest(), COMMAND_CODE);
-    assert_eq!(rt; state.or(HashAlg::Sha256, false, &list), Ok(()));
-    assert_eq!(rt; state.digest(), OR);
+    check(&rt, state.command_code(HashAlg::Sha256, GET_RANDOM), Ok(()));
+    check(&rt, state.digest(), COMMAND_CODE);
+    check(&rt, state.or(HashAlg::Sha256, false, &list), Ok(()));
+    check(&rt, state.digest(), OR);
 }
 
 /// Takes PCR 0, which had been changed 7 times, GetRandom, its cpHash and locality 0.
@@ -172,14 +173,18 @@ fn refusals() -> [(u8, Rc); 7] {
 fn the_first_condition_that_does_not_hold_refuses(rt: HostRuntime) {
     let selection = PcrSelection::read(&mut Cursor::new(SELECTION)).expect(&rt, "PCR 0");
     let mut state = PolicyState::new(HashAlg::Sha256);
-    assert_eq!(rt; assert_all(&mut state, &selection), Ok(()));
+    check(&rt, assert_all(&mut state, &selection), Ok(()));
     let here = Locality::new(0).expect(&rt, "locality 0");
     let elsewhere = Locality::new(1).expect(&rt, "locality 1");
     for (condition, rc) in refusals() {
         let locality = if condition <= 6 { elsewhere } else { here };
         let asked = spoiled_from(condition, state.digest(), locality);
-        assert_eq!(rt; state.check_use(&asked), Err(rc), "at {condition}");
+        check(
+            &rt,
+            (condition, state.check_use(&asked)),
+            (condition, Err(rc)),
+        );
     }
     let asked = spoiled_from(8, state.digest(), here);
-    assert_eq!(rt; state.check_use(&asked), Ok(Demand::None));
+    check(&rt, state.check_use(&asked), Ok(Demand::None));
 }

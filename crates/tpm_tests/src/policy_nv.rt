@@ -1,5 +1,6 @@
 //! TPM2_PolicyNV: its digest, computed outside by Python's `hashlib`, and its comparisons.
 
+use super::comparison::check;
 use std::process::Abort;
 use tpm_mac::HashAlg;
 use tpm_name::Name;
@@ -77,7 +78,7 @@ fn check_order<R: Abort>(rt: &R, order: &Order) {
         let mut state = PolicyState::new(HashAlg::Sha256);
         let done = state.nv(HashAlg::Sha256, false, &about);
         let holds = order.holds.get(usize::from(number)) == Some(&b'y');
-        assert_eq!(rt; done.is_ok(), holds, "of {number}");
+        check(rt, (number, done.is_ok()), (number, holds));
     }
 }
 
@@ -108,7 +109,7 @@ fn a_trial_compares_nothing(rt: HostRuntime) {
         compared: Err(refused),
     };
     let mut state = PolicyState::new(HashAlg::Sha256);
-    assert_eq!(rt; state.nv(HashAlg::Sha256, false, &about), Err(refused));
-    assert_eq!(rt; state.nv(HashAlg::Sha256, true, &about), Ok(()));
-    assert_eq!(rt; state.digest(), AT_MOST);
+    check(&rt, state.nv(HashAlg::Sha256, false, &about), Err(refused));
+    check(&rt, state.nv(HashAlg::Sha256, true, &about), Ok(()));
+    check(&rt, state.digest(), AT_MOST);
 }

@@ -3,6 +3,7 @@
 
 ghost use Rattle.std.specs.Prelude.{◌≤◌, length};
 
+use super::comparison::check;
 use std::alloc::Global;
 use std::process::Abort;
 use tpm_bytes::Sink;
@@ -99,12 +100,21 @@ fn sessions_are_found_by_their_handles(rt: HostRuntime) {
 
 fn find_sessions<S: Places<Session, 16>, R: Abort>(rt: &R, alloc: Global) {
     let mut sessions: Sessions<S> = Sessions::new(alloc);
-    assert_eq!(rt; started(&mut sessions, SessionType::Hmac), Ok(0x0200_0000));
-    assert_eq!(rt;
-        started(&mut sessions, SessionType::Policy),
-        Ok(0x0300_0001)
+    check(
+        rt,
+        started(&mut sessions, SessionType::Hmac),
+        Ok(0x0200_0000),
     );
-    assert_eq!(rt; started(&mut sessions, SessionType::Trial), Ok(0x0300_0002));
+    check(
+        rt,
+        started(&mut sessions, SessionType::Policy),
+        Ok(0x0300_0001),
+    );
+    check(
+        rt,
+        started(&mut sessions, SessionType::Trial),
+        Ok(0x0300_0002),
+    );
     for (number, there) in [
         (0x0200_0000, true),
         (0x0300_0000, false),
@@ -112,21 +122,27 @@ fn find_sessions<S: Places<Session, 16>, R: Abort>(rt: &R, alloc: Global) {
         (0x0200_0003, false),
         (1, false),
     ] {
-        assert_eq!(rt;
-            sessions.get(Handle { number }).is_some(),
-            there,
-            "{number:x}"
-        );
+        let found = sessions.get(Handle { number }).is_some();
+        check(rt, (number, found), (number, there));
     }
     let policy = Handle {
         number: 0x0300_0001,
     };
-    assert!(rt; sessions.roll(policy, Nonce::of(b"new")));
-    assert_eq!(rt; nonce_of(&sessions, 0x0300_0001), Some(b"new".as_slice()));
-    assert_eq!(rt; nonce_of(&sessions, 0x0300_0002), Some(NONCE_TPM));
-    assert!(rt; sessions.flush(policy));
-    assert!(rt; !sessions.flush(policy) && !sessions.roll(policy, Nonce::of(b"")));
-    assert_eq!(rt; started(&mut sessions, SessionType::Hmac), Ok(0x0200_0001));
+    check(rt, sessions.roll(policy, Nonce::of(b"new")), true);
+    check(
+        rt,
+        nonce_of(&sessions, 0x0300_0001),
+        Some(b"new".as_slice()),
+    );
+    check(rt, nonce_of(&sessions, 0x0300_0002), Some(NONCE_TPM));
+    check(rt, sessions.flush(policy), true);
+    check(rt, sessions.flush(policy), false);
+    check(rt, sessions.roll(policy, Nonce::of(b"")), false);
+    check(
+        rt,
+        started(&mut sessions, SessionType::Hmac),
+        Ok(0x0200_0001),
+    );
 }
 
 #[test]
@@ -138,15 +154,15 @@ fn sixteen_sessions_start(rt: HostRuntime) {
 fn fill_sessions<S: Places<Session, 16>, R: Abort>(rt: &R, alloc: Global) {
     let mut sessions: Sessions<S> = Sessions::new(alloc);
     for number in 0x0300_0000..0x0300_0010u32 {
-        assert_eq!(rt; started(&mut sessions, SessionType::Policy), Ok(number));
+        check(rt, started(&mut sessions, SessionType::Policy), Ok(number));
     }
     let full = started(&mut sessions, SessionType::Policy);
-    assert_eq!(rt; full, Err(StartFault::SessionMemory));
+    check(rt, full, Err(StartFault::SessionMemory));
     let mut short = start(SessionType::Policy, None);
     short.nonce_caller = b"fifteen bytes..";
-    assert_eq!(rt; sessions.start(short).err(), Some(StartFault::Size));
+    check(rt, sessions.start(short).err(), Some(StartFault::Size));
     for (size, fits) in [(15, false), (16, true), (20, true), (21, false)] {
-        assert_eq!(rt; is_nonce_size(HashAlg::Sha1, size), fits, "{size}");
+        check(rt, (size, is_nonce_size(HashAlg::Sha1, size)), (size, fits));
     }
 }
 
@@ -157,10 +173,10 @@ fn session_types_have_numbers(rt: HostRuntime) {
         (SessionType::Policy, 1),
         (SessionType::Trial, 3),
     ] {
-        assert_eq!(rt; kind.number(), number);
-        assert_eq!(rt; SessionType::named(number), Some(kind));
+        check(&rt, kind.number(), number);
+        check(&rt, SessionType::named(number), Some(kind));
     }
-    assert_eq!(rt; SessionType::named(2), None);
+    check(&rt, SessionType::named(2), None);
 }
 
 #[test]
@@ -170,9 +186,9 @@ fn hashes_are_those_of_the_standard(rt: HostRuntime) {
         Name::of_handle(Handle { number: 3 }),
     ];
     let command = command_hash(HashAlg::Sha256, CODE, &names, b"parameters");
-    assert_eq!(rt; command.as_slice(), COMMAND_HASH);
+    check(&rt, command.as_slice(), COMMAND_HASH);
     let response = response_hash(HashAlg::Sha256, CODE, b"answer");
-    assert_eq!(rt; response.as_slice(), RESPONSE_HASH);
+    check(&rt, response.as_slice(), RESPONSE_HASH);
 }
 
 /// A session that is bound to the owner.
@@ -206,9 +222,9 @@ fn command_text() -> CommandText<'static> {
 fn an_entry_has_an_hmac(rt: HostRuntime) {
     let session = bound_session(SymmetricDefinition::Null);
     let command = session.command_mac(b"entity", &command_text());
-    assert_eq!(rt; command.as_slice(), COMMAND_MAC);
+    check(&rt, command.as_slice(), COMMAND_MAC);
     let response = session.response_mac(b"entity", RESPONSE_HASH, NONCE_CALLER, ATTRIBUTES);
-    assert_eq!(rt; response.as_slice(), RESPONSE_MAC);
+    check(&rt, response.as_slice(), RESPONSE_MAC);
 }
 
 #[test]
@@ -216,13 +232,13 @@ fn an_entry_s_text_is_written(rt: HostRuntime) {
     let session = bound_session(SymmetricDefinition::Null);
     let mut bytes: Sink<161> = Sink::new();
     let written = session.command_text(&command_text()).write(&mut bytes);
-    assert!(rt; written.is_ok());
-    assert_eq!(rt; bytes.len(), 70);
-    assert!(rt; bytes.as_slice().ends_with(b"\xbbdecen\x21"));
+    check(&rt, written.is_ok(), true);
+    check(&rt, bytes.len(), 70);
+    check(&rt, bytes.as_slice().ends_with(b"\xbbdecen\x21"), true);
     let mut short: Sink<64> = Sink::new();
     let text = session.response_text(RESPONSE_HASH, NONCE_CALLER, ATTRIBUTES);
-    assert!(rt; text.write(&mut short).is_err());
-    assert_eq!(rt; short.len(), 0);
+    check(&rt, text.write(&mut short).is_err(), true);
+    check(&rt, short.len(), 0);
 }
 
 #[test]
@@ -231,15 +247,15 @@ fn a_parameter_is_encrypted(rt: HostRuntime) {
     let mut parameter = [0; 25];
     parameter.copy_from_slice(PLAIN);
     let closed = session.close_parameter(b"entity", NONCE_CALLER, NONCE_TPM, &mut parameter);
-    assert_eq!(rt; closed, Ok(()));
-    assert_eq!(rt; parameter.as_slice(), ENCRYPTED);
+    check(&rt, closed, Ok(()));
+    check(&rt, parameter.as_slice(), ENCRYPTED);
     let opened = session.open_parameter(b"entity", NONCE_CALLER, NONCE_TPM, &mut parameter);
-    assert_eq!(rt; opened, Ok(()));
-    assert_eq!(rt; parameter.as_slice(), PLAIN);
+    check(&rt, opened, Ok(()));
+    check(&rt, parameter.as_slice(), PLAIN);
     let bare = bound_session(SymmetricDefinition::Null);
     let refused = bare.close_parameter(b"", b"", b"", &mut parameter);
-    assert_eq!(rt; refused, Err(SymmetricFault));
+    check(&rt, refused, Err(SymmetricFault));
     let refused = bare.open_parameter(b"", b"", b"", &mut parameter);
-    assert_eq!(rt; refused, Err(SymmetricFault));
-    assert_eq!(rt; parameter.as_slice(), PLAIN);
+    check(&rt, refused, Err(SymmetricFault));
+    check(&rt, parameter.as_slice(), PLAIN);
 }

@@ -1,8 +1,8 @@
 //! Structures byte by byte, as TPM 2.0 Library, Part 1, section 18, and Part 2 have them. What the
 //! device reads and answers is shown by the scripts under `tests/`.
 
+use super::comparison::check;
 use arrayvec::ArrayVec;
-use std::test::Fail;
 use tpm_bytes::{Cursor, Sink};
 use tpm_mac::HashAlg;
 use tpm_name::Name;
@@ -39,7 +39,7 @@ fn response_codes_have_places(rt: HostRuntime) {
         (ResponseCode::Handle.anywhere().at_handle(2), 0x28b),
         (ResponseCode::BadTag.anywhere(), 0x01e),
     ] {
-        assert_eq!(rt; rc.number(), number, "of {rc:?}");
+        check(&rt, rc.number(), number);
     }
 }
 
@@ -49,56 +49,80 @@ fn is_numbered(code: CommandCode, number: u32) -> bool {
 
 #[test]
 fn commands_have_numbers(rt: HostRuntime) {
-    assert!(rt; is_numbered(CommandCode::EvictControl, 0x120));
-    assert!(rt; is_numbered(CommandCode::ClearControl, 0x127));
-    assert!(rt; is_numbered(CommandCode::PcrEvent, 0x13c));
-    assert!(rt; is_numbered(CommandCode::PcrReset, 0x13d));
-    assert!(rt; is_numbered(CommandCode::Startup, 0x144));
-    assert!(rt; is_numbered(CommandCode::GetRandom, 0x17b));
-    assert!(rt; is_numbered(CommandCode::PcrRead, 0x17e));
-    assert!(rt; is_numbered(CommandCode::PcrExtend, 0x182));
-    assert!(rt; is_numbered(CommandCode::PolicyPassword, 0x18c));
-    assert!(rt; is_numbered(CommandCode::Shutdown, 0x145));
-    assert_eq!(rt; CommandCode::named(0x142), None);
+    check(&rt, is_numbered(CommandCode::EvictControl, 0x120), true);
+    check(&rt, is_numbered(CommandCode::ClearControl, 0x127), true);
+    check(&rt, is_numbered(CommandCode::PcrEvent, 0x13c), true);
+    check(&rt, is_numbered(CommandCode::PcrReset, 0x13d), true);
+    check(&rt, is_numbered(CommandCode::Startup, 0x144), true);
+    check(&rt, is_numbered(CommandCode::GetRandom, 0x17b), true);
+    check(&rt, is_numbered(CommandCode::PcrRead, 0x17e), true);
+    check(&rt, is_numbered(CommandCode::PcrExtend, 0x182), true);
+    check(&rt, is_numbered(CommandCode::PolicyPassword, 0x18c), true);
+    check(&rt, is_numbered(CommandCode::Shutdown, 0x145), true);
+    check(&rt, CommandCode::named(0x142), None);
 }
 
 #[test]
 fn commands_have_shapes(rt: HostRuntime) {
     let event = CommandCode::PcrEvent.shape();
-    assert!(rt; !event.forbids_sessions && !event.sized_answer);
-    assert!(rt; matches!(event.parameters, [kind] if kind.is_sized()));
-    assert!(rt; matches!(event.handles, [rule] if rule.kind.allows(Handle::NULL)));
-    assert_eq!(rt; CommandCode::PcrEvent.handle_count(), 1);
-    assert_eq!(rt; CommandCode::PcrEvent.authorized_handles(), 1);
+    check(
+        &rt,
+        (event.forbids_sessions, event.sized_answer),
+        (false, false),
+    );
+    check(
+        &rt,
+        matches!(event.parameters, [kind] if kind.is_sized()),
+        true,
+    );
+    check(
+        &rt,
+        matches!(event.handles, [rule] if rule.kind.allows(Handle::NULL)),
+        true,
+    );
+    check(&rt, CommandCode::PcrEvent.handle_count(), 1);
+    check(&rt, CommandCode::PcrEvent.authorized_handles(), 1);
     let startup = CommandCode::Startup.shape();
-    assert!(rt; startup.handles.is_empty() && startup.forbids_sessions);
-    assert!(rt; !HandleKind::Pcr.allows(Handle::NULL));
-    assert!(rt; !ParameterKind::U16.is_sized());
+    check(
+        &rt,
+        (startup.handles.is_empty(), startup.forbids_sessions),
+        (true, true),
+    );
+    check(&rt, HandleKind::Pcr.allows(Handle::NULL), false);
+    check(&rt, ParameterKind::U16.is_sized(), false);
 }
 
 #[test]
 fn handles_are_read_by_their_rules(rt: HostRuntime) {
     let mut text = Cursor::new(b"\x40\x00\x00\x07;");
-    assert!(rt; read_handles(CommandCode::PcrReset, &mut text).is_err());
-    assert!(rt; read_handles(CommandCode::PcrEvent, &mut text).is_ok());
-    assert_eq!(rt; text.rest(), b";".as_slice());
+    check(
+        &rt,
+        read_handles(CommandCode::PcrReset, &mut text).is_err(),
+        true,
+    );
+    check(
+        &rt,
+        read_handles(CommandCode::PcrEvent, &mut text).is_ok(),
+        true,
+    );
+    check(&rt, text.rest(), b";".as_slice());
 }
 
 #[test]
 fn parameters_are_read(rt: HostRuntime) {
     let mut text = Cursor::new(b"\x00\x01\x00\x02ab\x01;");
-    assert_eq!(rt; StartupType::read(&mut text), Ok(StartupType::State));
-    assert_eq!(rt; read_buffer(&mut text, 2), Ok(b"ab".as_slice()));
-    assert_eq!(rt; read_yes_no(&mut text), Ok(true));
-    assert_eq!(rt; text.rest(), b";".as_slice());
+    check(&rt, StartupType::read(&mut text), Ok(StartupType::State));
+    check(&rt, read_buffer(&mut text, 2), Ok(b"ab".as_slice()));
+    check(&rt, read_yes_no(&mut text), Ok(true));
+    check(&rt, text.rest(), b";".as_slice());
 }
 
 #[test]
 fn a_hierarchy_has_its_handle_as_its_name(rt: HostRuntime) {
     let name = Name::of_handle(Handle::ENDORSEMENT);
-    assert_eq!(rt; name.as_slice(), b"\x40\x00\x00\x0b".as_slice());
-    assert!(rt; name.is_same(&name.copy()));
-    assert!(rt; !name.is_same(&Name::of_handle(Handle::PLATFORM)));
+    check(&rt, name.as_slice(), b"\x40\x00\x00\x0b".as_slice());
+    check(&rt, name.is_same(&name.copy()), true);
+    check(&rt, name.is_same(&Name::of_handle(Handle::PLATFORM)), false);
 }
 
 /// The number of the fault in a command's buffer, or 0.
@@ -123,7 +147,7 @@ fn a_command_has_a_first_fault(rt: HostRuntime) {
         ),
         (PCR_RESET, 0),
     ] {
-        assert_eq!(rt; fault_of(buffer), fault, "of {buffer:?}");
+        check(&rt, (buffer, fault_of(buffer)), (buffer, fault));
     }
 }
 
@@ -137,7 +161,7 @@ fn parts_of(buffer: &[u8]) -> Option<(u16, u32, usize, usize, usize)> {
 
 #[test]
 fn a_command_has_parts(rt: HostRuntime) {
-    assert_eq!(rt; parts_of(PCR_RESET), Some((0x8002, 0x13d, 1, 1, 32)));
+    check(&rt, parts_of(PCR_RESET), Some((0x8002, 0x13d, 1, 1, 32)));
 }
 
 /// The command that a buffer spells, written again.
@@ -164,35 +188,50 @@ fn rewritten_digests(text: &[u8]) -> Option<ArrayVec<u8, 62>> {
     Some(sink.into_bytes())
 }
 
-#[test]
-fn what_is_read_is_written_so(rt: HostRuntime) -> Result<(), Fail> {
-    let command = rewritten_command(PCR_RESET).ok_or("the command")?;
-    assert_eq!(rt; command.as_slice(), PCR_RESET);
-    let selection = rewritten_selection(SELECTION).ok_or("the selection")?;
-    assert_eq!(rt; selection.as_slice(), SELECTION);
-    let digests = rewritten_digests(DIGESTS).ok_or("the digests")?;
-    assert_eq!(rt; digests.as_slice(), DIGESTS);
-    Ok(())
+/// Whether there is a text, and it is this one.
+fn is_text<const N: usize>(bytes: Option<ArrayVec<u8, N>>, text: &[u8]) -> bool {
+    match bytes {
+        Some(bytes) => bytes.as_slice() == text,
+        None => false,
+    }
 }
 
 #[test]
-fn fields_are_where_they_stand(rt: HostRuntime) -> Result<(), Fail> {
-    let selection = PcrSelection::read(&mut Cursor::new(SELECTION))
-        .ok()
-        .ok_or("the selection")?;
+fn what_is_read_is_written_so(rt: HostRuntime) {
+    check(&rt, is_text(rewritten_command(PCR_RESET), PCR_RESET), true);
+    check(
+        &rt,
+        is_text(rewritten_selection(SELECTION), SELECTION),
+        true,
+    );
+    check(&rt, is_text(rewritten_digests(DIGESTS), DIGESTS), true);
+}
+
+/// Whether a text spells the selection of these banks.
+fn has_banks(text: &[u8], banks: &[BankSelection]) -> bool {
+    match PcrSelection::read(&mut Cursor::new(text)) {
+        Ok(selection) => selection.banks.as_slice() == banks,
+        Err(_) => false,
+    }
+}
+
+/// Whether a text spells these digests.
+fn has_digests(text: &[u8], values: &[DigestValue]) -> bool {
+    match DigestValues::read(&mut Cursor::new(text)) {
+        Ok(digests) => digests.values.as_slice() == values,
+        Err(_) => false,
+    }
+}
+
+#[test]
+fn fields_are_where_they_stand(rt: HostRuntime) {
     let bank = BankSelection {
         hash: HashAlg::Sha256,
         select: PcrSelect::from_octets([1, 4, 128]),
     };
-    assert_eq!(rt; selection.banks.as_slice(), [bank].as_slice());
-    let digests = DigestValues::read(&mut Cursor::new(DIGESTS))
-        .ok()
-        .ok_or("the digests")?;
-    assert_eq!(rt;
-        digests.values.as_slice(),
-        [DigestValue::Sha1([1; 20]), DigestValue::Sha256([2; 32])].as_slice()
-    );
-    Ok(())
+    check(&rt, has_banks(SELECTION, &[bank]), true);
+    let values = [DigestValue::Sha1([1; 20]), DigestValue::Sha256([2; 32])];
+    check(&rt, has_digests(DIGESTS, &values), true);
 }
 
 /// The attributes of an entry, and how long it is.
@@ -204,25 +243,29 @@ fn entry_of(text: &[u8]) -> Option<(u8, usize)> {
 #[test]
 fn an_entry_has_its_length(rt: HostRuntime) {
     let entry = b"\x02\x00\x00\x01\x00\x02\xaa\xbb\x20\x00\x03abc;";
-    assert_eq!(rt; entry_of(entry), Some((0x20, 14)));
+    check(&rt, entry_of(entry), Some((0x20, 14)));
     let attributes = SessionAttributes { octet: 0x20 };
-    assert!(rt; attributes.has_any(0x21) && !attributes.has_any(0xdf));
+    check(
+        &rt,
+        (attributes.has_any(0x21), attributes.has_any(0xdf)),
+        (true, false),
+    );
 }
 
 #[test]
 fn a_list_of_no_digests_is_written(rt: HostRuntime) {
     let digests = ArrayVec::new();
     let mut sink: Sink<4> = Sink::new();
-    assert_eq!(rt; DigestList { digests }.write(&mut sink), Ok(()));
-    assert_eq!(rt; sink.as_slice(), b"\x00\x00\x00\x00".as_slice());
+    check(&rt, DigestList { digests }.write(&mut sink), Ok(()));
+    check(&rt, sink.as_slice(), b"\x00\x00\x00\x00".as_slice());
 }
 
 #[test]
 fn policies_are_asked_for(rt: HostRuntime) {
     let mut text = Cursor::new(b"\x01\x02");
-    assert_eq!(rt; SessionType::read(&mut text), Ok(SessionType::Policy));
+    check(&rt, SessionType::read(&mut text), Ok(SessionType::Policy));
     let refused = SessionType::read(&mut text);
-    assert_eq!(rt; refused, Err(ResponseCode::Value.anywhere()));
-    assert!(rt; is_command_number(0x17b));
-    assert!(rt; !is_command_number(0x17c));
+    check(&rt, refused, Err(ResponseCode::Value.anywhere()));
+    check(&rt, is_command_number(0x17b), true);
+    check(&rt, is_command_number(0x17c), false);
 }
