@@ -1,0 +1,122 @@
+-- The bytes of a connection, and the command buffers that they are cut into. TPM 2.0 Library, Part
+-- 1, section 18 (command structure): behind a tag of two bytes a command has commandSize, a number
+-- of four bytes, which says how many bytes the whole command has.
+use Rattle.std.specs.Prelude.{◌≡◌, ℕ, ◌==◌, ◌-◌, ◌≤◌, ◌&&◌, nat_le, not, Bool, false}
+use Rattle.std.specs.Prelude.{List, [], ◌∷◌, ◌++◌, length, take, drop, min, fold}
+use Rattle.std.specs.Prelude.{Option, Some, None, option_map, option_and_then, if◌then◌else◌}
+use Rattle.std.specs.Int.{w32, from_be_bytes}
+use Rattle.std.specs.Option.{option_map_or}
+use Rattle.tpm_wire.specs.declared.front.Front.{Front}
+
+-- commandSize of the command that begins with these bytes, where they reach so far
+unfoldable pub command_size : List ℕ → Option ℕ
+command_size (t ∷ u ∷ a ∷ b ∷ c ∷ d ∷ bytes) = Some (from_be_bytes w32 (a ∷ b ∷ c ∷ d ∷ []))
+command_size bytes = None
+
+-- a size that a buffer can have: at least that of a header, at most 4,096
+abbrev pub is_size : ℕ → Bool
+is_size size = nat_le 10 size && nat_le size 4096
+
+-- how many bytes the buffer has whose commandSize is this: so many, or, where no buffer can have
+-- that size, the six that end with it
+abbrev pub size_by : ℕ → ℕ
+size_by size = if is_size size then size else 6
+
+-- how many bytes the buffer has that begins with these bytes
+abbrev pub buffer_size : List ℕ → Option ℕ
+buffer_size bytes = option_map size_by (command_size bytes)
+
+-- whether no buffer comes behind the one that begins with these bytes, since its commandSize is none
+abbrev pub is_last : List ℕ → Bool
+is_last bytes = option_map_or (λ size. not (is_size size)) (command_size bytes) false
+
+-- whether a buffer is whole: it has as many bytes as it is to have
+abbrev pub is_whole : List ℕ → Bool
+is_whole bytes = option_map_or (λ size. size == length bytes) (buffer_size bytes) false
+
+-- ---- the cut of a stream
+
+-- how a stream is cut: its whole buffers in order, the bytes behind them, and whether it has ended:
+-- no buffer comes any more
+pub record Cutting : Type 0 where
+  pub buffers : List (List ℕ)
+  pub rest : List ℕ
+  pub ended : Bool
+
+-- with these bytes behind its buffers, which are a buffer if they are a whole one
+abbrev pub with_rest : Cutting → List ℕ → Cutting
+with_rest c rest =
+    if is_whole rest
+    then record { buffers = c.buffers ++ rest ∷ []; rest = []; ended = is_last rest }
+    else record c { rest = rest }
+
+-- with one byte more
+unfoldable pub with_byte : Cutting → ℕ → Cutting
+with_byte c byte =
+    let rest = c.rest ++ byte ∷ [] in
+    if c.ended then record c { rest = rest } else with_rest c rest
+
+-- the cut of a stream without bytes, behind these buffers
+abbrev pub uncut : List (List ℕ) → Bool → Cutting
+uncut buffers ended = record { buffers = buffers; rest = []; ended = ended }
+
+-- the cut of a stream: byte by byte
+abbrev pub cut_of : List ℕ → Cutting
+cut_of bytes = fold with_byte (uncut [] false) bytes
+
+-- ---- what a connection holds of its stream
+
+-- the bytes taken and not yet executed, and whether no buffer comes any more
+pub record Stream : Type 0 where
+  pub taken : List ℕ
+  pub ended : Bool
+
+-- that of a new connection
+abbrev pub opened : Stream
+opened = record { taken = []; ended = false }
+
+-- how many of so many bytes fit
+abbrev pub fitting : Stream → ℕ → ℕ
+fitting s count = min count (4096 - length s.taken)
+
+-- with these bytes taken
+abbrev pub fed : Stream → List ℕ → Stream
+fed s bytes = record s { taken = s.taken ++ bytes }
+
+-- a buffer, and the stream behind it
+pub record Cut : Type 0 where
+  pub buffer : List ℕ
+  pub after : Stream
+
+-- the first so many bytes as a buffer, and whether it is the last
+abbrev pub cut_at : ℕ → Bool → List ℕ → Cut
+cut_at size last bytes = record {
+  buffer = take size bytes;
+  after = record { taken = drop size bytes; ended = last };
+}
+
+-- the same, where there are so many
+abbrev pub cut_within : ℕ → Bool → List ℕ → Option Cut
+cut_within size last bytes =
+    if nat_le size (length bytes) then Some (cut_at size last bytes) else None
+
+-- the next buffer, where the bytes taken hold it whole
+abbrev pub next_of : Stream → Option Cut
+next_of s =
+    if s.ended then None
+    else option_and_then (λ size. cut_within size (is_last s.taken) s.taken) (buffer_size s.taken)
+
+-- The front is that of the next buffer, or there is none.
+abbrev pub IsFront : Stream → Option Front → Type 0
+IsFront s None = next_of s ≡ None
+IsFront s (Some f) = (f.size ≤ length s.taken) × (next_of s ≡ Some (cut_at f.size f.last s.taken))
+
+-- ---- both
+
+-- the cut of a stream of which these buffers were executed and this is left
+abbrev pub cut_with : List (List ℕ) → Stream → Cutting
+cut_with done s = fold with_byte (uncut done s.ended) s.taken
+
+-- What is left of a stream is cut into these buffers, and then this is left.
+abbrev pub CutsTo : Stream → List (List ℕ) → Stream → Type 0
+CutsTo old done new = (before : List (List ℕ)) → cut_with before old ≡ cut_with (before ++ done) new

@@ -1,0 +1,99 @@
+ghost use Rattle.std.specs.Prelude.{◌≡◌, ◌+◌, ◌≤◌, drop, false, length, take};
+ghost use Rattle.arrayvec.specs.ArrayVec.{array_vec_len};
+ghost use Rattle.tpm_wire.specs.Stream.{IsFront, cut_at, fed, fitting, opened};
+
+use crate::front::{Front, front_of};
+use arrayvec::ArrayVec;
+use std::marker::Model;
+
+/// The most bytes that a connection holds, and that a buffer has.
+pub(crate) const BUFFER_LIMIT: usize = 4_096;
+
+/// The bytes that a connection has taken and that were not yet executed, and whether no buffer
+/// comes any more.
+#[derive(Drop)]
+pub(crate) struct Connection {
+    taken: ArrayVec<u8, BUFFER_LIMIT>,
+    ended: bool,
+}
+
+impl Model for Connection {
+    ghost use Rattle.tpm_wire.specs.Stream.{Stream};
+
+    ghost Value = { Stream };
+
+    ghost view = { λ c. record { taken = c.taken.items; ended = c.ended } };
+}
+
+impl Connection {
+    /// One without bytes.
+    pub(crate) fn new() -> Connection
+        ensures { result ≡ opened }
+    {
+        Connection {
+            taken: ArrayVec::new(),
+            ended: false,
+        }
+    }
+
+    /// Whether no buffer comes any more.
+    pub(crate) fn has_ended(&self) -> bool
+        ensures { result ≡ self.now.ended }
+    {
+        self.ended
+    }
+
+    /// How many bytes fit.
+    pub(crate) fn room(&self) -> usize
+        ensures { result + length self.now.taken ≡ 4096 }
+    {
+        self.taken.remaining_capacity()
+    }
+
+    /// Takes as many bytes of the piece as fit, and says how many.
+    pub(crate) fn feed(&mut self, piece: &[u8]) -> usize
+        ensures count { result ≡ fitting self.old (length piece.now) }
+        ensures after { self.new
+            ≡ fed self.old (take (fitting self.old (length piece.now)) piece.now) }
+    {
+        let count = self.taken.remaining_capacity().min(piece.len());
+        let _ = self.taken.try_extend_from_slice(&piece[..count]);
+        count
+    }
+
+    /// The front of the next buffer, if that is whole.
+    pub(crate) fn front(&self) -> Option<Front>
+        ensures { IsFront self.now result }
+    {
+        if self.ended {
+            return None;
+        }
+        front_of(self.taken.as_slice())
+    }
+
+    /// The bytes that were not yet executed.
+    pub(crate) fn bytes(&self) -> &[u8]
+        ensures { result.now ≡ self.now.taken }
+    {
+        self.taken.as_slice()
+    }
+
+    /// Lets the buffer in front go, and closes up what is left.
+    pub(crate) fn pass(&mut self, front: Front)
+        requires { front.size ≤ length self.old.taken }
+        ensures { self.new ≡ (cut_at front.size front.last self.old.taken).after }
+    {
+        remove_front(&mut self.taken, front.size);
+        self.ended = front.last;
+    }
+}
+
+/// Removes so many bytes in front, and moves the others up.
+fn remove_front(bytes: &mut ArrayVec<u8, BUFFER_LIMIT>, count: usize)
+    requires { count ≤ array_vec_len bytes.old }
+    ensures { bytes.new.items ≡ drop count bytes.old.items }
+{
+    let size = bytes.len();
+    bytes.as_mut_slice().copy_within(count..size, 0);
+    bytes.truncate(size - count);
+}

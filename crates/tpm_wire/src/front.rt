@@ -1,0 +1,39 @@
+ghost use Rattle.std.specs.Prelude.{◌≡◌, false};
+ghost use Rattle.tpm_wire.specs.Stream.{IsFront};
+
+use crate::connection::BUFFER_LIMIT;
+
+/// The fewest bytes of a command: those of its header.
+const HEADER_SIZE: usize = 10;
+
+/// The bytes of a command up to its size, and with it.
+const SIZE_END: usize = 6;
+
+/// How many bytes in front of a connection are its next buffer, and whether no buffer comes behind
+/// it.
+#[derive(Clone, Copy)]
+pub(crate) struct Front {
+    pub size: usize,
+    pub last: bool,
+}
+
+/// The front of these bytes, if they hold the buffer whole that begins with them.
+#[tactic(auto, unfolding(crate::specs::Stream::command_size))]
+pub(crate) fn front_of(bytes: &[u8]) -> Option<Front>
+    ensures { IsFront (record { taken = bytes.now; ended = false }) result }
+{
+    let [_, _, a, b, c, d, ..] = bytes else {
+        return None;
+    };
+    let size = u32::from_be_bytes([*a, *b, *c, *d]) as usize;
+    if size < HEADER_SIZE || size > BUFFER_LIMIT {
+        return Some(Front {
+            size: SIZE_END,
+            last: true,
+        });
+    }
+    if bytes.len() < size {
+        return None;
+    }
+    Some(Front { size, last: false })
+}
