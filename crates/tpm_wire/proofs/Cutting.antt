@@ -6,7 +6,7 @@ use Rattle.std.proofs.lemmas.List.Sums.{fold-append}
 use Rattle.std.specs.Int.{w32, from_be_bytes}
 use Rattle.std.specs.Option.{option_map_or}
 use Rattle.std.proofs.lemmas.Bool.{cases_eq, eq-eqb, ne_eqb, leb-true, leb-false, false≢true}
-use Rattle.tpm_wire.specs.Stream.{Cut, Cutting, CutsTo, Stream, buffer_size, command_size, cut_at, cut_of, cut_with, cut_within, fed, is_last, is_size, is_whole, next_of, size_by, uncut, with_byte, with_rest}
+use Rattle.tpm_wire.specs.Stream.{Cut, Cutting, CutsTo, Stream, buffer_size, command_size, cut_at, cut_of, cut_with, cut_within, fed, is_last, is_size, is_whole, next_of, opened, size_by, uncut, with_byte, with_rest}
 
 -- ---- what the first six bytes say
 
@@ -278,3 +278,8 @@ buffers_stay c (byte ∷ bytes) =
     let first = byte_stays c byte in
     let others = buffers_stay (with_byte c byte) bytes in
     (first.0 ++ others.0, others.1 ∙ ap (λ (l : List (List ℕ)). l ++ others.0) first.1 ∙ append_assoc c.buffers first.0 others.0)
+
+-- A new stream waits.
+pub next_opened : next_of opened ≡ None
+unfolding command_size
+next_opened = refl

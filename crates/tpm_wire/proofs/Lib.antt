@@ -1,1 +1,4 @@
 pub mod Cutting
+pub mod Exchanging
+pub mod Filling
+pub mod Living

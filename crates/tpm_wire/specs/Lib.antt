@@ -1,1 +1,14 @@
 pub mod Stream
+pub mod Number
+pub mod Wire
+pub mod Serve
+pub mod Schedule
+pub use Rattle.tpm_bytes.specs.Tap
+pub use Rattle.tpm_machine.specs.State
+pub use Rattle.tpm_machine_step.specs.Events
+pub use Rattle.tpm_machine_step.specs.Execution
+pub use Rattle.tpm_machine_step.specs.Run
+pub use Rattle.tpm_machine_step.specs.Step
+pub use Rattle.tpm_places.specs.Places
+pub use Rattle.tpm_record.specs.Cycle
+pub use Rattle.tpm_record.specs.Record

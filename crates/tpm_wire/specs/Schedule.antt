@@ -1,0 +1,135 @@
+-- Schedules of calls, and what they come to: which buffers of which connection are executed, and
+-- where that leads the machine.
+use Rattle.std.specs.Prelude.{◌≡◌, ℕ, Bool, false, List, [], ◌∷◌, ◌++◌, length, take, map, slice_set, slice_get}
+use Rattle.std.specs.Prelude.{Option, Some, None, option_map, unwrap_or, Result, Ok}
+use Rattle.std.specs.List.{FoldsTo}
+use Rattle.tpm_places.specs.Places.{at_place, free}
+use Rattle.tpm_record.specs.Cycle.{cycled}
+use Rattle.tpm_record.specs.Record.{Record}
+use Rattle.tpm_machine_step.specs.Events.{Happening, Cycled}
+use Rattle.tpm_machine_step.specs.Execution.{Executes}
+use Rattle.tpm_machine_step.specs.Run.{after_all}
+use Rattle.tpm_machine_step.specs.Step.{outcome_step}
+use Rattle.tpm_machine_step.specs.declared.event.Outcome.{Outcome}
+use Rattle.tpm_wire.specs.Number.{number_of}
+use Rattle.tpm_wire.specs.Stream.{Stream, cut_of, cut_with}
+use Rattle.tpm_wire.specs.Wire.{Closes, Feeds, Opens, Turns, Wire, given, new_wire}
+use Rattle.tpm_wire.specs.declared.fault.Full.{Full}
+use Rattle.tpm_wire.specs.declared.fault.NoConnection.{NoConnection}
+use Rattle.tpm_wire.specs.declared.host.Host.{Host}
+use Rattle.tpm_wire.specs.declared.number.ConnectionNumber.{ConnectionNumber}
+use Rattle.tpm_wire.specs.declared.turn.Turn.{Turn}
+use Rattle.tpm_wire.specs.declared.turn.Turn.TheVariants.{Answer}
+
+-- a call, and what it answered
+pub data Call : Type 0 where
+  Opening : (result : Result ConnectionNumber Full) → Call
+  Feeding : (connection : ConnectionNumber) (piece : List ℕ) (result : Result ℕ NoConnection) → Call
+  Turning : (connection : ConnectionNumber) (host : Host) (result : Result Turn NoConnection) → Call
+  PowerCycling : Call
+  Closing : (connection : ConnectionNumber) (result : Result (Unit {0}) NoConnection) → Call
+
+-- What a call does; can says whether memory can be refused.
+abbrev pub Does : Bool → Wire → Call → Wire → Type 0
+Does can old (Opening result) new = Opens old result new
+Does can old (Feeding connection piece result) new =
+    Feeds old (number_of connection) piece result new
+Does can old (Turning connection host result) new =
+    Turns can old (number_of connection) host result new
+Does can old PowerCycling new = new ≡ record old { machine = cycled old.machine }
+Does can old (Closing connection result) new = Closes old (number_of connection) result new
+
+-- The calls were made one after another.
+abbrev pub Schedules : Bool → Wire → List Call → Wire → Type 0
+Schedules can old calls new = FoldsTo (Does can) old calls new
+
+-- ---- what the calls and their answers alone say
+
+-- a connection since it was opened: all bytes that it took, and all outcomes that its turns
+-- answered, in order
+pub record Life : Type 0 where
+  pub bytes : List ℕ
+  pub answers : List Outcome
+
+abbrev pub new_life : Life
+new_life = record { bytes = []; answers = [] }
+
+-- with the life under a number changed
+abbrev pub with_life : List (Option Life) → ℕ → (Life → Life) → List (Option Life)
+with_life lives number change = slice_set lives number (option_map change (at_place lives number))
+
+-- the lives of the connections that are open, under their numbers, after a call; one that was
+-- refused, or took nothing, or waits, leaves them
+abbrev pub lives_after : List (Option Life) → Call → List (Option Life)
+lives_after lives (Opening (Ok connection)) = slice_set lives (number_of connection) (Some new_life)
+lives_after lives (Feeding connection piece (Ok count)) =
+    with_life lives (number_of connection) (λ l. record l { bytes = l.bytes ++ take count piece })
+lives_after lives (Turning connection host (Ok (Answer outcome))) =
+    with_life lives (number_of connection) (λ l. record l { answers = l.answers ++ outcome ∷ [] })
+lives_after lives (Closing connection (Ok done)) = slice_set lives (number_of connection) None
+lives_after lives call = lives
+
+abbrev pub lives_behind : List (Option Life) → List Call → List (Option Life)
+lives_behind lives [] = lives
+lives_behind lives (call ∷ calls) = lives_behind (lives_after lives call) calls
+
+-- the buffer of a connection that is to be executed next: the one of its cut that stands behind as
+-- many as were answered
+abbrev pub buffer_due : Life → List ℕ
+buffer_due l = unwrap_or (slice_get (cut_of l.bytes).buffers (length l.answers)) []
+
+-- what happened to the machine: a buffer was executed with this outcome, or power was cycled
+pub data Event : Type 0 where
+  Executed : (happening : Happening) (outcome : Outcome) → Event
+  PowerCycled : Event
+
+-- the events of a call: an answered turn executed the connection's buffer that was due
+abbrev pub executed : Option Life → Host → Outcome → List Event
+executed None host outcome = []
+executed (Some l) host outcome = Executed (given (buffer_due l) host) outcome ∷ []
+
+abbrev pub events_of : List (Option Life) → Call → List Event
+events_of lives (Turning connection host (Ok (Answer outcome))) =
+    executed (at_place lives (number_of connection)) host outcome
+events_of lives PowerCycling = PowerCycled ∷ []
+events_of lives call = []
+
+-- those of a schedule, in order
+abbrev pub events_in : List (Option Life) → List Call → List Event
+events_in lives [] = []
+events_in lives (call ∷ calls) = events_of lives call ++ events_in (lives_after lives call) calls
+
+-- ---- the law
+
+-- An event leads from one record to the next.
+abbrev pub Leads : Bool → Record → Event → Record → Type 0
+Leads can old (Executed happening outcome) new = Executes can old happening (outcome_step new outcome)
+Leads can old PowerCycled new = new ≡ cycled old
+
+abbrev pub happening_of : Event → Happening
+happening_of (Executed happening outcome) = happening
+happening_of PowerCycled = Cycled
+
+-- A connection's buffers were executed in order, one an answer, as far as the answers go, and what
+-- it holds is what is left of its bytes behind them.
+abbrev pub IsServed : Option Stream → Option Life → Type 0
+IsServed None None = Unit {0}
+IsServed (Some s) (Some l) =
+    (done : List (List ℕ)) × (length done ≡ length l.answers) × (cut_of l.bytes ≡ cut_with done s)
+IsServed None (Some l) = ⊥
+IsServed (Some s) None = ⊥
+
+-- After every schedule of calls on a new mux the machine is where the schedule's events lead, and
+-- each connection is served as far as it was answered.
+abbrev pub SchedulesAreServed : Type 0
+SchedulesAreServed = (can : Bool) (r : Record) (calls : List Call) (new : Wire)
+    → Schedules can (new_wire r) calls new
+    → FoldsTo (Leads can) r (events_in (free 8) calls) new.machine
+    × ((number : ℕ)
+    → IsServed (at_place new.streams number) (at_place (lives_behind (free 8) calls) number))
+
+-- Where no memory can be refused, this is where the run of the events leads.
+abbrev pub SchedulesAreRuns : Type 0
+SchedulesAreRuns = (r : Record) (calls : List Call) (new : Wire)
+    → Schedules false (new_wire r) calls new
+    → new.machine ≡ after_all r (map happening_of (events_in (free 8) calls))

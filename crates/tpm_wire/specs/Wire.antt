@@ -1,0 +1,101 @@
+-- A machine and the connections to it, and what each call does to them.
+use Rattle.std.specs.Prelude.{◌≡◌, ℕ, Bool, List, length, take, slice_set, if◌then◌else◌}
+use Rattle.std.specs.Prelude.{Option, Some, None, Result, Ok, Err}
+use Rattle.tpm_types.specs.Locality.{locality_number}
+use Rattle.tpm_places.specs.Places.{at_place, free, lowest_free}
+use Rattle.tpm_record.specs.Record.{Record}
+use Rattle.tpm_machine_step.specs.Events.{Happening, Given}
+use Rattle.tpm_machine_step.specs.Execution.{Executes}
+use Rattle.tpm_machine_step.specs.Step.{outcome_step}
+use Rattle.tpm_machine.specs.State.{state_of}
+use Rattle.tpm_wire.specs.Number.{number_of}
+use Rattle.tpm_wire.specs.Stream.{Cut, Stream, fed, fitting, next_of, opened}
+use Rattle.tpm_wire.specs.declared.fault.Full.{Full}
+use Rattle.tpm_wire.specs.declared.fault.NoConnection.{NoConnection}
+use Rattle.tpm_wire.specs.declared.host.Host.{Host}
+use Rattle.tpm_wire.specs.declared.mux.Mux.{Mux}
+use Rattle.tpm_wire.specs.declared.number.ConnectionNumber.{ConnectionNumber}
+use Rattle.tpm_wire.specs.declared.turn.Turn.{Turn}
+use Rattle.tpm_wire.specs.declared.turn.Turn.TheVariants.{Wants, Answer, Ended}
+
+-- the machine's record, and for each of eight numbers the stream of the connection that is open
+-- under it, if one is
+pub record Wire : Type 0 where
+  pub machine : Record
+  pub streams : List (Option Stream)
+
+-- by the record of the machine's keep
+abbrev pub wire_of : {K S O P N : Type 0} → (K → Record) → Mux K S O P N → Wire
+wire_of record_of mux = record {
+  machine = state_of record_of mux.machine;
+  streams = mux.connections;
+}
+
+-- no connection is open
+abbrev pub new_wire : Record → Wire
+new_wire r = record { machine = r; streams = free 8 }
+
+-- with this stream, or none, under a number
+abbrev pub with_stream : Wire → ℕ → Option Stream → Wire
+with_stream w number stream = record w { streams = slice_set w.streams number stream }
+
+-- A connection was opened under the lowest free number, or all eight are open.
+abbrev pub Opens : Wire → Result ConnectionNumber Full → Wire → Type 0
+Opens old (Ok connection) new =
+    (lowest_free old.streams ≡ Some (number_of connection))
+    × (new ≡ with_stream old (number_of connection) (Some opened))
+Opens old (Err full) new = (lowest_free old.streams ≡ None) × (new ≡ old)
+
+-- No connection is open under the number, and nothing changed.
+abbrev pub Refuses : {X : Type 0} → Wire → Result X NoConnection → Wire → Type 0
+Refuses old (Ok x) new = ⊥
+Refuses old (Err e) new = new ≡ old
+
+-- The stream took as many bytes of a piece as fit, and it was told how many.
+abbrev pub FeedsAt : Option Stream → Wire → ℕ → List ℕ → Result ℕ NoConnection → Wire → Type 0
+FeedsAt None old number piece result new = Refuses old result new
+FeedsAt (Some s) old number piece result new =
+    (result ≡ Ok (fitting s (length piece)))
+    × (new ≡ with_stream old number (Some (fed s (take (fitting s (length piece)) piece))))
+
+abbrev pub Feeds : Wire → ℕ → List ℕ → Result ℕ NoConnection → Wire → Type 0
+Feeds old number piece result new =
+    FeedsAt (at_place old.streams number) old number piece result new
+
+-- the event of a buffer, with what the host says of it
+abbrev pub given : List ℕ → Host → Happening
+given buffer host = Given buffer (locality_number host.locality) host.elapsed_ms host.random
+
+-- No buffer is whole, and nothing changed.
+abbrev pub Waits : Stream → Wire → Result Turn NoConnection → Wire → Type 0
+Waits s old result new = (result ≡ Ok (if s.ended then Ended else Wants)) × (new ≡ old)
+
+-- The buffer that was cut was executed with what the host says, and the stream behind it is left;
+-- can says whether memory can be refused.
+abbrev pub Answers : Bool → Cut → Wire → ℕ → Host → Result Turn NoConnection → Wire → Type 0
+Answers can c old number host (Ok (Answer outcome)) new =
+    Executes can old.machine (given c.buffer host) (outcome_step new.machine outcome)
+    × (new.streams ≡ slice_set old.streams number (Some c.after))
+Answers can c old number host result new = ⊥
+
+-- The next buffer was executed, if one is whole.
+abbrev pub TurnsBy : Bool → Option Cut → Stream → Wire → ℕ → Host → Result Turn NoConnection → Wire → Type 0
+TurnsBy can None s old number host result new = Waits s old result new
+TurnsBy can (Some c) s old number host result new = Answers can c old number host result new
+
+abbrev pub TurnsAt : Bool → Option Stream → Wire → ℕ → Host → Result Turn NoConnection → Wire → Type 0
+TurnsAt can None old number host result new = Refuses old result new
+TurnsAt can (Some s) old number host result new =
+    TurnsBy can (next_of s) s old number host result new
+
+abbrev pub Turns : Bool → Wire → ℕ → Host → Result Turn NoConnection → Wire → Type 0
+Turns can old number host result new =
+    TurnsAt can (at_place old.streams number) old number host result new
+
+-- The connection was closed.
+abbrev pub ClosesAt : Option Stream → Wire → ℕ → Result (Unit {0}) NoConnection → Wire → Type 0
+ClosesAt None old number result new = Refuses old result new
+ClosesAt (Some s) old number result new = (result ≡ Ok tt) × (new ≡ with_stream old number None)
+
+abbrev pub Closes : Wire → ℕ → Result (Unit {0}) NoConnection → Wire → Type 0
+Closes old number result new = ClosesAt (at_place old.streams number) old number result new

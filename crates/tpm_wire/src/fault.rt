@@ -1,0 +1,28 @@
+/// Eight connections are open, and there cannot be one more.
+#[derive(Clone, Copy, Debug, PartialEq, Eq)]
+pub struct Full;
+
+/// No connection is open under the number.
+#[derive(Clone, Copy, Debug, PartialEq, Eq)]
+pub struct NoConnection;
+
+/// The host has no random bytes or no time to give.
+#[derive(Clone, Copy, Debug, PartialEq, Eq)]
+pub struct HostFault;
+
+/// A reader or a writer failed.
+#[derive(Clone, Copy, Debug, PartialEq, Eq)]
+pub(crate) struct Failed;
+
+/// Why a connection was not served to its end.
+#[derive(Clone, Copy, Debug, PartialEq, Eq)]
+pub enum ServeFault {
+    /// Eight connections are open.
+    Full,
+    /// The reader failed, or gave bytes in as many reads as one connection may have.
+    Read,
+    /// The writer failed; the command whose response was to be written has been executed.
+    Write,
+    /// The host answered a fault; the command that it was asked for has not been executed.
+    Host,
+}

@@ -1,0 +1,10 @@
+use tpm_types::Locality;
+
+/// What the host says of a command: where it comes from, the milliseconds since the command before
+/// it, and the random bytes that it may draw.
+#[derive(Clone, Copy)]
+pub struct Host {
+    pub locality: Locality,
+    pub elapsed_ms: u32,
+    pub random: [u8; 256],
+}

@@ -1,0 +1,167 @@
+ghost use Rattle.std.specs.Prelude.{◌≡◌, ◌<◌, ◌≤◌, IfSome, None, if◌then◌else◌, length, take};
+ghost use Rattle.tpm_machine.specs.State.{state_of};
+ghost use Rattle.tpm_machine_step.specs.Execution.{Executes};
+ghost use Rattle.tpm_machine_step.specs.Step.{outcome_step};
+ghost use Rattle.tpm_places.specs.Places.{lowest_free};
+ghost use Rattle.tpm_record.specs.Cycle.{cycled};
+ghost use Rattle.tpm_wire.specs.Number.{number_of};
+ghost use Rattle.tpm_wire.specs.Stream.{cut_at};
+ghost use Rattle.tpm_wire.specs.Wire.{Closes, Feeds, Opens, Turns, given, new_wire, wire_of};
+ghost use Rattle.tpm_wire.specs.declared.turn.Turn.TheVariants.{Ended, Wants};
+
+use crate::connection::Connection;
+use crate::fault::{Full, NoConnection};
+use crate::front::Front;
+use crate::host::Host;
+use crate::number::ConnectionNumber;
+use crate::turn::Turn;
+use tpm_machine::Machine;
+use tpm_machine_step::{Event, Outcome};
+use tpm_record::Keep;
+
+/// How many connections can be open.
+const CONNECTIONS: usize = 8;
+
+/// A machine, and up to eight connections to it. What happens to the machine is what its
+/// connections' turns execute, and power cycles.
+#[derive(Drop)]
+pub struct Mux<K: Keep> {
+    pub(crate) machine: Machine<K>,
+    pub(crate) connections: [Option<Connection>; CONNECTIONS],
+}
+
+impl<K: Keep> Mux<K> {
+    /// A machine without connections.
+    pub fn new(machine: Machine<K>) -> Mux<K>
+        ensures { wire_of K.record_of result ≡ new_wire (state_of K.record_of machine) }
+    {
+        Mux {
+            machine,
+            connections: [None, None, None, None, None, None, None, None],
+        }
+    }
+
+    /// The machine alone; the connections are gone.
+    pub fn into_machine(self) -> Machine<K>
+        ensures { state_of K.record_of result ≡ (wire_of K.record_of self).machine }
+    {
+        self.machine
+    }
+
+    /// The machine, so that it can be saved as it is.
+    pub fn machine(&self) -> &Machine<K>
+        ensures { state_of K.record_of result.now ≡ (wire_of K.record_of self.now).machine }
+    {
+        &self.machine
+    }
+
+    /// Opens a connection under the lowest free number, without bytes.
+    pub fn open(&mut self) -> Result<ConnectionNumber, Full>
+        ensures { Opens (wire_of K.record_of self.old) result (wire_of K.record_of self.new) }
+    {
+        let Some(place) = free_place(&self.connections) else {
+            return Err(Full);
+        };
+        self.connections[place] = Some(Connection::new());
+        Ok(ConnectionNumber::of(place))
+    }
+
+    /// Takes as many bytes of the piece as the connection has room for, and says how many.
+    pub fn feed(
+        &mut self,
+        connection: ConnectionNumber,
+        piece: &[u8],
+    ) -> Result<usize, NoConnection>
+        ensures { Feeds (wire_of K.record_of self.old) (number_of connection) piece.now
+            result (wire_of K.record_of self.new) }
+    {
+        match &mut self.connections[connection.place()] {
+            Some(connection) => Ok(connection.feed(piece)),
+            None => Err(NoConnection),
+        }
+    }
+
+    /// Executes the connection's next buffer with what the host says, if that is whole, and no
+    /// other.
+    pub fn turn(&mut self, connection: ConnectionNumber, host: Host) -> Result<Turn, NoConnection>
+        ensures { Turns K.can_refuse (wire_of K.record_of self.old) (number_of connection) host
+            result (wire_of K.record_of self.new) }
+    {
+        let place = connection.place();
+        let front = match &self.connections[place] {
+            None => return Err(NoConnection),
+            Some(connection) => match connection.front() {
+                None => return Ok(waiting(connection)),
+                Some(front) => front,
+            },
+        };
+        match &mut self.connections[place] {
+            None => Err(NoConnection),
+            Some(connection) => {
+                let mut outcome = Outcome::empty();
+                execute_front(&mut self.machine, connection, front, host, &mut outcome);
+                Ok(Turn::Answer(outcome))
+            }
+        }
+    }
+
+    /// Power goes off and on again; the connections keep their bytes.
+    pub fn power_cycle(&mut self)
+        ensures { wire_of K.record_of self.new ≡ record (wire_of K.record_of self.old)
+            { machine = cycled (wire_of K.record_of self.old).machine } }
+    {
+        let _ = self.machine.execute(&Event::PowerCycle);
+    }
+
+    /// Closes a connection; bytes that were not executed are lost.
+    pub fn close(&mut self, connection: ConnectionNumber) -> Result<(), NoConnection>
+        ensures { Closes (wire_of K.record_of self.old) (number_of connection)
+            result (wire_of K.record_of self.new) }
+    {
+        let place = connection.place();
+        if self.connections[place].is_none() {
+            return Err(NoConnection);
+        }
+        self.connections[place] = None;
+        Ok(())
+    }
+}
+
+/// The lowest place where no connection is open.
+pub(crate) fn free_place(places: &[Option<Connection>]) -> Option<usize>
+    ensures value { result ≡ lowest_free places.now }
+    ensures within { IfSome result (λ place. place < length places.now) }
+{
+    places.iter().position(|place| place.is_none())
+}
+
+/// What a turn gives where no buffer is whole.
+fn waiting(connection: &Connection) -> Turn
+    ensures { result ≡ (if connection.now.ended then Ended else Wants) }
+{
+    if connection.has_ended() {
+        Turn::Ended
+    } else {
+        Turn::Wants
+    }
+}
+
+/// Executes the buffer in front of a connection, where it lies, and lets it go.
+pub(crate) fn execute_front<K: Keep>(
+    machine: &mut Machine<K>,
+    connection: &mut Connection,
+    front: Front,
+    host: Host,
+    outcome: &mut Outcome,
+)
+    requires { front.size ≤ length connection.old.taken }
+    ensures executes { Executes K.can_refuse (state_of K.record_of machine.old)
+        (given (take front.size connection.old.taken) host)
+        (outcome_step (state_of K.record_of machine.new) outcome.new) }
+    ensures after { connection.new ≡ (cut_at front.size front.last connection.old.taken).after }
+{
+    let buffer = &connection.bytes()[..front.size];
+    let event = Event::of_command(buffer, host.locality, host.elapsed_ms, host.random);
+    machine.execute_into(&event, outcome);
+    connection.pass(front);
+}

@@ -1,0 +1,29 @@
+ghost use Rattle.std.specs.Prelude.{◌≡◌, ◌<◌};
+
+/// The number of a connection, 0 to 7. A number whose connection was closed names none until a
+/// connection is opened under it again.
+#[derive(Clone, Copy, Debug, PartialEq, Eq)]
+pub struct ConnectionNumber {
+    number: usize,
+    ghost in_range: { number < 8 },
+}
+
+impl ConnectionNumber {
+    ghost use Rattle.tpm_wire.specs.Number.{number_of};
+
+    /// That of a place.
+    pub(crate) fn of(place: usize) -> ConnectionNumber
+        requires { place < 8 }
+        ensures { number_of result ≡ place }
+    {
+        ConnectionNumber { number: place }
+    }
+
+    /// Its place.
+    pub(crate) fn place(self) -> usize
+        ensures value { result ≡ number_of self }
+        ensures small { result < 8 }
+    {
+        self.number
+    }
+}

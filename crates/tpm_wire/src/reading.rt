@@ -1,0 +1,28 @@
+ghost use Rattle.std.specs.Prelude.{◌≡◌, length};
+ghost use Rattle.tpm_bytes.specs.Tap.{device_of, marks_of};
+ghost use Rattle.tpm_wire.specs.Serve.{Fills};
+
+use crate::connection::{BUFFER_LIMIT, Connection};
+use crate::fault::Failed;
+use std::io::Read;
+use tpm_bytes::Tap;
+
+/// Reads once, as many bytes as the connection has room for at most, and says how many those were.
+/// They pass through `piece`, which a caller makes once for all reads.
+pub(crate) fn fill<R: Read>(
+    reader: &mut Tap<R>,
+    connection: &mut Connection,
+    piece: &mut [u8; BUFFER_LIMIT],
+) -> Result<usize, Failed>
+    ensures { Fills (R.remaining (device_of reader.old)) (R.remaining (device_of reader.new))
+        (marks_of reader.old) (marks_of reader.new) connection.old result connection.new }
+{
+    let room = &mut piece[..connection.room()];
+    match reader.read(room) {
+        Ok(count) => {
+            connection.feed(&room[..count]);
+            Ok(count)
+        }
+        Err(_) => Err(Failed),
+    }
+}
