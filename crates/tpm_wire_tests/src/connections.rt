@@ -1,0 +1,100 @@
+//! Connections that take turns.
+
+use super::device::{STARTUP, host, mux};
+use std::process::Abort;
+use std::test::Fail;
+use tpm_record::SlotKeep;
+use tpm_wire::{ConnectionNumber, Mux, Turn};
+
+/// TPM2_Startup, and TPM2_GetRandom of one and of two bytes.
+const FIRST: &[u8] = &[
+    0x80, 1, 0, 0, 0, 12, 0, 0, 1, 0x44, 0, 0, 0x80, 1, 0, 0, 0, 12, 0, 0, 1, 0x7b, 0, 1, 0x80, 1, 0,
+    0, 0, 12, 0, 0, 1, 0x7b, 0, 2,
+];
+
+/// TPM2_GetRandom of three, four and five bytes.
+const SECOND: &[u8] = &[
+    0x80, 1, 0, 0, 0, 12, 0, 0, 1, 0x7b, 0, 3, 0x80, 1, 0, 0, 0, 12, 0, 0, 1, 0x7b, 0, 4, 0x80, 1, 0,
+    0, 0, 12, 0, 0, 1, 0x7b, 0, 5,
+];
+
+/// TPM_RC_COMMAND_SIZE.
+const WRONG_SIZE: &[u8] = &[0x80, 1, 0, 0, 0, 10, 0, 0, 1, 0x42];
+
+/// Feeds a byte, and tells how long the response is, if a turn then answers.
+fn answer<R: Abort>(
+    rt: &R,
+    mux: &mut Mux<SlotKeep>,
+    connection: ConnectionNumber,
+    byte: u8,
+) -> Result<usize, Fail> {
+    assert_eq!(rt; mux.feed(connection, &[byte]), Ok(1));
+    match mux.turn(connection, host())? {
+        Turn::Answer(outcome) => Ok(outcome.response.len()),
+        Turn::Wants => Ok(0),
+        Turn::Ended => Ok(1),
+    }
+}
+
+#[test]
+fn two_connections_are_fed_a_byte_in_turn(rt: HostRuntime) -> Result<(), Fail> {
+    let mut mux = mux(rt.alloc())?;
+    let first = mux.open()?;
+    let second = mux.open()?;
+    let mut answers = Vec::new(rt.alloc());
+    for (one, other) in FIRST.iter().zip(SECOND) {
+        let size = answer(&rt, &mut mux, first, *one)?;
+        let other_size = answer(&rt, &mut mux, second, *other)?;
+        if size != 0 || other_size != 0 {
+            answers.push(size)?;
+            answers.push(other_size)?;
+        }
+    }
+    assert!(rt; answers.as_slice() == [10, 15, 13, 16, 14, 17].as_slice());
+    Ok(())
+}
+
+#[test]
+fn a_size_that_no_command_has_ends_a_connection(rt: HostRuntime) -> Result<(), Fail> {
+    let mut mux = mux(rt.alloc())?;
+    for size in [[0, 0, 0, 5], [0, 0, 0, 9], [0, 0, 0x10, 1]] {
+        let connection = mux.open()?;
+        assert_eq!(rt; mux.feed(connection, &[0x80, 1]), Ok(2));
+        assert_eq!(rt; mux.feed(connection, &size), Ok(4));
+        let Ok(Turn::Answer(outcome)) = mux.turn(connection, host()) else {
+            return Err(Fail::new("no answer"));
+        };
+        assert!(rt; outcome.response.as_slice() == WRONG_SIZE);
+        assert_eq!(rt; mux.feed(connection, STARTUP), Ok(12));
+        assert!(rt; matches!(mux.turn(connection, host()), Ok(Turn::Ended)));
+        assert_eq!(rt; mux.close(connection), Ok(()));
+    }
+    Ok(())
+}
+
+#[test]
+fn a_ninth_connection_is_refused(rt: HostRuntime) -> Result<(), Fail> {
+    let mut mux = mux(rt.alloc())?;
+    let first = mux.open()?;
+    for _ in 0..7 {
+        mux.open()?;
+    }
+    assert!(rt; mux.open().is_err());
+    assert_eq!(rt; mux.close(first), Ok(()));
+    assert!(rt; mux.turn(first, host()).is_err());
+    assert_eq!(rt; mux.open(), Ok(first));
+    Ok(())
+}
+
+#[test]
+fn a_power_cycle_keeps_bytes(rt: HostRuntime) -> Result<(), Fail> {
+    let mut mux = mux(rt.alloc())?;
+    let connection = mux.open()?;
+    assert_eq!(rt; mux.feed(connection, STARTUP), Ok(12));
+    mux.power_cycle();
+    assert!(rt; matches!(mux.turn(connection, host()), Ok(Turn::Answer(_))));
+    let _keep = mux.machine().keep();
+    let machine = mux.into_machine();
+    assert!(rt; Mux::new(machine).close(connection).is_err());
+    Ok(())
+}

@@ -1,0 +1,11 @@
+#![tactic(auto)]
+
+//! What no clause says of connections: that calls succeed where they can, and readers, writers and
+//! hosts that fail.
+
+#[cfg(test)]
+mod connections;
+#[cfg(test)]
+mod device;
+#[cfg(test)]
+mod serving;
