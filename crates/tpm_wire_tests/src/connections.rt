@@ -8,14 +8,14 @@ use tpm_wire::{ConnectionNumber, Mux, Turn};
 
 /// TPM2_Startup, and TPM2_GetRandom of one and of two bytes.
 const FIRST: &[u8] = &[
-    0x80, 1, 0, 0, 0, 12, 0, 0, 1, 0x44, 0, 0, 0x80, 1, 0, 0, 0, 12, 0, 0, 1, 0x7b, 0, 1, 0x80, 1, 0,
-    0, 0, 12, 0, 0, 1, 0x7b, 0, 2,
+    0x80, 1, 0, 0, 0, 12, 0, 0, 1, 0x44, 0, 0, 0x80, 1, 0, 0, 0, 12, 0, 0, 1, 0x7b, 0, 1, 0x80, 1,
+    0, 0, 0, 12, 0, 0, 1, 0x7b, 0, 2,
 ];
 
 /// TPM2_GetRandom of three, four and five bytes.
 const SECOND: &[u8] = &[
-    0x80, 1, 0, 0, 0, 12, 0, 0, 1, 0x7b, 0, 3, 0x80, 1, 0, 0, 0, 12, 0, 0, 1, 0x7b, 0, 4, 0x80, 1, 0,
-    0, 0, 12, 0, 0, 1, 0x7b, 0, 5,
+    0x80, 1, 0, 0, 0, 12, 0, 0, 1, 0x7b, 0, 3, 0x80, 1, 0, 0, 0, 12, 0, 0, 1, 0x7b, 0, 4, 0x80, 1,
+    0, 0, 0, 12, 0, 0, 1, 0x7b, 0, 5,
 ];
 
 /// TPM_RC_COMMAND_SIZE.
