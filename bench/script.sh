@@ -1,9 +1,12 @@
 #!/bin/sh
-# Prints the script that run.sh and shares.sh measure: a Startup, and then as many GetRandom lines
-# for 32 bytes as the one argument says.
+# Prints the script that run.sh, shares.sh and lines.sh measure: a Startup, and then as many
+# GetRandom lines for 32 bytes as the first argument says. They are in hex, or, where the second
+# argument is `do`, in words.
 set -eu
 
-awk -v lines="$1" 'BEGIN {
-    print "cmd 80010000000c000001440000"
-    for (i = 0; i < lines; i++) print "cmd 80010000000c0000017b0020"
+awk -v lines="$1" -v kind="${2:-cmd}" 'BEGIN {
+    startup = kind == "do" ? "do Startup 0" : "cmd 80010000000c000001440000"
+    random = kind == "do" ? "do GetRandom 32" : "cmd 80010000000c0000017b0020"
+    print startup
+    for (i = 0; i < lines; i++) print random
 }'

@@ -1,0 +1,50 @@
+#!/bin/sh
+# Measures GetRandom lines in words beside the same commands in hex: the time of a million of each,
+# the fastest of ten runs in turn; the instructions of a line; and the allocations, which a longer
+# script must not add to. Needs GNU time, valgrind, and rt where the program is not built yet. Not
+# part of the gate.
+set -eu
+
+top=$(CDPATH='' cd "$(dirname "$0")/.." && pwd -P)
+program=$top/crates/tpmsim/out/tpmsim
+folder=$(mktemp -d)
+trap 'rm -rf "$folder"' EXIT
+
+# seconds KIND: how long a run of the script of this kind takes.
+seconds() {
+    /usr/bin/time -f '%e' -o "$folder/figure" "$program" run "$folder/$1" >"$folder/answers.$1"
+    cat "$folder/figure"
+}
+
+# instructions KIND LINES: what a script of so many lines takes.
+instructions() {
+    "$top/bench/script.sh" "$2" "$1" >"$folder/script"
+    valgrind --tool=callgrind --callgrind-out-file=/dev/null \
+        "$program" run "$folder/script" 2>&1 >/dev/null | sed -n 's/.*Collected : \([0-9]*\).*/\1/p'
+}
+
+# allocations KIND LINES: how many of them a script of so many lines takes.
+allocations() {
+    "$top/bench/script.sh" "$2" "$1" >"$folder/script"
+    valgrind "$program" run "$folder/script" 2>&1 >/dev/null |
+        sed -n 's/.*total heap usage: \([0-9,]*\) allocs.*/\1/p'
+}
+
+"$top/tpmsim" run /dev/null # builds the program where it is not built
+for kind in cmd do; do
+    "$top/bench/script.sh" 1000000 "$kind" >"$folder/$kind"
+    : >"$folder/seconds.$kind"
+done
+for _ in 1 2 3 4 5 6 7 8 9 10; do
+    for kind in cmd do; do
+        seconds "$kind" >>"$folder/seconds.$kind"
+    done
+done
+cmp "$folder/answers.cmd" "$folder/answers.do"
+
+for kind in cmd do; do
+    least=$(sort -n "$folder/seconds.$kind" | head -n 1)
+    each=$((($(instructions "$kind" 3000) - $(instructions "$kind" 1000)) / 2000))
+    echo "$kind: $least s for 1,000,000 GetRandom lines, $each instructions a line," \
+        "$(allocations "$kind" 10) allocations of 10 lines, $(allocations "$kind" 1000) of 1,000"
+done
