@@ -6,7 +6,9 @@ use Rattle.std.specs.declared.io.ErrorKind.TheVariants.{OutOfMemory}
 use Rattle.clap.specs.declared.error.kind.ErrorKind as clap
 use Rattle.clap.specs.declared.error.kind.ErrorKind.TheVariants as refused
 use Rattle.tpmsim.specs.declared.fault.Fault.{Fault}
-use Rattle.tpmsim.specs.declared.fault.Fault.TheVariants.{Usage, ScriptLine, Asm, File, Memory}
+use Rattle.tpmsim.specs.declared.fault.Fault.TheVariants.{Usage, ScriptLine, Asm, Image, File, Socket, Entropy, Memory}
+use Rattle.tpm_image.specs.declared.fault.ImageFault.{ImageFault}
+use Rattle.tpm_image.specs.declared.fault.ImageFault.TheVariants as image
 use Rattle.tpm_text.specs.declared.fault.AsmFault.{AsmFault}
 use Rattle.tpm_text.specs.declared.fault.AsmFault.TheVariants as line
 use Rattle.tpmsim_script.specs.declared.fault.ScriptFault.{ScriptFault}
@@ -35,13 +37,21 @@ abbrev pub fault_of_line : AsmFault → Fault
 fault_of_line line.NoMemory = Memory
 fault_of_line fault = Asm fault
 
--- the exit status: 2 where what was asked for makes no sense, 3 where a file, a stream or memory
--- refused it
+-- the fault of a file that was not opened as an image: memory ran out, or it is none
+abbrev pub fault_of_image : ImageFault → Fault
+fault_of_image image.NoMemory = Memory
+fault_of_image fault = Image fault
+
+-- the exit status: 2 where what was asked for makes no sense, 3 where a file, a socket, a stream or
+-- memory refused it, 4 where an image is none
 abbrev pub status_of : Fault → ℕ
 status_of Usage = 2
 status_of (ScriptLine number) = 2
 status_of (Asm fault) = 2
+status_of (Image fault) = 4
 status_of File = 3
+status_of Socket = 3
+status_of Entropy = 3
 status_of Memory = 3
 
 -- the name of a line's fault, with the column of the token at fault
@@ -53,10 +63,23 @@ asm_text (line.Range column) = codes "Range " ++ decimal column
 asm_text line.TooLong = codes "TooLong"
 asm_text line.NoMemory = codes "NoMemory"
 
+-- the name of an image's fault
+abbrev pub image_text : ImageFault → List ℕ
+image_text image.Short = codes "Short"
+image_text image.Magic = codes "Magic"
+image_text image.Version = codes "Version"
+image_text image.Length = codes "Length"
+image_text image.Digest = codes "Digest"
+image_text image.Body = codes "Body"
+image_text image.NoMemory = codes "NoMemory"
+
 -- what follows the program's name on standard error
 abbrev pub fault_text : Fault → List ℕ
 fault_text Usage = codes "usage"
 fault_text (ScriptLine number) = codes "script line " ++ decimal number
 fault_text (Asm fault) = codes "asm " ++ asm_text fault
+fault_text (Image fault) = codes "image " ++ image_text fault
 fault_text File = codes "file"
+fault_text Socket = codes "socket"
+fault_text Entropy = codes "entropy"
 fault_text Memory = codes "memory"

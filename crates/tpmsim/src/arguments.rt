@@ -1,6 +1,7 @@
 ghost use Rattle.std.specs.Prelude.{◌≡◌, ◌⊎◌, IfErr};
 
 use crate::fault::Fault;
+use crate::service::{Service, locality, number};
 use clap::{Arg, ArgAction, ArgMatches, Command};
 use std::alloc::{AllocError, Global};
 use std::convert::AsStr;
@@ -13,6 +14,8 @@ pub enum Arguments<'a> {
     Run { script: &'a str, trace: bool },
     /// To print the buffer of the command that this line spells.
     Assemble { line: &'a str },
+    /// To serve a device on a socket.
+    Serve(Service<'a>),
     /// To print its help or its version, which clap tells in place of matches.
     Tell(clap::Error),
 }
@@ -40,18 +43,30 @@ impl<'a> Arguments<'a> {
             "asm" => Some(Arguments::Assemble {
                 line: options.get_str("line")?,
             }),
+            "serve" => Some(Arguments::Serve(service_of(options)?)),
             _ => None,
         }
     }
 }
 
+fn service_of<'a>(options: &ArgMatches<'a>) -> Option<Service<'a>> {
+    Some(Service {
+        socket: options.get_str("socket")?,
+        image: options.get_str("image")?,
+        entropy: options.get_str("entropy")?,
+        locality: locality(options.get_str("locality")?)?,
+        connections: number(options.get_str("connections")?)?,
+    })
+}
+
 fn command<'a>(alloc: Global) -> Result<Command<'a>, AllocError> {
     Command::new(alloc, "tpmsim")
-        .about("A TPM 2.0 in software: runs scripts of commands on a new device")
+        .about("A TPM 2.0 in software: serves a device, and runs scripts of commands")
         .version("0.1.0")
         .subcommand_required(true)
         .subcommand(run_command(alloc)?)?
-        .subcommand(asm_command(alloc)?)
+        .subcommand(asm_command(alloc)?)?
+        .subcommand(serve_command(alloc)?)
 }
 
 fn run_command<'a>(alloc: Global) -> Result<Command<'a>, AllocError> {
@@ -81,4 +96,53 @@ fn asm_command<'a>(alloc: Global) -> Result<Command<'a>, AllocError> {
         .about("Prints the buffer of a command in hex")
         .after_help("Example: tpmsim asm 'PCR_Read sha256:0,4'")
         .arg(line)
+}
+
+fn serve_command<'a>(alloc: Global) -> Result<Command<'a>, AllocError> {
+    Command::new(alloc, "serve")
+        .about("Serves a device on a Unix socket, and keeps its state in an image")
+        .after_help(
+            "Example: tpmsim serve --socket tpm.sock --image tpm.image --entropy /dev/urandom \
+             --locality 0 --connections 1",
+        )
+        .arg(service_option(
+            alloc,
+            "socket",
+            "PATH",
+            "The socket, which is made; one that was left there is replaced",
+        ))?
+        .arg(service_option(
+            alloc,
+            "image",
+            "FILE",
+            "What the device keeps without power; a new device where there is no such file",
+        ))?
+        .arg(service_option(
+            alloc,
+            "entropy",
+            "FILE",
+            "The random bytes, 256 for each command",
+        ))?
+        .arg(service_option(
+            alloc,
+            "locality",
+            "NUMBER",
+            "The locality of all commands, 0 to 4",
+        ))?
+        .arg(service_option(
+            alloc,
+            "connections",
+            "NUMBER",
+            "How many connections are served, one after another",
+        ))
+}
+
+/// An option of `serve` that has to be given.
+fn service_option<'a>(alloc: Global, name: &'a str, value: &'a str, help: &'a str) -> Arg<'a> {
+    Arg::new(alloc, name)
+        .long(name)
+        .value_name(value)
+        .required(true)
+        .action(ArgAction::Set)
+        .help(help)
 }

@@ -3,6 +3,8 @@ ghost use Rattle.std.specs.Prelude.{◌≡◌};
 use std::alloc::AllocError;
 use std::io::ErrorKind;
 use std::{fmt, io};
+use tpm_image::ImageFault;
+use tpm_record::NoMemory;
 use tpm_text::AsmFault;
 use tpmsim_script::ScriptFault;
 
@@ -15,8 +17,14 @@ pub enum Fault {
     ScriptLine(u32),
     /// The line to be assembled spells no command.
     Asm(AsmFault),
+    /// The file of the image holds none.
+    Image(ImageFault),
     /// A file, or standard input or output, could not be opened, read or written.
     File,
+    /// The socket could not be made, or could not take a connection.
+    Socket,
+    /// The file of random bytes could not be opened, or has no more of them.
+    Entropy,
     Memory,
 }
 
@@ -34,14 +42,15 @@ impl Fault {
         }
     }
 
-    /// The exit status: 2 where what was asked for makes no sense, 3 where a file, a stream or
-    /// memory refused it.
+    /// The exit status: 2 where what was asked for makes no sense, 3 where a file, a socket, a stream
+    /// or memory refused it, 4 where an image is none.
     pub fn status(self) -> u8
         ensures { result ≡ status_of self }
     {
         match self {
             Fault::Usage | Fault::ScriptLine(_) | Fault::Asm(_) => 2,
-            Fault::File | Fault::Memory => 3,
+            Fault::File | Fault::Socket | Fault::Entropy | Fault::Memory => 3,
+            Fault::Image(_) => 4,
         }
     }
 }
@@ -62,7 +71,16 @@ impl fmt::Display for Fault {
             Fault::Asm(AsmFault::Range { column }) => write!(f, "asm Range {column}"),
             Fault::Asm(AsmFault::TooLong) => write!(f, "asm TooLong"),
             Fault::Asm(AsmFault::NoMemory) => write!(f, "asm NoMemory"),
+            Fault::Image(ImageFault::Short) => write!(f, "image Short"),
+            Fault::Image(ImageFault::Magic) => write!(f, "image Magic"),
+            Fault::Image(ImageFault::Version) => write!(f, "image Version"),
+            Fault::Image(ImageFault::Length) => write!(f, "image Length"),
+            Fault::Image(ImageFault::Digest) => write!(f, "image Digest"),
+            Fault::Image(ImageFault::Body) => write!(f, "image Body"),
+            Fault::Image(ImageFault::NoMemory) => write!(f, "image NoMemory"),
             Fault::File => write!(f, "file"),
+            Fault::Socket => write!(f, "socket"),
+            Fault::Entropy => write!(f, "entropy"),
             Fault::Memory => write!(f, "memory"),
         }
     }
@@ -75,6 +93,29 @@ impl From<AllocError> for Fault {
 
     fn from(_error: AllocError) -> Fault {
         Fault::Memory
+    }
+}
+
+impl From<NoMemory> for Fault {
+    ghost use Rattle.tpmsim.specs.declared.fault.Fault.TheVariants.{Memory};
+
+    ghost from_gives = { λ _ fault. fault ≡ Memory };
+
+    fn from(_fault: NoMemory) -> Fault {
+        Fault::Memory
+    }
+}
+
+impl From<ImageFault> for Fault {
+    ghost use Rattle.tpmsim.specs.Fault.{fault_of_image};
+
+    ghost from_gives = { λ image_fault fault. fault ≡ fault_of_image image_fault };
+
+    fn from(fault: ImageFault) -> Fault {
+        match fault {
+            ImageFault::NoMemory => Fault::Memory,
+            fault => Fault::Image(fault),
+        }
     }
 }
 

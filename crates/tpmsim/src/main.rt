@@ -1,16 +1,22 @@
 #![tactic(auto)]
 
-//! A TPM 2.0 simulator that runs scripts of commands, `tpmsim run SCRIPT`, and assembles commands
-//! from words, `tpmsim asm LINE`.
+//! A TPM 2.0 simulator that runs scripts of commands, `tpmsim run SCRIPT`, assembles commands from
+//! words, `tpmsim asm LINE`, and serves a device on a socket, `tpmsim serve`.
 //!
 //! Standard output holds the responses in hex, one a line, with `--trace` behind their traces; or
 //! the buffer in hex; or a help. A run that fails says why in one line on standard error.
 
 mod arguments;
 mod fault;
+mod image_file;
+mod service;
+mod serving;
+mod socket;
+mod source;
 
 use arguments::Arguments;
 use fault::Fault;
+use serving::serve_device;
 use std::process::ExitCode;
 use std::{env, fs};
 use tpm_record::SlotKeep;
@@ -37,6 +43,7 @@ fn try_main(rt: &HostRuntime) -> Result<(), Fault> {
             let text = hex::encode(rt.alloc(), assemble(rt.alloc(), line)?)?;
             println!(rt; "{text}").map_err(|error| Fault::of_io(error, Fault::File))
         }
+        Arguments::Serve(service) => serve_device(rt, &service),
         Arguments::Tell(text) => {
             print!(rt; "{text}").map_err(|error| Fault::of_io(error, Fault::File))
         }
