@@ -1,0 +1,48 @@
+#!/bin/sh
+# Measures `tpmsim serve`: the time from its start with the image of a full device to its first
+# answer, its memory, a round trip of TPM2_GetRandom beside one of a bare loop in C that reads and
+# writes as many bytes, and how often it reads for a thousand commands that are sent at once. Needs
+# python3, a C compiler, strace, and rt where the program is not built yet. Not part of the gate.
+set -eu
+
+top=$(CDPATH='' cd "$(dirname "$0")/.." && pwd -P)
+program=$top/crates/tpmsim/out/tpmsim
+folder=$(mktemp -d)
+trap 'rm -rf "$folder"' EXIT
+
+cat >"$folder/bare.c" <<'C'
+#include <string.h>
+#include <sys/socket.h>
+#include <sys/un.h>
+#include <unistd.h>
+
+int main(int count, char **words) {
+    struct sockaddr_un address = {.sun_family = AF_UNIX};
+    char command[4096], response[44] = {0};
+    int listener = socket(AF_UNIX, SOCK_STREAM, 0);
+    if (count != 2 || listener < 0) return 1;
+    strncpy(address.sun_path, words[1], sizeof address.sun_path - 1);
+    if (bind(listener, (struct sockaddr *)&address, sizeof address) || listen(listener, 1)) return 1;
+    int connection = accept(listener, NULL, NULL);
+    for (;;) {
+        ssize_t size = read(connection, command, sizeof command);
+        if (size <= 0) return 0;
+        for (ssize_t at = 0; at + 12 <= size; at += 12)
+            if (write(connection, response, sizeof response) != sizeof response) return 1;
+    }
+}
+C
+cc -O2 -o "$folder/bare" "$folder/bare.c"
+"$top/tpmsim" run /dev/null # builds the program where it is not built
+python3 "$top/tests/outside/scripts/images.py" "$top/tests/full_device.tpm" | sed 's/.*: //' |
+    python3 -c 'import sys; sys.stdout.buffer.write(bytes.fromhex(sys.stdin.read()))' >"$folder/image"
+python3 "$top/bench/serving.py" "$program" "$folder/bare" "$folder/image"
+
+cd "$folder"
+strace -o calls -e trace=recvfrom "$program" serve --socket socket --image new \
+    --entropy /dev/zero --locality 0 --connections 1 &
+python3 "$top/tests/common/client.py" socket 65536 80010000000c000001440000 \
+    "$(awk 'BEGIN { for (i = 1; i < 1000; i++) printf "80010000000c0000017b0020" }')" >responses
+wait
+echo "a thousand commands at once: $(wc -l <responses) responses, in" \
+    "$(grep -c '^recvfrom' calls) reads"
