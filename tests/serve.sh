@@ -1,45 +1,8 @@
 # A device on a socket: how commands are cut from a stream, what stays between two runs, and how the
-# program ends. A client in Python sends the commands, and prints each response on a line.
-client=$(cd "$(dirname "$0")" && pwd -P)/common/client.py
-. "$(dirname "$0")/common/cases.sh"
-
-# bytes_of COUNT OCTAL: so many bytes of this value.
-bytes_of() {
-    head -c "$1" /dev/zero | tr '\0' "\\$2"
-}
-
-# The random bytes of the manufacture are zeros; those of the first command are ones, and so on.
-bytes_of 256 000 >entropy
-for octal in 001 002 003 004 005 006 007 010 011 012 013 014 015; do
-    bytes_of 256 "$octal" >>entropy
-done
-
-# begin CONNECTIONS: serves so many connections in the background.
-begin() {
-    rm -f "$room/output" "$room/error"
-    timeout 60 "$program" serve --socket socket --image image --entropy entropy --locality 0 \
-        --connections "$1" >"$room/output" 2>"$room/error" &
-}
-
-# talk LABEL SIZE HEX..: a connection that sends these bytes in pieces of a size.
-talk() {
-    echo "$1:"
-    shift
-    python3 "$client" socket "$@" | sed 's/^/    /'
-}
-
-# ended LABEL: how the program ended, and whether it left its socket.
-ended() {
-    status=0
-    wait "$!" || status=$?
-    report "$1" "$status"
-    [ ! -e socket ] || echo '    the socket is still there'
-}
-
-# words LINE: the buffer of a command in words.
-words() {
-    "$program" asm "$1"
-}
+# program ends.
+tests=$(cd "$(dirname "$0")" && pwd -P)
+. "$tests/common/cases.sh"
+. "$tests/common/served.sh"
 
 startup=$(words 'Startup 0')
 random=$(words 'GetRandom 4')

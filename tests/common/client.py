@@ -54,4 +54,5 @@ def main():
         print(response.hex())
 
 
-main()
+if __name__ == "__main__":
+    main()

@@ -7,7 +7,8 @@ use std::io::{ErrorKind, Read, Write};
 use std::process::Abort;
 use std::test::Fail;
 use tpm_bytes::Tap;
-use tpm_wire::{HostFault, ServeFault, serve};
+use tpm_record::SlotKeep;
+use tpm_wire::{HostFault, Mux, ServeFault, serve};
 
 /// TPM2_Startup twice, a size of five, and one TPM2_Startup more.
 const STREAM: &[u8] = &[
@@ -20,6 +21,15 @@ const RESPONSES: &[u8] = &[
     0x80, 1, 0, 0, 0, 10, 0, 0, 0, 0, 0x80, 1, 0, 0, 0, 10, 0, 0, 1, 0, 0x80, 1, 0, 0, 0, 10, 0, 0,
     1, 0x42,
 ];
+
+/// What fails while a connection is served.
+#[derive(Clone, Copy, PartialEq, Eq)]
+enum Failing {
+    Nothing,
+    Reader,
+    Writer,
+    Host,
+}
 
 /// Gives at most so many bytes a read, and then ends or fails.
 #[derive(Drop)]
@@ -42,13 +52,19 @@ impl Read for Pieces<'_> {
     }
 }
 
-/// Takes nothing.
+/// Takes all that is written, or nothing.
 #[derive(Drop)]
-struct Closed;
+struct Taken {
+    bytes: Vec<u8>,
+    fails: bool,
+}
 
-impl Write for Closed {
-    fn write(&mut self, _piece: &[u8]) -> io::Result<usize> {
-        Err(ErrorKind::BrokenPipe.into())
+impl Write for Taken {
+    fn write(&mut self, piece: &[u8]) -> io::Result<usize> {
+        if self.fails {
+            return Err(ErrorKind::BrokenPipe.into());
+        }
+        self.bytes.write(piece)
     }
 
     fn flush(&mut self) -> io::Result<()> {
@@ -59,74 +75,72 @@ impl Write for Closed {
 /// Serves what comes in pieces of a size, and tells how that ends and what was written.
 fn served(
     alloc: Global,
+    mux: &mut Mux<SlotKeep>,
     left: &[u8],
     size: usize,
-    fails: bool,
-) -> Result<(Result<u64, ServeFault>, Vec<u8>), Fail> {
-    let mut mux = mux(alloc)?;
+    failing: Failing,
+) -> (Result<u64, ServeFault>, Vec<u8>) {
+    let fails = failing == Failing::Reader;
     let mut reader = Tap::new(Pieces { left, size, fails });
-    let mut writer = Tap::new(Vec::new(alloc));
-    let mut ask = || Ok(host());
-    let ended = serve(&mut mux, &mut reader, &mut writer, &mut ask);
-    Ok((ended, writer.into_inner()))
+    let fails = failing == Failing::Writer;
+    let bytes = Vec::new(alloc);
+    let mut writer = Tap::new(Taken { bytes, fails });
+    let mut ask = || {
+        if failing == Failing::Host {
+            Err(HostFault)
+        } else {
+            Ok(host())
+        }
+    };
+    let ended = serve(mux, &mut reader, &mut writer, &mut ask);
+    (ended, writer.into_inner().bytes)
+}
+
+/// The same on a new device.
+fn served_anew(
+    alloc: Global,
+    left: &[u8],
+    size: usize,
+    failing: Failing,
+) -> Result<(Result<u64, ServeFault>, Vec<u8>), Fail> {
+    Ok(served(alloc, &mut mux(alloc)?, left, size, failing))
+}
+
+fn check<R: Abort>(rt: &R, ended: Result<u64, ServeFault>, wanted: Result<u64, ServeFault>) {
+    assert_eq!(rt; ended, wanted);
 }
 
 #[test]
 fn pieces_of_any_size_are_one_stream(rt: HostRuntime) -> Result<(), Fail> {
     for size in [1, 3, 4_096] {
-        let (ended, written) = served(rt.alloc(), STREAM, size, false)?;
-        assert_eq!(rt; ended, Ok(3), "pieces of {size}");
-        assert!(rt; written.as_slice() == RESPONSES, "pieces of {size}");
+        let (ended, written) = served_anew(rt.alloc(), STREAM, size, Failing::Nothing)?;
+        check(&rt, ended, Ok(3));
+        assert!(rt; written.as_slice() == RESPONSES);
     }
     Ok(())
 }
 
 #[test]
-fn half_a_buffer_is_dropped(rt: HostRuntime) -> Result<(), Fail> {
-    let mut bytes = Vec::new(rt.alloc());
-    for _ in 0..10 {
-        bytes.extend_from_slice(STARTUP)?;
+fn what_fails_on_the_way(rt: HostRuntime) -> Result<(), Fail> {
+    for (failing, fault, count) in [
+        (Failing::Reader, ServeFault::Read, 10),
+        (Failing::Writer, ServeFault::Write, 0),
+        (Failing::Host, ServeFault::Host, 0),
+    ] {
+        let (ended, written) = served_anew(rt.alloc(), &STREAM[..20], 4_096, failing)?;
+        check(&rt, ended, Err(fault));
+        assert!(rt; written.len() == count);
     }
-    bytes.extend_from_slice(&STARTUP[..7])?;
-    let (ended, written) = served(rt.alloc(), bytes.as_slice(), 4_096, false)?;
-    assert_eq!(rt; ended, Ok(10));
-    assert_eq!(rt; written.len(), 100);
     Ok(())
 }
 
 #[test]
-fn a_reader_that_fails(rt: HostRuntime) -> Result<(), Fail> {
-    let (ended, written) = served(rt.alloc(), &STREAM[..20], 4_096, true)?;
-    assert_eq!(rt; ended, Err(ServeFault::Read));
-    assert_eq!(rt; written.len(), 10);
-    Ok(())
-}
-
-#[test]
-fn a_writer_that_fails(rt: HostRuntime) -> Result<(), Fail> {
+fn a_ninth_connection_is_not_served(rt: HostRuntime) -> Result<(), Fail> {
     let mut mux = mux(rt.alloc())?;
-    let mut reader = Tap::new(STARTUP);
-    let mut writer = Tap::new(Closed);
-    let mut ask = || Ok(host());
-    let ended = serve(&mut mux, &mut reader, &mut writer, &mut ask);
-    assert_eq!(rt; ended, Err(ServeFault::Write));
-    Ok(())
-}
-
-#[test]
-fn a_host_that_fails_and_no_room(rt: HostRuntime) -> Result<(), Fail> {
-    let mut mux = mux(rt.alloc())?;
-    let mut reader = Tap::new(STARTUP);
-    let mut writer = Tap::new(Vec::new(rt.alloc()));
-    let mut ask = || Err(HostFault);
-    let ended = serve(&mut mux, &mut reader, &mut writer, &mut ask);
-    assert_eq!(rt; ended, Err(ServeFault::Host));
     for _ in 0..8 {
         mux.open()?;
     }
-    let mut other = Tap::new(STARTUP);
-    let mut other_writer = Tap::new(Vec::new(rt.alloc()));
-    let ended = serve(&mut mux, &mut other, &mut other_writer, &mut ask);
-    assert_eq!(rt; ended, Err(ServeFault::Full));
+    let (ended, _) = served(rt.alloc(), &mut mux, STARTUP, 4_096, Failing::Nothing);
+    check(&rt, ended, Err(ServeFault::Full));
     Ok(())
 }
