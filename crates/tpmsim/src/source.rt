@@ -1,15 +1,18 @@
 use crate::fault::Fault;
 use std::fs::File;
-use std::io::Read;
+use std::io::{BufReader, Read};
 use std::time::{Clock, Instant};
 use std::{fs, io};
 use tpm_types::Locality;
 use tpm_wire::Host;
 
+/// How many random bytes are read at once: those of sixteen commands.
+const READ_SIZE: usize = 16 * 256;
+
 /// Where the values of each command come from: the file of random bytes, and the clock of the host.
 #[derive(Drop)]
 pub struct Source {
-    entropy: File,
+    entropy: BufReader<File>,
     locality: Locality,
     /// When the command before came.
     last: Option<Instant>,
@@ -18,7 +21,9 @@ pub struct Source {
 impl Source {
     /// Opens the file of random bytes.
     pub fn open(rt: &HostRuntime, path: &str, locality: Locality) -> Result<Source, Fault> {
-        let entropy = fs::open(rt, path).map_err(|error| Fault::of_io(error, Fault::Entropy))?;
+        let file = fs::open(rt, path).map_err(|error| Fault::of_io(error, Fault::Entropy))?;
+        let entropy = BufReader::with_capacity(rt.alloc(), READ_SIZE, file)
+            .map_err(|error| Fault::of_io(error, Fault::Entropy))?;
         Ok(Source {
             entropy,
             locality,
