@@ -4,8 +4,8 @@ use Rattle.tpm_bytes.specs.Writing.{sized_text}
 use Rattle.tpm_types.specs.declared.handle.Handle.{Handle}
 use Rattle.tpm_actions.specs.declared.answer.Answer.{Answer}
 
--- the parameters of an answer: a sized buffer, which a session can encrypt, alone or with what stands
--- behind it; or parameters with no such buffer at their front
+-- the parameters of an answer: a sized buffer, which a session can encrypt, alone or with what
+-- stands behind it; or parameters with no such buffer at their front
 pub data Body : Type 0 where
   Sized : (bytes : List ℕ) → Body
   SizedFirst : (bytes rest : List ℕ) → Body

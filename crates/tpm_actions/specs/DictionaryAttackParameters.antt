@@ -18,7 +18,8 @@ unfoldable pub lockout_parameters : List ℕ → Result Asked Refused
 lockout_parameters text = do
   max_tries ← parameter 1 (or_fault (number_at w32 text) (plain code.Insufficient))
   recovery_time ← parameter 2 (or_fault (number_at w32 max_tries.1) (plain code.Insufficient))
-  lockout_recovery ← parameter 3 (or_fault (number_at w32 recovery_time.1) (plain code.Insufficient))
+  lockout_recovery ← parameter 3
+      (or_fault (number_at w32 recovery_time.1) (plain code.Insufficient))
   ended ← all_read lockout_recovery.1
   Ok (record {
     max_tries = max_tries.0;

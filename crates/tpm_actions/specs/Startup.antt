@@ -25,8 +25,8 @@ use Rattle.tpm_actions.specs.Rows.{Success, only}
 use Rattle.tpm_actions.specs.declared.startup.Start.{Start}
 use Rattle.tpm_actions.specs.declared.startup.Start.TheVariants.{Reset, Restart, Resume}
 
--- a startup with CLEAR is a TPM Restart where a state was saved, and else a TPM Reset; with STATE it
--- is a TPM Resume where a state was saved. A1: it was not
+-- a startup with CLEAR is a TPM Restart where a state was saved, and else a TPM Reset; with STATE
+-- it is a TPM Resume where a state was saved. A1: it was not
 abbrev pub start_of : StartupType → SavedKind → Result Start Refused
 start_of type.Clear saved.Nothing = Ok Reset
 start_of type.Clear saved.Clear = Ok Reset

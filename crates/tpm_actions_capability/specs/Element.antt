@@ -41,8 +41,8 @@ abbrev pub text_of : Telling → (from count : ℕ) → List Element → List �
 text_of telling from count elements =
     flat_map (told_text telling) (take count (filter (is_from from) elements))
 
--- whether there are more than are told (moreData), the capability, how many are told, and these, the
--- first from a number on
+-- whether there are more than are told (moreData), the capability, how many are told, and these,
+-- the first from a number on
 abbrev pub listing : Telling → (capability from count : ℕ) → List Element → List ℕ
 listing telling capability from count elements =
     (if nat_lt (told_count from count elements) (found_count from elements) then 1 else 0)

@@ -1,5 +1,5 @@
--- The elements of each capability of a device, in ascending order. TPM 2.0 Library, Part 2, sections
--- 6.12 (TPM_CAP), 6.13 (TPM_PT), 7.4 (TPM_RH) and 8.9 (TPMA_CC), and Part 3, section 30.2.
+-- The elements of each capability of a device, in ascending order. TPM 2.0 Library, Part 2,
+-- sections 6.12 (TPM_CAP), 6.13 (TPM_PT), 7.4 (TPM_RH) and 8.9 (TPMA_CC), and Part 3, section 30.2.
 use Rattle.std.specs.Prelude.{ℕ, ◌+◌, ◌*◌, ◌^◌, Bool, true, false, List, [], ◌∷◌, ◌++◌, is_some, length, map, if◌then◌else◌}
 use Rattle.std.specs.List.{flat_map}
 use Rattle.tpm_lockout.specs.Lockout.{LockoutState}

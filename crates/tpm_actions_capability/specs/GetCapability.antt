@@ -39,8 +39,8 @@ capability_of number =
     else (if number == 6 then Ok capability.Properties
     else Err (parameter_fault 1 1 code.Value))))
 
--- the handles whose first byte is this one; saved sessions (03) there are none. A2: there are none of
--- such a kind
+-- the handles whose first byte is this one; saved sessions (03) there are none. A2: there are none
+-- of such a kind
 abbrev pub handle_elements : Record → (kind : ℕ) → Result (List Element) Refused
 handle_elements r kind =
     if kind == 0x00 then Ok pcr_elements

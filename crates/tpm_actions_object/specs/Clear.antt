@@ -23,8 +23,8 @@ use Rattle.tpm_actions.specs.Rows.{Success, all_read}
 abbrev pub cleared_lockout : LockoutState → LockoutState
 cleared_lockout s = with_closed false (with_tries 0 s)
 
--- the hierarchies and lockout are cleared, Clock and the counts begin at 0, and an update of the PCRs
--- is counted; Time and whether TPM2_Clear is refused stay
+-- the hierarchies and lockout are cleared, Clock and the counts begin at 0, and an update of the
+-- PCRs is counted; Time and whether TPM2_Clear is refused stay
 abbrev pub cleared_fixed : BankValues → List ℕ → Fixed → Fixed
 cleared_fixed banks random f = record f {
   hierarchies = cleared_hierarchies f.hierarchies random;

@@ -31,7 +31,8 @@ derived r hierarchy p =
     primary_object hierarchy (secrets_of r.fixed.hierarchies hierarchy).seed p.template p.given
 
 -- its handle, what there is to say of its creation, and its Name
-abbrev pub primary_answer : Record → Request → HierarchyHandle → Parameters → ℕ → Object → AnswerParts
+abbrev pub primary_answer : Record → Request → HierarchyHandle → Parameters → ℕ → Object
+    → AnswerParts
 primary_answer r q hierarchy p place object = record {
   handle = Some (object_handle place);
   body = SizedFirst (public_text object.public)

@@ -52,7 +52,8 @@ parameters_in text = do
   ended ← all_read public.1
   Ok (record { private = private.0; public = public.0 })
 
--- parentHandle. A1: no storage parent; A2 to A4: the public area; A5: the private area; A6: there is no place
+-- parentHandle. A1: no storage parent; A2 to A4: the public area; A5: the private area; A6: there
+-- is no place
 unfoldable pub load_row : Record → Request → Result Success Refused
 load_row r q = do
   handle ← first_handle q.handles

@@ -44,9 +44,10 @@ no_place n = action_refusal n (plain code.ObjectMemory)
 abbrev pub place_for : ℕ → Record → Result ℕ Refused
 place_for n r = ok_or (lowest_free r.objects) (no_place n)
 
--- The code loaded an object into the place that it takes, or was refused memory, where it can be; or
--- there is no place. A refusal changes nothing.
-abbrev pub Loads : Bool → Result ℕ Refused → Record → Object → Result Handle Refused → Record → Type 0
+-- The code loaded an object into the place that it takes, or was refused memory, where it can be;
+-- or there is no place. A refusal changes nothing.
+abbrev pub Loads : Bool → Result ℕ Refused → Record → Object → Result Handle Refused → Record
+    → Type 0
 Loads can (Ok place) old object (Ok handle) new =
     (handle ≡ object_handle place)
     × (new ≡ record old { objects = with_object old.objects place object })

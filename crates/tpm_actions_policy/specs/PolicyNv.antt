@@ -71,9 +71,10 @@ nv_parts_of r target p = record {
   compared = compared r target p;
 }
 
--- authHandle, nvIndex, policySession; A1 to A4, what refuses the reading, and A5, that the comparison
--- does not hold, are checked as the assertion is made, and of a trial session nothing is. A1: it may
--- not read; A2: locked; A3: not written; A4: past the data; A5: it does not stand so to the operand
+-- authHandle, nvIndex, policySession; A1 to A4, what refuses the reading, and A5, that the
+-- comparison does not hold, are checked as the assertion is made, and of a trial session nothing
+-- is. A1: it may not read; A2: locked; A3: not written; A4: past the data; A5: it does not stand so
+-- to the operand
 abbrev pub nv_assertion : Record → Request → Result (Session → Assertion) Refused
 nv_assertion r q = do
   target ← target_of r q

@@ -17,7 +17,7 @@ use Rattle.tpm_types.specs.AuthValue.{trimmed}
 use Rattle.tpm_record.specs.Record.{Record}
 use Rattle.tpm_auth.specs.Comparison.{check_of, failure, is_password_of, may_be_tried}
 use Rattle.tpm_auth.specs.EmptyHmac.{EmptyHmacHasNoKey}
-use Rattle.tpm_auth.specs.SessionGrant.{comparison, comparison_holds, demanded, demands_password, entry_parts, granted_value, is_authentic, session_grant, touched, used_auth_value}
+use Rattle.tpm_auth.specs.SessionGrant.{comparison, comparison_holds, demanded, demands_password, entry_parts, granted_value, is_authentic, session_grant, entry_protection, used_auth_value}
 use Rattle.tpm_auth.specs.declared.session_grant.Grant.{Grant}
 
 not_false : (b : Bool) → not b ≡ false → b ≡ true
@@ -73,10 +73,10 @@ compared r c n grant e s is empty = by (demands_password grant) refl is
 accepted_by : (r : Record) (c : Whole) (n : ℕ) (grant : Option Grant) (e : Entry) (s : Session) (accepted : Option Grant) → comparison r c n grant e s ≡ Ok accepted → e.hmac ≡ [] → HasNoKey r s accepted
 accepted_by r c n grant e s accepted is empty =
     let holds : Bool = comparison_holds r c n grant e s in
-    let tried = bind_ok (may_be_tried r.fixed.lockout grant (touched r s grant)) _ accepted is in
+    let tried = bind_ok (may_be_tried r.fixed.lockout grant (entry_protection r s grant)) _ accepted is in
     let a = bind_ok _ (λ compared. Ok grant) accepted tried.2 in
     let same : grant ≡ accepted = ok_is _ _ a.2 in
-    let right : holds ≡ true = not_false holds (passed (not holds) (failure (check_of grant) n (touched r s grant)) a.0 a.1) in
+    let right : holds ≡ true = not_false holds (passed (not holds) (failure (check_of grant) n (entry_protection r s grant)) a.0 a.1) in
     subst (HasNoKey r s) same (compared r c n grant e s right empty)
 
 pub no_key : EmptyHmacHasNoKey

@@ -37,7 +37,8 @@ encrypts e = has_bits 0x40 e.attributes
 -- the code for a session that is not there, in entry n
 abbrev pub reference_of : ℕ → Rc
 reference_of n =
-    plain (if n == 1 then code.ReferenceS0 else (if n == 2 then code.ReferenceS1 else code.ReferenceS2))
+    plain (if n == 1 then code.ReferenceS0
+    else (if n == 2 then code.ReferenceS1 else code.ReferenceS2))
 
 -- whether there is what an entry's handle names: a password always is
 abbrev pub kind_passes : Record → ℕ → Entry → SessionKind → Result (Unit {0}) Rc
@@ -72,7 +73,8 @@ lacks_cipher r e =
 unfoldable pub entry_passes : Record → CommandCode → List Entry → Entry → Result (Unit {0}) Rc
 entry_passes r c before e = do
   let n : ℕ = length before + 1
-  sizes ← refused_if (nat_lt 32 (length e.nonce) || nat_lt 32 (length e.hmac)) (entry_fault n code.Size)
+  sizes ← refused_if (nat_lt 32 (length e.nonce) || nat_lt 32 (length e.hmac))
+      (entry_fault n code.Size)
   kind ← kind_passes r n e (session_kind e.session)
   misplaced ← refused_if (is_misplaced c n before e) (entry_fault n code.Handle)
   reserved ← refused_if (has_bits 0x18 e.attributes) (entry_fault n code.ReservedBits)
@@ -80,7 +82,8 @@ entry_passes r c before e = do
   refused_if (lacks_cipher r e) (entry_fault n code.Symmetric)
 
 -- each entry in order
-abbrev pub entries_pass : Record → CommandCode → (before entries : List Entry) → Result (Unit {0}) Rc
+abbrev pub entries_pass : Record → CommandCode → (before entries : List Entry)
+    → Result (Unit {0}) Rc
 entries_pass r c before [] = Ok tt
 entries_pass r c before (e ∷ es) = do
   this ← entry_passes r c before e

@@ -136,9 +136,9 @@ or_protection protection.Lockout other = protection.Lockout
 -- the protection that a wrong entry of a session comes up against: that of the entity whose
 -- authorization value is compared, in a key or as a password, if it is protected; else that of what
 -- its session was bound to
-unfoldable pub touched : Record → Session → Option Grant → Protection
-touched r s None = binding_protection s
-touched r s (Some grant) =
+unfoldable pub entry_protection : Record → Session → Option Grant → Protection
+entry_protection r s None = binding_protection s
+entry_protection r s (Some grant) =
     if takes_value r s grant || is_password_demand grant.demand
     then or_protection (protection_of r grant.handle) (binding_protection s)
     else binding_protection s
@@ -185,9 +185,9 @@ demanded r c locality n handle s = demand_by s.kind r c locality n handle s
 abbrev pub comparison : Record
     → Whole → ℕ → Option Grant → Entry → Session → Result (Option Grant) Refused
 comparison r c n grant e s = do
-  tried ← may_be_tried r.fixed.lockout grant (touched r s grant)
+  tried ← may_be_tried r.fixed.lockout grant (entry_protection r s grant)
   compared ← refused_if (not (comparison_holds r c n grant e s))
-      (failure (check_of grant) n (touched r s grant))
+      (failure (check_of grant) n (entry_protection r s grant))
   Ok grant
 
 -- entry n is of a session, and is to authorize this handle or none; a trial session may authorize

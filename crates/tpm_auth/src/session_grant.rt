@@ -1,5 +1,4 @@
 ghost use Rattle.std.specs.Prelude.{◌≡◌, ◌≤◌, length, map};
-ghost use Rattle.std.specs.Str.{bytes_eq};
 ghost use Rattle.tpm_types_command.specs.AuthEntry.{entry_of};
 ghost use Rattle.tpm_types_command.specs.Command.{whole_of};
 ghost use Rattle.tpm_auth.specs.Entries.{decrypts};
@@ -8,10 +7,11 @@ ghost use Rattle.tpm_policy.specs.Use.{parts_of};
 ghost use Rattle.tpm_session.specs.ParameterHash.{parameter_hash_of};
 ghost use Rattle.tpm_auth.specs.Comparison.{is_locked_out};
 ghost use Rattle.tpm_auth.specs.EmptyHmac.{EmptyHmacHasNoKey};
-ghost use Rattle.tpm_auth.specs.SessionGrant.{binding_protection, by_policy, comparison_holds, demanded, entry_nonce, granted_value, hashed_command, is_authentic, is_bound_to, nonce_where, only_encrypts, or_protection, other_entries, session_grant, takes_value, touched, use_of, used_auth_value};
+ghost use Rattle.tpm_auth.specs.SessionGrant.{binding_protection, by_policy, comparison_holds, demanded, entry_nonce, granted_value, hashed_command, is_authentic, is_bound_to, nonce_where, only_encrypts, or_protection, other_entries, session_grant, takes_value, entry_protection, use_of, used_auth_value};
 
 use crate::comparison::{check_of, failure, is_locked_out, is_password_of, lockout_refusal};
 use crate::entries::{decrypts, encrypts};
+use tpm_bytes::is_equal;
 use tpm_policy::{Demand, Use};
 use tpm_record::{Keep, Means, auth_value_of, is_available, name_of, policy_of, protection_of};
 use tpm_session::{CommandText, ParameterHashes, Protection, Session};
@@ -122,12 +122,6 @@ fn other_entries<'a, 'b>(command: &'a Command<'b>, number: u8) -> &'a [AuthEntry
     &entries[first..]
 }
 
-fn is_equal(bytes: &[u8], others: &[u8]) -> bool
-    ensures { result ≡ bytes_eq bytes.now others.now }
-{
-    bytes == others
-}
-
 /// Whether the HMAC of an entry is right, that authorizes so, or nothing.
 #[tactic(auto, unfolding(crate::specs::SessionGrant::is_authentic, crate::specs::SessionGrant::entry_parts))]
 fn is_authentic<K: Keep>(
@@ -180,9 +174,9 @@ fn or_protection(protection: Protection, other: Protection) -> Protection
 }
 
 /// How the entity is protected that an entry of a session touches.
-#[tactic(auto, unfolding(crate::specs::SessionGrant::touched))]
-fn touched<K: Keep>(keep: &K, session: &Session, grant: Option<Grant>) -> Protection
-    ensures { result ≡ touched (K.record_of keep.now) session.now grant }
+#[tactic(auto, unfolding(crate::specs::SessionGrant::entry_protection))]
+fn entry_protection<K: Keep>(keep: &K, session: &Session, grant: Option<Grant>) -> Protection
+    ensures { result ≡ entry_protection (K.record_of keep.now) session.now grant }
 {
     let bound = binding_protection(session);
     match grant {
@@ -197,11 +191,11 @@ fn touched<K: Keep>(keep: &K, session: &Session, grant: Option<Grant>) -> Protec
 /// looked for.
 fn comes_up_against_lockout<K: Keep>(keep: &K, session: &Session, grant: Option<Grant>) -> bool
     ensures { result ≡ is_locked_out (K.record_of keep.now).fixed.lockout
-        (touched (K.record_of keep.now) session.now grant) }
+        (entry_protection (K.record_of keep.now) session.now grant) }
 {
     let lockout = &keep.fixed().lockout;
     (lockout.is_locked() || lockout.lockout_closed())
-        && is_locked_out(lockout, touched(keep, session, grant))
+        && is_locked_out(lockout, entry_protection(keep, session, grant))
 }
 
 /// What is to be authorized by the entry of this number, of a policy session.
@@ -360,7 +354,11 @@ pub fn check_session<K: Keep>(
     if comparison_holds(keep, sent.command, hashes, number, grant, entry, session) {
         Ok(grant)
     } else {
-        Err(failure(check_of(grant), number, touched(keep, session, grant)))
+        Err(failure(
+            check_of(grant),
+            number,
+            entry_protection(keep, session, grant),
+        ))
     }
 }
 

@@ -8,11 +8,13 @@
 //! A refused read or write changes nothing, and no call here takes memory.
 
 pub mod cursor;
+pub mod equality;
 pub mod many;
 pub mod sink;
 pub mod tap;
 
 pub use cursor::{Cursor, Short, SizedFault};
+pub use equality::is_equal;
 pub use many::{Readable, ReadableBy, read_each, read_many};
 pub use sink::{Full, Sink};
-pub use tap::Tap;
+pub use tap::{Failed, Tap};

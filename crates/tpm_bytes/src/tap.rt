@@ -1,10 +1,14 @@
-ghost use Rattle.std.specs.Prelude.{◌≡◌, length, false};
+ghost use Rattle.std.specs.Prelude.{◌≡◌, OnErr, OnOk, length, false, true};
 ghost use Rattle.std.specs.Io.{ReadsAtMost, WritesAtMost};
-ghost use Rattle.std.specs.Io.KnownBytes.{ReadConsumes, WriteAppends};
+ghost use Rattle.std.specs.Io.KnownBytes.{Appends, ReadConsumes, WriteAppends};
 ghost use Rattle.tpm_bytes.specs.Tap.{after_read, after_write, device_of, marks_of};
 
 use std::io;
 use std::io::{Read, Write};
+
+/// The device behind a tap failed, as the tap's marks say.
+#[derive(Clone, Copy, Debug, PartialEq, Eq)]
+pub struct Failed;
 
 /// A reader or a writer, and what it did: whether it failed, whether it ended, and how many of its
 /// reads gave bytes.
@@ -109,5 +113,24 @@ impl<D: Write> Tap<D> {
             Err(_) => self.failed = true,
         }
         outcome
+    }
+
+    /// Writes all of a text, in as many writes as the device needs. Where it fails, it is not said
+    /// how much of the text went out.
+    pub fn write_all(&mut self, text: &[u8]) -> Result<(), Failed>
+        ensures sent { OnOk result (Appends (D.contents (device_of self.old))
+            (D.contents (device_of self.new)) text.now) }
+        ensures unmarked { OnOk result (marks_of self.new ≡ marks_of self.old) }
+        ensures failed { OnErr result ((marks_of self.new).failed ≡ true) }
+    {
+        let mut left = text;
+        while !left.is_empty() {
+            match self.write(left) {
+                Ok(0) => return Err(Failed),
+                Ok(count) => left = &left[count..],
+                Err(_) => return Err(Failed),
+            }
+        }
+        Ok(())
     }
 }

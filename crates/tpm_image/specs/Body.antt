@@ -1,6 +1,6 @@
--- The body of an image: what a device keeps without power, part by part. The layout is this device's
--- own; objects and indices stand in it by the standard's structures (TPM 2.0 Library, Part 2,
--- sections 12.2.4, TPMT_PUBLIC, 12.3.2.4, TPMT_SENSITIVE, and 13.6, TPM2B_NV_PUBLIC).
+-- The body of an image: what a device keeps without power, part by part. The layout is this
+-- device's own; objects and indices stand in it by the standard's structures (TPM 2.0 Library, Part
+-- 2, sections 12.2.4, TPMT_PUBLIC, 12.3.2.4, TPMT_SENSITIVE, and 13.6, TPM2B_NV_PUBLIC).
 use Rattle.std.specs.Prelude.{ℕ, ◌+◌, ◌==◌, ◌&&◌, nat_le, not, Bool, true, if◌then◌else◌}
 use Rattle.std.specs.Prelude.{List, [], ◌∷◌, ◌++◌, length, ok_or, Result, Ok, Err}
 use Rattle.std.specs.Int.{w8, w32, w64, to_be_bytes}
@@ -57,8 +57,8 @@ hierarchy_in text = do
   secrets ← secrets_in auth_value.1
   Ok (record { auth_value = auth_value.0; secrets = secrets.0 }, secrets.1)
 
--- the owner's, the endorsement, the platform and the null hierarchy, of which the last has the empty
--- authorization value; and lockoutAuth
+-- the owner's, the endorsement, the platform and the null hierarchy, of which the last has the
+-- empty authorization value; and lockoutAuth
 unfoldable pub hierarchies_text : Hierarchies → List ℕ
 hierarchies_text h =
     hierarchy_text h.owner ++ hierarchy_text h.endorsement ++ hierarchy_text h.platform
@@ -114,7 +114,8 @@ lockout_in text = do
 
 -- the values of the PCRs 0 to 15 by SHA-1, and then by SHA-256
 abbrev pub values_text : SavedValues → List ℕ
-values_text values = flat_map (λ value. value) values.sha1 ++ flat_map (λ value. value) values.sha256
+values_text values =
+    flat_map (λ value. value) values.sha1 ++ flat_map (λ value. value) values.sha256
 
 -- the values of sixteen PCRs, of so many bytes each
 unfoldable pub bank_in : ℕ → List ℕ → Result (List (List ℕ) × List ℕ) Malformed

@@ -10,8 +10,8 @@ use Rattle.tpm_image.specs.declared.fault.FillFault.{FillFault}
 use Rattle.tpm_image.specs.declared.fault.FillFault.TheVariants as unfilled
 use Rattle.tpm_image.specs.declared.fault.Malformed.{Malformed}
 
--- Something was filled with what a text spells; or the text is malformed; or memory was refused, and
--- nothing is said of the text.
+-- Something was filled with what a text spells; or the text is malformed; or memory was refused,
+-- and nothing is said of the text.
 abbrev pub Fills : {X : Type 0}
     → Bool → Result (X × List ℕ) Malformed → X
     → Result (Unit {0}) FillFault → List ℕ → Type 0

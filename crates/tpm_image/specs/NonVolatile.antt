@@ -1,5 +1,5 @@
--- What a device keeps without power. TPM 2.0 Library, Part 1, sections 12.2.2 (_TPM_Init) and 37 (NV
--- memory).
+-- What a device keeps without power. TPM 2.0 Library, Part 1, sections 12.2.2 (_TPM_Init) and 37
+-- (NV memory).
 use Rattle.std.specs.Prelude.{ℕ, ◌<◌, ◌^◌, Bool, false}
 use Rattle.tpm_ascending.specs.Ascending.{Entries}
 use Rattle.tpm_lockout.specs.Lockout.{IsLockout, restored}
@@ -15,8 +15,8 @@ use Rattle.tpm_record.specs.Saved.{IsSavedState, SavedState}
 use Rattle.tpm_record.specs.declared.hierarchy.Hierarchies.{Hierarchies}
 
 -- the hierarchies; whether TPM2_Clear is refused; tries, parameters and whether lockoutAuth is
--- closed; Clock and the counts of TPM Resets and TPM Restarts; the largest value that a counter ever
--- had; and what the last TPM2_Shutdown saved
+-- closed; Clock and the counts of TPM Resets and TPM Restarts; the largest value that a counter
+-- ever had; and what the last TPM2_Shutdown saved
 pub record KeptState : Type 0 where
   pub hierarchies : Hierarchies
   pub disable_clear : Bool

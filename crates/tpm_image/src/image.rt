@@ -16,7 +16,6 @@ use crate::body::{read_body, write_body};
 use crate::fault::{FillFault, ImageFault, SaveFault};
 use crate::fields::Text;
 use crate::frame::{framed_body, head};
-use crate::sending::send;
 use std::alloc::Global;
 use std::io::Write;
 use tpm_bytes::Tap;
@@ -40,8 +39,13 @@ pub fn save<K: Keep, D: Write>(machine: &Machine<K>, tap: &mut Tap<D>) -> Result
     let head = head(text.len());
     let digest = digest_parts(HashAlg::Sha256, &[head.as_slice(), text.as_slice()]);
     let _ = text.put(digest.as_slice());
-    send(head.as_slice(), tap)?;
-    send(text.as_slice(), tap)
+    let Ok(()) = tap.write_all(head.as_slice()) else {
+        return Err(SaveFault::Write);
+    };
+    let Ok(()) = tap.write_all(text.as_slice()) else {
+        return Err(SaveFault::Write);
+    };
+    Ok(())
 }
 
 /// The state that a body spells, in a keep of its own.

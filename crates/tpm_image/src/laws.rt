@@ -8,8 +8,8 @@ ghost use Rattle.tpm_record.specs.Cycle.{cycled};
 ghost use Rattle.tpm_record.specs.IsRecord.{IsRecord};
 ghost use Rattle.tpm_record.specs.Record.{Record};
 
-/// The image of a device tells what the device keeps, and has at most 17,475 bytes; a device that kept
-/// just that is the device after a power cycle. The function does nothing.
+/// The image of a device tells what the device keeps, and has at most 17,475 bytes; a device that
+/// kept just that is the device after a power cycle. The function does nothing.
 #[inline(always)]
 #[tactic(auto, using(crate::proofs::RecordLaws::record_again, crate::proofs::RecordLaws::record_small, crate::proofs::ImageLaws::powered_again))]
 pub fn images_tell_devices()
@@ -19,7 +19,8 @@ pub fn images_tell_devices()
     ensures cycled { (r : Record) → powered_on (kept_of r) ≡ cycled r }
 {}
 
-/// No proper prefix of an image is one: below 42 bytes it is Short, and else it is refused by Length.
+/// No proper prefix of an image is one: below 42 bytes it is Short, and else it is refused by
+/// Length.
 #[inline(always)]
 #[tactic(auto, using(crate::proofs::ImageLaws::front_short, crate::proofs::RecordLaws::record_cut))]
 pub fn prefixes_are_refused()

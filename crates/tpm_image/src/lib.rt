@@ -1,10 +1,11 @@
 #![tactic(auto)]
 
-//! The image of a device: what it keeps without power, as bytes from which another device is opened.
+//! The image of a device: what it keeps without power, as bytes from which another device is
+//! opened.
 //!
-//! [`image::save`] writes it, and [`image::open`] reads it. Each part of what is kept has a file with
-//! its text and its reading; `specs/Body` and `specs/Image` define them. The crate stands on the
-//! machine, and on what the parts of its state are made of.
+//! [`image::save`] writes it, and [`image::open`] reads it. Each part of what is kept has a file
+//! with its text and its reading; `specs/Body` and `specs/Image` define them. The crate stands on
+//! the machine, and on what the parts of its state are made of.
 
 mod body;
 pub mod fault;
@@ -17,7 +18,6 @@ pub mod laws;
 mod lockout;
 mod objects;
 mod saved;
-mod sending;
 
 pub use fault::{ImageFault, SaveFault};
 pub use image::{open, save};

@@ -40,7 +40,8 @@ fn can_persist(hierarchy: HierarchyHandle) -> bool
 /// Reads the handle of a hierarchy that has persistent objects.
 #[tactic(auto, unfolding(crate::specs::Body::object_hierarchy_in))]
 fn read_object_hierarchy(text: &mut Cursor) -> Result<HierarchyHandle, Malformed>
-    ensures exact { Reads (λ hierarchy. hierarchy) (object_hierarchy_in text.old) text.old result text.new }
+    ensures exact { Reads (λ hierarchy. hierarchy) (object_hierarchy_in text.old)
+        text.old result text.new }
     ensures owned { IfOk result (λ hierarchy. can_persist hierarchy ≡ true) }
 {
     let mut ahead = Cursor::new(text.rest());

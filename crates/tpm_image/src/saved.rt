@@ -14,7 +14,8 @@ use tpm_record::{Saved, SavedKind};
 /// Reads the values of the bank of SHA-1, over those that are there.
 #[tactic(auto, using(crate::proofs::BankLaws::bank_laws))]
 fn read_sha1(values: &mut SavedPcrs, text: &mut Cursor) -> Result<(), Malformed>
-    ensures values { Reads (λ done. values.new.sha1) (bank_in 20 text.old) text.old result text.new }
+    ensures values { Reads (λ done. values.new.sha1) (bank_in 20 text.old)
+        text.old result text.new }
     ensures others { values.new.sha256 ≡ values.old.sha256 }
 {
     values.read_sizes();

@@ -12,7 +12,7 @@ use Rattle.tpm_machine_step.specs.Answer.{refusal_text}
 use Rattle.tpm_machine_step.specs.Events.{Happening, Given, Cycled}
 use Rattle.tpm_machine_step.specs.General.{in_command}
 use Rattle.tpm_machine_step.specs.Safe.{IsHarmless}
-use Rattle.tpm_machine_step.specs.Step.{Accepted, Answers, RefusesOrStarves, Stepped, Steps, refusal_step, accepted, answer_of, counted_in, starved, starved_answer, step, step_where, success_step}
+use Rattle.tpm_machine_step.specs.Step.{Accepted, Answers, RefusesOrStarves, Stepped, Steps, refusal_step, accepted, answer_of, counted_in, refusal_without_memory, answer_without_memory, step, step_where, success_step}
 use Rattle.tpm_machine_step.specs.declared.refusal.Refusal.{Refusal}
 
 -- the same of a record whose time has passed
@@ -24,20 +24,20 @@ answer_leaves r random (Ok a) refused = absurd (refused refl)
 answer_leaves r random (Err e) refused = (refl, e.refused, refl, refl, refl)
 
 -- MEMORY is such a refusal too
-starved_leaves : (grows : Bool) (r : Record) (random : List ℕ) (a : Accepted) → LeavesRecord r (cond grows (starved r a.command) (success_step a random))
-starved_leaves true r random a refused = (refl, memory_refusal, refl, refl, refl)
-starved_leaves false r random a refused = absurd (refused refl)
+success_without_memory_leaves : (grows : Bool) (r : Record) (random : List ℕ) (a : Accepted) → LeavesRecord r (cond grows (refusal_without_memory r a.command) (success_step a random))
+success_without_memory_leaves true r random a refused = (refl, memory_refusal, refl, refl, refl)
+success_without_memory_leaves false r random a refused = absurd (refused refl)
 
-starved_answer_leaves : (r : Record) (random : List ℕ) (a : Result Accepted Refusal) → LeavesRecord r (starved_answer r random a)
-starved_answer_leaves r random (Ok a) refused = starved_leaves (shape_of a.command.code).grows r random a refused
-starved_answer_leaves r random (Err e) refused = (refl, e.refused, refl, refl, refl)
+answer_without_memory_leaves : (r : Record) (random : List ℕ) (a : Result Accepted Refusal) → LeavesRecord r (answer_without_memory r random a)
+answer_without_memory_leaves r random (Ok a) refused = success_without_memory_leaves (shape_of a.command.code).grows r random a refused
+answer_without_memory_leaves r random (Err e) refused = (refl, e.refused, refl, refl, refl)
 
 step_harmless : (refused : Bool) (r : Record) (event : Happening) → IsHarmless r event (step_where refused r event)
 step_harmless false r (Given buffer locality elapsed random) =
     answer_leaves (ticked r elapsed) random (accepted (ticked r elapsed) buffer locality random)
 step_harmless false r Cycled = λ refused. absurd (refused refl)
 step_harmless true r (Given buffer locality elapsed random) =
-    starved_answer_leaves (ticked r elapsed) random (accepted (ticked r elapsed) buffer locality random)
+    answer_without_memory_leaves (ticked r elapsed) random (accepted (ticked r elapsed) buffer locality random)
 step_harmless true r Cycled = λ refused. absurd (refused refl)
 
 pub steps_harmless : (can : Bool) (r : Record) (event : Happening) (x : Stepped) → Steps can r event x → IsHarmless r event x
@@ -51,9 +51,9 @@ steps_exactly can r event x e = (false, λ t. absurd (false≢true t), e)
 pub answers_exactly : (can : Bool) (r : Record) (random : List ℕ) (a : Result Accepted Refusal) (x : Stepped) → x ≡ answer_of r random a → Answers can r random a x
 answers_exactly can r random a x e = (false, λ t. absurd (false≢true t), e)
 
-starved_grows : (grows : Bool) (r : Record) (random : List ℕ) (a : Accepted) → grows ≡ true → starved r a.command ≡ cond grows (starved r a.command) (success_step a random)
-starved_grows true r random a e = refl
-starved_grows false r random a e = absurd (false≢true e)
+grows_without_memory : (grows : Bool) (r : Record) (random : List ℕ) (a : Accepted) → grows ≡ true → refusal_without_memory r a.command ≡ cond grows (refusal_without_memory r a.command) (success_step a random)
+grows_without_memory true r random a e = refl
+grows_without_memory false r random a e = absurd (false≢true e)
 
 -- a command that was refused, or was refused memory
 pub refused_answers : (can : Bool) (r : Record) (random : List ℕ) (c : Whole) (a : Result Accepted Refused) (e : Refused) → RefusesOrStarves can c a e → Answers can r random (in_command c.code a) (refusal_step r (record { code = code_number c.code; refused = e }))
@@ -63,6 +63,6 @@ refused_answers can r random c (Ok a) e (may, same, grows, is) = (
   true,
   λ t. may,
   ap (λ (f : Refused). refusal_step r (record { code = code_number c.code; refused = f })) is
-      ∙ ap (starved r) (sym same)
-      ∙ starved_grows (shape_of a.command.code).grows r random a (ap (λ (w : Whole). (shape_of w.code).grows) same ∙ grows),
+      ∙ ap (refusal_without_memory r) (sym same)
+      ∙ grows_without_memory (shape_of a.command.code).grows r random a (ap (λ (w : Whole). (shape_of w.code).grows) same ∙ grows),
 )

@@ -25,7 +25,7 @@ use Rattle.tpm_machine_step.specs.Events.{Happening, Given, Cycled, IsEvent}
 use Rattle.tpm_machine_step.specs.General.{general}
 use Rattle.tpm_machine_step.specs.Granted.{Granted, granted_entries}
 use Rattle.tpm_machine_step.specs.Run.{after_all, Runs}
-use Rattle.tpm_machine_step.specs.Step.{Accepted, acceptance, accepted, answer_where, request_in, starved, step, step_where, success_step, Stepped, Steps, outcome_step}
+use Rattle.tpm_machine_step.specs.Step.{Accepted, acceptance, accepted, answer_where, request_in, refusal_without_memory, step, step_where, success_step, Stepped, Steps, outcome_step}
 use Rattle.tpm_machine_step.specs.Table.{row_of}
 use Rattle.tpm_machine_step.specs.declared.refusal.Refusal.{Refusal}
 use Rattle.std.specs.List.{AllByRecursion}
@@ -169,7 +169,7 @@ answer_where_sized false r random (Err e) enough sized fits = sized
 answer_where_sized true r random (Err e) enough sized fits = sized
 answer_where_sized true r random (Ok a) enough sized fits = by (shape_of a.command.code).grows
   where
-    by : (grows : Bool) → AreSized (cond grows (starved r a.command) (success_step a random)).after
+    by : (grows : Bool) → AreSized (cond grows (refusal_without_memory r a.command) (success_step a random)).after
     by true = sized
     by false = success_sized a random enough fits
 

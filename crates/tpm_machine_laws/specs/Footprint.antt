@@ -108,9 +108,9 @@ begun f after = record f {
 abbrev pub StartsNv : NvContents → NvContents → Type 0
 StartsNv old new = (new ≡ old) ⊎ (new ≡ started old)
 
--- f as TPM2_Clear leaves it: the owner's new seed and proof and the endorsement hierarchy's new proof
--- are as they are after it; no authorization value is set but platformAuth; lockout is cleared, the
--- PCRs count an update, and Clock and the counts begin at 0
+-- f as TPM2_Clear leaves it: the owner's new seed and proof and the endorsement hierarchy's new
+-- proof are as they are after it; no authorization value is set but platformAuth; lockout is
+-- cleared, the PCRs count an update, and Clock and the counts begin at 0
 abbrev pub emptied : Fixed → Fixed → Fixed
 emptied f after = record f {
   hierarchies = record f.hierarchies {
@@ -135,13 +135,15 @@ abbrev pub Touches : Part → Record → Record → Type 0
 Touches Nothing old new = new ≡ old
 Touches Sessions old new = new ≡ record old { sessions = new.sessions }
 Touches Objects old new = new ≡ record old { objects = new.objects }
-Touches SessionsAndObjects old new = new ≡ record old { sessions = new.sessions; objects = new.objects }
+Touches SessionsAndObjects old new =
+    new ≡ record old { sessions = new.sessions; objects = new.objects }
 Touches Persistent old new = new ≡ record old { persistent = new.persistent }
 Touches Nv old new = new ≡ record old { nv = new.nv }
 Touches AuthValues old new =
     (new ≡ record old { fixed = record old.fixed { hierarchies = new.fixed.hierarchies } })
     × KeepsSecrets old.fixed.hierarchies new.fixed.hierarchies
-Touches Lockout old new = new ≡ record old { fixed = record old.fixed { lockout = new.fixed.lockout } }
+Touches Lockout old new =
+    new ≡ record old { fixed = record old.fixed { lockout = new.fixed.lockout } }
 Touches Banks old new = new ≡ record old { fixed = record old.fixed { banks = new.fixed.banks } }
 Touches Beginning old new =
     (new ≡ record old { fixed = begun old.fixed new.fixed; nv = new.nv }) × StartsNv old.nv new.nv

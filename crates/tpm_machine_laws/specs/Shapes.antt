@@ -33,8 +33,8 @@ use Rattle.tpm_actions.specs.Answer.{begins_sized}
 use Rattle.tpm_actions.specs.Rows.{Success, all_read, parameter}
 use Rattle.tpm_machine_laws.specs.Refusals.{Passes}
 
--- A success has a handle, and a sized buffer as the first parameter of its answer, exactly where the
--- command's shape says so.
+-- A success has a handle, and a sized buffer as the first parameter of its answer, exactly where
+-- the command's shape says so.
 abbrev pub AnswersItsShape : CommandCode → Success → Type 0
 AnswersItsShape c s =
     (is_some s.answer.handle ≡ (shape_of c).answers_handle)
@@ -83,8 +83,8 @@ behind_kind kind.Operation text = behind (operation_at text)
 behind_kind kind.YesNo text = behind (yes_no_at text)
 behind_kind kind.PersistentHandle text = behind (persistent_handle_at text)
 
--- parameters of these kinds, the first of them of this number, and nothing behind them; or the first
--- fault
+-- parameters of these kinds, the first of them of this number, and nothing behind them; or the
+-- first fault
 abbrev pub spelled : ℕ → List ParameterKind → List ℕ → Result (Unit {0}) Refused
 spelled n [] text = all_read text
 spelled n (kind ∷ kinds) text = do

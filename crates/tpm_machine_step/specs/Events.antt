@@ -14,7 +14,8 @@ pub data Happening : Type 0 where
 -- what can happen: localities are 0 to 4, an elapsed time has 32 bits, and each command has 256
 -- random bytes
 abbrev pub IsEvent : Happening → Type 0
-IsEvent (Given buffer locality elapsed random) = (locality ≤ 4) × (elapsed < 2 ^ 32) × (length random ≡ 256)
+IsEvent (Given buffer locality elapsed random) =
+    (locality ≤ 4) × (elapsed < 2 ^ 32) × (length random ≡ 256)
 IsEvent Cycled = Unit {0}
 
 abbrev pub happening : declared.Event → Happening

@@ -90,7 +90,12 @@ body_of r header text = do
   handles ← checked check.Handles (present_handles_at r header.code text)
   g7 ← sessions_pass header.code header.tag
   entries ← checked check.Entries (sessions_at header.tag handles.1)
-  Ok (record { code = header.code; handles = handles.0; entries = entries.0; parameters = entries.1 })
+  Ok (record {
+    code = header.code;
+    handles = handles.0;
+    entries = entries.0;
+    parameters = entries.1;
+  })
 
 -- the first general check that refuses a buffer, or the command that it spells
 unfoldable pub general : Record → List ℕ → Result Whole Refusal

@@ -20,9 +20,10 @@ abbrev pub asks_for : Direction → Entry → Bool
 asks_for direction.Decrypt e = decrypts e
 asks_for direction.Encrypt e = encrypts e
 
--- bytes as a session decrypts them, between the caller's nonce and the TPM's, or as it encrypts them,
--- between the TPM's new nonce and the caller's. In the key stands the authorization value of the
--- handle that the session authorizes, even where it is bound to that (unlike the key of an HMAC)
+-- bytes as a session decrypts them, between the caller's nonce and the TPM's, or as it encrypts
+-- them, between the TPM's new nonce and the caller's. In the key stands the authorization value of
+-- the handle that the session authorizes, even where it is bound to that (unlike the key of an
+-- HMAC)
 abbrev pub session_bytes : Direction → Session → (value : List ℕ) → Entry → List ℕ → List ℕ
 session_bytes direction.Decrypt s value e = plain_parameter s value e.nonce s.nonce_tpm
 session_bytes direction.Encrypt s value e = encrypted_parameter s value s.nonce_tpm e.nonce

@@ -9,8 +9,8 @@ use Rattle.tpm_machine_step.specs.Step.{outcome_step, step}
 use Rattle.tpm_machine_step.specs.declared.event.Outcome.{Outcome}
 
 -- The events ran from old to new, each executed with a record behind it, and a closure in state p
--- was called at the outcome of each, in order, which left it in state q; can says whether memory can
--- be refused.
+-- was called at the outcome of each, in order, which left it in state q; can says whether memory
+-- can be refused.
 abbrev pub Runs : {F : Type 0} → Mut F (Bor Outcome × Unit {0}) (Unit {0})
     → Bool → Record → F → List Happening → Record → F → Type 0
 Runs g can old p [] new q = (new ≡ old) × (q ≡ p)

@@ -113,8 +113,8 @@ refusal_step r e = record {
   after = counted_in e.refused.counted r;
 }
 
--- what a TPM2_Shutdown saved is cancelled by the next success, unless that keeps it (Part 3, section
--- 9.4)
+-- what a TPM2_Shutdown saved is cancelled by the next success, unless that keeps it (Part 3,
+-- section 9.4)
 abbrev pub settled : CommandCode → Record → Record
 settled code r = if (shape_of code).keeps_shutdown then r else with_saved r Nothing
 
@@ -137,29 +137,32 @@ abbrev pub outcome_step : Record → Outcome → Stepped
 outcome_step r o = record { response = o.response.items; row = o.row; after = r }
 
 -- the answer where memory was refused: MEMORY, check M, and the record as it was
-abbrev pub starved : Record → Whole → Stepped
-starved r c = refusal_step r (record { code = code_number c.code; refused = memory_refusal })
+abbrev pub refusal_without_memory : Record → Whole → Stepped
+refusal_without_memory r c =
+    refusal_step r (record { code = code_number c.code; refused = memory_refusal })
 
 -- a success where memory is refused: MEMORY in its place, if the command grows something
-abbrev pub starved_success : Record → List ℕ → Accepted → Stepped
-starved_success r random a =
-    if (shape_of a.command.code).grows then starved r a.command else success_step a random
+abbrev pub success_without_memory : Record → List ℕ → Accepted → Stepped
+success_without_memory r random a =
+    if (shape_of a.command.code).grows then refusal_without_memory r a.command
+    else success_step a random
 
 -- the answer where memory is refused; a command that is refused anyway wants none
-abbrev pub starved_answer : Record → List ℕ → Result Accepted Refusal → Stepped
-starved_answer r random (Ok a) = starved_success r random a
-starved_answer r random (Err e) = refusal_step r e
+abbrev pub answer_without_memory : Record → List ℕ → Result Accepted Refusal → Stepped
+answer_without_memory r random (Ok a) = success_without_memory r random a
+answer_without_memory r random (Err e) = refusal_step r e
 
 -- the answer to a command, to which memory is refused (true) or is not (false)
 abbrev pub answer_where : Bool → Record → List ℕ → Result Accepted Refusal → Stepped
 answer_where false r random a = answer_of r random a
-answer_where true r random a = starved_answer r random a
+answer_where true r random a = answer_without_memory r random a
 
 -- the step of an event, to which memory is refused or is not: for a command first its time passes
 abbrev pub step_where : Bool → Record → Happening → Stepped
 step_where refused r (Given buffer locality elapsed random) =
     let t = ticked r elapsed in answer_where refused t random (accepted t buffer locality random)
-step_where refused r Cycled = record { response = []; row = record { code = 0; check = 0 }; after = cycled r }
+step_where refused r Cycled =
+    record { response = []; row = record { code = 0; check = 0 }; after = cycled r }
 
 -- the step of an event, to which no memory is refused
 abbrev pub step : Record → Happening → Stepped

@@ -47,8 +47,9 @@ definition_refusal fault.AuthPolicySize = parameter_fault 2 2 code.Size
 definition_refusal fault.Attributes = parameter_fault 3 2 code.Attributes
 definition_refusal fault.DataSize = parameter_fault 4 2 code.Size
 
--- authHandle, the owner or the platform. A1: auth is longer than a digest of nameAlg; A2: the policy
--- is no digest; A3: the attributes; A4: the size; A5: there is such an index; A6: there is no room
+-- authHandle, the owner or the platform. A1: auth is longer than a digest of nameAlg; A2: the
+-- policy is no digest; A3: the attributes; A4: the size; A5: there is such an index; A6: there is
+-- no room
 unfoldable pub nv_define_space_row : Record → Request → Result Success Refused
 nv_define_space_row r q = do
   authority ← first_handle q.handles

@@ -14,7 +14,8 @@ use Rattle.tpm_bytes.specs.Reading.{◌>>=◌, refused_if}
 use Rattle.tpm_mac.specs.Digest.{digest_size, hash_of}
 use Rattle.tpm_mac.specs.declared.algorithm.HashAlg.{HashAlg}
 use Rattle.tpm_types.specs.Buffer.{is_given}
-use Rattle.tpm_types.specs.CommandNumber.{is_command_number}
+use Rattle.tpm_types.specs.CommandNumber.{is_command_number, policy_auth_value, policy_command_code}
+use Rattle.tpm_types.specs.CommandNumber.{policy_locality, policy_nv, policy_or, policy_pcr, policy_secret}
 use Rattle.tpm_types.specs.Operation.{operation_number}
 use Rattle.tpm_types.specs.PcrSelection.{selection_text}
 use Rattle.tpm_types.specs.Rc.{at, plain}
@@ -137,7 +138,7 @@ pcr_asserted hash trial pcr policy = do
       (fault_of action.First (plain code.PcrChanged))
   a2 ← refused_if (not trial && is_given pcr.given && not (bytes_eq pcr.given pcr.digest))
       (parameter_fault action.Second code.Value 1)
-  Ok (record (extended hash 0x17f (pcr.selection ++ taken_digest trial pcr) policy) {
+  Ok (record (extended hash policy_pcr (pcr.selection ++ taken_digest trial pcr) policy) {
     update_count = Some pcr.update_count;
   })
 
@@ -145,7 +146,7 @@ pcr_asserted hash trial pcr policy = do
 -- them; what was recorded stays
 unfoldable pub or_digest : HashAlg → (digests : List (List ℕ)) → List ℕ
 or_digest hash digests =
-    hash_of hash (replicate (digest_size hash) 0 ++ to_be_bytes w32 0x171
+    hash_of hash (replicate (digest_size hash) 0 ++ to_be_bytes w32 policy_or
     ++ flat_map (λ digest. digest) digests)
 
 unfoldable pub or_asserted : HashAlg → (trial : Bool) → (digests : List (List ℕ))
@@ -158,7 +159,7 @@ or_asserted hash trial digests policy = do
 -- TPM2_PolicyAuthValue (section 23.17), and TPM2_PolicyPassword (section 23.18), which has the same
 -- digest: they demand the authorization value of the entity, in an HMAC's key or in plain
 abbrev demanding : HashAlg → Demand → Policy → Policy
-demanding hash wanted policy = record (extended hash 0x16b [] policy) { demand = wanted }
+demanding hash wanted policy = record (extended hash policy_auth_value [] policy) { demand = wanted }
 
 unfoldable pub auth_value_asserted : HashAlg → Policy → Policy
 auth_value_asserted hash policy = demanding hash demand.AuthValue policy
@@ -172,7 +173,7 @@ unfoldable pub command_code_asserted : HashAlg → (number : ℕ)
 command_code_asserted hash number policy = do
   a1 ← refused_if (is_other policy.command number) (parameter_fault action.First code.Value 1)
   a2 ← refused_if (not (is_command_number number)) (parameter_fault action.Second code.PolicyCc 1)
-  Ok (record (extended hash 0x16c (to_be_bytes w32 number) policy) { command = Some number })
+  Ok (record (extended hash policy_command_code (to_be_bytes w32 number) policy) { command = Some number })
 
 -- TPM2_PolicyLocality (section 23.8): only those of these localities that were still allowed, of
 -- which there must be one; extended localities, 32 and up, are not served
@@ -182,7 +183,7 @@ locality_asserted hash localities policy = do
   a1 ← refused_if
       (localities == 0 || nat_lt 31 localities || bit_and policy.localities localities == 0)
       (parameter_fault action.First code.Range 1)
-  Ok (record (extended hash 0x16f (localities ∷ []) policy) {
+  Ok (record (extended hash policy_locality (localities ∷ []) policy) {
     localities = bit_and policy.localities localities;
   })
 
@@ -191,7 +192,7 @@ locality_asserted hash localities policy = do
 -- in one too (this device's own)
 abbrev pub secret_digest : HashAlg → (digest name reference : List ℕ) → List ℕ
 secret_digest hash digest name reference =
-    hash_of hash (hash_of hash (digest ++ to_be_bytes w32 0x151 ++ name) ++ reference)
+    hash_of hash (hash_of hash (digest ++ to_be_bytes w32 policy_secret ++ name) ++ reference)
 
 unfoldable pub secret_asserted : HashAlg → (trial : Bool) → SecretParts
     → Policy → Result Policy PolicyFault
@@ -226,7 +227,7 @@ unfoldable pub nv_asserted : HashAlg → (trial : Bool) → NvParts
     → Policy → Result Policy PolicyFault
 nv_asserted hash trial nv policy = do
   compared ← nv_compared trial nv
-  Ok (extended hash 0x149 (nv_arguments hash nv ++ nv.name) policy)
+  Ok (extended hash policy_nv (nv_arguments hash nv ++ nv.name) policy)
 
 -- what an assertion makes of a policy, or the first check that refuses it
 abbrev pub asserted : HashAlg → (trial : Bool) → Assertion → Policy → Result Policy PolicyFault

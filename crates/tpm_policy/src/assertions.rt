@@ -9,27 +9,15 @@ ghost use Rattle.tpm_policy.specs.Assertion.{Asserts, auth_value_asserted, comma
 use crate::fault::PolicyFault;
 use crate::state::{Demand, PolicyState};
 use arrayvec::ArrayVec;
+use tpm_bytes::is_equal;
 use tpm_mac::{Digest, HashAlg, digest_parts};
-use tpm_types::{ActionCheck, DigestList, ResponseCode, is_command_number};
-
-/// TPM_CC_PolicyAuthValue, which TPM2_PolicyPassword hashes too.
-const AUTH_VALUE: u32 = 0x16b;
-
-const COMMAND_CODE: u32 = 0x16c;
-
-const LOCALITY: u32 = 0x16f;
-
-const OR: u32 = 0x171;
+use tpm_types::{
+    ActionCheck, DigestList, POLICY_AUTH_VALUE, POLICY_COMMAND_CODE, POLICY_LOCALITY, POLICY_OR,
+    ResponseCode, is_command_number,
+};
 
 /// The most that an assertion of localities may name: 0 to 4, each by its bit.
 const MOST_LOCALITIES: u8 = 31;
-
-/// Whether the bytes are the same.
-pub(crate) fn is_equal(bytes: &[u8], others: &[u8]) -> bool
-    ensures { result ≡ bytes_eq bytes.now others.now }
-{
-    bytes == others
-}
 
 /// The hash of a digest, a command code, and what an assertion is about.
 fn extended_digest(hash: HashAlg, digest: &[u8], command: u32, about: &[u8]) -> Digest
@@ -54,7 +42,7 @@ fn or_digest(hash: HashAlg, list: &DigestList) -> Digest
     ensures { result.items ≡ or_digest hash (digests_of list.now.digests.items) }
 {
     let zeros = [0; 32];
-    let code = OR.to_be_bytes();
+    let code = POLICY_OR.to_be_bytes();
     let mut parts: ArrayVec<&[u8], 10> = ArrayVec::new();
     parts.push(&zeros[..hash.size()]);
     parts.push(&code);
@@ -100,7 +88,7 @@ impl PolicyState {
     pub fn auth_value(&mut self, hash: HashAlg)
         ensures { self.new ≡ auth_value_asserted hash self.old }
     {
-        self.extend(hash, AUTH_VALUE, &[]);
+        self.extend(hash, POLICY_AUTH_VALUE, &[]);
         self.demand = Demand::AuthValue;
     }
 
@@ -109,7 +97,7 @@ impl PolicyState {
     pub fn password(&mut self, hash: HashAlg)
         ensures { self.new ≡ password_asserted hash self.old }
     {
-        self.extend(hash, AUTH_VALUE, &[]);
+        self.extend(hash, POLICY_AUTH_VALUE, &[]);
         self.demand = Demand::Password;
     }
 
@@ -127,7 +115,7 @@ impl PolicyState {
             let check = ActionCheck::Second;
             return Err(PolicyFault::in_parameter(check, ResponseCode::PolicyCc, 1));
         }
-        self.extend(hash, COMMAND_CODE, &number.to_be_bytes());
+        self.extend(hash, POLICY_COMMAND_CODE, &number.to_be_bytes());
         self.command = Some(number);
         Ok(())
     }
@@ -143,7 +131,7 @@ impl PolicyState {
             let check = ActionCheck::First;
             return Err(PolicyFault::in_parameter(check, ResponseCode::Range, 1));
         }
-        self.extend(hash, LOCALITY, &[localities]);
+        self.extend(hash, POLICY_LOCALITY, &[localities]);
         self.localities = left;
         Ok(())
     }

@@ -1,7 +1,7 @@
 ghost use Rattle.std.specs.Prelude.{◌≡◌, ◌+◌, ◌-◌, nat_lt, if◌then◌else◌};
 ghost use Rattle.tpm_policy.specs.Comparison.{compares, has_clear, has_set, is_less, raised, raised_byte};
 
-use crate::assertions::is_equal;
+use tpm_bytes::is_equal;
 use tpm_types::Operation;
 
 /// Whether a number is less than another of the same size.

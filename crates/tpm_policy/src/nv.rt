@@ -7,10 +7,7 @@ use crate::fault::PolicyFault;
 use crate::state::PolicyState;
 use tpm_mac::{Digest, HashAlg, digest_parts};
 use tpm_name::Name;
-use tpm_types::{ActionCheck, Operation, ResponseCode};
-
-/// TPM_CC_PolicyNV.
-const NV: u32 = 0x149;
+use tpm_types::{ActionCheck, Operation, POLICY_NV, ResponseCode};
 
 /// What TPM2_PolicyNV is about.
 #[derive(Clone, Copy)]
@@ -65,7 +62,7 @@ impl PolicyState {
             self.old result self.new }
     {
         about.check(trial)?;
-        let code = NV.to_be_bytes();
+        let code = POLICY_NV.to_be_bytes();
         let (digest, arguments) = (self.digest.as_slice(), about.arguments(hash));
         self.digest = digest_parts(
             hash,

@@ -1,19 +1,16 @@
 ghost use Rattle.std.specs.Prelude.{◌≡◌, ◌++◌};
 ghost use Rattle.std.specs.Int.{w32, to_be_bytes};
 ghost use Rattle.tpm_mac.specs.Digest.{hash_of};
+ghost use Rattle.tpm_types.specs.CommandNumber.{policy_pcr};
 ghost use Rattle.tpm_types.specs.PcrSelection.{selection_text};
 ghost use Rattle.tpm_policy.specs.Assertion as assertion;
 ghost use Rattle.tpm_policy.specs.Assertion.{Asserts, asserted, is_other, pcr_parts, taken_digest};
 
-use crate::assertions::is_equal;
 use crate::fault::PolicyFault;
 use crate::state::PolicyState;
-use tpm_bytes::Sink;
+use tpm_bytes::{Sink, is_equal};
 use tpm_mac::{Digest, HashAlg, digest_parts};
-use tpm_types::{ActionCheck, PcrSelection, ResponseCode};
-
-/// TPM_CC_PolicyPCR.
-const PCR: u32 = 0x17f;
+use tpm_types::{ActionCheck, POLICY_PCR, PcrSelection, ResponseCode};
 
 /// What TPM2_PolicyPCR is about.
 #[derive(Clone, Copy)]
@@ -53,13 +50,13 @@ impl PolicyState {
 
     /// The policy digest behind the assertion.
     fn pcr_digest(&self, hash: HashAlg, trial: bool, about: &PcrAssertion) -> Digest
-        ensures { result.items ≡ hash_of hash (self.now.digest ++ to_be_bytes w32 0x17f
+        ensures { result.items ≡ hash_of hash (self.now.digest ++ to_be_bytes w32 policy_pcr
             ++ (selection_text about.now.selection.now.banks.items
             ++ taken_digest trial (pcr_parts about.now))) }
     {
         let mut selection: Sink<100> = Sink::new();
         let _ = about.selection.write(&mut selection);
-        let code = PCR.to_be_bytes();
+        let code = POLICY_PCR.to_be_bytes();
         let (digest, taken) = (self.digest.as_slice(), about.taken(trial));
         digest_parts(hash, &[digest, &code, selection.as_slice(), taken])
     }

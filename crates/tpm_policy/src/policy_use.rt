@@ -3,8 +3,8 @@ ghost use Rattle.std.specs.Int.{bit_at};
 ghost use Rattle.tpm_types.specs.Locality.{locality_number};
 ghost use Rattle.tpm_policy.specs.Use.{entity_parts, is_policy_of, lacks_command, parts_of, use_passes};
 
-use crate::assertions::is_equal;
 use crate::state::{Demand, PolicyState};
+use tpm_bytes::is_equal;
 use tpm_mac::HashAlg;
 use tpm_types::{Locality, Rc, ResponseCode, Role, SessionType, hash_number};
 

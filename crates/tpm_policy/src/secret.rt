@@ -2,15 +2,12 @@ ghost use Rattle.std.specs.Prelude.{◌≡◌};
 ghost use Rattle.tpm_policy.specs.Assertion as assertion;
 ghost use Rattle.tpm_policy.specs.Assertion.{Asserts, asserted, is_other_hash, secret_digest, secret_parts};
 
-use crate::assertions::is_equal;
 use crate::fault::PolicyFault;
 use crate::state::{PolicyState, copied};
+use tpm_bytes::is_equal;
 use tpm_mac::{Digest, HashAlg, digest_parts};
 use tpm_name::Name;
-use tpm_types::{ActionCheck, ResponseCode};
-
-/// TPM_CC_PolicySecret.
-const SECRET: u32 = 0x151;
+use tpm_types::{ActionCheck, POLICY_SECRET, ResponseCode};
 
 /// What TPM2_PolicySecret is about. A buffer of no byte gives nothing.
 #[derive(Clone, Copy)]
@@ -32,7 +29,7 @@ pub struct SecretAssertion<'a> {
 fn secret_digest(hash: HashAlg, digest: &[u8], name: &Name, reference: &[u8]) -> Digest
     ensures { result.items ≡ secret_digest hash digest.now name.now reference.now }
 {
-    let code = SECRET.to_be_bytes();
+    let code = POLICY_SECRET.to_be_bytes();
     let first = digest_parts(hash, &[digest, &code, name.as_slice()]);
     digest_parts(hash, &[first.as_slice(), reference])
 }

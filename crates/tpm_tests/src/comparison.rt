@@ -1,5 +1,5 @@
-//! The comparison that every test makes. An `assert_eq!` is proved anew wherever it stands, a call of
-//! this function in a tenth of the time.
+//! The comparison that every test makes. An `assert_eq!` is proved anew wherever it stands, a call
+//! of this function in a tenth of the time.
 
 use std::fmt::Debug;
 use std::process::Abort;

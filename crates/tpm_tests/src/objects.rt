@@ -118,8 +118,8 @@ fn templates_are_checked(rt: HostRuntime) {
     check(&rt, faults_of(KEY, NOTHING), Some((false, true)));
 }
 
-/// Whether what is created under a storage key and wrapped is unwrapped, for the public area that it
-/// was wrapped for and no other.
+/// Whether what is created under a storage key and wrapped is unwrapped, for the public area that
+/// it was wrapped for and no other.
 fn is_unwrapped() -> Option<bool> {
     let parent = primary_of(STORAGE, NOTHING)?;
     let (template, given) = (public_of(KEY)?, given_of(JEFE)?);

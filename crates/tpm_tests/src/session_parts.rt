@@ -1,5 +1,5 @@
-//! Sessions by their handles, in both kinds of places, and numbers that were computed outside: HMACs
-//! and hashes by Python's `hmac` and `hashlib`, the encrypted parameter by OpenSSL.
+//! Sessions by their handles, in both kinds of places, and numbers that were computed outside:
+//! HMACs and hashes by Python's `hmac` and `hashlib`, the encrypted parameter by OpenSSL.
 
 ghost use Rattle.std.specs.Prelude.{◌≤◌, length};
 

@@ -20,46 +20,46 @@ use Rattle.tpm_text.specs.declared.fault.AsmFault.TheVariants.{TooLong}
 use Rattle.tpm_text.specs.Draft.{Finishes, finished, grown, with_area}
 use Rattle.tpm_text.specs.Entry.{entry_in}
 use Rattle.tpm_text.specs.Fault.{at_column}
-use Rattle.tpm_text.specs.Laying.{Lays, LaysSessions, Leads, first_is_entry}
+use Rattle.tpm_text.specs.TokenReading.{DraftsRead, DraftsSessions, ReadsTokens, first_is_entry}
 use Rattle.tpm_text.specs.Line.{assembled, ended, entry_tokens_in, handles_in, name_in, parameters_in, spelled}
 use Rattle.tpm_text.specs.Pieces.{Token, tokens_of}
 use Rattle.tpm_text.proofs.Growing.{fits, grown-grown, none_grows, spills, too_much}
 
 -- ---- what a part gave
 
-pub leads_ok : {A E : Type 0} (read : Result (A × List Token) E) (result : Result A E) (x : A) (left : List Token) → result ≡ Ok x → Leads (λ a. a) read result left → read ≡ Ok (x, left)
-leads_ok (Ok read) (Ok y) x left e h = let same : y ≡ x = cc in ap (λ a. Ok (a, read.1)) (h.0 ∙ same) ∙ ap (λ l. Ok (x, l)) (sym h.1)
-leads_ok (Ok read) (Err found) x left e h = absurd h
-leads_ok (Err fault) (Ok y) x left e h = absurd h
-leads_ok (Err fault) (Err found) x left e h = absurd cc
+pub reads_tokens_ok : {A E : Type 0} (read : Result (A × List Token) E) (result : Result A E) (x : A) (left : List Token) → result ≡ Ok x → ReadsTokens (λ a. a) read result left → read ≡ Ok (x, left)
+reads_tokens_ok (Ok read) (Ok y) x left e h = let same : y ≡ x = cc in ap (λ a. Ok (a, read.1)) (h.0 ∙ same) ∙ ap (λ l. Ok (x, l)) (sym h.1)
+reads_tokens_ok (Ok read) (Err found) x left e h = absurd h
+reads_tokens_ok (Err fault) (Ok y) x left e h = absurd h
+reads_tokens_ok (Err fault) (Err found) x left e h = absurd cc
 
-pub leads_err : {A E : Type 0} (read : Result (A × List Token) E) (result : Result A E) (fault : E) (left : List Token) → result ≡ Err fault → Leads (λ a. a) read result left → read ≡ Err fault
-leads_err (Ok read) (Ok y) fault left e h = absurd cc
-leads_err (Ok read) (Err found) fault left e h = absurd h
-leads_err (Err other) (Ok y) fault left e h = absurd h
-leads_err (Err other) (Err found) fault left e h = ap Err (sym h ∙ cc)
+pub reads_tokens_err : {A E : Type 0} (read : Result (A × List Token) E) (result : Result A E) (fault : E) (left : List Token) → result ≡ Err fault → ReadsTokens (λ a. a) read result left → read ≡ Err fault
+reads_tokens_err (Ok read) (Ok y) fault left e h = absurd cc
+reads_tokens_err (Ok read) (Err found) fault left e h = absurd h
+reads_tokens_err (Err other) (Ok y) fault left e h = absurd h
+reads_tokens_err (Err other) (Err found) fault left e h = ap Err (sym h ∙ cc)
 
-pub lays_ok : {A E : Type 0} (text : A → List ℕ) (read : Result (A × List Token) E) (old new : Option (List ℕ)) (result : Result (Unit {0}) E) (left : List Token) → result ≡ Ok tt → Lays text read old result new left
+pub drafts_read_ok : {A E : Type 0} (text : A → List ℕ) (read : Result (A × List Token) E) (old new : Option (List ℕ)) (result : Result (Unit {0}) E) (left : List Token) → result ≡ Ok tt → DraftsRead text read old result new left
     → (a : A) × (read ≡ Ok (a, left)) × (new ≡ grown old (text a))
-lays_ok text (Ok read) old new (Ok done) left e h = (read.0, ap (λ l. Ok (read.0, l)) (sym h.1), h.0)
-lays_ok text (Ok read) old new (Err found) left e h = absurd h
-lays_ok text (Err fault) old new (Ok done) left e h = absurd h
-lays_ok text (Err fault) old new (Err found) left e h = absurd cc
+drafts_read_ok text (Ok read) old new (Ok done) left e h = (read.0, ap (λ l. Ok (read.0, l)) (sym h.1), h.0)
+drafts_read_ok text (Ok read) old new (Err found) left e h = absurd h
+drafts_read_ok text (Err fault) old new (Ok done) left e h = absurd h
+drafts_read_ok text (Err fault) old new (Err found) left e h = absurd cc
 
-pub lays_err : {A E : Type 0} (text : A → List ℕ) (read : Result (A × List Token) E) (old new : Option (List ℕ)) (result : Result (Unit {0}) E) (fault : E) (left : List Token) → result ≡ Err fault → Lays text read old result new left → read ≡ Err fault
-lays_err text (Ok read) old new (Ok done) fault left e h = absurd cc
-lays_err text (Ok read) old new (Err found) fault left e h = absurd h
-lays_err text (Err other) old new (Ok done) fault left e h = absurd h
-lays_err text (Err other) old new (Err found) fault left e h = ap Err (sym h ∙ cc)
+pub drafts_read_err : {A E : Type 0} (text : A → List ℕ) (read : Result (A × List Token) E) (old new : Option (List ℕ)) (result : Result (Unit {0}) E) (fault : E) (left : List Token) → result ≡ Err fault → DraftsRead text read old result new left → read ≡ Err fault
+drafts_read_err text (Ok read) old new (Ok done) fault left e h = absurd cc
+drafts_read_err text (Ok read) old new (Err found) fault left e h = absurd h
+drafts_read_err text (Err other) old new (Ok done) fault left e h = absurd h
+drafts_read_err text (Err other) old new (Err found) fault left e h = ap Err (sym h ∙ cc)
 
-pub sessions_ok : {E : Type 0} (read : Result (List Entry × List Token) E) (old new : Option (List ℕ)) (result : Result Tag E) (tag : Tag) (left : List Token) → result ≡ Ok tag → LaysSessions read old result new left
+pub sessions_ok : {E : Type 0} (read : Result (List Entry × List Token) E) (old new : Option (List ℕ)) (result : Result Tag E) (tag : Tag) (left : List Token) → result ≡ Ok tag → DraftsSessions read old result new left
     → (entries : List Entry) × (read ≡ Ok (entries, left)) × (tag ≡ tag_for entries) × (new ≡ grown old (sessions_text entries))
 sessions_ok (Ok read) old new (Ok found) tag left e h = let same : found ≡ tag = cc in (read.0, ap (λ l. Ok (read.0, l)) (sym h.2), sym same ∙ h.0, h.1)
 sessions_ok (Ok read) old new (Err found) tag left e h = absurd h
 sessions_ok (Err fault) old new (Ok found) tag left e h = absurd h
 sessions_ok (Err fault) old new (Err found) tag left e h = absurd cc
 
-pub sessions_err : {E : Type 0} (read : Result (List Entry × List Token) E) (old new : Option (List ℕ)) (result : Result Tag E) (fault : E) (left : List Token) → result ≡ Err fault → LaysSessions read old result new left → read ≡ Err fault
+pub sessions_err : {E : Type 0} (read : Result (List Entry × List Token) E) (old new : Option (List ℕ)) (result : Result Tag E) (fault : E) (left : List Token) → result ≡ Err fault → DraftsSessions read old result new left → read ≡ Err fault
 sessions_err (Ok read) old new (Ok found) fault left e h = absurd cc
 sessions_err (Ok read) old new (Err found) fault left e h = absurd h
 sessions_err (Err other) old new (Ok found) fault left e h = absurd h
@@ -76,17 +76,17 @@ area_is old area text e = by (nat_le (length text) 4096) refl
     by true short = let less = leb-true _ _ short in rw (e ∙ fits [] text (omega (arith, less))) refl
     by false long = let more = leb-false _ _ long in rw (e ∙ spills [] text (omega (arith, more))) (sym (too_much old (to_be_bytes w32 (length text) ++ text) (omega (arith, more, length-append (to_be_bytes w32 (length text)) text))))
 
-pub sessions_laid : (tokens left : List Token) (old area new : Option (List ℕ)) (result : Result (Unit {0}) AsmFault) → first_is_entry tokens ≡ true → result ≡ Ok tt → Lays entries_text (entry_tokens_in 3 tokens) (Some []) result area left → new ≡ with_area old area
-    → LaysSessions (entry_tokens_in 3 tokens) old (let tag : Result Tag AsmFault = Ok Sessions in tag) new left
+pub sessions_laid : (tokens left : List Token) (old area new : Option (List ℕ)) (result : Result (Unit {0}) AsmFault) → first_is_entry tokens ≡ true → result ≡ Ok tt → DraftsRead entries_text (entry_tokens_in 3 tokens) (Some []) result area left → new ≡ with_area old area
+    → DraftsSessions (entry_tokens_in 3 tokens) old (let tag : Result Tag AsmFault = Ok Sessions in tag) new left
 unfolding entry_tokens_in
 sessions_laid [] left old area new result first done h e = absurd cc
 sessions_laid (token ∷ tokens) left old area new result first done h e =
     let read = at_column token.column (entry_in token.text) in
-    subst (λ b. Lays entries_text (cond b (read >>= λ first. entry_tokens_in 2 tokens >>= λ others. Ok (first ∷ others.0, others.1)) (Ok ([], token ∷ tokens))) (Some []) result area left → LaysSessions (cond b (read >>= λ first. entry_tokens_in 2 tokens >>= λ others. Ok (first ∷ others.0, others.1)) (Ok ([], token ∷ tokens))) old (Ok Sessions) new left) (sym first) (by read (entry_tokens_in 2 tokens) result done) h
+    subst (λ b. DraftsRead entries_text (cond b (read >>= λ first. entry_tokens_in 2 tokens >>= λ others. Ok (first ∷ others.0, others.1)) (Ok ([], token ∷ tokens))) (Some []) result area left → DraftsSessions (cond b (read >>= λ first. entry_tokens_in 2 tokens >>= λ others. Ok (first ∷ others.0, others.1)) (Ok ([], token ∷ tokens))) old (Ok Sessions) new left) (sym first) (by read (entry_tokens_in 2 tokens) result done) h
   where
     by : (first : Result Entry AsmFault) (others : Result (List Entry × List Token) AsmFault) (result : Result (Unit {0}) AsmFault) → result ≡ Ok tt
-        → Lays entries_text (first >>= λ first. others >>= λ others. Ok (first ∷ others.0, others.1)) (Some []) result area left
-        → LaysSessions (first >>= λ first. others >>= λ others. Ok (first ∷ others.0, others.1)) old (let tag : Result Tag AsmFault = Ok Sessions in tag) new left
+        → DraftsRead entries_text (first >>= λ first. others >>= λ others. Ok (first ∷ others.0, others.1)) (Some []) result area left
+        → DraftsSessions (first >>= λ first. others >>= λ others. Ok (first ∷ others.0, others.1)) old (let tag : Result Tag AsmFault = Ok Sessions in tag) new left
     by (Ok first) (Ok others) (Ok done) d h = (refl, e ∙ area_is old area (entries_text (first ∷ others.0)) h.0, h.1)
     by (Ok first) (Ok others) (Err found) d h = absurd h
     by (Ok first) (Err fault) (Ok done) d h = absurd h

@@ -14,7 +14,7 @@ use Rattle.tpm_text.specs.declared.fault.TokenFault.{TokenFault}
 use Rattle.tpm_text.specs.Draft.{drafted, grown}
 use Rattle.tpm_text.specs.Entry.{begins_entry, entry_in, handle_in, text_of_entry}
 use Rattle.tpm_text.specs.Fault.{Gives, at_column, fault_at}
-use Rattle.tpm_text.specs.Laying.{Lays, first_is_entry}
+use Rattle.tpm_text.specs.TokenReading.{DraftsRead, first_is_entry}
 use Rattle.tpm_text.specs.Line.{entry_tokens_in, handles_in, parameters_in}
 use Rattle.tpm_text.specs.Parameter.{parameter_text}
 use Rattle.tpm_text.specs.Pieces.{Token}
@@ -34,7 +34,7 @@ nothing_grows draft = same_size draft.bytes draft.used draft.within
 -- what is read first is written before the others
 pub laid_behind : {A E : Type 0} (text : A → List ℕ) (front : List ℕ) (join : A → A) → ((x : A) → text (join x) ≡ front ++ text x)
     → (rest : Result (A × List Token) E) (old middle : Option (List ℕ)) (result : Result (Unit {0}) E) (new : Option (List ℕ)) (left : List Token)
-    → middle ≡ grown old front → Lays text rest middle result new left → Lays text (rest >>= λ others. Ok (join others.0, others.1)) old result new left
+    → middle ≡ grown old front → DraftsRead text rest middle result new left → DraftsRead text (rest >>= λ others. Ok (join others.0, others.1)) old result new left
 laid_behind text front join joins (Ok read) old middle (Ok done) new left m h =
     (h.0 ∙ ap (λ d. grown d (text read.0)) m ∙ grown-grown old front (text read.0) ∙ ap (grown old) (sym (joins read.0)), h.1)
 laid_behind text front join joins (Ok read) old middle (Err found) new left m h = absurd h

@@ -19,7 +19,7 @@ use Rattle.tpm_machine_step.specs.Answer.{answer_to, framed, refusal_tag, succes
 use Rattle.tpm_machine_step.specs.Events.{Happening, Given, Cycled}
 use Rattle.tpm_machine_step.specs.Execution.{Executes}
 use Rattle.tpm_machine_step.specs.General.{body_of, general, in_command, in_header}
-use Rattle.tpm_machine_step.specs.Step.{Accepted, Stepped, acceptance, accepted, answer_where, refusal_step, starved, step_where, success_step}
+use Rattle.tpm_machine_step.specs.Step.{Accepted, Stepped, acceptance, accepted, answer_where, refusal_step, refusal_without_memory, step_where, success_step}
 use Rattle.tpm_machine_step.specs.declared.refusal.Refusal.{Refusal}
 use Rattle.tpm_text.specs.Trace.{IsRow, IsTraceable}
 
@@ -75,14 +75,14 @@ success_traced a random = ((inr (a.command.code, refl), inl refl), answer_long a
 refusal_traced : (r : Record) (e : Refusal) → (e.code ≡ 0) ⊎ ((code : CommandCode) × (e.code ≡ code_number code)) → IsTraced (refusal_step r e)
 refusal_traced r e named = ((named, inr (e.refused.check, refl)), framed_long (refusal_tag e.refused.check) (rc_number e.refused.rc) [])
 
-starved_traced : (r : Record) (random : List ℕ) (a : Accepted) (grows : Bool) → IsTraced (cond grows (starved r a.command) (success_step a random))
-starved_traced r random a true = ((inr (a.command.code, refl), inr (Memory, refl)), omega arith)
-starved_traced r random a false = success_traced a random
+traced_without_memory : (r : Record) (random : List ℕ) (a : Accepted) (grows : Bool) → IsTraced (cond grows (refusal_without_memory r a.command) (success_step a random))
+traced_without_memory r random a true = ((inr (a.command.code, refl), inr (Memory, refl)), omega arith)
+traced_without_memory r random a false = success_traced a random
 
 answer_traced : (refused : Bool) (r : Record) (random : List ℕ) (a : Result Accepted Refusal) → Names a → IsTraced (answer_where refused r random a)
 answer_traced false r random (Ok a) named = success_traced a random
 answer_traced false r random (Err e) named = refusal_traced r e named
-answer_traced true r random (Ok a) named = starved_traced r random a (shape_of a.command.code).grows
+answer_traced true r random (Ok a) named = traced_without_memory r random a (shape_of a.command.code).grows
 answer_traced true r random (Err e) named = refusal_traced r e named
 
 step_traced : (refused : Bool) (r : Record) (event : Happening) → IsTraceable event (step_where refused r event)

@@ -35,8 +35,8 @@ octet_in piece = do
   bytes ← hex_in piece
   Ok (from_be_bytes w8 bytes)
 
--- the entry of a password: of TPM_RS_PW, without a nonce, with continueSession, and with the password
--- in the HMAC's place
+-- the entry of a password: of TPM_RS_PW, without a nonce, with continueSession, and with the
+-- password in the HMAC's place
 unfoldable pub password_entry : List ℕ → Result Entry TokenFault
 password_entry password = do
   bytes ← bytes_in password

@@ -8,7 +8,7 @@ pub mod Entry
 pub mod EntryPieces
 pub mod Line
 pub mod Draft
-pub mod Laying
+pub mod TokenReading
 pub mod Trace
 pub use Rattle.tpm_types_command.specs.Command
 pub use Rattle.tpm_types_command.specs.CommandName

@@ -53,7 +53,8 @@ entry_tokens_in (suc most) (token ∷ tokens) = cond (begins_entry token.text) (
     (Ok ([], token ∷ tokens))
 
 -- a parameter of each kind, as their text
-unfoldable pub parameters_in : List ParameterKind → List Token → Result (List ℕ × List Token) AsmFault
+unfoldable pub parameters_in : List ParameterKind → List Token
+    → Result (List ℕ × List Token) AsmFault
 parameters_in [] tokens = Ok ([], tokens)
 parameters_in (kind ∷ kinds) tokens = do
   first ← token_in (parameter_text kind) tokens
@@ -87,8 +88,8 @@ assembled line = do
   fits ← refused_if (nat_lt 4096 (command_size command)) fault.TooLong
   Ok (command_text command)
 
--- A call gave the text of the command that a line spells, or the fault of the line, or had no memory
--- for a text.
+-- A call gave the text of the command that a line spells, or the fault of the line, or had no
+-- memory for a text.
 abbrev pub Assembles : {X : Type 0} → (X → List ℕ)
     → Result (List ℕ) AsmFault → Result X AsmFault → Type 0
 Assembles view (Ok text) (Ok buffer) = view buffer ≡ text

@@ -31,7 +31,8 @@ hash_in word =
 -- a hash algorithm, or null
 unfoldable pub hash_text : List ℕ → Result (List ℕ) TokenFault
 hash_text word = do
-  algorithm ← if is_word (codes "null") word then Ok None else (hash_in word >>= λ hash. Ok (Some hash))
+  algorithm ← if is_word (codes "null") word then Ok None
+      else (hash_in word >>= λ hash. Ok (Some hash))
   Ok (to_be_bytes w16 (hash_or_null_number algorithm))
 
 abbrev pub symmetric_in : List ℕ → Result SymmetricDefinition TokenFault

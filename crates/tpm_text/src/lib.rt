@@ -28,4 +28,5 @@ mod word;
 pub use draft::Draft;
 pub use fault::AsmFault;
 pub use line::{assemble, assemble_in, lines_are_read_back};
+pub use token::position_of;
 pub use trace::{executions_are_traceable, trace_line, trace_text};

@@ -4,7 +4,7 @@ ghost use Rattle.tpm_types_command.specs.AuthArea.{entries_text};
 ghost use Rattle.tpm_types_command.specs.Command.{Whole, command_at, command_size, command_text, handles_text};
 ghost use Rattle.tpm_text.specs.Draft.{Finishes, drafted};
 ghost use Rattle.tpm_text.specs.Fault.{Gives};
-ghost use Rattle.tpm_text.specs.Laying.{Lays, LaysSessions, Leads};
+ghost use Rattle.tpm_text.specs.TokenReading.{DraftsRead, DraftsSessions, ReadsTokens};
 ghost use Rattle.tpm_text.specs.Line.{Assembles, assembled, ended, entry_tokens_in, handles_in, name_in, parameters_in, spelled};
 ghost use Rattle.tpm_text.specs.Tokens.{tokens_left};
 
@@ -18,8 +18,8 @@ use tpm_types_command::{CommandCode, ParameterKind, Tag};
 
 /// Writes so many handles.
 fn put_handles(count: usize, tokens: &mut Tokens, draft: &mut Draft) -> Result<(), AsmFault>
-    ensures { Lays handles_text (handles_in count (tokens_left tokens.old)) (drafted draft.old)
-        result (drafted draft.new) (tokens_left tokens.new) }
+    ensures { DraftsRead handles_text (handles_in count (tokens_left tokens.old))
+        (drafted draft.old) result (drafted draft.new) (tokens_left tokens.new) }
 {
     if count == 0 {
         return Ok(());
@@ -32,8 +32,8 @@ fn put_handles(count: usize, tokens: &mut Tokens, draft: &mut Draft) -> Result<(
 
 /// Writes at most so many entries: as many as the tokens begin like one.
 fn put_entries(most: usize, tokens: &mut Tokens, draft: &mut Draft) -> Result<(), AsmFault>
-    ensures { Lays entries_text (entry_tokens_in most (tokens_left tokens.old)) (drafted draft.old)
-        result (drafted draft.new) (tokens_left tokens.new) }
+    ensures { DraftsRead entries_text (entry_tokens_in most (tokens_left tokens.old))
+        (drafted draft.old) result (drafted draft.new) (tokens_left tokens.new) }
 {
     if most == 0 {
         return Ok(());
@@ -51,7 +51,7 @@ fn put_parameters(
     tokens: &mut Tokens,
     draft: &mut Draft,
 ) -> Result<(), AsmFault>
-    ensures { Lays (λ text. text) (parameters_in kinds.now (tokens_left tokens.old))
+    ensures { DraftsRead (λ text. text) (parameters_in kinds.now (tokens_left tokens.old))
         (drafted draft.old) result (drafted draft.new) (tokens_left tokens.new) }
 {
     let Some((kind, others)) = kinds.split_first() else {
@@ -64,7 +64,7 @@ fn put_parameters(
 
 /// Writes the authorization area, if the next token begins like an entry, and tells whether it did.
 fn put_sessions(tokens: &mut Tokens, draft: &mut Draft) -> Result<Tag, AsmFault>
-    ensures { LaysSessions (entry_tokens_in 3 (tokens_left tokens.old)) (drafted draft.old)
+    ensures { DraftsSessions (entry_tokens_in 3 (tokens_left tokens.old)) (drafted draft.old)
         result (drafted draft.new) (tokens_left tokens.new) }
 {
     if !tokens.begins_entry() {
@@ -78,7 +78,7 @@ fn put_sessions(tokens: &mut Tokens, draft: &mut Draft) -> Result<Tag, AsmFault>
 
 /// The command that the first token names.
 fn read_name(tokens: &mut Tokens) -> Result<CommandCode, AsmFault>
-    ensures { Leads (λ code. code) (name_in (tokens_left tokens.old)) result
+    ensures { ReadsTokens (λ code. code) (name_in (tokens_left tokens.old)) result
         (tokens_left tokens.new) }
 {
     let Some(token) = tokens.next() else {

@@ -11,7 +11,7 @@ use crate::draft::Draft;
 use crate::element::Element;
 use crate::fault::TokenFault;
 use crate::number::{is_word, number_in};
-use crate::token::{cut, place_of};
+use crate::token::{cut, position_of};
 use crate::word::hash_in;
 use tpm_bytes::Sink;
 use tpm_mac::HashAlg;
@@ -22,7 +22,7 @@ use tpm_types::{BankSelection, PcrIndex, PcrSelect, hash_number};
 fn hash_and_rest_in(piece: &[u8]) -> Result<(HashAlg, &[u8]), TokenFault>
     ensures { Gives (λ pair. (pair.0, pair.1.now)) (hash_and_rest_in piece.now) result }
 {
-    let Some(place) = place_of(b':', piece) else {
+    let Some(place) = position_of(b':', piece) else {
         return Err(TokenFault::Bad);
     };
     let hash = hash_in(&piece[..place])?;

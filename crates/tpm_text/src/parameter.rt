@@ -16,7 +16,8 @@ use tpm_types_command::ParameterKind;
 /// Writes a parameter of a kind, given as a token.
 #[tactic(auto, unfolding(crate::specs::Parameter::parameter_text))]
 pub fn put_parameter(kind: ParameterKind, token: &[u8], draft: &mut Draft) -> Result<(), TokenFault>
-    ensures { Drafts (parameter_text kind token.now) (drafted draft.old) result (drafted draft.new) }
+    ensures { Drafts (parameter_text kind token.now) (drafted draft.old)
+        result (drafted draft.new) }
 {
     match kind {
         ParameterKind::SessionType | ParameterKind::U8 | ParameterKind::YesNo => {

@@ -7,7 +7,7 @@ use crate::entry::begins_entry;
 use crate::fault::{AsmFault, TokenFault};
 
 /// The first place of a byte.
-pub fn place_of(byte: u8, bytes: &[u8]) -> Option<usize>
+pub fn position_of(byte: u8, bytes: &[u8]) -> Option<usize>
     ensures { result ≡ position (λ other. other == byte) bytes.now }
 {
     bytes.iter().position(|other| *other == byte)
@@ -21,7 +21,7 @@ pub fn cut(separator: u8, text: &[u8]) -> (&[u8], Option<&[u8]>)
     ensures place { IfSome result.1
         (λ rest. length text.now ≡ length result.0.now + 1 + length rest.now) }
 {
-    match place_of(separator, text) {
+    match position_of(separator, text) {
         Some(place) => (&text[..place], Some(&text[place + 1..])),
         None => (text, None),
     }
@@ -60,7 +60,7 @@ impl<'a> Token<'a> {
 }
 
 impl<'a> Tokens<'a> {
-    ghost use Rattle.tpm_text.specs.Laying.{Takes, TakesEntry, first_is_entry};
+    ghost use Rattle.tpm_text.specs.TokenReading.{Takes, TakesEntry, first_is_entry};
     ghost use Rattle.tpm_text.specs.Pieces.{TakesFirst, token_of, tokens_of};
     ghost use Rattle.tpm_text.specs.Tokens.{tokens_left};
 

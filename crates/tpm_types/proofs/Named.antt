@@ -2,6 +2,7 @@
 use Rattle.std.proofs.Common.{◌≡◌, ℕ, ◌<◌, ◌^◌, Bool, true, false, cond, List, Option, Some, None, Ok, refl, ap, subst, ◌∙◌, arith}
 use Rattle.std.specs.Prelude.{◌==◌, ok_or}
 use Rattle.std.specs.Int.{w16, to_be_bytes}
+use Rattle.std.specs.Option.{option_map}
 use Rattle.std.proofs.lemmas.Bool.{eqb-true}
 use Rattle.tpm_bytes.specs.Reading.{◌>>=◌, number_at, or_fault}
 use Rattle.tpm_bytes.proofs.Fields.{Takes, bind_ok, ok_is, ok_or_ok, number_or_again, number_or_takes, wide16}
@@ -36,7 +37,12 @@ hash_number-small Sha1 = omega arith
 hash_number-small Sha256 = omega arith
 
 pub hash_or_null_named-is : (number : ℕ) (hash : Option HashAlg) → hash_or_null_named number ≡ Some hash → number ≡ hash_or_null_number hash
-hash_or_null_named-is number hash = link hash_or_null_number number (Some Sha1) _ hash λ o. link hash_or_null_number number (Some Sha256) _ o λ p. link hash_or_null_number number None None p (none hash_or_null_number number)
+hash_or_null_named-is number hash = link hash_or_null_number number None _ hash λ o e. served o (hash_named number) (hash_named-is number) e
+  where
+    served : (o : Option HashAlg) (found : Option HashAlg) → ((one : HashAlg) → found ≡ Some one → number ≡ hash_number one) → option_map Some found ≡ Some o → number ≡ hash_or_null_number o
+    served o None is e = absurd cc
+    served None (Some one) is e = absurd cc
+    served (Some other) (Some one) is e = let same : one ≡ other = cc in is one refl ∙ ap hash_number same
 
 pub hash_or_null_named-again : (hash : Option HashAlg) → hash_or_null_named (hash_or_null_number hash) ≡ Some hash
 hash_or_null_named-again (Some Sha1) = refl

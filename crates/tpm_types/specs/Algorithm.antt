@@ -2,6 +2,7 @@
 -- (TPMI_ALG_HASH).
 use Rattle.std.specs.Prelude.{ℕ, ◌==◌, List, if◌then◌else◌, Option, Some, None, Result, Ok, ok_or}
 use Rattle.std.specs.Int.{w16}
+use Rattle.std.specs.Option.{option_map}
 use Rattle.tpm_bytes.specs.Reading.{◌>>=◌, number_at, or_fault}
 use Rattle.tpm_mac.specs.declared.algorithm.HashAlg.{HashAlg}
 use Rattle.tpm_mac.specs.declared.algorithm.HashAlg.TheVariants.{Sha1, Sha256}
@@ -30,12 +31,10 @@ abbrev pub hash_or_null_number : Option HashAlg → ℕ
 hash_or_null_number (Some algorithm) = hash_number algorithm
 hash_or_null_number None = 0x0010
 
--- none, or the hash algorithm of a number, if it is served
+-- none for NULL, or the hash algorithm of a number, if it is served
 abbrev pub hash_or_null_named : ℕ → Option (Option HashAlg)
 hash_or_null_named number =
-    if number == 0x0004 then Some (Some Sha1)
-    else (if number == 0x000b then Some (Some Sha256)
-    else (if number == 0x0010 then Some None else None))
+    if number == 0x0010 then Some None else option_map Some (hash_named number)
 
 -- none or a hash algorithm, and what is after it
 unfoldable pub hash_or_null_at : List ℕ → Result (Option HashAlg × List ℕ) Rc

@@ -7,6 +7,9 @@ use crate::rc::{Rc, ResponseCode};
 use tpm_bytes::Cursor;
 use tpm_mac::HashAlg;
 
+/// TPM_ALG_NULL.
+const NULL: u16 = 0x0010;
+
 /// The number of a hash algorithm on the wire: TPM_ALG_ID of TPM 2.0 Library, Part 2, section 6.3.
 pub fn hash_number(algorithm: HashAlg) -> u16
     ensures { result ≡ hash_number algorithm }
@@ -51,7 +54,7 @@ pub fn hash_or_null_number(algorithm: Option<HashAlg>) -> u16
 {
     match algorithm {
         Some(algorithm) => hash_number(algorithm),
-        None => 0x0010,
+        None => NULL,
     }
 }
 
@@ -59,11 +62,10 @@ pub fn hash_or_null_number(algorithm: Option<HashAlg>) -> u16
 pub fn hash_or_null_named(number: u16) -> Option<Option<HashAlg>>
     ensures { result ≡ hash_or_null_named number }
 {
-    match number {
-        0x0004 => Some(Some(HashAlg::Sha1)),
-        0x000b => Some(Some(HashAlg::Sha256)),
-        0x0010 => Some(None),
-        _ => None,
+    match (number, hash_named(number)) {
+        (NULL, _) => Some(None),
+        (_, Some(algorithm)) => Some(Some(algorithm)),
+        (_, None) => None,
     }
 }
 

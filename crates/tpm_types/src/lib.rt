@@ -44,7 +44,10 @@ pub use algorithm::{hash_number, hash_or_null_number, read_hash, read_hash_or_nu
 pub use auth_value::{AuthValue, trimmed};
 pub use buffer::{MOST_DIGEST, read_buffer};
 pub use check::Check;
-pub use command_number::is_command_number;
+pub use command_number::{
+    POLICY_AUTH_VALUE, POLICY_COMMAND_CODE, POLICY_LOCALITY, POLICY_NV, POLICY_OR, POLICY_PCR,
+    POLICY_SECRET, is_command_number,
+};
 pub use digest_list::DigestList;
 pub use digest_values::{DigestValue, DigestValues};
 pub use grammar::bytes_fit;

@@ -2,6 +2,8 @@
 use Rattle.std.specs.Prelude.{ℕ, ◌==◌, is_some, count_by, Bool, true, false, List, [], ◌∷◌, length, Option, slice_get}
 use Rattle.std.specs.List.{find}
 use Rattle.std.specs.Option.{option_map_or, unwrap_or}
+use Rattle.tpm_types.specs.CommandNumber.{policy_auth_value, policy_command_code, policy_locality}
+use Rattle.tpm_types.specs.CommandNumber.{policy_nv, policy_or, policy_pcr, policy_secret}
 use Rattle.tpm_types_command.specs.declared.command_code.CommandCode.{CommandCode}
 use Rattle.tpm_types_command.specs.declared.command_code.CommandCode.TheVariants as code
 use Rattle.tpm_types_command.specs.declared.shape.HandleKind.TheVariants as kind
@@ -35,26 +37,26 @@ code_number code.PcrReset = 0x13d
 code_number code.SelfTest = 0x143
 code_number code.Startup = 0x144
 code_number code.Shutdown = 0x145
-code_number code.PolicyNv = 0x149
+code_number code.PolicyNv = policy_nv
 code_number code.NvRead = 0x14e
 code_number code.NvReadLock = 0x14f
-code_number code.PolicySecret = 0x151
+code_number code.PolicySecret = policy_secret
 code_number code.Create = 0x153
 code_number code.Hmac = 0x155
 code_number code.Load = 0x157
 code_number code.Unseal = 0x15e
 code_number code.FlushContext = 0x165
 code_number code.NvReadPublic = 0x169
-code_number code.PolicyAuthValue = 0x16b
-code_number code.PolicyCommandCode = 0x16c
-code_number code.PolicyLocality = 0x16f
-code_number code.PolicyOr = 0x171
+code_number code.PolicyAuthValue = policy_auth_value
+code_number code.PolicyCommandCode = policy_command_code
+code_number code.PolicyLocality = policy_locality
+code_number code.PolicyOr = policy_or
 code_number code.ReadPublic = 0x173
 code_number code.StartAuthSession = 0x176
 code_number code.GetCapability = 0x17a
 code_number code.GetRandom = 0x17b
 code_number code.PcrRead = 0x17e
-code_number code.PolicyPcr = 0x17f
+code_number code.PolicyPcr = policy_pcr
 code_number code.PolicyRestart = 0x180
 code_number code.ReadClock = 0x181
 code_number code.PcrExtend = 0x182

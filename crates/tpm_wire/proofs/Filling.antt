@@ -3,7 +3,7 @@ use Rattle.std.proofs.Common.{◌≡◌, ◌≢◌, ℕ, ◌+◌, ◌<◌, List,
 use Rattle.std.proofs.lemmas.Grind.{common_steps}
 use Rattle.std.specs.Io.KnownBytes.{Consumes}
 use Rattle.tpm_bytes.specs.Tap.{Marks, after_read}
-use Rattle.tpm_wire.specs.declared.fault.Failed.{Failed}
+use Rattle.tpm_bytes.specs.declared.tap.Failed.{Failed}
 
 -- a read of no bytes
 pub nothing_read : (had has : Option (List ℕ)) (read bytes : List ℕ) → length bytes ≡ 0 → Consumes had has (read ++ bytes) → Consumes had has read

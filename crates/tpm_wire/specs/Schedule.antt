@@ -103,7 +103,8 @@ events_in lives (call ∷ calls) = events_of lives call ++ events_in (lives_afte
 
 -- An event leads from one record to the next.
 abbrev pub Leads : Bool → Record → Event → Record → Type 0
-Leads can old (Executed happening outcome) new = Executes can old happening (outcome_step new outcome)
+Leads can old (Executed happening outcome) new =
+    Executes can old happening (outcome_step new outcome)
 Leads can old PowerCycled new = new ≡ cycled old
 
 abbrev pub happening_of : Event → Happening

@@ -11,7 +11,7 @@ use Rattle.tpm_machine_step.specs.Step.{outcome_step}
 use Rattle.tpm_machine_step.specs.declared.event.Outcome.{Outcome}
 use Rattle.tpm_wire.specs.Stream.{Cut, Cutting, Stream, cut_of, fed, next_of}
 use Rattle.tpm_wire.specs.Wire.{given}
-use Rattle.tpm_wire.specs.declared.fault.Failed.{Failed}
+use Rattle.tpm_bytes.specs.declared.tap.Failed.{Failed}
 use Rattle.tpm_wire.specs.declared.fault.HostFault.{HostFault}
 use Rattle.tpm_wire.specs.declared.fault.ServeFault.{ServeFault}
 use Rattle.tpm_wire.specs.declared.fault.ServeFault.TheVariants as fault
@@ -51,7 +51,8 @@ unmarked = record { failed = false; ended = false; reads = 0 }
 -- ---- its parts
 
 -- One read, of as many bytes as a stream has room for at most.
-abbrev pub Fills : Option (List ℕ) → Option (List ℕ) → Marks → Marks → Stream → Result ℕ Failed → Stream → Type 0
+abbrev pub Fills : Option (List ℕ) → Option (List ℕ) → Marks → Marks
+    → Stream → Result ℕ Failed → Stream → Type 0
 Fills had has before after old (Err failed) new =
     (after.failed ≡ true) × (new ≡ old) × Keeps had has
 Fills had has before after old (Ok count) new =
@@ -85,8 +86,9 @@ AreFewer done buffers =
 
 -- At the end of what the reader gives, or of the stream itself: all buffers were executed and all
 -- responses written. Where the reader failed, or gave bytes in as many reads as one connection may
--- have: the same. Where the writer failed: some buffers were executed, the last without its response.
--- Where the host answered a fault: those before the next buffer, which is whole, with their responses.
+-- have: the same. Where the writer failed: some buffers were executed, the last without its
+-- response. Where the host answered a fault: those before the next buffer, which is whole, with
+-- their responses.
 abbrev pub Ends : {F : Type 0} → Asking F → Option (List ℕ) → Option (List ℕ) → Marks → Marks
     → Cutting → List (List ℕ) → Serving F → F → Result ℕ ServeFault → Type 0
 Ends g held holds reader writer cut done end host (Ok count) =
@@ -101,8 +103,8 @@ Ends g held holds reader writer cut done end host (Err fault.Host) =
     AreFewer done cut.buffers × Faults g end.host host × Appends held holds end.written
 Ends g held holds reader writer cut done end host (Err fault.Full) = ⊥
 
--- A connection was served: what was read of the reader is cut into buffers, those that were executed
--- lead from the machine before to the machine after, and serving ended so.
+-- A connection was served: what was read of the reader is cut into buffers, those that were
+-- executed lead from the machine before to the machine after, and serving ended so.
 abbrev pub Serves : {F : Type 0} → Asking F → Bool
     → Option (List ℕ) → Option (List ℕ) → Option (List ℕ) → Option (List ℕ) → Marks → Marks
     → Record → F → Result ℕ ServeFault → Record → F → Type 0

@@ -26,7 +26,8 @@ size_by size = if is_size size then size else 6
 abbrev pub buffer_size : List ℕ → Option ℕ
 buffer_size bytes = option_map size_by (command_size bytes)
 
--- whether no buffer comes behind the one that begins with these bytes, since its commandSize is none
+-- whether no buffer comes behind the one that begins with these bytes, since its commandSize is
+-- none
 abbrev pub is_last : List ℕ → Bool
 is_last bytes = option_map_or (λ size. not (is_size size)) (command_size bytes) false
 

@@ -24,7 +24,7 @@ pub record Wire : Type 0 where
   pub machine : Record
   pub streams : List (Option Stream)
 
--- by the record of the machine's keep
+-- what a `Mux` is seen as, by what its machine's keep is seen as
 abbrev pub wire_of : {K S O P N : Type 0} → (K → Record) → Mux K S O P N → Wire
 wire_of record_of mux = record {
   machine = state_of record_of mux.machine;
@@ -79,11 +79,13 @@ Answers can c old number host (Ok (Answer outcome)) new =
 Answers can c old number host result new = ⊥
 
 -- The next buffer was executed, if one is whole.
-abbrev pub TurnsBy : Bool → Option Cut → Stream → Wire → ℕ → Host → Result Turn NoConnection → Wire → Type 0
+abbrev pub TurnsBy : Bool → Option Cut → Stream
+    → Wire → ℕ → Host → Result Turn NoConnection → Wire → Type 0
 TurnsBy can None s old number host result new = Waits s old result new
 TurnsBy can (Some c) s old number host result new = Answers can c old number host result new
 
-abbrev pub TurnsAt : Bool → Option Stream → Wire → ℕ → Host → Result Turn NoConnection → Wire → Type 0
+abbrev pub TurnsAt : Bool → Option Stream
+    → Wire → ℕ → Host → Result Turn NoConnection → Wire → Type 0
 TurnsAt can None old number host result new = Refuses old result new
 TurnsAt can (Some s) old number host result new =
     TurnsBy can (next_of s) s old number host result new

@@ -10,10 +10,6 @@ pub struct NoConnection;
 #[derive(Clone, Copy, Debug, PartialEq, Eq)]
 pub struct HostFault;
 
-/// A reader or a writer failed.
-#[derive(Clone, Copy, Debug, PartialEq, Eq)]
-pub(crate) struct Failed;
-
 /// Why a connection was not served to its end.
 #[derive(Clone, Copy, Debug, PartialEq, Eq)]
 pub enum ServeFault {

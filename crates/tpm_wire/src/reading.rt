@@ -3,9 +3,8 @@ ghost use Rattle.tpm_bytes.specs.Tap.{device_of, marks_of};
 ghost use Rattle.tpm_wire.specs.Serve.{Fills};
 
 use crate::connection::{BUFFER_LIMIT, Connection};
-use crate::fault::Failed;
 use std::io::Read;
-use tpm_bytes::Tap;
+use tpm_bytes::{Failed, Tap};
 
 /// Reads once, as many bytes as the connection has room for at most, and says how many those were.
 /// They pass through `piece`, which a caller makes once for all reads.

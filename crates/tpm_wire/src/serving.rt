@@ -13,7 +13,6 @@ use crate::fault::{HostFault, ServeFault};
 use crate::host::Host;
 use crate::mux::{Mux, execute_front, free_place};
 use crate::reading::fill;
-use crate::writing::send;
 use std::io::{Read, Write};
 use tpm_bytes::Tap;
 use tpm_machine::Machine;
@@ -121,9 +120,9 @@ fn answer_whole<K: Keep, W: Write, H: FnMut() -> Result<Host, HostFault>>(
             Err(_) => return Err(ServeFault::Host),
         };
         execute_front(machine, connection, front, said, outcome);
-        if let Err(_) = send(writer, outcome.response.as_slice()) {
+        let Ok(()) = writer.write_all(outcome.response.as_slice()) else {
             return Err(ServeFault::Write);
-        }
+        };
         answered += 1;
     }
     Ok(answered)

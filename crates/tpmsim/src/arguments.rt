@@ -1,10 +1,11 @@
 ghost use Rattle.std.specs.Prelude.{◌≡◌, ◌⊎◌, IfErr};
 
 use crate::fault::Fault;
-use crate::service::{Service, locality, number};
+use crate::service::Service;
 use clap::{Arg, ArgAction, ArgMatches, Command};
 use std::alloc::{AllocError, Global};
 use std::convert::AsStr;
+use tpmsim_script::{decimal, locality};
 
 /// What the command line asks for.
 #[derive(Drop)]
@@ -54,8 +55,8 @@ fn service_of<'a>(options: &ArgMatches<'a>) -> Option<Service<'a>> {
         socket: options.get_str("socket")?,
         image: options.get_str("image")?,
         entropy: options.get_str("entropy")?,
-        locality: locality(options.get_str("locality")?)?,
-        connections: number(options.get_str("connections")?)?,
+        locality: locality(options.get_str("locality")?.as_bytes())?,
+        connections: decimal(options.get_str("connections")?.as_bytes())?,
     })
 }
 

@@ -42,8 +42,8 @@ impl Fault {
         }
     }
 
-    /// The exit status: 2 where what was asked for makes no sense, 3 where a file, a socket, a stream
-    /// or memory refused it, 4 where an image is none.
+    /// The exit status: 2 where what was asked for makes no sense, 3 where a file, a socket, a
+    /// stream or memory refused it, 4 where an image is none.
     pub fn status(self) -> u8
         ensures { result ≡ status_of self }
     {

@@ -15,8 +15,8 @@ pub fn open_file(rt: &HostRuntime, path: &str) -> Result<Option<Machine<SlotKeep
     }
 }
 
-/// Writes the image of a device to a new file beside this one, forces it to the disk, and puts it in
-/// its place. The old image stays where that fails.
+/// Writes the image of a device to a new file beside this one, forces it to the disk, and puts it
+/// in its place. The old image stays where that fails.
 pub fn save_file(rt: &HostRuntime, path: &str, machine: &Machine<SlotKeep>) -> Result<(), Fault> {
     let new = format!(in rt.alloc(); "{path}.new")?;
     let file = fs::create(rt, new.as_str()).map_err(|error| Fault::of_io(error, Fault::File))?;

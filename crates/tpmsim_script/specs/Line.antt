@@ -18,9 +18,9 @@ abbrev pub lines_of : List ℕ → List (List ℕ)
 lines_of [] = []
 lines_of (byte ∷ text) = if byte == 10 then [] ∷ lines_of text else onto_first byte (lines_of text)
 
--- What a line says: a command in hex, which is not looked at here, or in words, which are not either;
--- the locality of later commands; the milliseconds before the next one; entropy, in hex; a power
--- cycle; or nothing.
+-- What a line says: a command in hex, which is not looked at here, or in words, which are not
+-- either; the locality of later commands; the milliseconds before the next one; entropy, in hex; a
+-- power cycle; or nothing.
 pub data Meaning : Type 0 where
   Executes : (digits : List ℕ) → Meaning
   ExecutesWords : (words : List ℕ) → Meaning

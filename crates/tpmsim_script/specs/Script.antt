@@ -19,7 +19,8 @@ use Rattle.tpmsim_script.specs.Line.{bytes_of, line_meaning, lines_of}
 use Rattle.tpmsim_script.specs.declared.script.Script.{Script}
 
 -- A script that is being played: whether its events are traced, the locality of its commands, the
--- sum of the waits since the last one, across power cycles, the random bytes of each, and the device.
+-- sum of the waits since the last one, across power cycles, the random bytes of each, and the
+-- device.
 pub record Playing : Type 0 where
   pub traced : Bool
   pub locality : ℕ

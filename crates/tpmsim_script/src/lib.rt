@@ -18,4 +18,5 @@ pub mod run;
 mod script;
 
 pub use fault::ScriptFault;
+pub use line::{decimal, locality};
 pub use run::run_script;

@@ -7,6 +7,7 @@ ghost use Rattle.tpmsim_script.specs.Line.{line_meaning, locality_of, meaning_of
 ghost use Rattle.tpmsim_script.specs.Line.{meaning_alone, meaning_by, meaning_with};
 
 use std::str;
+use tpm_text::position_of;
 use tpm_types::Locality;
 
 /// A line of a script.
@@ -51,7 +52,7 @@ impl<'a> Line<'a> {
             (meaning_by (position (λ byte. byte == 32) text.now) text.now) }
         ensures short { IfOk result (λ line. length (hex_of (meaning_of line)) ≤ length text.now) }
     {
-        match place_of(b' ', text) {
+        match position_of(b' ', text) {
             None => Line::alone(text),
             Some(space) => Line::with(&text[..space], &text[space + 1..]),
         }
@@ -95,13 +96,6 @@ impl<'a> Line<'a> {
     }
 }
 
-/// The first place of a byte.
-pub fn place_of(byte: u8, bytes: &[u8]) -> Option<usize>
-    ensures { result ≡ position (λ other. other == byte) bytes.now }
-{
-    bytes.iter().position(|other| *other == byte)
-}
-
 fn is_word(word: &str, text: &[u8]) -> bool
     ensures { result ≡ is_word word.now text.now }
 {
@@ -119,7 +113,8 @@ pub fn decode<'a>(digits: &[u8], room: &'a mut [u8]) -> Result<&'a [u8], BadLine
     Ok(bytes)
 }
 
-fn locality(digits: &[u8]) -> Option<Locality>
+/// The locality of this decimal number, which is 0 to 4.
+pub fn locality(digits: &[u8]) -> Option<Locality>
     ensures { option_map locality_number result
         ≡ option_and_then locality_of (decimal_of digits.now) }
 {
@@ -129,7 +124,7 @@ fn locality(digits: &[u8]) -> Option<Locality>
 
 /// The number that decimal digits write: at least one, with leading zeros or none, and no sign.
 /// `None` is any other text, and a number of 2^32 or more.
-#[tactic(auto, using(crate::proofs::Decimal::decimals))]
+#[tactic(auto, using(crate::proofs::Numerals::decimals))]
 pub fn decimal(digits: &[u8]) -> Option<u32>
     ensures { result ≡ decimal_of digits.now }
 {

@@ -1,11 +1,11 @@
 ghost use Rattle.std.specs.Prelude.{◌≡◌, ◌≤◌, vec_len};
 ghost use Rattle.tpmsim_script.specs.declared.lines.TheConstants.{CAPACITY, LINE_LIMIT};
 
-use crate::line::place_of;
 use arrayvec::ArrayVec;
 use std::alloc::{AllocError, Global};
 use std::io;
 use std::io::Read;
+use tpm_text::position_of;
 
 /// How many bytes a line may have, without the 0a at its end.
 pub const LINE_LIMIT: usize = 65_536;
@@ -90,7 +90,7 @@ impl Lines {
         ensures found { Finds self.old result self.new }
         ensures ended { self.new.ended ≡ self.old.ended }
     {
-        match place_of(b'\n', &self.bytes[self.next..self.filled]) {
+        match position_of(b'\n', &self.bytes[self.next..self.filled]) {
             Some(at) => match self.take(at, at + 1) {
                 Ok(()) => Next::Line,
                 Err(TooLong) => Next::TooLong,

@@ -28,8 +28,8 @@ impl Room {
         })
     }
 
-    /// The bytes that hex digits of either case write. It refuses other digits, and an odd number of
-    /// them.
+    /// The bytes that hex digits of either case write. It refuses other digits, and an odd number
+    /// of them.
     pub fn decode(&mut self, digits: &[u8]) -> Result<&[u8], BadLine>
         requires { length digits.now ≤ 65536 }
         ensures { Tells (λ bytes. bytes.now) result (bytes_of digits.now) }

@@ -20,8 +20,8 @@ use tpm_record::Keep;
 pub const SCRIPT_LINES: u32 = 1_048_576;
 
 /// Runs the script that `reader` gives on a new device, whose state is kept by `K`, and writes the
-/// response to each command to `writer`; with `trace` the trace of each command before its response,
-/// and that of each power cycle. But for the keep it takes memory at the start alone.
+/// response to each command to `writer`; with `trace` the trace of each command before its
+/// response, and that of each power cycle. But for the keep it takes memory at the start alone.
 /// Whatever the fault, the lines before it were run, and their responses written, but for those
 /// that a `Write` fault cut off. Of a script of more than [`SCRIPT_LINES`] lines so many are run.
 pub fn run_script<K: Keep, R: Read, W: Write>(

@@ -20,8 +20,8 @@ returns-in-Err-clause-ran g c =
     let i = c.loop-front.invariant.ran in
     (i.0, record { machine = state_of g.K.Keep.record_of c.loop-front.machine; host = c.loop-front.host; written = i.1 }, i.2, refl, i.3, ((_, c.in-Some.ensures.1), (c.in-Err.field-0, c.in-Err.ensures), i.5, i.6))
 
-pub returns-in-Err-send-clause-ran : goal.returns-in-Err-send-clause-ran
-returns-in-Err-send-clause-ran g c =
+pub returns-in_default-write_all-clause-ran : goal.returns-in_default-write_all-clause-ran
+returns-in_default-write_all-clause-ran g c =
     let i = c.loop-front.invariant.ran in
     let s = c.loop-front.connection in
     let front = c.in-Some.front in
@@ -32,7 +32,7 @@ returns-in-Err-send-clause-ran g c =
       one_more _ _ _ _ _ _ _ i.1 i.0 x.buffer c.in-Ok.said outcome i.2 c.in-Ok.ensures c.execute_front.ensures.executes,
       refl,
       cuts_one c.args.connection.now s i.0 c.execute_front.new.connection x i.3 c.in-Some.ensures.1 c.execute_front.ensures.after,
-      (refl, c.in-Err-send.ensures.failed),
+      (refl, c.in_default-write_all.ensures.failed),
     )
 
 pub overflow_add-answered : goal.overflow_add-answered
@@ -62,8 +62,8 @@ loop-front-preserved g c =
         one_more _ _ _ _ _ _ _ i.1 i.0 x.buffer c.in-Ok.said outcome i.2 c.in-Ok.ensures c.execute_front.ensures.executes,
         cuts_one c.args.connection.now s i.0 c.execute_front.new.connection x i.3 c.in-Some.ensures.1 c.execute_front.ensures.after,
         omega (arith, i.4, length-append i.0 (x.buffer ∷ [])),
-        Appends-trans _ _ _ _ _ i.5 (subst (λ (l : List ℕ). Appends (g.W.Write.contents (device_of c.loop-front.writer)) (g.W.Write.contents (device_of c.send.new.writer)) l) c.as_slice.ensures.value c.in_default-send.ensures.sent),
-        c.in_default-send.ensures.unmarked ∙ i.6,
+        Appends-trans _ _ _ _ _ i.5 (subst (λ (l : List ℕ). Appends (g.W.Write.contents (device_of c.loop-front.writer)) (g.W.Write.contents (device_of c.write_all.new.self)) l) c.as_slice.ensures.value c.in-Ok-write_all.ensures.sent),
+        c.in-Ok-write_all.ensures.unmarked ∙ i.6,
       );
     }
 

@@ -1,7 +1,7 @@
 use Rattle.std.proofs.Common.{rules, arith, take, ◌++◌}
 use Rattle.std.proofs.lemmas.Grind.{common_steps}
 use Rattle.std.proofs.KnownBytes.{Appends-trans}
-use Rattle.tpm_wire.proofs.writing.send.Goals as goal
+use Rattle.tpm_bytes.proofs.tap.Tap.write_all.Goals as goal
 
 pub loop-left-preserved : goal.loop-left-preserved
 loop-left-preserved g c =

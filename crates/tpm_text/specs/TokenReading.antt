@@ -11,11 +11,11 @@ use Rattle.tpm_text.specs.declared.fault.AsmFault.TheVariants.{Missing}
 
 -- A reading of tokens wrote the text of what its definition gives, and left the tokens that it
 -- leaves; or it has its fault.
-abbrev pub Lays : {A E : Type 0} → (A → List ℕ) → Result (A × List Token) E
+abbrev pub DraftsRead : {A E : Type 0} → (A → List ℕ) → Result (A × List Token) E
     → Option (List ℕ) → Result (Unit {0}) E → Option (List ℕ) → List Token → Type 0
-Lays text (Ok read) old (Ok done) new left = (new ≡ grown old (text read.0)) × (left ≡ read.1)
-Lays text (Err fault) old (Err found) new left = found ≡ fault
-Lays text _ old _ new left = ⊥
+DraftsRead text (Ok read) old (Ok done) new left = (new ≡ grown old (text read.0)) × (left ≡ read.1)
+DraftsRead text (Err fault) old (Err found) new left = found ≡ fault
+DraftsRead text _ old _ new left = ⊥
 
 -- A wanted token was taken, or none was left.
 abbrev pub Takes : {X : Type 0} → (X → Token) → List Token → Result X AsmFault → List Token → Type 0
@@ -35,17 +35,17 @@ TakesEntry view old None new = (new ≡ old) × (first_is_entry old ≡ false)
 
 -- A reading of tokens gave what its definition gives and left the tokens that it leaves, or it has
 -- its fault.
-abbrev pub Leads : {X A E : Type 0} → (X → A) → Result (A × List Token) E
+abbrev pub ReadsTokens : {X A E : Type 0} → (X → A) → Result (A × List Token) E
     → Result X E → List Token → Type 0
-Leads view (Ok read) (Ok x) left = (read.0 ≡ view x) × (left ≡ read.1)
-Leads view (Err fault) (Err found) left = found ≡ fault
-Leads view _ _ left = ⊥
+ReadsTokens view (Ok read) (Ok x) left = (read.0 ≡ view x) × (left ≡ read.1)
+ReadsTokens view (Err fault) (Err found) left = found ≡ fault
+ReadsTokens view _ _ left = ⊥
 
 -- The authorization area of the entries was written, if there are some, and the tag that says so
 -- given.
-abbrev pub LaysSessions : {E : Type 0} → Result (List Entry × List Token) E
+abbrev pub DraftsSessions : {E : Type 0} → Result (List Entry × List Token) E
     → Option (List ℕ) → Result Tag E → Option (List ℕ) → List Token → Type 0
-LaysSessions (Ok read) old (Ok tag) new left =
+DraftsSessions (Ok read) old (Ok tag) new left =
     (tag ≡ tag_for read.0) × (new ≡ grown old (sessions_text read.0)) × (left ≡ read.1)
-LaysSessions (Err fault) old (Err found) new left = found ≡ fault
-LaysSessions _ old _ new left = ⊥
+DraftsSessions (Err fault) old (Err found) new left = found ≡ fault
+DraftsSessions _ old _ new left = ⊥
