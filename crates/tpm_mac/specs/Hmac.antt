@@ -15,11 +15,9 @@ padded_key alg key =
 abbrev pub masked_key : ℕ → List ℕ → List ℕ
 masked_key pad key = map (λ byte. bit_xor byte pad) key
 
--- H((K0 xor opad) ++ H((K0 xor ipad) ++ text)) (FIPS 198-1, 4, steps 4 to 9; ipad and opad: 2.3)
-unfoldable pub hmac_under : HashAlg → (block_key : List ℕ) → List ℕ → List ℕ
-hmac_under alg block_key text =
-    hash_of alg (masked_key 0x5c block_key ++ hash_of alg (masked_key 0x36 block_key ++ text))
-
--- the HMAC of a text under a key of any length (FIPS 198-1, 4)
+-- the HMAC of a text under a key of any length: H((K0 xor opad) ++ H((K0 xor ipad) ++ text))
+-- (FIPS 198-1, 4, steps 4 to 9; ipad and opad: 2.3)
 unfoldable pub hmac_of : HashAlg → (key text : List ℕ) → List ℕ
-hmac_of alg key text = hmac_under alg (padded_key alg key) text
+hmac_of alg key text =
+    let block_key = padded_key alg key in
+    hash_of alg (masked_key 0x5c block_key ++ hash_of alg (masked_key 0x36 block_key ++ text))

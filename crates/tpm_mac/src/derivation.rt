@@ -1,14 +1,16 @@
 //! The key derivation KDFa (TCG TPM 2.0 Library Part 1, 11.4.10.2).
 
 ghost use Rattle.std.specs.Prelude.{◌≡◌, ◌+◌, ◌-◌, ◌^◌, ◌<◌, ◌≤◌};
-ghost use Rattle.std.specs.Prelude.{[], ◌∷◌, ◌++◌, drop, length, take};
+ghost use Rattle.std.specs.Prelude.{[], ◌∷◌, ◌++◌, drop, length, List, take, ℕ};
 ghost use Rattle.tpm_mac.specs.Digest.{digest_size};
-ghost use Rattle.tpm_mac.specs.Hmac.{hmac_under};
+ghost use Rattle.tpm_mac.specs.Hmac.{hmac_of};
 ghost use Rattle.tpm_mac.specs.Kdf.{kdfa_of};
+ghost use Rattle.tpm_mac.specs.Mac.{MacHolds};
+ghost use Rattle.tpm_mac.specs.declared.algorithm.HashAlg.{HashAlg};
 
 use crate::algorithm::HashAlg;
 use crate::digests::Digest;
-use crate::mac::{BlockKey, block_key, hmac_with};
+use crate::mac::Mac;
 
 /// Fills `out` with the bytes that KDFa derives from the key for the label and the two contexts.
 /// The number of bits that is asked for is eight times the length of `out`, and has to fit into
@@ -26,34 +28,36 @@ pub fn kdfa(
     ensures { out.new ≡ kdfa_of alg key.now label.now context_u.now context_v.now (length out.old) }
 {
     let size = alg.size();
-    let key = block_key(alg, key);
+    let keyed = Mac::new(alg, key);
     let bits = (out.len() as u32 * 8).to_be_bytes();
     for index in 0..out.len().div_ceil(size) {
         let counter = (index as u32 + 1).to_be_bytes();
-        let block = derived_block(alg, &key, &counter, label, context_u, context_v, &bits);
+        let block = derived_block(&keyed, &counter, label, context_u, context_v, &bits);
         write_front(out, index * size, block.as_slice());
     }
 }
 
-/// The block of the counter, under a key that is as long as a block already.
-fn derived_block<'a>(
-    alg: HashAlg,
-    key: &BlockKey,
-    counter: &'a [u8],
-    label: &'a [u8],
-    context_u: &'a [u8],
-    context_v: &'a [u8],
-    bits: &'a [u8],
+/// The block of the counter, by a copy of an HMAC that took no text yet.
+fn derived_block(
+    keyed: &Mac,
+    counter: &[u8],
+    label: &[u8],
+    context_u: &[u8],
+    context_v: &[u8],
+    bits: &[u8],
 ) -> Digest
-    ensures value { result.items ≡ hmac_under alg key.now
+    ensures { (alg : HashAlg) (key : List ℕ) → MacHolds keyed.now alg key [] → result.items
+        ≡ hmac_of alg key
         (counter.now ++ label.now ++ 0 ∷ [] ++ context_u.now ++ context_v.now ++ bits.now) }
-    ensures size { length result.items ≡ digest_size alg }
 {
-    hmac_with(
-        alg,
-        key,
-        &[counter, label, &[0], context_u, context_v, bits],
-    )
+    let mut mac = keyed.clone().unwrap();
+    mac.update(counter);
+    mac.update(label);
+    mac.update(&[0]);
+    mac.update(context_u);
+    mac.update(context_v);
+    mac.update(bits);
+    mac.finish()
 }
 
 /// Writes the block at `start`, as much of it as there is room for.

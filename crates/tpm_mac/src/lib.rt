@@ -17,4 +17,4 @@ pub use algorithm::HashAlg;
 pub use derivation::kdfa;
 pub use digests::{Digest, digest_parts};
 pub use hasher::Hasher;
-pub use mac::hmac_parts;
+pub use mac::{Mac, hmac_parts};

@@ -1,11 +1,16 @@
-//! HMAC (FIPS 198-1) of a text that comes in parts.
+//! HMAC (FIPS 198-1) of a text that is handed over piece by piece, or in parts.
 
-ghost use Rattle.std.specs.Prelude.{◌≡◌, ◌-◌, ◌≤◌, ◌++◌, length, replicate};
+ghost use Rattle.std.specs.Prelude.{◌≡◌, ⊤, ◌-◌, ◌≤◌, [], ◌++◌, length, List, replicate, ℕ};
 ghost use Rattle.tpm_mac.specs.Digest.{digest_size, joined_text};
-ghost use Rattle.tpm_mac.specs.Hmac.{hmac_of, hmac_under, masked_key, padded_key};
+ghost use Rattle.tpm_mac.specs.Hasher.{Holds};
+ghost use Rattle.tpm_mac.specs.Hmac.{hmac_of, masked_key, padded_key};
+ghost use Rattle.tpm_mac.specs.Mac.{MacHolds, MacTakes};
+ghost use Rattle.tpm_mac.specs.declared.algorithm.HashAlg.{HashAlg};
 
 use crate::algorithm::HashAlg;
-use crate::digests::{Digest, digest_after, digest_parts};
+use crate::digests::{Digest, digest_parts};
+use crate::hasher::Hasher;
+use std::alloc::AllocError;
 
 /// The size of a block of either hash in bytes.
 const BLOCK_SIZE: usize = 64;
@@ -17,29 +22,87 @@ const INNER_PAD: u8 = 0x36;
 const OUTER_PAD: u8 = 0x5c;
 
 /// A key as long as a block, which FIPS 198-1 calls K0.
-pub(crate) type BlockKey = [u8; BLOCK_SIZE];
+type BlockKey = [u8; BLOCK_SIZE];
+
+/// An HMAC under way: the inner and the outer hash, each fed with its masked key when it is made.
+/// So a copy of a `Mac` that took no text yet spares both blocks of the key.
+#[derive(Drop)]
+pub struct Mac {
+    inner: Hasher,
+    outer: Hasher,
+}
+
+impl Mac {
+    /// An HMAC of no text yet, under a key of any length.
+    #[tactic(auto, unfolding(crate::specs::Mac::MacHolds))]
+    pub fn new(alg: HashAlg, key: &[u8]) -> Mac
+        ensures { MacHolds result alg key.now [] }
+    {
+        let key = block_key(alg, key);
+        Mac {
+            inner: masked_hasher(alg, &key, INNER_PAD),
+            outer: masked_hasher(alg, &key, OUTER_PAD),
+        }
+    }
+
+    /// Takes more of the text.
+    #[tactic(auto, unfolding(crate::specs::Mac::MacHolds))]
+    pub fn update(&mut self, bytes: &[u8])
+        ensures { MacTakes self.old bytes.now self.new }
+    {
+        self.inner.update(bytes);
+    }
+
+    /// The HMAC of the text.
+    #[tactic(auto, unfolding(crate::specs::Mac::MacHolds, crate::specs::Hmac::hmac_of))]
+    pub fn finish(self) -> Digest
+        ensures value { (alg : HashAlg) (key text : List ℕ)
+            → MacHolds self alg key text → result.items ≡ hmac_of alg key text }
+        ensures size { (alg : HashAlg) (key text : List ℕ)
+            → MacHolds self alg key text → length result.items ≡ digest_size alg }
+    {
+        let Mac { inner, mut outer } = self;
+        outer.update(inner.finish().as_slice());
+        outer.finish()
+    }
+}
+
+impl Clone for Mac {
+    ghost is_clone = { λ x y. y ≡ x };
+
+    ghost is_infallible = { λ _. ⊤ };
+
+    fn clone(&self) -> Result<Mac, AllocError> {
+        Ok(Mac {
+            inner: self.inner.clone()?,
+            outer: self.outer.clone()?,
+        })
+    }
+}
 
 /// The HMAC of the parts joined, under a key of any length. No part is copied.
-#[tactic(auto, unfolding(crate::specs::Hmac::hmac_of))]
 pub fn hmac_parts(alg: HashAlg, key: &[u8], parts: &[&[u8]]) -> Digest
     ensures value { result.items ≡ hmac_of alg key.now (joined_text parts.now) }
     ensures size { length result.items ≡ digest_size alg }
 {
-    hmac_with(alg, &block_key(alg, key), parts)
+    let mut mac = Mac::new(alg, key);
+    for part in parts {
+        mac.update(part);
+    }
+    mac.finish()
 }
 
-/// The HMAC of the parts joined, under a key that is as long as a block already.
-#[tactic(auto, unfolding(crate::specs::Hmac::hmac_under))]
-pub(crate) fn hmac_with(alg: HashAlg, key: &BlockKey, parts: &[&[u8]]) -> Digest
-    ensures value { result.items ≡ hmac_under alg key.now (joined_text parts.now) }
-    ensures size { length result.items ≡ digest_size alg }
+/// A hash that has taken the key, masked with the pad.
+fn masked_hasher(alg: HashAlg, key: &BlockKey, pad: u8) -> Hasher
+    ensures { Holds result alg (masked_key pad key.now) }
 {
-    let inner = digest_after(alg, &mask(key, INNER_PAD), parts);
-    digest_after(alg, &mask(key, OUTER_PAD), &[inner.as_slice()])
+    let mut hasher = Hasher::new(alg);
+    hasher.update(&mask(key, pad));
+    hasher
 }
 
 /// The key padded with zeros to a block; a key that is longer than a block is hashed first.
-pub(crate) fn block_key(alg: HashAlg, key: &[u8]) -> BlockKey
+fn block_key(alg: HashAlg, key: &[u8]) -> BlockKey
     ensures { result ≡ padded_key alg key.now }
 {
     if key.len() > BLOCK_SIZE {
