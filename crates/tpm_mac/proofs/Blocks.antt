@@ -1,12 +1,16 @@
 -- The blocks of KDFa up to one of them.
-use Rattle.std.proofs.Common.{◌≡◌, ℕ, zero, suc, ◌+◌, ◌-◌, ◌*◌, ◌≤◌, List, ◌∷◌, [], ◌++◌, add-one, ap, arith, drop, length, length-append, sym, take, ◌∙◌}
-use Rattle.std.proofs.lemmas.Grind.{flat_map-append}
+use Rattle.std.proofs.Common.{◌≡◌, ℕ, zero, suc, ◌+◌, ◌-◌, ◌*◌, ◌<◌, ◌≤◌, List, ◌∷◌, [], ◌++◌, add-one, ap, arith, drop, length, length-append, sym, take, ◌∙◌}
+use Rattle.std.proofs.lemmas.Grind.{div_ceil_times, flat_map-append}
 use Rattle.std.proofs.lemmas.List.{append-nil, take_all}
+use Rattle.std.specs.Int.{div_ceil}
 use Rattle.std.specs.List.{flat_map, range_with_len}
+use Rattle.tpm_mac.proofs.DigestSize.{length-hmac_of}
 use Rattle.tpm_mac.proofs.Filling.{range_with_len-suc, take-block_written}
+use Rattle.tpm_mac.specs.Digest.{digest_size}
 use Rattle.tpm_mac.specs.Hmac.{hmac_of}
-use Rattle.tpm_mac.specs.Kdf.{kdfa_text}
+use Rattle.tpm_mac.specs.Kdf.{kdfa_of, kdfa_text}
 use Rattle.tpm_mac.specs.declared.algorithm.HashAlg.{HashAlg}
+use Rattle.tpm_mac.specs.declared.algorithm.HashAlg.TheVariants.{Sha1, Sha256}
 
 -- blocks 1 to n, joined, of pieces that a function of the counter gives
 abbrev pub pieces_to : (ℕ → List ℕ) → ℕ → List ℕ
@@ -48,3 +52,45 @@ take-piece_written piece size each old new block n fits so_far same after =
     ap (pieces_to piece) (add-one n) ∙ pieces_to-suc piece n
     ∙ ap (λ (xs : List ℕ). before ++ xs) (ap piece (omega arith) ∙ sym same) in
     rw (seam, last, after, front, ← at) (take-block_written old before block (omega arith))
+
+-- one more block of KDFa, written behind those that stand already
+pub kdfa_block_written : (alg : HashAlg) (key label context_u context_v old new block : List ℕ) (size n : ℕ)
+    → size ≡ digest_size alg → n * size ≤ length old
+    → take (n * size) old ≡ take (length old) (blocks_to alg key label context_u context_v (length old) n)
+    → block ≡ hmac_of alg key (kdfa_text label context_u context_v (length old * 8) (n + 1))
+    → new ≡ take (n * size) old ++ take (length old - n * size) block ++ drop (n * size + length block) old
+    → take ((n + 1) * size) new ≡ take (length old) (blocks_to alg key label context_u context_v (length old) (n + 1))
+kdfa_block_written alg key label context_u context_v old new block size n sized fits so_far same after =
+    let piece : ℕ → List ℕ = λ i. hmac_of alg key (kdfa_text label context_u context_v (length old * 8) i) in
+    let each : (i : ℕ) → length (piece i) ≡ size = λ i. rw sized (length-hmac_of alg key _) in
+    take-piece_written piece size each old new block n fits so_far same after
+
+-- a list is the front of its blocks, once the last of those that it has room for is written
+last-piece_written : (piece : ℕ → List ℕ) (size count n : ℕ) (new : List ℕ) → length new ≤ count * size
+    → n ≡ count - 1
+    → take ((n + 1) * size) new ≡ take (length new) (pieces_to piece (n + 1))
+    → new ≡ take (length new) (pieces_to piece count)
+last-piece_written piece size zero n new room last so_far =
+    let none : length new ≡ 0 = omega (arith, room) in
+    rw none (sym (take_all 0 new (omega (arith, none))))
+last-piece_written piece size (suc m) n new room last so_far =
+    let at : n + 1 ≡ suc m = omega (arith, last) in
+    let covers : length new ≤ (n + 1) * size = rw at room in
+    sym (take_all ((n + 1) * size) new covers) ∙ so_far ∙ ap (λ (k : ℕ). take (length new) (pieces_to piece k)) at
+
+-- a digest has bytes
+digest_size-positive : (alg : HashAlg) → 0 < digest_size alg
+digest_size-positive Sha1 = omega arith
+digest_size-positive Sha256 = omega arith
+
+-- all bytes of KDFa stand, once the last block is written
+pub kdfa_written : (alg : HashAlg) (key label context_u context_v new : List ℕ) (size n : ℕ)
+    → size ≡ digest_size alg → n ≡ div_ceil (length new) size - 1
+    → take ((n + 1) * size) new ≡ take (length new) (blocks_to alg key label context_u context_v (length new) (n + 1))
+    → new ≡ kdfa_of alg key label context_u context_v (length new)
+unfolding kdfa_of
+kdfa_written alg key label context_u context_v new size n sized last so_far =
+    let piece : ℕ → List ℕ = λ i. hmac_of alg key (kdfa_text label context_u context_v (length new * 8) i) in
+    let some : 0 < size = rw sized (digest_size-positive alg) in
+    let room : length new ≤ div_ceil (length new) size * size = (div_ceil_times (length new) size some).0 in
+    rw (← sized) (last-piece_written piece size (div_ceil (length new) size) n new room last so_far)

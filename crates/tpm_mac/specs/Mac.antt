@@ -1,6 +1,6 @@
 -- What a contract sees of an HMAC under way: its algorithm, its key, and the text that it has taken
 -- (FIPS 198-1, 4).
-use Rattle.std.specs.Prelude.{ℕ, List, ◌++◌}
+use Rattle.std.specs.Prelude.{ℕ, List, [], ◌++◌}
 use Rattle.tpm_mac.specs.Hasher.{Holds}
 use Rattle.tpm_mac.specs.Hmac.{masked_key, padded_key}
 use Rattle.tpm_mac.specs.declared.algorithm.HashAlg.{HashAlg}
@@ -12,6 +12,10 @@ unfoldable pub MacHolds : Mac → HashAlg → (key text : List ℕ) → Type 0
 MacHolds mac algorithm key text =
     Holds mac.inner algorithm (masked_key 0x36 (padded_key algorithm key) ++ text)
     × Holds mac.outer algorithm (masked_key 0x5c (padded_key algorithm key))
+
+-- the Mac is one of this algorithm, whose two hashes have taken nothing
+unfoldable pub IsUnkeyed : Mac → HashAlg → Type 0
+IsUnkeyed mac algorithm = Holds mac.inner algorithm [] × Holds mac.outer algorithm []
 
 -- the Mac has taken this text behind whatever it had taken before
 abbrev pub MacTakes : (old : Mac) → List ℕ → (new : Mac) → Type 0

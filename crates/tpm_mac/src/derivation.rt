@@ -2,14 +2,12 @@
 
 ghost use Rattle.std.specs.Prelude.{◌≡◌, ◌+◌, ◌-◌, ◌^◌, ◌<◌, ◌≤◌};
 ghost use Rattle.std.specs.Prelude.{[], ◌∷◌, ◌++◌, drop, length, List, take, ℕ};
-ghost use Rattle.tpm_mac.specs.Digest.{digest_size};
-ghost use Rattle.tpm_mac.specs.Hmac.{hmac_of};
+ghost use Rattle.std.specs.Int.{to_be_bytes, w32};
 ghost use Rattle.tpm_mac.specs.Kdf.{kdfa_of};
 ghost use Rattle.tpm_mac.specs.Mac.{MacHolds};
 ghost use Rattle.tpm_mac.specs.declared.algorithm.HashAlg.{HashAlg};
 
 use crate::algorithm::HashAlg;
-use crate::digests::Digest;
 use crate::mac::Mac;
 
 /// Fills `out` with the bytes that KDFa derives from the key for the label and the two contexts.
@@ -28,36 +26,42 @@ pub fn kdfa(
     ensures { out.new ≡ kdfa_of alg key.now label.now context_u.now context_v.now (length out.old) }
 {
     let size = alg.size();
-    let keyed = Mac::new(alg, key);
     let bits = (out.len() as u32 * 8).to_be_bytes();
-    for index in 0..out.len().div_ceil(size) {
-        let counter = (index as u32 + 1).to_be_bytes();
-        let block = derived_block(&keyed, &counter, label, context_u, context_v, &bits);
-        write_front(out, index * size, block.as_slice());
+    let mut mac = Mac::unkeyed(alg);
+    mac.take_key(alg, key);
+    let last = out.len().div_ceil(size).saturating_sub(1);
+    for index in 0..last {
+        let mut copy = mac.copy();
+        let counter = index as u32 + 1;
+        take_text(&mut copy, counter, label, context_u, context_v, &bits);
+        write_front(out, index * size, copy.finish().as_slice());
     }
+    // The last block uses up the HMAC itself, so that a single block is made with no copy.
+    let counter = last as u32 + 1;
+    take_text(&mut mac, counter, label, context_u, context_v, &bits);
+    write_front(out, last * size, mac.finish().as_slice());
 }
 
-/// The block of the counter, by a copy of an HMAC that took no text yet.
-fn derived_block(
-    keyed: &Mac,
-    counter: &[u8],
+/// Feeds an HMAC that took no text yet with the text of the counter's block.
+fn take_text(
+    mac: &mut Mac,
+    counter: u32,
     label: &[u8],
     context_u: &[u8],
     context_v: &[u8],
     bits: &[u8],
-) -> Digest
-    ensures { (alg : HashAlg) (key : List ℕ) → MacHolds keyed.now alg key [] → result.items
-        ≡ hmac_of alg key
-        (counter.now ++ label.now ++ 0 ∷ [] ++ context_u.now ++ context_v.now ++ bits.now) }
+)
+    ensures { (alg : HashAlg) (key : List ℕ)
+        → MacHolds mac.old alg key []
+        → MacHolds mac.new alg key (to_be_bytes w32 counter ++ label.now ++ 0 ∷ []
+        ++ context_u.now ++ context_v.now ++ bits.now) }
 {
-    let mut mac = keyed.clone().unwrap();
-    mac.update(counter);
+    mac.update(&counter.to_be_bytes());
     mac.update(label);
     mac.update(&[0]);
     mac.update(context_u);
     mac.update(context_v);
     mac.update(bits);
-    mac.finish()
 }
 
 /// Writes the block at `start`, as much of it as there is room for.

@@ -1,6 +1,6 @@
 //! A digest of a message that is handed over piece by piece.
 
-ghost use Rattle.std.specs.Prelude.{◌≡◌, ⊤, [], length, List, ℕ};
+ghost use Rattle.std.specs.Prelude.{◌≡◌, [], length, List, ℕ};
 ghost use Rattle.tpm_mac.specs.Digest.{digest_size, hash_of};
 ghost use Rattle.tpm_mac.specs.Hasher.{Holds, Takes};
 ghost use Rattle.tpm_mac.specs.declared.algorithm.HashAlg.{HashAlg};
@@ -10,7 +10,6 @@ use crate::digests::Digest;
 use arrayvec::ArrayVec;
 use sha1::Sha1;
 use sha2::{Digest as _, Sha256};
-use std::alloc::AllocError;
 
 /// A hash under way: what it holds of its message is the hash crate's own state, so it copies
 /// nothing of what it is fed but the begun block.
@@ -49,8 +48,20 @@ impl Hasher {
         }
     }
 
+    /// A hasher that has taken the same message.
+    pub(crate) fn copy(&self) -> Hasher
+        ensures { result ≡ self.now }
+    {
+        let state = match &self.state {
+            State::Sha1(hasher) => State::Sha1(hasher.clone().unwrap()),
+            State::Sha256(hasher) => State::Sha256(hasher.clone().unwrap()),
+        };
+        Hasher { state }
+    }
+
     /// The digest of the message.
     #[tactic(auto, unfolding(crate::specs::Hasher::Holds))]
+    #[inline(always)]
     pub fn finish(self) -> Digest
         ensures value { (alg : HashAlg) (message : List ℕ)
             → Holds self alg message → result.items ≡ hash_of alg message }
@@ -64,19 +75,5 @@ impl Hasher {
             State::Sha256(hasher) => digest.try_extend_from_slice(&hasher.finalize()),
         };
         digest
-    }
-}
-
-impl Clone for Hasher {
-    ghost is_clone = { λ x y. y ≡ x };
-
-    ghost is_infallible = { λ _. ⊤ };
-
-    fn clone(&self) -> Result<Hasher, AllocError> {
-        let state = match &self.state {
-            State::Sha1(hasher) => State::Sha1(hasher.clone()?),
-            State::Sha256(hasher) => State::Sha256(hasher.clone()?),
-        };
-        Ok(Hasher { state })
     }
 }

@@ -1,5 +1,6 @@
-//! The digests of a TPM: the hash of parts joined or handed over piece by piece, HMAC (FIPS 198-1),
-//! and the key derivation KDFa (SP 800-108 in counter mode; TCG TPM 2.0 Library Part 1, 11.4.10.2).
+//! The digests of a TPM: the hash and the HMAC (FIPS 198-1) of parts joined or of a text that is
+//! handed over piece by piece, and the key derivation KDFa (SP 800-108 in counter mode; TCG TPM 2.0
+//! Library Part 1, 11.4.10.2).
 //!
 //! It stands on the hash crates `sha1` and `sha2`, whose definitions of the hashes (FIPS 180-4) its
 //! own definitions cite, and on `arrayvec` for a digest of either size. Each call equals its

@@ -1,16 +1,14 @@
 //! HMAC (FIPS 198-1) of a text that is handed over piece by piece, or in parts.
 
-ghost use Rattle.std.specs.Prelude.{◌≡◌, ⊤, ◌-◌, ◌≤◌, [], ◌++◌, length, List, replicate, ℕ};
+ghost use Rattle.std.specs.Prelude.{◌≡◌, ◌-◌, ◌≤◌, [], ◌++◌, length, List, replicate, ℕ};
 ghost use Rattle.tpm_mac.specs.Digest.{digest_size, joined_text};
-ghost use Rattle.tpm_mac.specs.Hasher.{Holds};
 ghost use Rattle.tpm_mac.specs.Hmac.{hmac_of, masked_key, padded_key};
-ghost use Rattle.tpm_mac.specs.Mac.{MacHolds, MacTakes};
+ghost use Rattle.tpm_mac.specs.Mac.{IsUnkeyed, MacHolds, MacTakes};
 ghost use Rattle.tpm_mac.specs.declared.algorithm.HashAlg.{HashAlg};
 
 use crate::algorithm::HashAlg;
 use crate::digests::{Digest, digest_parts};
 use crate::hasher::Hasher;
-use std::alloc::AllocError;
 
 /// The size of a block of either hash in bytes.
 const BLOCK_SIZE: usize = 64;
@@ -24,8 +22,9 @@ const OUTER_PAD: u8 = 0x5c;
 /// A key as long as a block, which FIPS 198-1 calls K0.
 type BlockKey = [u8; BLOCK_SIZE];
 
-/// An HMAC under way: the inner and the outer hash, each fed with its masked key when it is made.
-/// So a copy of a `Mac` that took no text yet spares both blocks of the key.
+/// An HMAC under way: the inner hash, which takes the text, and the outer hash, which takes the
+/// inner digest in the end. Each has taken its masked key from the start, so that a copy of a `Mac`
+/// spares both blocks of the key.
 #[derive(Drop)]
 pub struct Mac {
     inner: Hasher,
@@ -34,14 +33,46 @@ pub struct Mac {
 
 impl Mac {
     /// An HMAC of no text yet, under a key of any length.
-    #[tactic(auto, unfolding(crate::specs::Mac::MacHolds))]
     pub fn new(alg: HashAlg, key: &[u8]) -> Mac
         ensures { MacHolds result alg key.now [] }
     {
-        let key = block_key(alg, key);
+        let mut mac = Mac::unkeyed(alg);
+        mac.take_key(alg, key);
+        mac
+    }
+
+    /// Two hashes that have taken nothing. A `Mac` on a hot path is keyed where it stands, since
+    /// each return of one copies it.
+    #[inline(always)]
+    #[tactic(auto, unfolding(crate::specs::Mac::IsUnkeyed))]
+    pub(crate) fn unkeyed(alg: HashAlg) -> Mac
+        ensures { IsUnkeyed result alg }
+    {
         Mac {
-            inner: masked_hasher(alg, &key, INNER_PAD),
-            outer: masked_hasher(alg, &key, OUTER_PAD),
+            inner: Hasher::new(alg),
+            outer: Hasher::new(alg),
+        }
+    }
+
+    /// Feeds each hash with the key, masked for it.
+    #[inline(always)]
+    #[tactic(auto, unfolding(crate::specs::Mac::MacHolds, crate::specs::Mac::IsUnkeyed))]
+    pub(crate) fn take_key(&mut self, alg: HashAlg, key: &[u8])
+        requires { IsUnkeyed self.old alg }
+        ensures { MacHolds self.new alg key.now [] }
+    {
+        let key = block_key(alg, key);
+        self.inner.update(&mask(&key, INNER_PAD));
+        self.outer.update(&mask(&key, OUTER_PAD));
+    }
+
+    /// A `Mac` of the same key that has taken the same text.
+    pub(crate) fn copy(&self) -> Mac
+        ensures { result ≡ self.now }
+    {
+        Mac {
+            inner: self.inner.copy(),
+            outer: self.outer.copy(),
         }
     }
 
@@ -54,6 +85,7 @@ impl Mac {
     }
 
     /// The HMAC of the text.
+    #[inline(always)]
     #[tactic(auto, unfolding(crate::specs::Mac::MacHolds, crate::specs::Hmac::hmac_of))]
     pub fn finish(self) -> Digest
         ensures value { (alg : HashAlg) (key text : List ℕ)
@@ -67,38 +99,17 @@ impl Mac {
     }
 }
 
-impl Clone for Mac {
-    ghost is_clone = { λ x y. y ≡ x };
-
-    ghost is_infallible = { λ _. ⊤ };
-
-    fn clone(&self) -> Result<Mac, AllocError> {
-        Ok(Mac {
-            inner: self.inner.clone()?,
-            outer: self.outer.clone()?,
-        })
-    }
-}
-
 /// The HMAC of the parts joined, under a key of any length. No part is copied.
 pub fn hmac_parts(alg: HashAlg, key: &[u8], parts: &[&[u8]]) -> Digest
     ensures value { result.items ≡ hmac_of alg key.now (joined_text parts.now) }
     ensures size { length result.items ≡ digest_size alg }
 {
-    let mut mac = Mac::new(alg, key);
+    let mut mac = Mac::unkeyed(alg);
+    mac.take_key(alg, key);
     for part in parts {
         mac.update(part);
     }
     mac.finish()
-}
-
-/// A hash that has taken the key, masked with the pad.
-fn masked_hasher(alg: HashAlg, key: &BlockKey, pad: u8) -> Hasher
-    ensures { Holds result alg (masked_key pad key.now) }
-{
-    let mut hasher = Hasher::new(alg);
-    hasher.update(&mask(key, pad));
-    hasher
 }
 
 /// The key padded with zeros to a block; a key that is longer than a block is hashed first.
