@@ -5,7 +5,7 @@ ghost use Rattle.tpm_aes.specs.Cipher.{next_round_key, scheduled_word, xor_of};
 ghost use Rattle.tpm_aes.specs.Field.{times_power};
 
 use crate::bytes::{Block, Word, block_of, word_at, xor_with};
-use crate::field::sub_byte;
+use crate::tables::sub_byte;
 
 /// The round key after another, by the constant of its round.
 #[tactic(auto, unfolding(crate::specs::Cipher::next_round_key))]

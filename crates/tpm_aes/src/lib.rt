@@ -12,5 +12,6 @@ mod feedback;
 mod field;
 mod key_schedule;
 mod rounds;
+mod tables;
 
 pub use cipher::Aes128;

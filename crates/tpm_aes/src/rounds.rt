@@ -4,7 +4,8 @@ ghost use Rattle.std.specs.Prelude.{◌≡◌};
 ghost use Rattle.tpm_aes.specs.Cipher.{mix_column, mix_columns, shift_rows, sub_bytes, xor_of};
 
 use crate::bytes::{Block, Word, block_of, word_at, xor_with};
-use crate::field::{sub_byte, times_x};
+use crate::field::times_x;
+use crate::tables::sub_byte;
 
 /// Each byte through the S-box.
 pub(crate) fn sub_bytes(state: &Block) -> Block
