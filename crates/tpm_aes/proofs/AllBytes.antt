@@ -1,9 +1,8 @@
 -- Facts of all 256 bytes, each by a test that computes.
 use Rattle.std.proofs.Common.{◌≡◌, ℕ, suc, zero, ◌*◌, ◌+◌, ◌/◌, ◌%◌, ◌<◌, ◌≤◌, ◌==◌, Bool, false, ◌&&◌, arith, bit_xor, refl, subst, true, inl, inr}
 use Rattle.std.proofs.lemmas.Bool.{cases_lt, eqb-true}
-use Rattle.std.specs.Int.{rotate_left, w8}
 use Rattle.std.specs.List.{list_all, range_with_len}
-use Rattle.tpm_aes.specs.Field.{affine, inverse, times, times_power, times_terms, times_x}
+use Rattle.tpm_aes.specs.Field.{times_x}
 
 -- a test of two tests
 both_from_and : (a b : Bool) → (a && b) ≡ true → (a ≡ true) × (b ≡ true)
@@ -38,19 +37,3 @@ all_shifted = refl
 pub shifted-times_x : (a : ℕ) → a < 256 → bit_xor (a * 2 % 256) (a / 128 * 27) ≡ times_x a
 unfolding shifted
 shifted-times_x = same_at_bytes shifted times_x all_shifted
-
-all_times_two : list_all (λ a. times a 2 == times_x a) (range_with_len 0 256) ≡ true
-unfolding times_power times_terms
-all_times_two = refl
-
--- twice a byte
-pub times-two : (a : ℕ) → a < 256 → times a 2 ≡ times_x a
-times-two = same_at_bytes (λ a. times a 2) times_x all_times_two
-
-all_times_three : list_all (λ a. times a 3 == bit_xor (times_x a) a) (range_with_len 0 256) ≡ true
-unfolding times_power times_terms
-all_times_three = refl
-
--- three times a byte
-pub times-three : (a : ℕ) → a < 256 → times a 3 ≡ bit_xor (times_x a) a
-times-three = same_at_bytes (λ a. times a 3) (λ a. bit_xor (times_x a) a) all_times_three

@@ -1,4 +1,5 @@
 pub mod AllBytes
+pub mod Columns
 pub mod Entries
 pub mod Steps
 pub mod TextBlocks

@@ -1,28 +1,50 @@
 -- Lists of bytes, of four and of any number.
-use Rattle.std.proofs.Common.{◌≡◌, ℕ, suc, zero, ◌+◌, ◌<◌, ◌≤◌, List, [], ◌∷◌, ◌++◌, add-one, ap, arith, bit_xor, drop, length, refl, slice_index_or, slice_set, take, ◌∙◌}
-use Rattle.std.proofs.lemmas.List.{append-nil}
+use Rattle.std.proofs.Common.{◌≡◌, ℕ, suc, zero, ◌+◌, ◌/◌, ◌%◌, ◌^◌, ◌<◌, ◌≤◌, List, [], ◌∷◌, ◌++◌, add-one, ap, ap₂, arith, bit_xor, drop, length, refl, slice_index_or, slice_set, sym, take, ◌∙◌}
+use Rattle.std.proofs.lemmas.Nat.{xor_mod, xor_shr}
+use Rattle.std.specs.Int.{to_le_bytes, w32}
 use Rattle.tpm_aes.specs.Cipher.{xor_of}
+use Rattle.tpm_aes.specs.Words.{bytes_of}
 
--- a list of four elements before another
-pub word_before : (word rest : List ℕ) → length word ≡ 4
-    → slice_index_or word 0 0 ∷ slice_index_or word 1 0 ∷ slice_index_or word 2 0 ∷ slice_index_or word 3 0 ∷ rest
-    ≡ word ++ rest
-word_before (a ∷ b ∷ c ∷ d ∷ []) rest size = refl
-word_before word rest size = absurd (omega arith)
+-- a byte of a sum of words
+byte-xor : (a b k : ℕ) → bit_xor a b / 2 ^ k % 256 ≡ bit_xor (a / 2 ^ k % 256) (b / 2 ^ k % 256)
+byte-xor a b k = ap (λ (n : ℕ). n % 256) (xor_shr a b k) ∙ xor_mod (a / 2 ^ k) (b / 2 ^ k) 8
 
--- four lists of four elements, joined
-pub words_joined : (a b c d : List ℕ) → length a ≡ 4 → length b ≡ 4 → length c ≡ 4 → length d ≡ 4
-    → slice_index_or a 0 0 ∷ slice_index_or a 1 0 ∷ slice_index_or a 2 0 ∷ slice_index_or a 3 0
-    ∷ slice_index_or b 0 0 ∷ slice_index_or b 1 0 ∷ slice_index_or b 2 0 ∷ slice_index_or b 3 0
-    ∷ slice_index_or c 0 0 ∷ slice_index_or c 1 0 ∷ slice_index_or c 2 0 ∷ slice_index_or c 3 0
-    ∷ slice_index_or d 0 0 ∷ slice_index_or d 1 0 ∷ slice_index_or d 2 0 ∷ slice_index_or d 3 0 ∷ []
-    ≡ a ++ (b ++ (c ++ d))
-words_joined a b c d at4 bt4 ct4 dt4 =
-    let put = λ (w t : List ℕ). slice_index_or w 0 0 ∷ slice_index_or w 1 0 ∷ slice_index_or w 2 0 ∷ slice_index_or w 3 0 ∷ t in
-    let last : put d [] ≡ d = word_before d [] dt4 ∙ append-nil d in
-    let two : put c (put d []) ≡ c ++ d = ap (put c) last ∙ word_before c d ct4 in
-    let three : put b (put c (put d [])) ≡ b ++ (c ++ d) = ap (put b) two ∙ word_before b (c ++ d) bt4 in
-    ap (put a) three ∙ word_before a (b ++ (c ++ d)) at4
+-- the bytes of a sum of words
+pub bytes-xor : (a b : ℕ) → to_le_bytes w32 (bit_xor a b) ≡ xor_of (to_le_bytes w32 a) (to_le_bytes w32 b)
+bytes-xor a b = rw (xor_mod a b 8, byte-xor a b 8, byte-xor a b 16, byte-xor a b 24) refl
+
+-- the bytes of sums of words
+pub bytes_of-xor_of : (xs ys : List ℕ) → bytes_of (xor_of xs ys) ≡ xor_of (bytes_of xs) (bytes_of ys)
+bytes_of-xor_of [] ys = refl
+bytes_of-xor_of (x ∷ xs) [] = refl
+bytes_of-xor_of (x ∷ xs) (y ∷ ys) =
+    ap (λ (bytes : List ℕ). bytes ++ bytes_of (xor_of xs ys)) (bytes-xor x y)
+    ∙ ap (λ (bytes : List ℕ). xor_of (to_le_bytes w32 x) (to_le_bytes w32 y) ++ bytes) (bytes_of-xor_of xs ys)
+
+-- four words, each by its index
+abbrev pub by_index : List ℕ → List ℕ
+by_index words =
+    slice_index_or words 0 0 ∷ slice_index_or words 1 0 ∷ slice_index_or words 2 0 ∷ slice_index_or words 3 0 ∷ []
+
+pub four_words : (words : List ℕ) → length words ≡ 4 → words ≡ by_index words
+four_words (a ∷ b ∷ c ∷ d ∷ []) size = refl
+four_words words size = absurd (omega arith)
+
+-- the bytes of four sums
+pub bytes_of-sums : (xs ys : List ℕ) → length xs ≡ 4 → length ys ≡ 4
+    → bytes_of (xor_of (by_index xs) (by_index ys)) ≡ xor_of (bytes_of xs) (bytes_of ys)
+bytes_of-sums xs ys x4 y4 =
+    bytes_of-xor_of (by_index xs) (by_index ys)
+    ∙ sym (ap₂ (λ (vs ws : List ℕ). xor_of (bytes_of vs) (bytes_of ws)) (four_words xs x4) (four_words ys y4))
+
+-- the bytes of a word that is a byte
+pub bytes-byte : (a : ℕ) → a < 256 → to_le_bytes w32 a ≡ a ∷ 0 ∷ 0 ∷ 0 ∷ []
+bytes-byte a small =
+    let first : a % 256 ≡ a = omega arith in
+    let second : a / 256 % 256 ≡ 0 = omega arith in
+    let third : a / 65536 % 256 ≡ 0 = omega arith in
+    let fourth : a / 16777216 % 256 ≡ 0 = omega arith in
+    rw (first, second, third, fourth) refl
 
 -- the first i bytes of a list with others added
 abbrev pub xored_front : List ℕ → List ℕ → ℕ → List ℕ

@@ -1,3 +1,4 @@
 pub mod Cfb
 pub mod Cipher
 pub mod Field
+pub mod Words

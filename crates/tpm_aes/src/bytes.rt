@@ -1,39 +1,63 @@
-//! Blocks, their words, and sums of bytes.
+//! Blocks and their words.
 
-ghost use Rattle.std.specs.Prelude.{◌≡◌, ◌<◌, ◌≤◌, ◌++◌, length};
+ghost use Rattle.std.specs.Prelude.{◌≡◌, ◌<◌, ◌≤◌, length};
+ghost use Rattle.std.specs.Int.{to_le_bytes, w32};
 ghost use Rattle.tpm_aes.specs.Cipher.{word_of, xor_of};
+ghost use Rattle.tpm_aes.specs.Words.{bytes_of};
 
 /// Sixteen bytes, column after column: row r of column c is byte r + 4 c (FIPS 197, 3.4).
 pub(crate) type Block = [u8; 16];
 
-/// Four bytes: a column of a state, or a word of the key schedule.
-pub(crate) type Word = [u8; 4];
+/// The four words of a block, a state's columns or a round key's words: byte r of a word, the
+/// lowest first, is row r of its column.
+pub(crate) type Words = [u32; 4];
+
+/// The words of a block.
+pub(crate) fn words_of(block: &Block) -> Words
+    ensures { bytes_of result ≡ block.now }
+{
+    [
+        word_at(block, 0),
+        word_at(block, 1),
+        word_at(block, 2),
+        word_at(block, 3),
+    ]
+}
 
 /// The word at an index.
-pub(crate) fn word_at(block: &Block, index: usize) -> Word
+fn word_at(block: &Block, index: usize) -> u32
     requires { index < 4 }
-    ensures { result ≡ word_of block.now index }
+    ensures { to_le_bytes w32 result ≡ word_of block.now index }
 {
     let start = 4 * index;
-    [
+    u32::from_le_bytes([
         block[start],
         block[1 + start],
         block[2 + start],
         block[3 + start],
-    ]
+    ])
 }
 
 /// The block of four words.
-pub(crate) fn block_of(first: Word, second: Word, third: Word, fourth: Word) -> Block
-    ensures { result ≡ first ++ (second ++ (third ++ fourth)) }
+pub(crate) fn block_of(words: Words) -> Block
+    ensures { result ≡ bytes_of words }
 {
-    let [a0, a1, a2, a3] = first;
-    let [b0, b1, b2, b3] = second;
-    let [c0, c1, c2, c3] = third;
-    let [d0, d1, d2, d3] = fourth;
+    let [first, second, third, fourth] = words;
+    let [a0, a1, a2, a3] = first.to_le_bytes();
+    let [b0, b1, b2, b3] = second.to_le_bytes();
+    let [c0, c1, c2, c3] = third.to_le_bytes();
+    let [d0, d1, d2, d3] = fourth.to_le_bytes();
     [
         a0, a1, a2, a3, b0, b1, b2, b3, c0, c1, c2, c3, d0, d1, d2, d3,
     ]
+}
+
+/// The words with others added to them.
+pub(crate) fn xor_words(words: Words, other: &Words) -> Words
+    ensures { bytes_of result ≡ xor_of (bytes_of words) (bytes_of other.now) }
+{
+    let [a, b, c, d] = words;
+    [a ^ other[0], b ^ other[1], c ^ other[2], d ^ other[3]]
 }
 
 /// Adds the front of `other` to the bytes.

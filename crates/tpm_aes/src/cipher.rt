@@ -1,27 +1,28 @@
 //! The cipher of one key (FIPS 197, 5.1).
 
-ghost use Rattle.std.specs.Prelude.{◌≡◌, [], List, ℕ, length, slice_index_or};
+ghost use Rattle.std.specs.Prelude.{◌≡◌, [], List, ℕ, length, map, slice_index_or};
 ghost use Rattle.tpm_aes.specs.Cipher.{aes_of, expanded_key};
+ghost use Rattle.tpm_aes.specs.Words.{bytes_of};
 
-use crate::bytes::Block;
+use crate::bytes::{Words, block_of, words_of, xor_words};
 use crate::field::times_x;
 use crate::key_schedule::next_round_key;
-use crate::rounds::{add_round_key, mix_columns, shift_rows, sub_bytes};
+use crate::rounds::{mixed_state, shifted_state};
 use std::marker::Model;
 
 /// AES-128 under one key, in the direction of encryption. Contracts see it as the bytes of its key.
 #[derive(Drop)]
 pub struct Aes128 {
-    round_keys: [Block; 11],
+    round_keys: [Words; 11],
 }
 
 impl Model for Aes128 {
     ghost Value = { List ℕ };
 
-    ghost view = { λ cipher. slice_index_or cipher.round_keys 0 [] };
+    ghost view = { λ cipher. bytes_of (slice_index_or cipher.round_keys 0 []) };
 
-    ghost invariant = { λ cipher. cipher.round_keys
-        ≡ expanded_key (slice_index_or cipher.round_keys 0 []) };
+    ghost invariant = { λ cipher. map bytes_of cipher.round_keys
+        ≡ expanded_key (bytes_of (slice_index_or cipher.round_keys 0 [])) };
 }
 
 impl Aes128 {
@@ -29,10 +30,10 @@ impl Aes128 {
     pub fn new(key: &[u8; 16]) -> Aes128
         ensures { result ≡ key.now }
     {
-        let mut round_keys = [*key; 11];
+        let mut round_keys = [words_of(key); 11];
         let mut constant = 1;
         for round in 1..11 {
-            round_keys[round] = next_round_key(&round_keys[round - 1], constant);
+            round_keys[round] = next_round_key(round_keys[round - 1], constant);
             constant = times_x(constant);
         }
         Aes128 { round_keys }
@@ -42,11 +43,10 @@ impl Aes128 {
     pub fn block(&self, block: &[u8; 16]) -> [u8; 16]
         ensures { result ≡ aes_of self.now block.now }
     {
-        let mut state = add_round_key(block, &self.round_keys[0]);
+        let mut state = xor_words(words_of(block), &self.round_keys[0]);
         for round in 1..10 {
-            let mixed = mix_columns(&shift_rows(&sub_bytes(&state)));
-            state = add_round_key(&mixed, &self.round_keys[round]);
+            state = xor_words(mixed_state(state), &self.round_keys[round]);
         }
-        add_round_key(&shift_rows(&sub_bytes(&state)), &self.round_keys[10])
+        block_of(xor_words(shifted_state(state), &self.round_keys[10]))
     }
 }

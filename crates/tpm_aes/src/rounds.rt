@@ -1,67 +1,53 @@
-//! The steps of a round (FIPS 197, 5.1).
+//! The steps of a round (FIPS 197, 5.1), on words: SubBytes and ShiftRows at once, and in all rounds
+//! but the last MixColumns with them.
 
-ghost use Rattle.std.specs.Prelude.{◌≡◌};
-ghost use Rattle.tpm_aes.specs.Cipher.{mix_column, mix_columns, shift_rows, sub_bytes, xor_of};
+ghost use Rattle.std.specs.Prelude.{◌≡◌, [], ◌∷◌};
+ghost use Rattle.std.specs.Int.{to_le_bytes, w32};
+ghost use Rattle.tpm_aes.specs.Cipher.{mix_columns, shift_rows, sub_bytes};
+ghost use Rattle.tpm_aes.specs.Field.{sub_byte};
+ghost use Rattle.tpm_aes.specs.Words.{bytes_of};
 
-use crate::bytes::{Block, Word, block_of, word_at, xor_with};
-use crate::field::times_x;
-use crate::tables::sub_byte;
+use crate::bytes::Words;
+use crate::tables::{mixed_column, sub_byte};
 
-/// Each byte through the S-box.
-pub(crate) fn sub_bytes(state: &Block) -> Block
-    ensures { result ≡ sub_bytes state.now }
+/// The state substituted, its rows shifted and its columns mixed.
+pub(crate) fn mixed_state(state: Words) -> Words
+    ensures { bytes_of result ≡ mix_columns (shift_rows (sub_bytes (bytes_of state))) }
 {
-    let mut substituted = *state;
-    for byte in &mut substituted {
-        *byte = sub_byte(*byte);
-    }
-    substituted
-}
-
-/// Each row turned left by its number.
-#[tactic(auto, unfolding(crate::specs::Cipher::shift_rows))]
-pub(crate) fn shift_rows(state: &Block) -> Block
-    ensures { result ≡ shift_rows state.now }
-{
-    let s = state;
+    let [first, second, third, fourth] = state;
+    let [a0, a1, a2, a3] = first.to_le_bytes();
+    let [b0, b1, b2, b3] = second.to_le_bytes();
+    let [c0, c1, c2, c3] = third.to_le_bytes();
+    let [d0, d1, d2, d3] = fourth.to_le_bytes();
     [
-        s[0], s[5], s[10], s[15], s[4], s[9], s[14], s[3], s[8], s[13], s[2], s[7], s[12], s[1],
-        s[6], s[11],
+        mixed_column(a0, b1, c2, d3),
+        mixed_column(b0, c1, d2, a3),
+        mixed_column(c0, d1, a2, b3),
+        mixed_column(d0, a1, b2, c3),
     ]
 }
 
-/// Each column mixed.
-#[tactic(auto, using(crate::proofs::Steps::words_mixed))]
-pub(crate) fn mix_columns(state: &Block) -> Block
-    ensures { result ≡ mix_columns state.now }
+/// The state substituted, and its rows shifted.
+pub(crate) fn shifted_state(state: Words) -> Words
+    ensures { bytes_of result ≡ shift_rows (sub_bytes (bytes_of state)) }
 {
-    block_of(
-        mix_column(word_at(state, 0)),
-        mix_column(word_at(state, 1)),
-        mix_column(word_at(state, 2)),
-        mix_column(word_at(state, 3)),
-    )
-}
-
-/// A column times the fixed polynomial of MixColumns.
-fn mix_column(column: Word) -> Word
-    ensures { result ≡ mix_column column }
-{
-    let [s0, s1, s2, s3] = column;
-    let [d0, d1, d2, d3] = [times_x(s0), times_x(s1), times_x(s2), times_x(s3)];
+    let [first, second, third, fourth] = state;
+    let [a0, a1, a2, a3] = first.to_le_bytes();
+    let [b0, b1, b2, b3] = second.to_le_bytes();
+    let [c0, c1, c2, c3] = third.to_le_bytes();
+    let [d0, d1, d2, d3] = fourth.to_le_bytes();
     [
-        d0 ^ (d1 ^ s1) ^ s2 ^ s3,
-        s0 ^ d1 ^ (d2 ^ s2) ^ s3,
-        s0 ^ s1 ^ d2 ^ (d3 ^ s3),
-        (d0 ^ s0) ^ s1 ^ s2 ^ d3,
+        substituted_word([a0, b1, c2, d3]),
+        substituted_word([b0, c1, d2, a3]),
+        substituted_word([c0, d1, a2, b3]),
+        substituted_word([d0, a1, b2, c3]),
     ]
 }
 
-/// The state with a round key added.
-pub(crate) fn add_round_key(state: &Block, key: &Block) -> Block
-    ensures { result ≡ xor_of state.now key.now }
+/// The word of four bytes that the S-box gives (FIPS 197, 5.2, SubWord).
+pub(crate) fn substituted_word(bytes: [u8; 4]) -> u32
+    ensures { to_le_bytes w32 result ≡ sub_bytes bytes }
 {
-    let mut sum = *state;
-    xor_with(&mut sum, key);
-    sum
+    let [a, b, c, d] = bytes;
+    u32::from_le_bytes([sub_byte(a), sub_byte(b), sub_byte(c), sub_byte(d)])
 }

@@ -1,7 +1,8 @@
-use Rattle.std.specs.Int.Bits.{xor_zero_r}
+use Rattle.std.proofs.Common.{arith}
+use Rattle.tpm_aes.proofs.Columns.{scheduled_sum}
 use Rattle.tpm_aes.proofs.key_schedule.scheduled_word.Goals as goal
-use Rattle.tpm_aes.specs.Cipher.{scheduled_word}
 
 pub returns : goal.returns
-unfolding scheduled_word
-returns c = λ n constant_is. simp xor_zero_r (cc)
+returns c = λ n of_round.
+    scheduled_sum n c.args.word _ c.args.constant _ _ c.to_le_bytes.ensures c.substituted_word.ensures
+    c.from.ensures (omega arith) of_round

@@ -6,7 +6,7 @@ use Rattle.tpm_aes.specs.Field.{times_power, times_x}
 pub loop-round-init : goal.loop-round-init
 loop-round-init c = record {
   size = refl;
-  each = λ k low. let first : k ≡ 0 = omega arith in rw first (sym (round_key_first c.args.key.now));
+  each = λ k low. let first : k ≡ 0 = omega arith in rw first (c.words_of-round_keys.ensures ∙ sym (round_key_first c.args.key.now));
   of_round = sym (times_power_none 1);
 }
 

@@ -1,0 +1,113 @@
+-- The steps of a round, and of the key expansion, on words.
+use Rattle.std.proofs.Common.{◌≡◌, ℕ, ◌-◌, ◌<◌, List, [], ◌∷◌, ◌++◌, ap, ap₂, bit_xor, length, refl, slice_index_or, sym, ◌∙◌}
+use Rattle.std.specs.Int.{to_le_bytes, w32}
+use Rattle.tpm_aes.proofs.Steps.{words_mixed}
+use Rattle.tpm_aes.proofs.Words.{bytes-byte, bytes-xor, four_words}
+use Rattle.tpm_aes.specs.Cipher.{mix_column, mix_columns, next_round_key, scheduled_word, shift_rows, sub_bytes, word_of, xor_of}
+use Rattle.tpm_aes.specs.Field.{times_power}
+use Rattle.tpm_aes.specs.Words.{bytes_of}
+
+-- the column that takes a byte from each of four columns
+abbrev pub shifted_column : (a b c d : List ℕ) → List ℕ
+shifted_column a b c d = slice_index_or a 0 0 ∷ slice_index_or b 1 0 ∷ slice_index_or c 2 0 ∷ slice_index_or d 3 0 ∷ []
+
+-- columns that a function makes of those of the state, substituted and shifted
+abbrev columns_by : (g : List ℕ → List ℕ) (state : List ℕ) → List ℕ
+columns_by g state = g (word_of state 0) ++ (g (word_of state 1) ++ (g (word_of state 2) ++ g (word_of state 3)))
+
+columns_made : (g : List ℕ → List ℕ) (p q r s : ℕ)
+    → let a = to_le_bytes w32 p in let b = to_le_bytes w32 q in let c = to_le_bytes w32 r in let d = to_le_bytes w32 s in
+    g (sub_bytes (shifted_column a b c d)) ++ (g (sub_bytes (shifted_column b c d a))
+    ++ (g (sub_bytes (shifted_column c d a b)) ++ g (sub_bytes (shifted_column d a b c))))
+    ≡ columns_by g (shift_rows (sub_bytes (bytes_of (p ∷ q ∷ r ∷ s ∷ []))))
+unfolding shift_rows
+columns_made g p q r s = refl
+
+-- the words of four columns that a function makes of those of the state, substituted and shifted
+columns_words : (g : List ℕ → List ℕ) (state a b c d : List ℕ) (v w x y : ℕ) → length state ≡ 4
+    → a ≡ to_le_bytes w32 (slice_index_or state 0 0) → b ≡ to_le_bytes w32 (slice_index_or state 1 0)
+    → c ≡ to_le_bytes w32 (slice_index_or state 2 0) → d ≡ to_le_bytes w32 (slice_index_or state 3 0)
+    → to_le_bytes w32 v ≡ g (sub_bytes (shifted_column a b c d))
+    → to_le_bytes w32 w ≡ g (sub_bytes (shifted_column b c d a))
+    → to_le_bytes w32 x ≡ g (sub_bytes (shifted_column c d a b))
+    → to_le_bytes w32 y ≡ g (sub_bytes (shifted_column d a b c))
+    → bytes_of (v ∷ w ∷ x ∷ y ∷ []) ≡ columns_by g (shift_rows (sub_bytes (bytes_of state)))
+columns_words g state a b c d v w x y size is_a is_b is_c is_d is_v is_w is_x is_y =
+    let made = λ (a' b' c' d' : List ℕ).
+    g (sub_bytes (shifted_column a' b' c' d')) ++ (g (sub_bytes (shifted_column b' c' d' a'))
+    ++ (g (sub_bytes (shifted_column c' d' a' b')) ++ g (sub_bytes (shifted_column d' a' b' c')))) in
+    let parts : bytes_of (v ∷ w ∷ x ∷ y ∷ []) ≡ made a b c d =
+    λ i. is_v i ++ (is_w i ++ (is_x i ++ is_y i)) in
+    parts ∙ (λ i. made (is_a i) (is_b i) (is_c i) (is_d i))
+    ∙ columns_made g _ _ _ _
+    ∙ sym (ap (λ (words : List ℕ). columns_by g (shift_rows (sub_bytes (bytes_of words)))) (four_words state size))
+
+-- columns that are mixed
+pub mixed_words : (state a b c d : List ℕ) (v w x y : ℕ) → length state ≡ 4
+    → a ≡ to_le_bytes w32 (slice_index_or state 0 0) → b ≡ to_le_bytes w32 (slice_index_or state 1 0)
+    → c ≡ to_le_bytes w32 (slice_index_or state 2 0) → d ≡ to_le_bytes w32 (slice_index_or state 3 0)
+    → to_le_bytes w32 v ≡ mix_column (sub_bytes (shifted_column a b c d))
+    → to_le_bytes w32 w ≡ mix_column (sub_bytes (shifted_column b c d a))
+    → to_le_bytes w32 x ≡ mix_column (sub_bytes (shifted_column c d a b))
+    → to_le_bytes w32 y ≡ mix_column (sub_bytes (shifted_column d a b c))
+    → bytes_of (v ∷ w ∷ x ∷ y ∷ []) ≡ mix_columns (shift_rows (sub_bytes (bytes_of state)))
+mixed_words state a b c d v w x y size is_a is_b is_c is_d is_v is_w is_x is_y =
+    columns_words mix_column state a b c d v w x y size is_a is_b is_c is_d is_v is_w is_x is_y
+    ∙ sym (words_mixed (shift_rows (sub_bytes (bytes_of state))))
+
+words_shifted : (state : List ℕ) → columns_by (λ column. column) (shift_rows state) ≡ shift_rows state
+unfolding shift_rows
+words_shifted state = refl
+
+-- columns that are not mixed
+pub shifted_words : (state a b c d : List ℕ) (v w x y : ℕ) → length state ≡ 4
+    → a ≡ to_le_bytes w32 (slice_index_or state 0 0) → b ≡ to_le_bytes w32 (slice_index_or state 1 0)
+    → c ≡ to_le_bytes w32 (slice_index_or state 2 0) → d ≡ to_le_bytes w32 (slice_index_or state 3 0)
+    → to_le_bytes w32 v ≡ sub_bytes (shifted_column a b c d)
+    → to_le_bytes w32 w ≡ sub_bytes (shifted_column b c d a)
+    → to_le_bytes w32 x ≡ sub_bytes (shifted_column c d a b)
+    → to_le_bytes w32 y ≡ sub_bytes (shifted_column d a b c)
+    → bytes_of (v ∷ w ∷ x ∷ y ∷ []) ≡ shift_rows (sub_bytes (bytes_of state))
+shifted_words state a b c d v w x y size is_a is_b is_c is_d is_v is_w is_x is_y =
+    columns_words (λ column. column) state a b c d v w x y size is_a is_b is_c is_d is_v is_w is_x is_y
+    ∙ words_shifted (sub_bytes (bytes_of state))
+
+-- the scheduled word, from the sum of its bytes substituted and the constant
+pub scheduled_sum : (n word sum constant added : ℕ) (bytes : List ℕ) → bytes ≡ to_le_bytes w32 word
+    → to_le_bytes w32 sum ≡ sub_bytes (slice_index_or bytes 1 0 ∷ slice_index_or bytes 2 0 ∷ slice_index_or bytes 3 0
+    ∷ slice_index_or bytes 0 0 ∷ [])
+    → added ≡ constant → constant < 256 → constant ≡ times_power 1 (n - 1)
+    → to_le_bytes w32 (bit_xor sum added) ≡ scheduled_word n (to_le_bytes w32 word)
+unfolding scheduled_word
+scheduled_sum n word sum constant added bytes is_bytes is_sum is_added small of_round =
+    let turned = λ (bs : List ℕ).
+    sub_bytes (slice_index_or bs 1 0 ∷ slice_index_or bs 2 0 ∷ slice_index_or bs 3 0 ∷ slice_index_or bs 0 0 ∷ []) in
+    let term : to_le_bytes w32 added ≡ times_power 1 (n - 1) ∷ 0 ∷ 0 ∷ 0 ∷ [] =
+    ap (to_le_bytes w32) is_added ∙ bytes-byte constant small ∙ ap (λ (k : ℕ). k ∷ 0 ∷ 0 ∷ 0 ∷ []) of_round in
+    bytes-xor sum added ∙ ap₂ xor_of (is_sum ∙ ap turned is_bytes) term
+
+-- the next round key of four words
+next_of_four : (n p q r s added : ℕ) → to_le_bytes w32 added ≡ scheduled_word n (to_le_bytes w32 s)
+    → let first = bit_xor p added in let second = bit_xor q first in let third = bit_xor r second in
+    bytes_of (first ∷ second ∷ third ∷ bit_xor s third ∷ []) ≡ next_round_key n (bytes_of (p ∷ q ∷ r ∷ s ∷ []))
+unfolding next_round_key
+next_of_four n p q r s added is_added =
+    let first : ℕ = bit_xor p added in
+    let second : ℕ = bit_xor q first in
+    let third : ℕ = bit_xor r second in
+    let w0 = bytes-xor p added ∙ ap (xor_of (to_le_bytes w32 p)) is_added in
+    let w1 = bytes-xor q first ∙ ap (xor_of (to_le_bytes w32 q)) w0 in
+    let w2 = bytes-xor r second ∙ ap (xor_of (to_le_bytes w32 r)) w1 in
+    let w3 = bytes-xor s third ∙ ap (xor_of (to_le_bytes w32 s)) w2 in
+    λ i. w0 i ++ (w1 i ++ (w2 i ++ w3 i))
+
+-- the next round key
+pub next_words : (n added : ℕ) (key : List ℕ) → length key ≡ 4
+    → to_le_bytes w32 added ≡ scheduled_word n (to_le_bytes w32 (slice_index_or key 3 0))
+    → let first = bit_xor (slice_index_or key 0 0) added in
+    let second = bit_xor (slice_index_or key 1 0) first in
+    let third = bit_xor (slice_index_or key 2 0) second in
+    bytes_of (first ∷ second ∷ third ∷ bit_xor (slice_index_or key 3 0) third ∷ []) ≡ next_round_key n (bytes_of key)
+next_words n added key size is_added =
+    next_of_four n _ _ _ _ added is_added
+    ∙ sym (ap (λ (words : List ℕ). next_round_key n (bytes_of words)) (four_words key size))

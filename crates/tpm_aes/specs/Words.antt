@@ -1,0 +1,8 @@
+-- Words of four bytes as numbers, the lowest byte first.
+use Rattle.std.specs.Prelude.{ℕ, List}
+use Rattle.std.specs.Int.{to_le_bytes, w32}
+use Rattle.std.specs.List.{flat_map}
+
+-- the bytes of words
+abbrev pub bytes_of : List ℕ → List ℕ
+bytes_of words = flat_map (to_le_bytes w32) words
