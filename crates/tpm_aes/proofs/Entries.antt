@@ -8,7 +8,7 @@ use Rattle.std.specs.List.{range_with_len}
 use Rattle.tpm_aes.proofs.Words.{bytes-xor}
 use Rattle.tpm_aes.specs.Cipher.{mix_column, xor_of}
 use Rattle.tpm_aes.specs.Field.{affine, inverse, sub_byte, times, times_power, times_terms}
-use Rattle.tpm_aes.specs.declared.tables.TheConstants.{MIXED_0, MIXED_1, MIXED_2, MIXED_3, S_BOX}
+use Rattle.tpm_aes.specs.declared.tables.TheConstants.{MIXED, S_BOX}
 
 s_box_values : S_BOX ≡ map sub_byte (range_with_len 0 256)
 unfolding sub_byte affine inverse times_power times_terms
@@ -43,34 +43,34 @@ mixed_2 s = mix_column (0 ∷ 0 ∷ s ∷ 0 ∷ [])
 abbrev mixed_3 : ℕ → List ℕ
 mixed_3 s = mix_column (0 ∷ 0 ∷ 0 ∷ s ∷ [])
 
-mixed_0_values : map (to_le_bytes w32) MIXED_0 ≡ map mixed_0 S_BOX
+mixed_0_values : map (to_le_bytes w32) (slice_index_or MIXED 0 []) ≡ map mixed_0 S_BOX
 unfolding mix_column times_power times_terms
 mixed_0_values = refl
 
-mixed_1_values : map (to_le_bytes w32) MIXED_1 ≡ map mixed_1 S_BOX
+mixed_1_values : map (to_le_bytes w32) (slice_index_or MIXED 1 []) ≡ map mixed_1 S_BOX
 unfolding mix_column times_power times_terms
 mixed_1_values = refl
 
-mixed_2_values : map (to_le_bytes w32) MIXED_2 ≡ map mixed_2 S_BOX
+mixed_2_values : map (to_le_bytes w32) (slice_index_or MIXED 2 []) ≡ map mixed_2 S_BOX
 unfolding mix_column times_power times_terms
 mixed_2_values = refl
 
-mixed_3_values : map (to_le_bytes w32) MIXED_3 ≡ map mixed_3 S_BOX
+mixed_3_values : map (to_le_bytes w32) (slice_index_or MIXED 3 []) ≡ map mixed_3 S_BOX
 unfolding mix_column times_power times_terms
 mixed_3_values = refl
 
 -- an entry of each of the other tables
-pub mixed_0_at : (i a : ℕ) → i ≡ a → a < 256 → to_le_bytes w32 (slice_index_or MIXED_0 i 0) ≡ mixed_0 (sub_byte a)
-mixed_0_at = word_at mixed_0 MIXED_0 refl mixed_0_values
+pub mixed_0_at : (i a : ℕ) → i ≡ a → a < 256 → to_le_bytes w32 (slice_index_or (slice_index_or MIXED 0 []) i 0) ≡ mixed_0 (sub_byte a)
+mixed_0_at = word_at mixed_0 (slice_index_or MIXED 0 []) refl mixed_0_values
 
-pub mixed_1_at : (i a : ℕ) → i ≡ a → a < 256 → to_le_bytes w32 (slice_index_or MIXED_1 i 0) ≡ mixed_1 (sub_byte a)
-mixed_1_at = word_at mixed_1 MIXED_1 refl mixed_1_values
+pub mixed_1_at : (i a : ℕ) → i ≡ a → a < 256 → to_le_bytes w32 (slice_index_or (slice_index_or MIXED 1 []) i 0) ≡ mixed_1 (sub_byte a)
+mixed_1_at = word_at mixed_1 (slice_index_or MIXED 1 []) refl mixed_1_values
 
-pub mixed_2_at : (i a : ℕ) → i ≡ a → a < 256 → to_le_bytes w32 (slice_index_or MIXED_2 i 0) ≡ mixed_2 (sub_byte a)
-mixed_2_at = word_at mixed_2 MIXED_2 refl mixed_2_values
+pub mixed_2_at : (i a : ℕ) → i ≡ a → a < 256 → to_le_bytes w32 (slice_index_or (slice_index_or MIXED 2 []) i 0) ≡ mixed_2 (sub_byte a)
+mixed_2_at = word_at mixed_2 (slice_index_or MIXED 2 []) refl mixed_2_values
 
-pub mixed_3_at : (i a : ℕ) → i ≡ a → a < 256 → to_le_bytes w32 (slice_index_or MIXED_3 i 0) ≡ mixed_3 (sub_byte a)
-mixed_3_at = word_at mixed_3 MIXED_3 refl mixed_3_values
+pub mixed_3_at : (i a : ℕ) → i ≡ a → a < 256 → to_le_bytes w32 (slice_index_or (slice_index_or MIXED 3 []) i 0) ≡ mixed_3 (sub_byte a)
+mixed_3_at = word_at mixed_3 (slice_index_or MIXED 3 []) refl mixed_3_values
 
 times_zero_two : times 0 2 ≡ 0
 unfolding times_power times_terms

@@ -52,12 +52,13 @@ pub(crate) fn block_of(words: Words) -> Block
     ]
 }
 
-/// The words with others added to them.
-pub(crate) fn xor_words(words: Words, other: &Words) -> Words
-    ensures { bytes_of result ≡ xor_of (bytes_of words) (bytes_of other.now) }
+/// The words with a round key's added to them.
+pub(crate) fn add_round_key(key: Words, words: Words) -> Words
+    ensures { bytes_of result ≡ xor_of (bytes_of words) (bytes_of key) }
 {
+    let [k0, k1, k2, k3] = key;
     let [a, b, c, d] = words;
-    [a ^ other[0], b ^ other[1], c ^ other[2], d ^ other[3]]
+    [a ^ k0, b ^ k1, c ^ k2, d ^ k3]
 }
 
 /// Adds the front of `other` to the bytes.

@@ -4,7 +4,7 @@ ghost use Rattle.std.specs.Prelude.{◌≡◌, [], List, ℕ, length, map, slice
 ghost use Rattle.tpm_aes.specs.Cipher.{aes_of, expanded_key};
 ghost use Rattle.tpm_aes.specs.Words.{bytes_of};
 
-use crate::bytes::{Words, block_of, words_of, xor_words};
+use crate::bytes::{Words, add_round_key, block_of, words_of};
 use crate::field::times_x;
 use crate::key_schedule::next_round_key;
 use crate::rounds::{mixed_state, shifted_state};
@@ -43,10 +43,10 @@ impl Aes128 {
     pub fn block(&self, block: &[u8; 16]) -> [u8; 16]
         ensures { result ≡ aes_of self.now block.now }
     {
-        let mut state = xor_words(words_of(block), &self.round_keys[0]);
+        let mut state = add_round_key(self.round_keys[0], words_of(block));
         for round in 1..10 {
-            state = xor_words(mixed_state(state), &self.round_keys[round]);
+            state = add_round_key(self.round_keys[round], mixed_state(state));
         }
-        block_of(xor_words(shifted_state(state), &self.round_keys[10]))
+        block_of(add_round_key(self.round_keys[10], shifted_state(state)))
     }
 }

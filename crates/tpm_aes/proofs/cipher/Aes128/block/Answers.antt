@@ -6,7 +6,7 @@ use Rattle.tpm_aes.specs.Cipher.{aes_of, mix_columns, shift_rows, state_after, s
 pub loop-round-init : goal.loop-round-init
 loop-round-init c =
     let key = round_key_at c.self.inside.round_keys c.args.self.now (search rules) c.self.view_is c.self.invariant 0 (omega arith) in
-    c.xor_words-state.ensures ∙ ap₂ xor_of c.words_of.ensures key
+    c.add_round_key-state.ensures ∙ ap₂ xor_of c.words_of.ensures key
     ∙ sym (state_after_none c.args.self.now c.args.block.now)
 
 pub loop-round-preserved : goal.loop-round-preserved
@@ -18,7 +18,7 @@ loop-round-preserved c =
     let more = rw here at (state_after_more c.args.self.now c.args.block.now (n - 1)) in
     let mixed = c.mixed_state.ensures
     ∙ ap (λ (state : List ℕ). mix_columns (shift_rows (sub_bytes state))) c.loop-round.invariant in
-    rw next (c.xor_words-state-in-loop-round.ensures ∙ ap₂ xor_of mixed key ∙ sym more)
+    rw next (c.add_round_key-state-in-loop-round.ensures ∙ ap₂ xor_of mixed key ∙ sym more)
 
 pub returns : goal.returns
 unfolding aes_of
@@ -27,4 +27,4 @@ returns c =
     let nine : c.loop-round.round - 1 ≡ 9 = omega arith in
     let state = c.loop-round.invariant ∙ ap (state_after c.args.self.now c.args.block.now) nine in
     let shifted = c.shifted_state.ensures ∙ ap (λ (s : List ℕ). shift_rows (sub_bytes s)) state in
-    c.block_of.ensures ∙ c.xor_words.ensures ∙ ap₂ xor_of shifted key
+    c.block_of.ensures ∙ c.add_round_key.ensures ∙ ap₂ xor_of shifted key
