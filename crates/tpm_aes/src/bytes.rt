@@ -52,15 +52,6 @@ pub(crate) fn block_of(words: Words) -> Block
     ]
 }
 
-/// The words with a round key's added to them.
-pub(crate) fn add_round_key(key: Words, words: Words) -> Words
-    ensures { bytes_of result ≡ xor_of (bytes_of words) (bytes_of key) }
-{
-    let [k0, k1, k2, k3] = key;
-    let [a, b, c, d] = words;
-    [a ^ k0, b ^ k1, c ^ k2, d ^ k3]
-}
-
 /// Adds the front of `other` to the bytes.
 pub(crate) fn xor_with(bytes: &mut [u8], other: &[u8])
     requires { length bytes.old ≤ length other.now }

@@ -1,13 +1,13 @@
 //! The cipher of one key (FIPS 197, 5.1).
 
-ghost use Rattle.std.specs.Prelude.{◌≡◌, [], List, ℕ, length, map, slice_index_or};
+ghost use Rattle.std.specs.Prelude.{◌≡◌, [], List, ℕ, map, slice_index_or};
 ghost use Rattle.tpm_aes.specs.Cipher.{aes_of, expanded_key};
 ghost use Rattle.tpm_aes.specs.Words.{bytes_of};
 
-use crate::bytes::{Words, add_round_key, block_of, words_of};
+use crate::bytes::{Words, block_of, words_of};
 use crate::field::times_x;
 use crate::key_schedule::next_round_key;
-use crate::rounds::{mixed_state, shifted_state};
+use crate::rounds::{add_round_key, mixed_state, shifted_state};
 use std::marker::Model;
 
 /// AES-128 under one key, in the direction of encryption. Contracts see it as the bytes of its key.

@@ -44,8 +44,13 @@ impl Aes128 {
         ensures value { text.new ≡ xor_of text.old (aes_of self.now feedback.old) }
         ensures fed_back { length text.old ≡ 16 → feedback.new ≡ text.new }
     {
-        xor_with(text, &self.block(feedback));
-        feedback[..text.len()].copy_from_slice(text);
+        let key_stream = self.block(feedback);
+        if let Some(block) = text.as_mut_array::<BLOCK_SIZE>() {
+            xor_with(block, &key_stream);
+            *feedback = *block;
+        } else {
+            xor_with(text, &key_stream);
+        }
     }
 
     /// Decrypts a block, or the short last one, and feeds back a whole block.
@@ -55,7 +60,11 @@ impl Aes128 {
         ensures fed_back { length text.old ≡ 16 → feedback.new ≡ text.old }
     {
         let key_stream = self.block(feedback);
-        feedback[..text.len()].copy_from_slice(text);
-        xor_with(text, &key_stream);
+        if let Some(cipher_block) = text.as_mut_array::<BLOCK_SIZE>() {
+            *feedback = *cipher_block;
+            xor_with(cipher_block, &key_stream);
+        } else {
+            xor_with(text, &key_stream);
+        }
     }
 }

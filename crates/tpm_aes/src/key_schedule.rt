@@ -7,7 +7,7 @@ ghost use Rattle.tpm_aes.specs.Field.{times_power};
 ghost use Rattle.tpm_aes.specs.Words.{bytes_of};
 
 use crate::bytes::Words;
-use crate::rounds::substituted_word;
+use crate::tables::substituted_word;
 
 /// The round key after another, by the constant of its round.
 pub(crate) fn next_round_key(key: Words, constant: u8) -> Words

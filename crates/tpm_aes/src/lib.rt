@@ -2,7 +2,9 @@
 //! 128 bits (SP 800-38A, 6.3).
 //!
 //! It stands on nothing. Each call equals its definition in `specs/` for every length of its data,
-//! and decryption and encryption undo each other. None takes memory or refuses.
+//! and decryption and encryption undo each other. None takes memory or refuses. Rounds read tables,
+//! each entry of which is proved, at places that depend on the key and the text: nothing is said of
+//! the time that a call takes.
 
 #![tactic(auto)]
 

@@ -1,16 +1,14 @@
-//! The steps of a round (FIPS 197, 5.1), on words: SubBytes and ShiftRows at once, and in all rounds
-//! but the last MixColumns with them.
+//! The steps of a round (FIPS 197, 5.1) on a state of four words: SubBytes, ShiftRows and, but for
+//! the last round, MixColumns at once, and then AddRoundKey.
 
-ghost use Rattle.std.specs.Prelude.{◌≡◌, [], ◌∷◌};
-ghost use Rattle.std.specs.Int.{to_le_bytes, w32};
-ghost use Rattle.tpm_aes.specs.Cipher.{mix_columns, shift_rows, sub_bytes};
-ghost use Rattle.tpm_aes.specs.Field.{sub_byte};
+ghost use Rattle.std.specs.Prelude.{◌≡◌};
+ghost use Rattle.tpm_aes.specs.Cipher.{mix_columns, shift_rows, sub_bytes, xor_of};
 ghost use Rattle.tpm_aes.specs.Words.{bytes_of};
 
 use crate::bytes::Words;
-use crate::tables::{mixed_column, sub_byte};
+use crate::tables::{mixed_column, substituted_word};
 
-/// The state substituted, its rows shifted and its columns mixed.
+/// The state substituted, its rows shifted, and its columns mixed.
 pub(crate) fn mixed_state(state: Words) -> Words
     ensures { bytes_of result ≡ mix_columns (shift_rows (sub_bytes (bytes_of state))) }
 {
@@ -20,14 +18,14 @@ pub(crate) fn mixed_state(state: Words) -> Words
     let [c0, c1, c2, c3] = third.to_le_bytes();
     let [d0, d1, d2, d3] = fourth.to_le_bytes();
     [
-        mixed_column(a0, b1, c2, d3),
-        mixed_column(b0, c1, d2, a3),
-        mixed_column(c0, d1, a2, b3),
-        mixed_column(d0, a1, b2, c3),
+        mixed_column([a0, b1, c2, d3]),
+        mixed_column([b0, c1, d2, a3]),
+        mixed_column([c0, d1, a2, b3]),
+        mixed_column([d0, a1, b2, c3]),
     ]
 }
 
-/// The state substituted, and its rows shifted.
+/// The state substituted, and its rows shifted, as in the last round.
 pub(crate) fn shifted_state(state: Words) -> Words
     ensures { bytes_of result ≡ shift_rows (sub_bytes (bytes_of state)) }
 {
@@ -44,10 +42,11 @@ pub(crate) fn shifted_state(state: Words) -> Words
     ]
 }
 
-/// The word of four bytes that the S-box gives (FIPS 197, 5.2, SubWord).
-pub(crate) fn substituted_word(bytes: [u8; 4]) -> u32
-    ensures { to_le_bytes w32 result ≡ sub_bytes bytes }
+/// The state with a round key added (FIPS 197, 5.1.4).
+pub(crate) fn add_round_key(key: Words, state: Words) -> Words
+    ensures { bytes_of result ≡ xor_of (bytes_of state) (bytes_of key) }
 {
-    let [a, b, c, d] = bytes;
-    u32::from_le_bytes([sub_byte(a), sub_byte(b), sub_byte(c), sub_byte(d)])
+    let [k0, k1, k2, k3] = key;
+    let [a, b, c, d] = state;
+    [a ^ k0, b ^ k1, c ^ k2, d ^ k3]
 }

@@ -1,29 +1,38 @@
-//! The S-box as a table (FIPS 197, 5.1.1), and each column that MixColumns makes of one of its bytes
-//! (5.1.3).
+//! Words read from tables: the S-box (FIPS 197, 5.1.1), and the columns that MixColumns makes of its
+//! bytes (5.1.3).
 
-ghost use Rattle.std.specs.Prelude.{◌≡◌, [], ◌∷◌};
+ghost use Rattle.std.specs.Prelude.{◌≡◌};
 ghost use Rattle.std.specs.Int.{to_le_bytes, w32};
 ghost use Rattle.tpm_aes.specs.Cipher.{mix_column, sub_bytes};
 ghost use Rattle.tpm_aes.specs.Field.{sub_byte};
 
-/// The byte that the S-box gives.
-pub(crate) fn sub_byte(a: u8) -> u8
-    ensures { result ≡ sub_byte a }
+/// The column that MixColumns makes of the bytes that the S-box gives.
+pub(crate) fn mixed_column(bytes: [u8; 4]) -> u32
+    ensures { to_le_bytes w32 result ≡ mix_column (sub_bytes bytes) }
 {
-    S_BOX[usize::from(a)]
-}
-
-/// The column of four bytes that the S-box gives, mixed.
-pub(crate) fn mixed_column(a: u8, b: u8, c: u8, d: u8) -> u32
-    ensures { to_le_bytes w32 result ≡ mix_column (sub_bytes (a ∷ b ∷ c ∷ d ∷ [])) }
-{
+    let [a, b, c, d] = bytes;
     MIXED[0][usize::from(a)]
         ^ MIXED[1][usize::from(b)]
         ^ MIXED[2][usize::from(c)]
         ^ MIXED[3][usize::from(d)]
 }
 
-/// The S-box: entry a is what a byte a becomes.
+/// The word of the bytes that the S-box gives (FIPS 197, 5.2, SubWord).
+pub(crate) fn substituted_word(bytes: [u8; 4]) -> u32
+    ensures { to_le_bytes w32 result ≡ sub_bytes bytes }
+{
+    let [a, b, c, d] = bytes;
+    u32::from_le_bytes([sub_byte(a), sub_byte(b), sub_byte(c), sub_byte(d)])
+}
+
+/// The byte that the S-box gives.
+fn sub_byte(a: u8) -> u8
+    ensures { result ≡ sub_byte a }
+{
+    S_BOX[usize::from(a)]
+}
+
+/// The S-box: entry a is what it gives for a.
 static S_BOX: [u8; 256] = [
     0x63, 0x7c, 0x77, 0x7b, 0xf2, 0x6b, 0x6f, 0xc5, 0x30, 0x01, 0x67, 0x2b, 0xfe, 0xd7, 0xab, 0x76,
     0xca, 0x82, 0xc9, 0x7d, 0xfa, 0x59, 0x47, 0xf0, 0xad, 0xd4, 0xa2, 0xaf, 0x9c, 0xa4, 0x72, 0xc0,
@@ -43,7 +52,9 @@ static S_BOX: [u8; 256] = [
     0x8c, 0xa1, 0x89, 0x0d, 0xbf, 0xe6, 0x42, 0x68, 0x41, 0x99, 0x2d, 0x0f, 0xb0, 0x54, 0xbb, 0x16,
 ];
 
-/// Entry a of table r is the column, mixed, that has S_BOX[a] in row r and 0 in the others.
+/// Entry a of table r is what MixColumns makes of the column with `S_BOX[a]` in row r and 0 in the
+/// others. A column is the sum of four such columns, and what is made of it the sum of what is made
+/// of them.
 static MIXED: [[u32; 256]; 4] = [
     [
         0xa56363c6, 0x847c7cf8, 0x997777ee, 0x8d7b7bf6, 0x0df2f2ff, 0xbd6b6bd6, 0xb16f6fde,
