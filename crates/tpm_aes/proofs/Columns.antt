@@ -1,22 +1,28 @@
 -- The steps of a round, and of the key expansion, on words.
-use Rattle.std.proofs.Common.{◌≡◌, ℕ, ◌-◌, ◌<◌, List, [], ◌∷◌, ◌++◌, ap, ap₂, bit_xor, length, refl, slice_index_or, sym, ◌∙◌}
+use Rattle.std.proofs.Common.{◌≡◌, ℕ, ◌-◌, ◌<◌, ◌≤◌, List, [], ◌∷◌, ◌++◌, ap, ap₂, arith, bit_xor, length, map, refl, slice_index_or, sym, ◌∙◌}
+use Rattle.std.proofs.lemmas.List.FromFn.{get_or-map-range_with_len}
 use Rattle.std.specs.Int.{to_le_bytes, w32}
+use Rattle.std.specs.List.{range_with_len}
 use Rattle.tpm_aes.proofs.Steps.{words_mixed}
 use Rattle.tpm_aes.proofs.Words.{bytes-byte, bytes-xor, four_words}
 use Rattle.tpm_aes.specs.Cipher.{mix_column, mix_columns, next_round_key, scheduled_word, shift_rows, sub_bytes, word_of, xor_of}
 use Rattle.tpm_aes.specs.Field.{times_power}
 use Rattle.tpm_aes.specs.Words.{bytes_of}
+use Rattle.tpm_aes.specs.declared.key_schedule.TheConstants.{ROUND_CONSTANTS}
 
 -- the column that takes a byte from each of four columns
 abbrev pub shifted_column : (a b c d : List ℕ) → List ℕ
-shifted_column a b c d = slice_index_or a 0 0 ∷ slice_index_or b 1 0 ∷ slice_index_or c 2 0 ∷ slice_index_or d 3 0 ∷ []
+shifted_column a b c d =
+    slice_index_or a 0 0 ∷ slice_index_or b 1 0 ∷ slice_index_or c 2 0 ∷ slice_index_or d 3 0 ∷ []
 
 -- columns that a function makes of those of the state, substituted and shifted
 abbrev columns_by : (g : List ℕ → List ℕ) (state : List ℕ) → List ℕ
-columns_by g state = g (word_of state 0) ++ (g (word_of state 1) ++ (g (word_of state 2) ++ g (word_of state 3)))
+columns_by g state =
+    g (word_of state 0) ++ (g (word_of state 1) ++ (g (word_of state 2) ++ g (word_of state 3)))
 
 columns_made : (g : List ℕ → List ℕ) (p q r s : ℕ)
-    → let a = to_le_bytes w32 p in let b = to_le_bytes w32 q in let c = to_le_bytes w32 r in let d = to_le_bytes w32 s in
+    → let a = to_le_bytes w32 p in let b = to_le_bytes w32 q in
+    let c = to_le_bytes w32 r in let d = to_le_bytes w32 s in
     g (sub_bytes (shifted_column a b c d)) ++ (g (sub_bytes (shifted_column b c d a))
     ++ (g (sub_bytes (shifted_column c d a b)) ++ g (sub_bytes (shifted_column d a b c))))
     ≡ columns_by g (shift_rows (sub_bytes (bytes_of (p ∷ q ∷ r ∷ s ∷ []))))
@@ -40,7 +46,8 @@ columns_words g state a b c d v w x y size is_a is_b is_c is_d is_v is_w is_x is
     λ i. is_v i ++ (is_w i ++ (is_x i ++ is_y i)) in
     parts ∙ (λ i. made (is_a i) (is_b i) (is_c i) (is_d i))
     ∙ columns_made g _ _ _ _
-    ∙ sym (ap (λ (words : List ℕ). columns_by g (shift_rows (sub_bytes (bytes_of words)))) (four_words state size))
+    ∙ sym (ap (λ (words : List ℕ). columns_by g (shift_rows (sub_bytes (bytes_of words))))
+    (four_words state size))
 
 -- columns that are mixed
 pub mixed_words : (state a b c d : List ℕ) (v w x y : ℕ) → length state ≡ 4
@@ -72,18 +79,32 @@ shifted_words state a b c d v w x y size is_a is_b is_c is_d is_v is_w is_x is_y
     columns_words (λ column. column) state a b c d v w x y size is_a is_b is_c is_d is_v is_w is_x is_y
     ∙ words_shifted (sub_bytes (bytes_of state))
 
+constant_values : ROUND_CONSTANTS ≡ map (times_power 1) (range_with_len 0 10)
+unfolding times_power
+constant_values = refl
+
+-- the constant of a round
+pub constant_at : (n : ℕ) → 1 ≤ n → n ≤ 10
+    → slice_index_or ROUND_CONSTANTS (n - 1) 0 ≡ times_power 1 (n - 1)
+constant_at n low high =
+    ap (λ (t : List ℕ). slice_index_or t (n - 1) 0) constant_values
+    ∙ get_or-map-range_with_len (times_power 1) 0 10 (n - 1) (n - 1) 0 (omega arith) (omega arith)
+
+-- the bytes of a word turned and substituted
+abbrev turned : List ℕ → List ℕ
+turned bytes =
+    sub_bytes (slice_index_or bytes 1 0 ∷ slice_index_or bytes 2 0 ∷ slice_index_or bytes 3 0
+    ∷ slice_index_or bytes 0 0 ∷ [])
+
 -- the scheduled word, from the sum of its bytes substituted and the constant
 pub scheduled_sum : (n word sum constant added : ℕ) (bytes : List ℕ) → bytes ≡ to_le_bytes w32 word
-    → to_le_bytes w32 sum ≡ sub_bytes (slice_index_or bytes 1 0 ∷ slice_index_or bytes 2 0 ∷ slice_index_or bytes 3 0
-    ∷ slice_index_or bytes 0 0 ∷ [])
-    → added ≡ constant → constant < 256 → constant ≡ times_power 1 (n - 1)
+    → to_le_bytes w32 sum ≡ turned bytes → added ≡ constant → constant < 256 → constant ≡ times_power 1 (n - 1)
     → to_le_bytes w32 (bit_xor sum added) ≡ scheduled_word n (to_le_bytes w32 word)
 unfolding scheduled_word
 scheduled_sum n word sum constant added bytes is_bytes is_sum is_added small of_round =
-    let turned = λ (bs : List ℕ).
-    sub_bytes (slice_index_or bs 1 0 ∷ slice_index_or bs 2 0 ∷ slice_index_or bs 3 0 ∷ slice_index_or bs 0 0 ∷ []) in
     let term : to_le_bytes w32 added ≡ times_power 1 (n - 1) ∷ 0 ∷ 0 ∷ 0 ∷ [] =
-    ap (to_le_bytes w32) is_added ∙ bytes-byte constant small ∙ ap (λ (k : ℕ). k ∷ 0 ∷ 0 ∷ 0 ∷ []) of_round in
+    ap (to_le_bytes w32) is_added ∙ bytes-byte constant small
+    ∙ ap (λ (k : ℕ). k ∷ 0 ∷ 0 ∷ 0 ∷ []) of_round in
     bytes-xor sum added ∙ ap₂ xor_of (is_sum ∙ ap turned is_bytes) term
 
 -- the next round key of four words

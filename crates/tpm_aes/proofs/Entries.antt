@@ -30,6 +30,10 @@ word_at f table size values i a same byte =
     ∙ get_or-map f S_BOX i 0 [] (omega arith)
     ∙ ap f (s_box_at i a same byte)
 
+-- the round table of a row
+abbrev mixed_table : ℕ → List ℕ
+mixed_table r = slice_index_or MIXED r []
+
 -- the column of one byte and zeros, mixed
 abbrev mixed_0 : ℕ → List ℕ
 mixed_0 s = mix_column (s ∷ 0 ∷ 0 ∷ 0 ∷ [])
@@ -43,34 +47,38 @@ mixed_2 s = mix_column (0 ∷ 0 ∷ s ∷ 0 ∷ [])
 abbrev mixed_3 : ℕ → List ℕ
 mixed_3 s = mix_column (0 ∷ 0 ∷ 0 ∷ s ∷ [])
 
-mixed_0_values : map (to_le_bytes w32) (slice_index_or MIXED 0 []) ≡ map mixed_0 S_BOX
+mixed_0_values : map (to_le_bytes w32) (mixed_table 0) ≡ map mixed_0 S_BOX
 unfolding mix_column times_power times_terms
 mixed_0_values = refl
 
-mixed_1_values : map (to_le_bytes w32) (slice_index_or MIXED 1 []) ≡ map mixed_1 S_BOX
+mixed_1_values : map (to_le_bytes w32) (mixed_table 1) ≡ map mixed_1 S_BOX
 unfolding mix_column times_power times_terms
 mixed_1_values = refl
 
-mixed_2_values : map (to_le_bytes w32) (slice_index_or MIXED 2 []) ≡ map mixed_2 S_BOX
+mixed_2_values : map (to_le_bytes w32) (mixed_table 2) ≡ map mixed_2 S_BOX
 unfolding mix_column times_power times_terms
 mixed_2_values = refl
 
-mixed_3_values : map (to_le_bytes w32) (slice_index_or MIXED 3 []) ≡ map mixed_3 S_BOX
+mixed_3_values : map (to_le_bytes w32) (mixed_table 3) ≡ map mixed_3 S_BOX
 unfolding mix_column times_power times_terms
 mixed_3_values = refl
 
--- an entry of each of the other tables
-pub mixed_0_at : (i a : ℕ) → i ≡ a → a < 256 → to_le_bytes w32 (slice_index_or (slice_index_or MIXED 0 []) i 0) ≡ mixed_0 (sub_byte a)
-mixed_0_at = word_at mixed_0 (slice_index_or MIXED 0 []) refl mixed_0_values
+-- an entry of each round table
+pub mixed_0_at : (i a : ℕ) → i ≡ a → a < 256
+    → to_le_bytes w32 (slice_index_or (mixed_table 0) i 0) ≡ mixed_0 (sub_byte a)
+mixed_0_at = word_at mixed_0 (mixed_table 0) refl mixed_0_values
 
-pub mixed_1_at : (i a : ℕ) → i ≡ a → a < 256 → to_le_bytes w32 (slice_index_or (slice_index_or MIXED 1 []) i 0) ≡ mixed_1 (sub_byte a)
-mixed_1_at = word_at mixed_1 (slice_index_or MIXED 1 []) refl mixed_1_values
+pub mixed_1_at : (i a : ℕ) → i ≡ a → a < 256
+    → to_le_bytes w32 (slice_index_or (mixed_table 1) i 0) ≡ mixed_1 (sub_byte a)
+mixed_1_at = word_at mixed_1 (mixed_table 1) refl mixed_1_values
 
-pub mixed_2_at : (i a : ℕ) → i ≡ a → a < 256 → to_le_bytes w32 (slice_index_or (slice_index_or MIXED 2 []) i 0) ≡ mixed_2 (sub_byte a)
-mixed_2_at = word_at mixed_2 (slice_index_or MIXED 2 []) refl mixed_2_values
+pub mixed_2_at : (i a : ℕ) → i ≡ a → a < 256
+    → to_le_bytes w32 (slice_index_or (mixed_table 2) i 0) ≡ mixed_2 (sub_byte a)
+mixed_2_at = word_at mixed_2 (mixed_table 2) refl mixed_2_values
 
-pub mixed_3_at : (i a : ℕ) → i ≡ a → a < 256 → to_le_bytes w32 (slice_index_or (slice_index_or MIXED 3 []) i 0) ≡ mixed_3 (sub_byte a)
-mixed_3_at = word_at mixed_3 (slice_index_or MIXED 3 []) refl mixed_3_values
+pub mixed_3_at : (i a : ℕ) → i ≡ a → a < 256
+    → to_le_bytes w32 (slice_index_or (mixed_table 3) i 0) ≡ mixed_3 (sub_byte a)
+mixed_3_at = word_at mixed_3 (mixed_table 3) refl mixed_3_values
 
 times_zero_two : times 0 2 ≡ 0
 unfolding times_power times_terms
@@ -81,7 +89,8 @@ unfolding times_power times_terms
 times_zero_three = refl
 
 -- a column is the sum of those of its bytes
-pub mixed_sum : (a b c d : ℕ) → xor_of (xor_of (xor_of (mixed_0 a) (mixed_1 b)) (mixed_2 c)) (mixed_3 d)
+pub mixed_sum : (a b c d : ℕ)
+    → xor_of (xor_of (xor_of (mixed_0 a) (mixed_1 b)) (mixed_2 c)) (mixed_3 d)
     ≡ mix_column (a ∷ b ∷ c ∷ d ∷ [])
 unfolding mix_column
 mixed_sum a b c d = simp (times_zero_two, times_zero_three, xor_zero_r) refl
@@ -93,6 +102,7 @@ pub mixed_word : (v w x y a b c d : ℕ) → to_le_bytes w32 v ≡ mixed_0 a →
 mixed_word v w x y a b c d is_a is_b is_c is_d =
     let two : to_le_bytes w32 (bit_xor v w) ≡ xor_of (mixed_0 a) (mixed_1 b) =
     bytes-xor v w ∙ ap₂ xor_of is_a is_b in
-    let three : to_le_bytes w32 (bit_xor (bit_xor v w) x) ≡ xor_of (xor_of (mixed_0 a) (mixed_1 b)) (mixed_2 c) =
+    let three : to_le_bytes w32 (bit_xor (bit_xor v w) x)
+    ≡ xor_of (xor_of (mixed_0 a) (mixed_1 b)) (mixed_2 c) =
     bytes-xor (bit_xor v w) x ∙ ap₂ xor_of two is_c in
     bytes-xor (bit_xor (bit_xor v w) x) y ∙ ap₂ xor_of three is_d ∙ mixed_sum a b c d

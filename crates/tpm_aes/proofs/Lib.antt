@@ -1,4 +1,3 @@
-pub mod AllBytes
 pub mod Columns
 pub mod Entries
 pub mod Steps

@@ -3,18 +3,7 @@ use Rattle.std.proofs.Common.{◌≡◌, ℕ, ◌+◌, ◌-◌, ◌<◌, ◌≤�
 use Rattle.std.proofs.lemmas.List.{append-nil, get_or-map, length-map}
 use Rattle.std.proofs.lemmas.List.FromFn.{fill_by_all, get_or-map-range_with_len}
 use Rattle.tpm_aes.specs.Cipher.{expanded_key, mix_column, mix_columns, next_round_key, round_key, shift_rows, state_after, sub_bytes, word_of, xor_of}
-use Rattle.tpm_aes.specs.Field.{times_power, times_x}
 use Rattle.tpm_aes.specs.Words.{bytes_of}
-
--- one more power of x
-pub times_power_more : (a i : ℕ) → times_power a (i + 1) ≡ times_x (times_power a i)
-unfolding times_power
-times_power_more a i = rw (add-one i) refl
-
--- no power of x
-pub times_power_none : (a : ℕ) → times_power a 0 ≡ a
-unfolding times_power
-times_power_none a = refl
 
 -- the four columns
 pub words_mixed : (state : List ℕ) → mix_columns state
@@ -44,7 +33,8 @@ unfolding state_after
 state_after_more key block n = rw (add-one n) refl
 
 -- an entry of the expanded key
-get_or-expanded_key : (key : List ℕ) (n : ℕ) → n < 11 → slice_index_or (expanded_key key) n [] ≡ round_key key n
+get_or-expanded_key : (key : List ℕ) (n : ℕ) → n < 11
+    → slice_index_or (expanded_key key) n [] ≡ round_key key n
 unfolding expanded_key
 get_or-expanded_key key n within = get_or-map-range_with_len (round_key key) 0 11 n n [] within (omega arith)
 
@@ -59,11 +49,10 @@ expanded_key_from keys key size each =
     λ k low. get_or-map bytes_of keys k [] [] (omega arith) ∙ each k low in
     rw first (fill_by_all (round_key key) (map bytes_of keys) 11 [] (simp length-map size) all)
 
--- the keys of the rounds below n stand at their places, and the constant is that of round n
-pub record HasKeysBelow (keys : List (List ℕ)) (key : List ℕ) (constant n : ℕ) : Type 0 where
+-- the keys of the rounds below n stand at their places
+pub record HasKeysBelow (keys : List (List ℕ)) (key : List ℕ) (n : ℕ) : Type 0 where
   pub size : length keys ≡ 11
   pub each : (k : ℕ) → k < n → bytes_of (slice_index_or keys k []) ≡ round_key key k
-  pub of_round : constant ≡ times_power 1 (n - 1)
 
 -- one more round key
 pub round_keys_more : (keys : List (List ℕ)) (key next : List ℕ) (n : ℕ) → 1 ≤ n → n < length keys
@@ -80,9 +69,11 @@ round_keys_more keys key next n low within so_far is_next =
     (rw get_or-set_same value)
 
 -- a round key of a cipher whose first round key is the key
-pub round_key_at : (keys : List (List ℕ)) (key : List ℕ) → length keys ≡ 11 → bytes_of (slice_index_or keys 0 []) ≡ key
+pub round_key_at : (keys : List (List ℕ)) (key : List ℕ) → length keys ≡ 11
+    → bytes_of (slice_index_or keys 0 []) ≡ key
     → map bytes_of keys ≡ expanded_key (bytes_of (slice_index_or keys 0 [])) → (n : ℕ) → n < 11
     → bytes_of (slice_index_or keys n []) ≡ round_key key n
 round_key_at keys key size first all n within =
     sym (get_or-map bytes_of keys n [] [] (omega arith))
-    ∙ ap (λ (ks : List (List ℕ)). slice_index_or ks n []) (all ∙ ap expanded_key first) ∙ get_or-expanded_key key n within
+    ∙ ap (λ (ks : List (List ℕ)). slice_index_or ks n []) (all ∙ ap expanded_key first)
+    ∙ get_or-expanded_key key n within

@@ -10,7 +10,8 @@ byte-xor : (a b k : ℕ) → bit_xor a b / 2 ^ k % 256 ≡ bit_xor (a / 2 ^ k % 
 byte-xor a b k = ap (λ (n : ℕ). n % 256) (xor_shr a b k) ∙ xor_mod (a / 2 ^ k) (b / 2 ^ k) 8
 
 -- the bytes of a sum of words
-pub bytes-xor : (a b : ℕ) → to_le_bytes w32 (bit_xor a b) ≡ xor_of (to_le_bytes w32 a) (to_le_bytes w32 b)
+pub bytes-xor : (a b : ℕ)
+    → to_le_bytes w32 (bit_xor a b) ≡ xor_of (to_le_bytes w32 a) (to_le_bytes w32 b)
 bytes-xor a b = rw (xor_mod a b 8, byte-xor a b 8, byte-xor a b 16, byte-xor a b 24) refl
 
 -- the bytes of sums of words
@@ -24,7 +25,8 @@ bytes_of-xor_of (x ∷ xs) (y ∷ ys) =
 -- four words, each by its index
 abbrev pub by_index : List ℕ → List ℕ
 by_index words =
-    slice_index_or words 0 0 ∷ slice_index_or words 1 0 ∷ slice_index_or words 2 0 ∷ slice_index_or words 3 0 ∷ []
+    slice_index_or words 0 0 ∷ slice_index_or words 1 0
+    ∷ slice_index_or words 2 0 ∷ slice_index_or words 3 0 ∷ []
 
 pub four_words : (words : List ℕ) → length words ≡ 4 → words ≡ by_index words
 four_words (a ∷ b ∷ c ∷ d ∷ []) size = refl

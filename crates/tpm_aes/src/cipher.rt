@@ -5,7 +5,6 @@ ghost use Rattle.tpm_aes.specs.Cipher.{aes_of, expanded_key};
 ghost use Rattle.tpm_aes.specs.Words.{bytes_of};
 
 use crate::bytes::{Words, block_of, words_of};
-use crate::field::times_x;
 use crate::key_schedule::next_round_key;
 use crate::rounds::{add_round_key, mixed_state, shifted_state};
 use std::marker::Model;
@@ -31,10 +30,8 @@ impl Aes128 {
         ensures { result ≡ key.now }
     {
         let mut round_keys = [words_of(key); 11];
-        let mut constant = 1;
         for round in 1..11 {
-            round_keys[round] = next_round_key(round_keys[round - 1], constant);
-            constant = times_x(constant);
+            round_keys[round] = next_round_key(round, round_keys[round - 1]);
         }
         Aes128 { round_keys }
     }

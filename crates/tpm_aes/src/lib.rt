@@ -11,7 +11,6 @@
 mod bytes;
 mod cipher;
 mod feedback;
-mod field;
 mod key_schedule;
 mod rounds;
 mod tables;

@@ -1,4 +1,4 @@
-//! Words read from tables: the S-box (FIPS 197, 5.1.1), and the columns that MixColumns makes of its
+//! Words from tables: the S-box (FIPS 197, 5.1.1), and the columns that MixColumns makes of its
 //! bytes (5.1.3).
 
 ghost use Rattle.std.specs.Prelude.{◌≡◌};

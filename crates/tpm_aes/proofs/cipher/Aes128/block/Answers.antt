@@ -5,14 +5,16 @@ use Rattle.tpm_aes.specs.Cipher.{aes_of, mix_columns, shift_rows, state_after, s
 
 pub loop-round-init : goal.loop-round-init
 loop-round-init c =
-    let key = round_key_at c.self.inside.round_keys c.args.self.now (search rules) c.self.view_is c.self.invariant 0 (omega arith) in
+    let key = round_key_at c.self.inside.round_keys c.args.self.now (search rules)
+    c.self.view_is c.self.invariant 0 (omega arith) in
     c.add_round_key-state.ensures ∙ ap₂ xor_of c.words_of.ensures key
     ∙ sym (state_after_none c.args.self.now c.args.block.now)
 
 pub loop-round-preserved : goal.loop-round-preserved
 loop-round-preserved c =
     let n : ℕ = c.loop-round.round in
-    let key = round_key_at c.self.inside.round_keys c.args.self.now (search rules) c.self.view_is c.self.invariant n (omega arith) in
+    let key = round_key_at c.self.inside.round_keys c.args.self.now (search rules)
+    c.self.view_is c.self.invariant n (omega arith) in
     let here : n - 1 + 1 ≡ n = omega arith in
     let next : n + 1 - 1 ≡ n = omega arith in
     let more = rw here at (state_after_more c.args.self.now c.args.block.now (n - 1)) in
@@ -23,7 +25,8 @@ loop-round-preserved c =
 pub returns : goal.returns
 unfolding aes_of
 returns c =
-    let key = round_key_at c.self.inside.round_keys c.args.self.now (search rules) c.self.view_is c.self.invariant 10 (omega arith) in
+    let key = round_key_at c.self.inside.round_keys c.args.self.now (search rules)
+    c.self.view_is c.self.invariant 10 (omega arith) in
     let nine : c.loop-round.round - 1 ≡ 9 = omega arith in
     let state = c.loop-round.invariant ∙ ap (state_after c.args.self.now c.args.block.now) nine in
     let shifted = c.shifted_state.ensures ∙ ap (λ (s : List ℕ). shift_rows (sub_bytes s)) state in
