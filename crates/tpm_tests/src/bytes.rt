@@ -184,3 +184,19 @@ fn a_tap_tells_what_a_writer_did(rt: HostRuntime) {
         check(&rt, marks_of(&tap), (failed, false, 0));
     }
 }
+
+#[test]
+fn a_tap_writes_a_whole_text(rt: HostRuntime) {
+    let cases: [(&'static [Conduct], bool); 4] = [
+        (&[Conduct::OneByte, Conduct::OneByte], true),
+        (&[], true),
+        (&[Conduct::OneByte, Conduct::Nothing], false),
+        (&[Conduct::OneByte, Conduct::Fails], false),
+    ];
+    for (conducts, succeeds) in cases {
+        let mut tap = Tap::new(Device { conducts });
+        let text: &[u8] = if conducts.is_empty() { b"" } else { b"ab" };
+        check(&rt, tap.write_all(text).is_ok(), succeeds);
+        check(&rt, tap.failed(), !succeeds);
+    }
+}

@@ -2,7 +2,7 @@
 //! were computed by Python's `hmac`.
 
 use super::comparison::check;
-use tpm_mac::{Digest, HashAlg, Hasher, digest_parts, hmac_parts, kdfa};
+use tpm_mac::{Digest, HashAlg, Hasher, Mac, digest_parts, hmac_parts, kdfa};
 
 const TWO_BLOCKS: &[u8] = b"abcdbcdecdefdefgefghfghighijhijkijkljklmklmnlmnomnopnopq";
 
@@ -178,6 +178,17 @@ fn macs_of_published_texts_at_every_cut(rt: HostRuntime) {
             let mac = hmac_parts(case.alg, case.key, &[front, back]);
             check(&rt, mac.as_slice(), case.mac);
         }
+    }
+}
+
+#[test]
+fn macs_of_published_texts_piece_by_piece(rt: HostRuntime) {
+    for case in &MACS {
+        let mut mac = Mac::new(case.alg, case.key);
+        for piece in case.text.chunks(7) {
+            mac.update(piece);
+        }
+        check(&rt, mac.finish().as_slice(), case.mac);
     }
 }
 

@@ -244,10 +244,54 @@ impl CommandCode {
         // It has this number.
         ensures found { IfSome result (λ code. code_number code ≡ number) }
     {
-        CommandCode::ALL
-            .iter()
-            .copied()
-            .find(|code| code.number() == number)
+        match number {
+            0x120 => Some(CommandCode::EvictControl),
+            0x122 => Some(CommandCode::NvUndefineSpace),
+            0x126 => Some(CommandCode::Clear),
+            0x127 => Some(CommandCode::ClearControl),
+            0x129 => Some(CommandCode::HierarchyChangeAuth),
+            0x12a => Some(CommandCode::NvDefineSpace),
+            0x131 => Some(CommandCode::CreatePrimary),
+            0x134 => Some(CommandCode::NvIncrement),
+            0x135 => Some(CommandCode::NvSetBits),
+            0x136 => Some(CommandCode::NvExtend),
+            0x137 => Some(CommandCode::NvWrite),
+            0x138 => Some(CommandCode::NvWriteLock),
+            0x139 => Some(CommandCode::DictionaryAttackLockReset),
+            0x13a => Some(CommandCode::DictionaryAttackParameters),
+            0x13b => Some(CommandCode::NvChangeAuth),
+            0x13c => Some(CommandCode::PcrEvent),
+            0x13d => Some(CommandCode::PcrReset),
+            0x143 => Some(CommandCode::SelfTest),
+            0x144 => Some(CommandCode::Startup),
+            0x145 => Some(CommandCode::Shutdown),
+            0x149 => Some(CommandCode::PolicyNv),
+            0x14e => Some(CommandCode::NvRead),
+            0x14f => Some(CommandCode::NvReadLock),
+            0x151 => Some(CommandCode::PolicySecret),
+            0x153 => Some(CommandCode::Create),
+            0x155 => Some(CommandCode::Hmac),
+            0x157 => Some(CommandCode::Load),
+            0x15e => Some(CommandCode::Unseal),
+            0x165 => Some(CommandCode::FlushContext),
+            0x169 => Some(CommandCode::NvReadPublic),
+            0x16b => Some(CommandCode::PolicyAuthValue),
+            0x16c => Some(CommandCode::PolicyCommandCode),
+            0x16f => Some(CommandCode::PolicyLocality),
+            0x171 => Some(CommandCode::PolicyOr),
+            0x173 => Some(CommandCode::ReadPublic),
+            0x176 => Some(CommandCode::StartAuthSession),
+            0x17a => Some(CommandCode::GetCapability),
+            0x17b => Some(CommandCode::GetRandom),
+            0x17e => Some(CommandCode::PcrRead),
+            0x17f => Some(CommandCode::PolicyPcr),
+            0x180 => Some(CommandCode::PolicyRestart),
+            0x181 => Some(CommandCode::ReadClock),
+            0x182 => Some(CommandCode::PcrExtend),
+            0x189 => Some(CommandCode::PolicyGetDigest),
+            0x18c => Some(CommandCode::PolicyPassword),
+            _ => None,
+        }
     }
 
     /// Every other fact of the command.
