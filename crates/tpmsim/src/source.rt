@@ -22,8 +22,9 @@ impl Source {
     /// Opens the file of random bytes.
     pub fn open(rt: &HostRuntime, path: &str, locality: Locality) -> Result<Source, Fault> {
         let file = fs::open(rt, path).map_err(|error| Fault::of_io(error, Fault::Entropy))?;
-        let entropy = BufReader::with_capacity(rt.alloc(), READ_SIZE, file)
-            .map_err(|error| Fault::of_io(error, Fault::Entropy))?;
+        let entropy = BufReader::with_capacity(rt.alloc(), READ_SIZE, file).map_err(
+            |error| Fault::of_io(error, Fault::Entropy),
+        )?;
         Ok(Source {
             entropy,
             locality,
