@@ -42,7 +42,7 @@ COMMANDS = {
     "HMAC": lambda: [caller.hmac(key, bytes(1024), SHA256).buffer()],
 }
 
-print("\n".join(line for line in script.lines if line.startswith(("cmd", "entropy"))))
+print("\n".join(line for line in script.lines if line.startswith(("cmd", "do ", "entropy"))))
 buffers = COMMANDS[sys.argv[1]]()
 for _ in range(int(sys.argv[2])):
     for buffer in buffers:
