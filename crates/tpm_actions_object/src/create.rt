@@ -10,7 +10,7 @@ use crate::loaded::{check_parent, is_fixed, loaded};
 use tpm_actions::answer::Answer;
 use tpm_actions::call::Call;
 use tpm_name::Name;
-use tpm_object::{create as create_areas, drawn_by, wrap};
+use tpm_object::{create as create_areas, drawn_by, wrap_named};
 use tpm_record::Keep;
 use tpm_types::Refused;
 
@@ -42,10 +42,10 @@ pub fn create<K: Keep>(keep: &mut K, call: &Call, answer: &mut Answer) -> Result
     let drawn = drawn_by(&asked.template, &asked.given);
     let created = create_areas(&asked.template, &asked.given, call.random);
     let iv = initial_vector(call.random, drawn);
-    let private = wrap(parent, &created.public, &created.sensitive, &iv);
+    let name = created.public.name();
+    let private = wrap_named(parent, &name, &created.sensitive, &iv);
     let text = &mut answer.parameters;
     let _ = text.put_sized(private.as_slice());
-    let name = created.public.name();
     let above = Parent::of_object(parent);
     put_creation(
         keep,

@@ -2,6 +2,7 @@ ghost use Rattle.std.specs.Prelude.{◌≡◌};
 ghost use Rattle.tpm_actions.specs.Answer.{IsEmpty};
 ghost use Rattle.tpm_actions.specs.Request.{request_of};
 ghost use Rattle.tpm_actions.specs.Rows.{ActsIfRoom};
+ghost use Rattle.tpm_types_object.specs.ObjectName.{object_name};
 ghost use Rattle.tpm_actions_object.specs.Load.{load_row, sensitive_of};
 
 use crate::checks::public_passes;
@@ -11,7 +12,8 @@ use tpm_actions::call::Call;
 use tpm_actions::reading::{end, parameter};
 use tpm_actions::refusals::parameter_fault;
 use tpm_bytes::Cursor;
-use tpm_object::{Object, unwrap};
+use tpm_name::Name;
+use tpm_object::{Object, unwrap_named};
 use tpm_record::Keep;
 use tpm_types::{Refused, ResponseCode, read_buffer};
 use tpm_types_object::{Public, Sensitive, read_filled};
@@ -19,11 +21,17 @@ use tpm_types_object::{Public, Sensitive, read_filled};
 /// The most bytes of inPrivate.
 const MOST_BYTES: usize = 256;
 
-/// The sensitive area that a private area wraps.
-fn sensitive_of(parent: &Object, public: &Public, private: &[u8]) -> Result<Sensitive, Refused>
+/// The sensitive area that a private area wraps for the object of this Name.
+fn sensitive_of(
+    parent: &Object,
+    public: &Public,
+    name: &Name,
+    private: &[u8],
+) -> Result<Sensitive, Refused>
+    requires { name.now ≡ object_name public.now }
     ensures { result ≡ sensitive_of parent.now public.now private.now }
 {
-    match unwrap(parent, public, private) {
+    match unwrap_named(parent, public, name, private) {
         Ok(sensitive) => Ok(sensitive),
         Err(_) => Err(parameter_fault(5, 1, ResponseCode::Integrity)),
     }
@@ -43,10 +51,11 @@ pub fn load<K: Keep>(keep: &mut K, call: &Call, answer: &mut Answer) -> Result<(
     end(&text)?;
     check_parent(parent)?;
     public_passes(1, &public, is_fixed(parent))?;
-    let sensitive = sensitive_of(parent, &public, private)?;
+    let name = public.name();
+    let sensitive = sensitive_of(parent, &public, &name, private)?;
     let above = parent.qualified_name.as_slice();
-    let object = Object::loaded(parent.hierarchy, public, &sensitive, above);
-    let _ = answer.parameters.put_sized(object.name().as_slice());
+    let object = Object::loaded_named(parent.hierarchy, public, &name, &sensitive, above);
+    let _ = answer.parameters.put_sized(name.as_slice());
     answer.handle = Some(load_object(keep, object, 6)?);
     Ok(())
 }

@@ -19,5 +19,5 @@ pub use areas::create;
 pub use creation::{CreationFault, check_creation, drawn_by};
 pub use object::{Object, TRANSIENT_BYTE, is_keyed_hash, is_storage_parent};
 pub use primary::derive_primary;
-pub use private_area::{unwrap, wrap};
+pub use private_area::{unwrap, unwrap_named, wrap, wrap_named};
 pub use template::{TemplateFault, check_template};

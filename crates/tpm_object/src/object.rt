@@ -120,6 +120,21 @@ impl Object {
             parent_qualified_name.now }
     {
         let name = public.name();
+        Object::loaded_named(hierarchy, public, &name, sensitive, parent_qualified_name)
+    }
+
+    /// The same where the Name of the object is known.
+    pub fn loaded_named(
+        hierarchy: HierarchyHandle,
+        public: Public,
+        name: &Name,
+        sensitive: &Sensitive,
+        parent_qualified_name: &[u8],
+    ) -> Object
+        requires { name.now ≡ object_name public }
+        ensures { result ≡ loaded_object hierarchy public sensitive.now
+            parent_qualified_name.now }
+    {
         let qualified_name = Name::qualified(
             public.name_alg,
             parent_qualified_name,

@@ -114,7 +114,6 @@ fn buffers_fit(sensitive: &Sensitive)
 
 /// The private area of the object with this public area: its sensitive area, encrypted and
 /// authenticated by its parent (TPM 2.0 Library, Part 1, section 22).
-#[tactic(auto, unfolding(crate::specs::PrivateArea::private_text))]
 pub fn wrap(parent: &Object, public: &Public, sensitive: &Sensitive, iv: &[u8; 16]) -> Sink<256>
     ensures value { result
         ≡ private_text parent.now (object_name public.now) iv.now sensitive.now }
@@ -124,9 +123,17 @@ pub fn wrap(parent: &Object, public: &Public, sensitive: &Sensitive, iv: &[u8; 1
         → unwrapped parent.now public.now result ≡ Ok sensitive.now }
 {
     buffers_fit(sensitive);
-    let name = public.name();
-    let protected = protected_text(parent, &name, sensitive, iv);
-    let integrity = integrity(parent, &name, protected.as_slice());
+    wrap_named(parent, &public.name(), sensitive, iv)
+}
+
+/// The private area of the object of this Name, where that is known.
+#[tactic(auto, unfolding(crate::specs::PrivateArea::private_text))]
+pub fn wrap_named(parent: &Object, name: &Name, sensitive: &Sensitive, iv: &[u8; 16]) -> Sink<256>
+    ensures value { result ≡ private_text parent.now name.now iv.now sensitive.now }
+    ensures small { length result ≤ 254 }
+{
+    let protected = protected_text(parent, name, sensitive, iv);
+    let integrity = integrity(parent, name, protected.as_slice());
     let mut text = Sink::new();
     let _ = text.put_sized(integrity.as_slice());
     let _ = text.put(protected.as_slice());
@@ -222,18 +229,24 @@ pub fn unwrap(parent: &Object, public: &Public, private: &[u8]) -> Result<Sensit
     ensures only { (area : Sensitive) → IsWrapped parent.now public.now private.now area
         → result ≡ Ok area }
 {
-    unwrapped(parent, public, private)
+    unwrap_named(parent, public, &public.name(), private)
 }
 
+/// The same where the Name of the object is known.
 #[tactic(auto, unfolding(crate::specs::PrivateArea::unwrapped))]
-fn unwrapped(parent: &Object, public: &Public, private: &[u8]) -> Result<Sensitive, IntegrityFault>
+pub fn unwrap_named(
+    parent: &Object,
+    public: &Public,
+    name: &Name,
+    private: &[u8],
+) -> Result<Sensitive, IntegrityFault>
+    requires { name.now ≡ object_name public.now }
     ensures value { result ≡ unwrapped parent.now public.now private.now }
     ensures found { IfOk result (λ area. IsWrapped parent.now public.now private.now area) }
 {
     bytes_fit(private);
-    let name = public.name();
-    let protected = protected_in(parent, &name, private)?;
-    let area = decrypted_area(parent, &name, protected)?;
+    let protected = protected_in(parent, name, private)?;
+    let area = decrypted_area(parent, name, protected)?;
     if area.object_type.number() != public.object_type().number() {
         return Err(IntegrityFault);
     }

@@ -6,6 +6,7 @@ pub mod WordSizes
 pub mod Lists
 pub mod Counting
 pub mod EntryTexts
+pub mod FirstByte
 pub mod Laid
 pub mod Areas
 pub mod Assembling

@@ -74,7 +74,7 @@ impl Draft {
             return check_hex(digits);
         }
         let end = size + count;
-        if hex::decode_to_slice(digits, &mut self.bytes[size..end]).is_err() {
+        if tpm_hex::decode(digits, &mut self.bytes[size..end]).is_err() {
             return Err(TokenFault::Bad);
         }
         self.used = Some(end);

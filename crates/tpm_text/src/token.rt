@@ -5,12 +5,13 @@ ghost use Rattle.tpm_text.specs.Pieces.{pieces_of};
 
 use crate::entry::begins_entry;
 use crate::fault::{AsmFault, TokenFault};
+use memchr::memchr;
 
 /// The first place of a byte.
 pub fn position_of(byte: u8, bytes: &[u8]) -> Option<usize>
     ensures { result ≡ position (λ other. other == byte) bytes.now }
 {
-    bytes.iter().position(|other| *other == byte)
+    memchr(byte, bytes)
 }
 
 /// What stands before the first separator, and what stands behind it, if one is there.

@@ -9,3 +9,5 @@ mod connections;
 mod device;
 #[cfg(test)]
 mod serving;
+#[cfg(test)]
+mod socket;

@@ -11,13 +11,13 @@ use tpm_record::SlotKeep;
 use tpm_wire::{HostFault, Mux, ServeFault, serve};
 
 /// TPM2_Startup twice, a size of five, and one TPM2_Startup more.
-const STREAM: &[u8] = &[
+pub const STREAM: &[u8] = &[
     0x80, 1, 0, 0, 0, 12, 0, 0, 1, 0x44, 0, 0, 0x80, 1, 0, 0, 0, 12, 0, 0, 1, 0x44, 0, 0, 0x80, 1,
     0, 0, 0, 5, 0x80, 1, 0, 0, 0, 12, 0, 0, 1, 0x44, 0, 0,
 ];
 
 /// A success, that it was started before, and that the size is wrong.
-const RESPONSES: &[u8] = &[
+pub const RESPONSES: &[u8] = &[
     0x80, 1, 0, 0, 0, 10, 0, 0, 0, 0, 0x80, 1, 0, 0, 0, 10, 0, 0, 1, 0, 0x80, 1, 0, 0, 0, 10, 0, 0,
     1, 0x42,
 ];

@@ -123,7 +123,7 @@ fn print(response: &[u8], line: &mut [u8])
     ensures { line.new ≡ printed_response response.now }
 {
     let (digits, end) = line.split_at_mut(2 * response.len());
-    hex::encode_to_slice(response, digits).unwrap();
+    tpm_hex::encode(response, digits);
     end[0] = b'\n';
 }
 

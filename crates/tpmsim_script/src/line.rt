@@ -109,7 +109,7 @@ pub fn decode<'a>(digits: &[u8], room: &'a mut [u8]) -> Result<&'a [u8], BadLine
     ensures { Tells (λ bytes. bytes.now) result (bytes_of digits.now) }
 {
     let bytes = &mut room[..digits.len() / 2];
-    hex::decode_to_slice(digits, bytes).map_err(|_| BadLine)?;
+    tpm_hex::decode(digits, bytes).map_err(|_| BadLine)?;
     Ok(bytes)
 }
 

@@ -10,7 +10,7 @@ returns-clause-undone c = λ typed.
     let public = c.args.public.now in
     let iv : List ℕ = c.args.iv.now in
     let area = c.args.sensitive.now in
-    unwrapped_only parent public c.put.new.self area (record {
+    unwrapped_only parent public c.wrap_named.result area (record {
       typed = sym typed;
       sized = c.buffers_fit.ensures;
       iv = iv;
