@@ -1,13 +1,11 @@
 -- The row of a step is one of the table, and a command's response has a header.
-use Rattle.std.proofs.Common.{◌≡◌, ℕ, ◌+◌, ◌≤◌, ◌⊎◌, inl, inr, Bool, true, false, cond, List, [], ◌∷◌, ◌++◌, length, Option, Result, Ok, Err, refl, sym, ap, subst, arith, length-append}
-use Rattle.std.specs.Int.{w16, w32, to_be_bytes}
+use Rattle.std.proofs.Common.{◌≡◌, ℕ, ◌≤◌, ◌⊎◌, inl, inr, Bool, true, false, cond, List, [], ◌∷◌, length, Option, Result, Ok, Err, refl, sym, subst, arith}
 use Rattle.tpm_bytes.specs.Reading.{◌>>=◌}
 use Rattle.tpm_types.specs.Rc.{rc_number}
 use Rattle.tpm_types.specs.declared.check.Check.TheVariants.{Memory}
 use Rattle.tpm_types.specs.declared.handle.Handle.{Handle}
 use Rattle.tpm_types.specs.declared.refused.Refused.{Refused}
 use Rattle.tpm_types_command.specs.AuthEntry.{Entry}
-use Rattle.tpm_types_command.specs.Command.{Whole}
 use Rattle.tpm_types_command.specs.CommandCode.{code_number, shape_of}
 use Rattle.tpm_types_command.specs.Header.{header_at}
 use Rattle.tpm_types_command.specs.declared.command.Header.{Header}
