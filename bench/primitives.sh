@@ -1,7 +1,7 @@
 #!/bin/sh
-# Counts the instructions for each byte of HMAC-SHA-256 and of AES-128 in cipher feedback, over
-# texts of 1,024 bytes: the difference of two runs under callgrind, so that start and end do not
-# count. Needs rt, which proves and builds a small program, and valgrind. It works in a temporary
+# Counts the instructions for each byte of HMAC-SHA-256, of AES-128 in cipher feedback, and of hex
+# that is written and read, over texts of 1,024 bytes: the difference of two runs under callgrind, so
+# that start and end do not count. Needs rt, which proves and builds a small program, and valgrind. It works in a temporary
 # folder and leaves nothing behind. Not part of the gate.
 set -eu
 
@@ -10,17 +10,17 @@ folder=$(mktemp -d)
 trap 'rm -rf "$folder"' EXIT
 
 mkdir -p "$folder/crates/measured/src"
-for crate in tpm_mac tpm_aes; do
+for crate in tpm_mac tpm_aes tpm_hex; do
     mkdir "$folder/crates/$crate"
     for part in src specs proofs; do
         cp -R "$repository/crates/$crate/$part" "$folder/crates/$crate/$part"
     done
     grep "^$crate:" "$repository/crates.txt" >> "$folder/crates.txt"
 done
-echo "measured: tpm_mac tpm_aes sha1 sha2 arrayvec" >> "$folder/crates.txt"
+echo "measured: tpm_mac tpm_aes tpm_hex sha1 sha2 arrayvec hex" >> "$folder/crates.txt"
 
 cat > "$folder/crates/measured/src/main.rt" <<'PROGRAM'
-// For each line, "hmac" or "cfb", works on 64 texts of 1,024 bytes.
+// For each line, "hmac", "cfb", "encode" or "decode", works on 64 texts of 1,024 bytes.
 #![tactic(auto)]
 
 use std::io;
@@ -45,12 +45,29 @@ fn encrypt(text: &mut [u8; 1024]) {
     }
 }
 
+fn write_hex(text: &mut [u8; 1024], digits: &mut [u8; 2048]) {
+    for _ in 0..TEXTS {
+        tpm_hex::encode(text, digits);
+        text[0] ^= digits[1];
+    }
+}
+
+fn read_hex(digits: &mut [u8; 2048], text: &mut [u8; 1024]) {
+    for _ in 0..TEXTS {
+        let _ = tpm_hex::decode(digits, text);
+        digits[1] = b'0' + text[0] % 10;
+    }
+}
+
 fn main(rt: HostRuntime) -> io::Result<()> {
     let mut text = [0u8; 1024];
+    let mut digits = [b'0'; 2048];
     for line in rt.lines(rt.alloc()) {
         match line?.as_str() {
             "hmac" => authenticate(&mut text),
             "cfb" => encrypt(&mut text),
+            "encode" => write_hex(&mut text, &mut digits),
+            "decode" => read_hex(&mut digits, &mut text),
             _ => {}
         }
     }
@@ -76,8 +93,10 @@ instructions() {
         < "$folder/input" 2>&1 > /dev/null | sed -n 's/.*Collected : \([0-9]*\).*/\1/p'
 }
 
-for word in hmac cfb; do
+for word in hmac cfb encode decode; do
     once=$(instructions "$word" 1)
     thrice=$(instructions "$word" 3)
-    echo "$word: $(((thrice - once) / (2 * 64 * 1024))) instructions for each byte"
+    echo "$word $once $thrice" | awk '{
+        printf "%s: %.1f instructions for each byte\n", $1, ($3 - $2) / (2 * 64 * 1024)
+    }'
 done
