@@ -1,8 +1,8 @@
 #!/bin/sh
 # Counts the instructions for each byte of HMAC-SHA-256, of AES-128 in cipher feedback, and of hex
-# that is written and read, over texts of 1,024 bytes: the difference of two runs under callgrind, so
-# that start and end do not count. Needs rt, which proves and builds a small program, and valgrind. It works in a temporary
-# folder and leaves nothing behind. Not part of the gate.
+# that is written and read, over texts of 1,024 bytes: the difference of two runs under callgrind,
+# so that start and end do not count. Needs rt, which proves and builds a small program, and
+# valgrind. It works in a temporary folder and leaves nothing behind. Not part of the gate.
 set -eu
 
 repository=$(cd "$(dirname "$0")/.." && pwd)
