@@ -1,10 +1,11 @@
 -- Numbers and hex in a token.
-use Rattle.std.specs.Prelude.{ℕ, ◌==◌, nat_eq, nat_lt, if◌then◌else◌, Bool, List, [], ◌∷◌, length, drop, codes}
+use Rattle.std.specs.Prelude.{ℕ, ◌-◌, ◌^◌, ◌==◌, nat_eq, nat_le, nat_lt, if◌then◌else◌, Bool, List, [], ◌∷◌, length, drop, codes}
 use Rattle.std.specs.Prelude.{Option, Some, None, Result, Ok, Err, ok_or}
 use Rattle.std.specs.Char.{digit_value}
 use Rattle.std.specs.Cmp.Lexicographic.{pointwise}
 use Rattle.std.specs.Int.{Width, to_be_bytes}
 use Rattle.std.specs.List.{list_all, starts_with}
+use Rattle.std.specs.Result.{result_ok}
 use Rattle.std.specs.Str.Parse.{digits_value}
 use Rattle.hex.specs.Hex.{decode_of}
 use Rattle.tpm_bytes.specs.Reading.{◌>>=◌, or_fault, refused_if}
@@ -45,6 +46,15 @@ at_most most written = do
 
 abbrev pub number_in : ℕ → List ℕ → Result ℕ TokenFault
 number_in most token = at_most most (number_of token)
+
+-- the number below 2^32 that decimal digits write: at least one of them, leading zeros allowed;
+-- None of any other text
+abbrev pub decimal_of : List ℕ → Option ℕ
+decimal_of digits = result_ok (at_most (2 ^ 32 - 1) (numeral 10 digits))
+
+-- a locality's number, 0 to 4
+abbrev pub locality_of : ℕ → Option ℕ
+locality_of number = if nat_le number 4 then Some number else None
 
 -- a number as so many bytes, of which this is the largest number
 abbrev pub number_text : Width → (most : ℕ) → List ℕ → Result (List ℕ) TokenFault

@@ -28,5 +28,6 @@ mod word;
 pub use draft::Draft;
 pub use fault::AsmFault;
 pub use line::{assemble, assemble_in, lines_are_read_back};
+pub use number::{decimal, is_word, locality};
 pub use token::position_of;
 pub use trace::{executions_are_traceable, trace_line, trace_text};

@@ -1,10 +1,13 @@
-ghost use Rattle.std.specs.Prelude.{◌≡◌, ◌<◌, ◌≤◌, ◌^◌, ◌-◌, IfOk};
+ghost use Rattle.std.specs.Prelude.{◌≡◌, ◌<◌, ◌≤◌, ◌^◌, ◌-◌, IfOk, option_and_then, option_map};
 ghost use Rattle.std.specs.List.{list_all};
+ghost use Rattle.tpm_types.specs.Locality.{locality_number};
 ghost use Rattle.tpm_text.specs.Fault.{Gives};
-ghost use Rattle.tpm_text.specs.Number.{at_most, is_digit, is_word, number_in, number_of, numeral, radix_number};
+ghost use Rattle.tpm_text.specs.Number.{at_most, decimal_of, is_digit, is_word, locality_of};
+ghost use Rattle.tpm_text.specs.Number.{number_in, number_of, numeral, radix_number};
 
 use crate::fault::TokenFault;
 use std::str;
+use tpm_types::Locality;
 
 /// Whether a text is this word.
 pub fn is_word(word: &str, text: &[u8]) -> bool
@@ -77,4 +80,25 @@ pub fn number_in(most: u64, token: &[u8]) -> Result<u64, TokenFault>
         return Err(TokenFault::Range);
     }
     Ok(number)
+}
+
+/// The number that decimal digits write: at least one, with leading zeros or none, and no sign.
+/// `None` is any other text, and a number of 2^32 or more.
+#[tactic(auto, unfolding(crate::specs::Number::at_most))]
+pub fn decimal(digits: &[u8]) -> Option<u32>
+    ensures { result ≡ decimal_of digits.now }
+{
+    match Radix::Decimal.read(digits) {
+        Ok(number) => u32::try_from(number).ok(),
+        Err(_) => None,
+    }
+}
+
+/// The locality of this decimal number, which is 0 to 4.
+pub fn locality(digits: &[u8]) -> Option<Locality>
+    ensures { option_map locality_number result
+        ≡ option_and_then locality_of (decimal_of digits.now) }
+{
+    let number = u8::try_from(decimal(digits)?).ok()?;
+    Locality::new(number)
 }

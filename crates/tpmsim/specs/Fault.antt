@@ -3,14 +3,14 @@ use Rattle.std.specs.Prelude.{ℕ, List, ◌++◌, codes}
 use Rattle.std.specs.Fmt.{decimal}
 use Rattle.std.specs.declared.io.ErrorKind.{ErrorKind}
 use Rattle.std.specs.declared.io.ErrorKind.TheVariants.{OutOfMemory}
-use Rattle.clap.specs.declared.error.kind.ErrorKind as clap
-use Rattle.clap.specs.declared.error.kind.ErrorKind.TheVariants as refused
 use Rattle.tpmsim.specs.declared.fault.Fault.{Fault}
 use Rattle.tpmsim.specs.declared.fault.Fault.TheVariants.{Usage, ScriptLine, Asm, Image, File, Socket, Entropy, Memory}
 use Rattle.tpm_image.specs.declared.fault.ImageFault.{ImageFault}
 use Rattle.tpm_image.specs.declared.fault.ImageFault.TheVariants as image
 use Rattle.tpm_text.specs.declared.fault.AsmFault.{AsmFault}
 use Rattle.tpm_text.specs.declared.fault.AsmFault.TheVariants as line
+use Rattle.tpmsim_arguments.specs.declared.fault.ArgumentFault.{ArgumentFault}
+use Rattle.tpmsim_arguments.specs.declared.fault.ArgumentFault.TheVariants as words
 use Rattle.tpmsim_script.specs.declared.fault.ScriptFault.{ScriptFault}
 use Rattle.tpmsim_script.specs.declared.fault.ScriptFault.TheVariants.{Line, Read, TooManyLines, Write, NoMemory}
 
@@ -19,11 +19,10 @@ abbrev pub fault_or : Fault → ErrorKind → Fault
 fault_or otherwise OutOfMemory = Memory
 fault_or otherwise _ = otherwise
 
--- the fault of words that clap refuses for this reason: memory ran out, or they are none of the
--- program's
-abbrev pub fault_of_words : clap.ErrorKind → Fault
-fault_of_words refused.OutOfMemory = Memory
-fault_of_words _ = Usage
+-- the fault of words that ask for nothing: they are none of the program's, or memory ran out
+abbrev pub fault_of_words : ArgumentFault → Fault
+fault_of_words words.Usage = Usage
+fault_of_words words.NoMemory = Memory
 
 abbrev pub fault_of : ScriptFault → Fault
 fault_of (Line number) = ScriptLine number

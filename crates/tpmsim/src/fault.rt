@@ -6,6 +6,7 @@ use std::{fmt, io};
 use tpm_image::ImageFault;
 use tpm_record::NoMemory;
 use tpm_text::AsmFault;
+use tpmsim_arguments::ArgumentFault;
 use tpmsim_script::ScriptFault;
 
 /// Why the program failed. It prints as the line on standard error says it.
@@ -146,16 +147,15 @@ impl From<AsmFault> for Fault {
     }
 }
 
-impl From<clap::Error> for Fault {
-    ghost use Rattle.clap.specs.Words.{kind_of};
+impl From<ArgumentFault> for Fault {
     ghost use Rattle.tpmsim.specs.Fault.{fault_of_words};
 
-    ghost from_gives = { λ error fault. fault ≡ fault_of_words (kind_of error) };
+    ghost from_gives = { λ argument_fault fault. fault ≡ fault_of_words argument_fault };
 
-    fn from(error: clap::Error) -> Fault {
-        match error.kind() {
-            clap::error::ErrorKind::OutOfMemory => Fault::Memory,
-            _ => Fault::Usage,
+    fn from(fault: ArgumentFault) -> Fault {
+        match fault {
+            ArgumentFault::Usage => Fault::Usage,
+            ArgumentFault::NoMemory => Fault::Memory,
         }
     }
 }

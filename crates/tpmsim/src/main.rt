@@ -6,21 +6,19 @@
 //! Standard output holds the responses in hex, one a line, with `--trace` behind their traces; or
 //! the buffer in hex; or a help. A run that fails says why in one line on standard error.
 
-mod arguments;
 mod fault;
 mod image_file;
-mod service;
 mod serving;
 mod socket;
 mod source;
 
-use arguments::Arguments;
 use fault::Fault;
 use serving::serve_device;
 use std::process::ExitCode;
 use std::{env, fs};
 use tpm_record::SlotKeep;
 use tpm_text::assemble;
+use tpmsim_arguments::Arguments;
 use tpmsim_script::run_script;
 
 fn main(rt: HostRuntime) -> ExitCode {

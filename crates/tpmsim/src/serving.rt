@@ -1,6 +1,5 @@
 use crate::fault::Fault;
 use crate::image_file::{open_file, save_file};
-use crate::service::Service;
 use crate::socket::bind;
 use crate::source::Source;
 use std::fs;
@@ -9,6 +8,7 @@ use tpm_bytes::Tap;
 use tpm_machine::Machine;
 use tpm_record::SlotKeep;
 use tpm_wire::{HostFault, Mux, ServeFault, serve};
+use tpmsim_arguments::Service;
 
 /// Serves a device on a socket: the one whose image is in the file, or a new one where there is no
 /// file. Removes the socket's file in the end.

@@ -1,14 +1,12 @@
 -- What a line of a script says, and how a text falls into lines.
-use Rattle.std.specs.Prelude.{◌≡◌, ℕ, ◌+◌, ◌^◌, ◌==◌, ◌&&◌, nat_le, nat_lt, nat_eq, if◌then◌else◌}
-use Rattle.std.specs.Prelude.{Bool, List, [], ◌∷◌, length, take, drop, codes, Result, Ok, Err}
+use Rattle.std.specs.Prelude.{◌≡◌, ℕ, ◌+◌, ◌==◌, if◌then◌else◌}
+use Rattle.std.specs.Prelude.{List, [], ◌∷◌, take, drop, codes, Result, Ok, Err}
 use Rattle.std.specs.Prelude.{Option, Some, None, option_map, option_and_then}
-use Rattle.std.specs.List.{list_all, onto_first, position}
-use Rattle.std.specs.Char.{digit_value}
+use Rattle.std.specs.List.{onto_first, position}
 use Rattle.std.specs.Result.{result_ok}
 use Rattle.hex.specs.Hex.{decode_of}
-use Rattle.std.specs.Cmp.Lexicographic.{pointwise}
-use Rattle.std.specs.Str.Parse.{digits_value}
 use Rattle.tpm_types.specs.Locality.{locality_number}
+use Rattle.tpm_text.specs.Number.{decimal_of, is_word, locality_of}
 use Rattle.tpmsim_script.specs.declared.line.Line as declared
 use Rattle.tpmsim_script.specs.declared.line.Line.TheVariants as code
 
@@ -30,28 +28,10 @@ pub data Meaning : Type 0 where
   CyclesPower : Meaning
   DoesNothing : Meaning
 
-abbrev pub is_word : List ℕ → List ℕ → Bool
-is_word word text = pointwise nat_eq text word
-
 -- the bytes that hex digits write, of either case; None of an odd number of them, and of other
 -- characters
 abbrev pub bytes_of : List ℕ → Option (List ℕ)
 bytes_of digits = result_ok (decode_of digits)
-
-abbrev pub is_digit : ℕ → Bool
-is_digit digit = nat_lt (digit_value digit) 10
-
--- the number below 2^32 that decimal digits write: at least one of them, leading zeros allowed;
--- None of any other text
-abbrev pub decimal_of : List ℕ → Option ℕ
-decimal_of digits =
-    if nat_lt 0 (length digits) && list_all is_digit digits
-    && nat_lt (digits_value 10 digits) (2 ^ 32)
-    then Some (digits_value 10 digits) else None
-
--- a locality's number, 0 to 4
-abbrev pub locality_of : ℕ → Option ℕ
-locality_of number = if nat_le number 4 then Some number else None
 
 -- what a line of one word says
 unfoldable pub meaning_alone : List ℕ → Option Meaning

@@ -18,5 +18,4 @@ pub mod run;
 mod script;
 
 pub use fault::ScriptFault;
-pub use line::{decimal, locality};
 pub use run::run_script;

@@ -1,13 +1,9 @@
-ghost use Rattle.std.specs.Prelude.{◌≡◌, ◌+◌, ◌*◌, ◌==◌, ◌≤◌, [], length};
-ghost use Rattle.std.specs.Prelude.{IfOk, option_and_then, option_map};
+ghost use Rattle.std.specs.Prelude.{◌≡◌, ◌+◌, ◌*◌, ◌==◌, ◌≤◌, [], IfOk, length};
 ghost use Rattle.std.specs.List.{position};
-ghost use Rattle.tpm_types.specs.Locality.{locality_number};
-ghost use Rattle.tpmsim_script.specs.Line.{Tells, bytes_of, decimal_of, hex_of, is_word};
-ghost use Rattle.tpmsim_script.specs.Line.{line_meaning, locality_of, meaning_of};
+ghost use Rattle.tpmsim_script.specs.Line.{Tells, bytes_of, hex_of, line_meaning, meaning_of};
 ghost use Rattle.tpmsim_script.specs.Line.{meaning_alone, meaning_by, meaning_with};
 
-use std::str;
-use tpm_text::position_of;
+use tpm_text::{decimal, is_word, locality, position_of};
 use tpm_types::Locality;
 
 /// A line of a script.
@@ -96,12 +92,6 @@ impl<'a> Line<'a> {
     }
 }
 
-fn is_word(word: &str, text: &[u8]) -> bool
-    ensures { result ≡ is_word word.now text.now }
-{
-    text == word.as_bytes()
-}
-
 /// The bytes that hex digits of either case write, in a room that is large enough. It refuses other
 /// digits, and an odd number of them.
 pub fn decode<'a>(digits: &[u8], room: &'a mut [u8]) -> Result<&'a [u8], BadLine>
@@ -111,25 +101,4 @@ pub fn decode<'a>(digits: &[u8], room: &'a mut [u8]) -> Result<&'a [u8], BadLine
     let bytes = &mut room[..digits.len() / 2];
     tpm_hex::decode(digits, bytes).map_err(|_| BadLine)?;
     Ok(bytes)
-}
-
-/// The locality of this decimal number, which is 0 to 4.
-pub fn locality(digits: &[u8]) -> Option<Locality>
-    ensures { option_map locality_number result
-        ≡ option_and_then locality_of (decimal_of digits.now) }
-{
-    let number = u8::try_from(decimal(digits)?).ok()?;
-    Locality::new(number)
-}
-
-/// The number that decimal digits write: at least one, with leading zeros or none, and no sign.
-/// `None` is any other text, and a number of 2^32 or more.
-#[tactic(auto, using(crate::proofs::Numerals::decimals))]
-pub fn decimal(digits: &[u8]) -> Option<u32>
-    ensures { result ≡ decimal_of digits.now }
-{
-    if matches!(digits, [b'+', ..]) {
-        return None;
-    }
-    str::from_utf8(digits).ok()?.parse().ok()
 }

@@ -1,11 +1,9 @@
-ghost use Rattle.std.specs.Prelude.{◌≡◌, ◌⊎◌, IfErr};
-
-use crate::fault::Fault;
+use crate::fault::ArgumentFault;
 use crate::service::Service;
 use clap::{Arg, ArgAction, ArgMatches, Command};
 use std::alloc::{AllocError, Global};
 use std::convert::AsStr;
-use tpmsim_script::{decimal, locality};
+use tpm_text::{decimal, locality};
 
 /// What the command line asks for.
 #[derive(Drop)]
@@ -22,14 +20,11 @@ pub enum Arguments<'a> {
 }
 
 impl<'a> Arguments<'a> {
-    /// Reads the words of a command line, of which the first is the program's name. It refuses with
-    /// `Usage`, or with `Memory`.
-    pub fn parse<S: AsStr>(alloc: Global, words: &'a [S]) -> Result<Arguments<'a>, Fault>
-        ensures { IfErr result (λ fault. (fault ≡ Fault.Usage) ⊎ (fault ≡ Fault.Memory)) }
-    {
+    /// Reads the words of a command line, of which the first is the program's name.
+    pub fn parse<S: AsStr>(alloc: Global, words: &'a [S]) -> Result<Arguments<'a>, ArgumentFault> {
         match command(alloc)?.try_get_matches_from(words) {
-            Ok(matches) => Arguments::of_matches(&matches).ok_or(Fault::Usage),
-            Err(error) if error.use_stderr() => Err(Fault::from(error)),
+            Ok(matches) => Arguments::of_matches(&matches).ok_or(ArgumentFault::Usage),
+            Err(error) if error.use_stderr() => Err(ArgumentFault::from(error)),
             Err(error) => Ok(Arguments::Tell(error)),
         }
     }
