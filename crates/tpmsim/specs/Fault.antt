@@ -19,10 +19,10 @@ abbrev pub fault_or : Fault → ErrorKind → Fault
 fault_or otherwise OutOfMemory = Memory
 fault_or otherwise _ = otherwise
 
--- the fault of words that ask for nothing: they are none of the program's, or memory ran out
-abbrev pub fault_of_words : ArgumentFault → Fault
-fault_of_words words.Usage = Usage
-fault_of_words words.NoMemory = Memory
+-- the fault of words that are refused: they are none of the program's, or memory ran out
+abbrev pub fault_of_arguments : ArgumentFault → Fault
+fault_of_arguments words.Usage = Usage
+fault_of_arguments words.NoMemory = Memory
 
 abbrev pub fault_of : ScriptFault → Fault
 fault_of (Line number) = ScriptLine number

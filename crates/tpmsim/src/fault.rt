@@ -148,9 +148,9 @@ impl From<AsmFault> for Fault {
 }
 
 impl From<ArgumentFault> for Fault {
-    ghost use Rattle.tpmsim.specs.Fault.{fault_of_words};
+    ghost use Rattle.tpmsim.specs.Fault.{fault_of_arguments};
 
-    ghost from_gives = { λ argument_fault fault. fault ≡ fault_of_words argument_fault };
+    ghost from_gives = { λ argument_fault fault. fault ≡ fault_of_arguments argument_fault };
 
     fn from(fault: ArgumentFault) -> Fault {
         match fault {

@@ -1,7 +1,7 @@
 #![tactic(auto)]
 
-//! The command line of the simulator: what its words ask for ([`arguments`]), a device on a socket
-//! with what it is given ([`service`]) among it, and why they ask for nothing ([`fault`]).
+//! The command line of the simulator: what its words ask for ([`arguments`]), what a device on a
+//! socket is served with ([`service`]), and why words are refused ([`fault`]).
 
 pub mod arguments;
 pub mod fault;
