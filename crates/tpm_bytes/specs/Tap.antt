@@ -1,6 +1,7 @@
 -- What a tap tells of the device behind it.
-use Rattle.std.specs.Prelude.{ℕ, ◌+◌, ◌-◌, ◌^◌, ◌==◌, min}
-use Rattle.std.specs.Prelude.{Bool, true, Result, Ok, Err, if◌then◌else◌}
+use Rattle.std.specs.Prelude.{◌≡◌, ℕ, ◌+◌, ◌-◌, ◌^◌, ◌==◌, min, List, ◌++◌}
+use Rattle.std.specs.Prelude.{Bool, true, Option, Result, Ok, Err, if◌then◌else◌}
+use Rattle.std.specs.Io.KnownBytes.{Appends}
 use Rattle.tpm_bytes.specs.declared.tap.Tap.{Tap}
 
 -- whether the device failed or ended, and how many of its reads gave bytes
@@ -28,3 +29,8 @@ abbrev pub after_write : {E : Type 0} → Marks → Result ℕ E → ℕ → Mar
 after_write marks (Err e) size = record marks { failed = true }
 after_write marks (Ok count) size =
     if count == 0 then (if size == 0 then marks else record marks { failed = true }) else marks
+
+-- A part of a text from its front was appended, perhaps none of it and perhaps all.
+abbrev pub AppendsFront : Option (List ℕ) → Option (List ℕ) → List ℕ → Type 0
+AppendsFront old new text =
+    (front : List ℕ) × (rest : List ℕ) × (text ≡ front ++ rest) × Appends old new front

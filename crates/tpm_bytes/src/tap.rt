@@ -1,7 +1,7 @@
 ghost use Rattle.std.specs.Prelude.{◌≡◌, OnErr, OnOk, length, false, true};
 ghost use Rattle.std.specs.Io.{ReadsAtMost, WritesAtMost};
 ghost use Rattle.std.specs.Io.KnownBytes.{Appends, ReadConsumes, WriteAppends};
-ghost use Rattle.tpm_bytes.specs.Tap.{after_read, after_write, device_of, marks_of};
+ghost use Rattle.tpm_bytes.specs.Tap.{AppendsFront, after_read, after_write, device_of, marks_of};
 
 use std::io;
 use std::io::{Read, Write};
@@ -115,10 +115,12 @@ impl<D: Write> Tap<D> {
         outcome
     }
 
-    /// Writes all of a text, in as many writes as the device needs. Where it fails, it is not said
-    /// how much of the text went out.
+    /// Writes all of a text, in as many writes as the device needs. Where it fails, a part of the
+    /// text from its front went out, and nothing else.
     pub fn write_all(&mut self, text: &[u8]) -> Result<(), Failed>
         ensures sent { OnOk result (Appends (D.contents (device_of self.old))
+            (D.contents (device_of self.new)) text.now) }
+        ensures cut_off { OnErr result (AppendsFront (D.contents (device_of self.old))
             (D.contents (device_of self.new)) text.now) }
         ensures unmarked { OnOk result (marks_of self.new ≡ marks_of self.old) }
         ensures failed { OnErr result ((marks_of self.new).failed ≡ true) }
