@@ -1,17 +1,28 @@
 -- What a tap tells of the device behind it.
 use Rattle.std.specs.Prelude.{◌≡◌, ℕ, ◌+◌, ◌-◌, ◌^◌, ◌==◌, min, List, ◌++◌}
-use Rattle.std.specs.Prelude.{Bool, true, Option, Result, Ok, Err, if◌then◌else◌}
+use Rattle.std.specs.Prelude.{Bool, true, false, Option, Result, Ok, Err, if◌then◌else◌}
 use Rattle.std.specs.Io.KnownBytes.{Appends}
 use Rattle.tpm_bytes.specs.declared.tap.Tap.{Tap}
 
--- whether the device failed or ended, and how many of its reads gave bytes
+-- whether the device failed or ended, how many of its reads gave bytes, and for how many bytes the
+-- last read had room
 pub record Marks : Type 0 where
   pub failed : Bool
   pub ended : Bool
   pub reads : ℕ
+  pub room : ℕ
+
+-- those of a device of which nothing was asked yet
+abbrev pub unmarked : Marks
+unmarked = record { failed = false; ended = false; reads = 0; room = 0 }
 
 abbrev pub marks_of : {D : Type 0} → Tap D → Marks
-marks_of tap = record { failed = tap.failed; ended = tap.ended; reads = tap.reads }
+marks_of tap = record {
+  failed = tap.failed;
+  ended = tap.ended;
+  reads = tap.reads;
+  room = tap.room;
+}
 
 abbrev pub device_of : {D : Type 0} → Tap D → D
 device_of tap = tap.device
@@ -19,10 +30,12 @@ device_of tap = tap.device
 -- the marks after a read into a buffer of this length; the reads that gave bytes are counted up to
 -- 2^64 - 1
 abbrev pub after_read : {E : Type 0} → Marks → Result ℕ E → ℕ → Marks
-after_read marks (Err e) room = record marks { failed = true }
+after_read marks (Err e) room = record marks { failed = true; room = room }
 after_read marks (Ok count) room =
-    if count == 0 then (if room == 0 then marks else record marks { ended = true })
-    else record marks { reads = min (marks.reads + 1) (2 ^ 64 - 1) }
+    if count == 0 then (
+      if room == 0 then record marks { room = room }
+      else record marks { ended = true; room = room }
+    ) else record marks { reads = min (marks.reads + 1) (2 ^ 64 - 1); room = room }
 
 -- the marks after a write of a piece of this length; one that took a part of it leaves them
 abbrev pub after_write : {E : Type 0} → Marks → Result ℕ E → ℕ → Marks

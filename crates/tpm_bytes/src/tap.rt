@@ -1,7 +1,7 @@
-ghost use Rattle.std.specs.Prelude.{◌≡◌, OnErr, OnOk, length, false, true};
+ghost use Rattle.std.specs.Prelude.{◌≡◌, OnErr, OnOk, length, true};
 ghost use Rattle.std.specs.Io.{ReadsAtMost, WritesAtMost};
 ghost use Rattle.std.specs.Io.KnownBytes.{Appends, ReadConsumes, WriteAppends};
-ghost use Rattle.tpm_bytes.specs.Tap.{AppendsFront, after_read, after_write, device_of, marks_of};
+ghost use Rattle.tpm_bytes.specs.Tap.{AppendsFront, after_read, after_write, device_of, marks_of, unmarked};
 
 use std::io;
 use std::io::{Read, Write};
@@ -10,26 +10,28 @@ use std::io::{Read, Write};
 #[derive(Clone, Copy, Debug, PartialEq, Eq)]
 pub struct Failed;
 
-/// A reader or a writer, and what it did: whether it failed, whether it ended, and how many of its
-/// reads gave bytes.
+/// A reader or a writer, and what it did: whether it failed, whether it ended, how many of its reads
+/// gave bytes, and for how many bytes the last one had room.
 #[derive(Drop)]
 pub struct Tap<D> {
     device: D,
     failed: bool,
     ended: bool,
     reads: u64,
+    room: usize,
 }
 
 impl<D> Tap<D> {
     pub fn new(device: D) -> Tap<D>
         ensures device { device_of result ≡ device }
-        ensures marks { marks_of result ≡ record { failed = false; ended = false; reads = 0 } }
+        ensures marks { marks_of result ≡ unmarked }
     {
         Tap {
             device,
             failed: false,
             ended: false,
             reads: 0,
+            room: 0,
         }
     }
 
@@ -54,6 +56,13 @@ impl<D> Tap<D> {
         self.reads
     }
 
+    /// For how many bytes the last read had room.
+    pub fn room(&self) -> usize
+        ensures { result ≡ (marks_of self.now).room }
+    {
+        self.room
+    }
+
     pub fn into_inner(self) -> D
         ensures { result ≡ device_of self }
     {
@@ -62,6 +71,7 @@ impl<D> Tap<D> {
             failed: _,
             ended: _,
             reads: _,
+            room: _,
         } = self;
         device
     }
@@ -77,11 +87,11 @@ impl<D: Read> Tap<D> {
         ensures marks { marks_of self.new
             ≡ after_read (marks_of self.old) result (length buffer.old) }
     {
-        let room = buffer.len();
+        self.room = buffer.len();
         let outcome = self.device.read(buffer);
         match &outcome {
             Ok(0) => {
-                if room != 0 {
+                if self.room != 0 {
                     self.ended = true;
                 }
             }

@@ -2,7 +2,7 @@
 
 ghost use Rattle.std.specs.Prelude.{◌≡◌, ◌||◌, IfOk, OnErr, OnOk, is_ok, true};
 ghost use Rattle.std.specs.Io.KnownBytes.{Appends};
-ghost use Rattle.tpm_bytes.specs.Tap.{device_of, marks_of};
+ghost use Rattle.tpm_bytes.specs.Tap.{AppendsFront, device_of, marks_of};
 ghost use Rattle.tpm_image.specs.Body.{body_of};
 ghost use Rattle.tpm_image.specs.Filling.{Filled};
 ghost use Rattle.tpm_image.specs.Image.{image_text};
@@ -25,10 +25,13 @@ use tpm_record::{Keep, SlotKeep};
 use tpm_types::bytes_fit;
 
 /// Writes the image of a device, which stays as it is. Of a tap that had not failed, Write stands
-/// just where the writer failed; what went out is then not said.
-#[tactic(auto, unfolding(crate::specs::Image::image_text), using(crate::proofs::Sent::appends_more))]
+/// just where the writer failed; a part of the image from its front went out then.
+#[tactic(auto, unfolding(crate::specs::Image::image_text), using(crate::proofs::Sent::appends_more, crate::proofs::Sent::front_of_more, crate::proofs::Sent::front_behind))]
 pub fn save<K: Keep, D: Write>(machine: &Machine<K>, tap: &mut Tap<D>) -> Result<(), SaveFault>
     ensures written { OnOk result (Appends (D.contents (device_of tap.old))
+        (D.contents (device_of tap.new))
+        (image_text (kept_of (state_of K.record_of machine.now)))) }
+    ensures cut_off { OnErr result (AppendsFront (D.contents (device_of tap.old))
         (D.contents (device_of tap.new))
         (image_text (kept_of (state_of K.record_of machine.now)))) }
     ensures unmarked { OnOk result (marks_of tap.new ≡ marks_of tap.old) }

@@ -1,5 +1,6 @@
 -- Serving one connection to its end.
-use Rattle.std.specs.Prelude.{◌≡◌, ℕ, ◌≤◌, ◌<◌, ◌⊎◌, Bool, true, false, List, [], ◌∷◌, ◌++◌, length}
+use Rattle.std.specs.Prelude.{◌≡◌, ℕ, ◌-◌, ◌≤◌, ◌<◌, ◌⊎◌, Bool, true, false}
+use Rattle.std.specs.Prelude.{List, [], ◌∷◌, ◌++◌, length}
 use Rattle.std.specs.Prelude.{Option, Some, None, Result, Ok, Err}
 use Rattle.std.specs.Fn.{Called, Mut}
 use Rattle.std.specs.List.{FoldsTo}
@@ -60,55 +61,85 @@ Fills had has before after old (Ok count) new =
     × (length new.taken ≤ 4096)
     × (length old.taken < 4096 → after ≡ after_read {E = Failed} before (Ok count) 1)
 
+-- The writer failed at the response of the last buffer: all responses before were written whole, and
+-- of this one a part from its front, perhaps none of it.
+abbrev pub LosesLast : {F : Type 0} → Asking F → Bool → Option (List ℕ) → Option (List ℕ)
+    → Serving F → List (List ℕ) → Serving F → Type 0
+LosesLast {F} g can held holds start done end =
+    (answered : List (List ℕ)) × (lost : List ℕ) × (before : Serving F)
+    × (done ≡ answered ++ lost ∷ []) × FoldsTo (Exchanges g can) start answered before
+    × Exchanges g can before lost end
+    × (front : List ℕ) × (rest : List ℕ) × (end.written ≡ before.written ++ front ++ rest)
+    × Appends held holds (before.written ++ front)
+
 -- All buffers that are whole were executed, these, and the responses written: how that finished.
-abbrev pub Finishes : {F : Type 0} → Asking F → Option (List ℕ) → Option (List ℕ) → Marks → Marks
-    → List (List ℕ) → Serving F → F → Stream → Result ℕ ServeFault → Type 0
-Finishes g held holds before after done end host left (Ok count) =
+abbrev pub Finishes : {F : Type 0} → Asking F → Bool → Option (List ℕ) → Option (List ℕ)
+    → Marks → Marks → Serving F → List (List ℕ) → Serving F → F → Stream → Result ℕ ServeFault
+    → Type 0
+Finishes g can held holds before after start done end host left (Ok count) =
     (next_of left ≡ None) × (host ≡ end.host) × (count ≡ length done)
     × Appends held holds end.written × (after ≡ before)
-Finishes g held holds before after done end host left (Err fault.Write) =
-    (host ≡ end.host) × (after.failed ≡ true)
-Finishes g held holds before after done end host left (Err fault.Host) =
+Finishes g can held holds before after start done end host left (Err fault.Write) =
+    (host ≡ end.host) × (after.failed ≡ true) × LosesLast g can held holds start done end
+Finishes g can held holds before after start done end host left (Err fault.Host) =
     ((c : Cut) × (next_of left ≡ Some c)) × Faults g end.host host
     × Appends held holds end.written × (after ≡ before)
-Finishes g held holds before after done end host left (Err e) = ⊥
+Finishes g can held holds before after start done end host left (Err e) = ⊥
 
--- ---- how serving ends
+-- ---- what is read
 
--- Of all buffers that were cut these were executed, and perhaps not the others.
+-- Of all buffers these are the first, and perhaps there are others.
 abbrev pub AreFirst : List (List ℕ) → List (List ℕ) → Type 0
 AreFirst done buffers = (others : List (List ℕ)) × (buffers ≡ done ++ others)
 
--- And one of them was not.
+-- how many bytes more there is room for behind these, of which each whole buffer was executed
+abbrev pub room_behind : List ℕ → ℕ
+room_behind read = 4096 - length (cut_of read).rest
+
+-- One read gave a piece, of at least one byte and at most as many as there was room for. It was
+-- made only since the stream went on behind what was read before, and all buffers that this holds
+-- whole are among those that were executed.
+abbrev pub ReadsPiece : (done : List (List ℕ)) → (old piece new : List ℕ) → Type 0
+ReadsPiece done old piece new =
+    (new ≡ old ++ piece) × (0 < length piece) × (length piece ≤ room_behind old)
+    × ((cut_of old).ended ≡ false) × AreFirst (cut_of old).buffers done
+
+-- ---- how serving ends
+
+-- And there is one more at least.
 abbrev pub AreFewer : List (List ℕ) → List (List ℕ) → Type 0
 AreFewer done buffers =
     (next : List ℕ) × (others : List (List ℕ)) × (buffers ≡ done ++ next ∷ others)
 
 -- At the end of what the reader gives, or of the stream itself: all buffers were executed and all
 -- responses written. Where the reader failed, or gave bytes in as many reads as one connection may
--- have: the same. Where the writer failed: some buffers were executed, the last without its
+-- have: the same. Where the writer failed: some buffers were executed, the last without its whole
 -- response. Where the host answered a fault: those before the next buffer, which is whole, with
 -- their responses.
-abbrev pub Ends : {F : Type 0} → Asking F → Option (List ℕ) → Option (List ℕ) → Marks → Marks
-    → Cutting → List (List ℕ) → Serving F → F → Result ℕ ServeFault → Type 0
-Ends g held holds reader writer cut done end host (Ok count) =
+abbrev pub Ends : {F : Type 0} → Asking F → Bool → Option (List ℕ) → Option (List ℕ) → Marks → Marks
+    → Cutting → Serving F → List (List ℕ) → Serving F → F → Result ℕ ServeFault → Type 0
+Ends g can held holds reader writer cut start done end host (Ok count) =
     (cut.buffers ≡ done) × ((reader.ended ≡ true) ⊎ (cut.ended ≡ true)) × (count ≡ length done)
     × Appends held holds end.written × (host ≡ end.host)
-Ends g held holds reader writer cut done end host (Err fault.Read) =
-    (cut.buffers ≡ done) × ((reader.failed ≡ true) ⊎ (1048576 ≤ reader.reads))
+Ends g can held holds reader writer cut start done end host (Err fault.Read) =
+    (cut.buffers ≡ done) × ((reader.failed ≡ true) ⊎ (reader.reads ≡ 1048576))
     × Appends held holds end.written × (host ≡ end.host)
-Ends g held holds reader writer cut done end host (Err fault.Write) =
+Ends g can held holds reader writer cut start done end host (Err fault.Write) =
     AreFirst done cut.buffers × (writer.failed ≡ true) × (host ≡ end.host)
-Ends g held holds reader writer cut done end host (Err fault.Host) =
+    × LosesLast g can held holds start done end
+Ends g can held holds reader writer cut start done end host (Err fault.Host) =
     AreFewer done cut.buffers × Faults g end.host host × Appends held holds end.written
-Ends g held holds reader writer cut done end host (Err fault.Full) = ⊥
+Ends g can held holds reader writer cut start done end host (Err fault.Full) = ⊥
 
--- A connection was served: what was read of the reader is cut into buffers, those that were
--- executed lead from the machine before to the machine after, and serving ended so.
+-- A connection was served: pieces were read of the reader, each in one read and no more of them
+-- than one connection may have; joined they are cut into buffers, those that were executed lead
+-- from the machine before to the machine after, and serving ended so.
 abbrev pub Serves : {F : Type 0} → Asking F → Bool
     → Option (List ℕ) → Option (List ℕ) → Option (List ℕ) → Option (List ℕ) → Marks → Marks
     → Record → F → Result ℕ ServeFault → Record → F → Type 0
 Serves {F} g can had has held holds reader writer old asked result new asking =
-    (read : List ℕ) × (done : List (List ℕ)) × (end : Serving F) × Consumes had has read
+    (pieces : List (List ℕ)) × (read : List ℕ) × (done : List (List ℕ)) × (end : Serving F)
+    × FoldsTo (ReadsPiece done) [] pieces read × (reader.reads ≡ length pieces)
+    × (length pieces ≤ 1048576) × Consumes had has read
     × FoldsTo (Exchanges g can) (started old asked) done end × (new ≡ end.machine)
-    × Ends g held holds reader writer (cut_of read) done end asking result
+    × Ends g can held holds reader writer (cut_of read) (started old asked) done end asking result

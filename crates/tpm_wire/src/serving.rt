@@ -110,8 +110,11 @@ fn answer_whole<K: Keep, W: Write, H: FnMut() -> Result<Host, HostFault>>(
         (started (state_of K.record_of machine.old) host.old) done end
         × (state_of K.record_of machine.new ≡ end.machine)
         × CutsTo connection.old done connection.new
-        × Finishes H.FnMut (W.contents (device_of writer.old)) (W.contents (device_of writer.new))
-        (marks_of writer.old) (marks_of writer.new) done end host.new connection.new result }
+        × Finishes H.FnMut K.can_refuse
+        (W.contents (device_of writer.old)) (W.contents (device_of writer.new))
+        (marks_of writer.old) (marks_of writer.new)
+        (started (state_of K.record_of machine.old) host.old) done end
+        host.new connection.new result }
 {
     let mut answered = 0;
     while let Some(front) = connection.front() {
