@@ -33,8 +33,8 @@ abbrev pub after_read : {E : Type 0} → Marks → Result ℕ E → ℕ → Mark
 after_read marks (Err e) room = record marks { failed = true; room = room }
 after_read marks (Ok count) room =
     if count == 0 then (
-      if room == 0 then record marks { room = room }
-      else record marks { ended = true; room = room }
+    if room == 0 then record marks { room = room }
+    else record marks { ended = true; room = room }
     ) else record marks { reads = min (marks.reads + 1) (2 ^ 64 - 1); room = room }
 
 -- the marks after a write of a piece of this length; one that took a part of it leaves them

@@ -1,6 +1,6 @@
 ghost use Rattle.std.specs.Prelude.{◌≡◌, OnErr, OnOk, length, true};
 ghost use Rattle.std.specs.Io.{ReadsAtMost, WritesAtMost};
-ghost use Rattle.std.specs.Io.KnownBytes.{Appends, ReadConsumes, WriteAppends};
+ghost use Rattle.std.specs.Io.KnownBytes.{Appends, Keeps, ReadConsumes, WriteAppends};
 ghost use Rattle.tpm_bytes.specs.Tap.{AppendsFront, after_read, after_write, device_of, marks_of, unmarked};
 
 use std::io;
@@ -144,5 +144,20 @@ impl<D: Write> Tap<D> {
             }
         }
         Ok(())
+    }
+
+    /// Has the device pass on what was written and it still holds.
+    pub fn flush(&mut self) -> Result<(), Failed>
+        ensures kept { Keeps (D.contents (device_of self.old)) (D.contents (device_of self.new)) }
+        ensures unmarked { OnOk result (marks_of self.new ≡ marks_of self.old) }
+        ensures failed { OnErr result ((marks_of self.new).failed ≡ true) }
+    {
+        match self.device.flush() {
+            Ok(()) => Ok(()),
+            Err(_) => {
+                self.failed = true;
+                Err(Failed)
+            }
+        }
     }
 }

@@ -142,6 +142,14 @@ fn new_devices(rt: HostRuntime) -> Result<(), Fail> {
 }
 
 #[test]
+fn both_keeps_have_one_image(rt: HostRuntime) -> Result<(), Fail> {
+    let list = image_of(rt.alloc(), &busy::<ListKeep, HostRuntime>(&rt, rt.alloc())?)?;
+    let slots = image_of(rt.alloc(), &busy::<SlotKeep, HostRuntime>(&rt, rt.alloc())?)?;
+    assert!(rt; list.as_slice() == slots.as_slice());
+    Ok(())
+}
+
+#[test]
 fn busy_devices(rt: HostRuntime) -> Result<(), Fail> {
     check_busy::<ListKeep, HostRuntime>(&rt, rt.alloc())?;
     check_busy::<SlotKeep, HostRuntime>(&rt, rt.alloc())

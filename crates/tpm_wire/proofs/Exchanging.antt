@@ -5,12 +5,12 @@ use Rattle.std.proofs.lemmas.Fn.{FoldsTo-push}
 use Rattle.std.specs.Fn.{Called}
 use Rattle.std.specs.Io.KnownBytes.{Appends}
 use Rattle.std.specs.List.{FoldsTo}
-use Rattle.tpm_bytes.specs.Tap.{Marks}
+use Rattle.tpm_bytes.specs.Tap.{AppendsFront, Marks}
 use Rattle.tpm_record.specs.Record.{Record}
 use Rattle.tpm_machine_step.specs.Execution.{Executes}
 use Rattle.tpm_machine_step.specs.Step.{outcome_step}
 use Rattle.tpm_machine_step.specs.declared.event.Outcome.{Outcome}
-use Rattle.tpm_wire.specs.Serve.{AreFewer, AreFirst, Asking, Ends, Exchanges, Finishes, Serving, started}
+use Rattle.tpm_wire.specs.Serve.{AreFewer, AreFirst, Asking, Ends, Exchanges, Finishes, LosesLast, Serving, started}
 use Rattle.tpm_wire.specs.Stream.{Cut, Cutting, Stream, cut_with, next_of, uncut}
 use Rattle.tpm_wire.specs.Wire.{given}
 use Rattle.tpm_wire.specs.declared.fault.ServeFault.{ServeFault}
@@ -62,11 +62,49 @@ are_fewer cut done left c is next =
     let first = are_first cut (done ++ c.buffer ∷ []) c.after (is ∙ cut_next done left c next) in
     (c.buffer, first.0, first.1 ∙ append_assoc done (c.buffer ∷ []) first.0)
 
+exchanges_behind : {F : Type 0} (g : Asking F) (can : Bool) (text buffer : List ℕ) (old new : Serving F) → Exchanges g can old buffer new → Exchanges g can (written_behind text old) buffer (written_behind text new)
+exchanges_behind g can text buffer old new x =
+    (x.0, x.1, x.2, x.3, ap (λ (l : List ℕ). text ++ l) x.4 ∙ sym (append_assoc text old.written _))
+
+-- The last response was lost behind those of another run too.
+loses_behind : {F : Type 0} (g : Asking F) (can : Bool) (held mid holds : Option (List ℕ)) (start at end : Serving F) (done more : List (List ℕ)) → FoldsTo (Exchanges g can) start done at → Appends held mid at.written → LosesLast g can mid holds (started at.machine at.host) more end → LosesLast g can held holds start (done ++ more) (written_behind at.written end)
+loses_behind g can held mid holds start at end done more run first lost =
+    let text = at.written in
+    let before = lost.2.written in
+    let front = lost.6 in
+    let rest = lost.7 in (
+      done ++ lost.0,
+      lost.1,
+      written_behind text lost.2,
+      ap (λ (l : List (List ℕ)). done ++ l) lost.3 ∙ sym (append_assoc done lost.0 (lost.1 ∷ [])),
+      runs_on g can start at lost.2 done lost.0 run lost.4,
+      exchanges_behind g can text lost.1 lost.2 end lost.5,
+      front,
+      rest,
+      ap (λ (l : List ℕ). text ++ l) lost.8 ∙ sym (append_assoc text (before ++ front) rest) ∙ ap (λ (l : List ℕ). l ++ rest) (sym (append_assoc text before front)),
+      subst (Appends held holds) (sym (append_assoc text before front)) (Appends-trans _ _ _ _ _ first lost.9),
+    )
+
+-- The last response was lost, of which a part was written.
+pub lost_last : {F : Type 0} (g : Asking F) (can : Bool) (held mid holds : Option (List ℕ)) (start : Serving F) (r new : Record) (h next : F) (written : List ℕ) (done : List (List ℕ)) (buffer : List ℕ) (host : Host) (outcome : Outcome) → FoldsTo (Exchanges g can) start done (record { machine = r; host = h; written = written }) → Called g h tt (Ok host) next → Executes can r (given buffer host) (outcome_step new outcome) → Appends held mid written → AppendsFront mid holds outcome.response.items → LosesLast g can held holds start (done ++ buffer ∷ []) (record { machine = new; host = next; written = written ++ outcome.response.items })
+lost_last g can held mid holds start r new h next written done buffer host outcome run called executes first cut = (
+  done,
+  buffer,
+  record { machine = r; host = h; written = written },
+  refl,
+  run,
+  (host, outcome, called, executes, refl),
+  cut.0,
+  cut.1,
+  ap (λ (l : List ℕ). written ++ l) cut.2 ∙ sym (append_assoc written cut.0 cut.1),
+  Appends-trans _ _ _ _ _ first cut.3,
+)
+
 -- Where a part of what was read was not executed to its end, the whole was not.
-pub ends_so : {F : Type 0} (g : Asking F) (held mid holds : Option (List ℕ)) (before after reader : Marks) (cut : Cutting) (done more : List (List ℕ)) (written : List ℕ) (end : Serving F) (host : F) (left : Stream) (e : ServeFault) → cut ≡ cut_with (done ++ more) left → Appends held mid written → Finishes g mid holds before after more end host left (Err e) → Ends g held holds reader after cut (done ++ more) (written_behind written end) host (Err e)
-ends_so g held mid holds before after reader cut done more written end host left fault.Write is first f =
-    (are_first cut (done ++ more) left is, f.1, f.0)
-ends_so g held mid holds before after reader cut done more written end host left fault.Host is first f =
+pub ends_so : {F : Type 0} (g : Asking F) (can : Bool) (held mid holds : Option (List ℕ)) (before after reader : Marks) (cut : Cutting) (start at end : Serving F) (done more : List (List ℕ)) (host : F) (left : Stream) (e : ServeFault) → cut ≡ cut_with (done ++ more) left → FoldsTo (Exchanges g can) start done at → Appends held mid at.written → Finishes g can mid holds before after (started at.machine at.host) more end host left (Err e) → Ends g can held holds reader after cut start (done ++ more) (written_behind at.written end) host (Err e)
+ends_so g can held mid holds before after reader cut start at end done more host left fault.Write is run first f =
+    (are_first cut (done ++ more) left is, f.1, f.0, loses_behind g can held mid holds start at end done more run first f.2)
+ends_so g can held mid holds before after reader cut start at end done more host left fault.Host is run first f =
     (are_fewer cut (done ++ more) left f.0.0 is f.0.1, f.1, Appends-trans _ _ _ _ _ first f.2)
-ends_so g held mid holds before after reader cut done more written end host left fault.Full is first f = absurd f
-ends_so g held mid holds before after reader cut done more written end host left fault.Read is first f = absurd f
+ends_so g can held mid holds before after reader cut start at end done more host left fault.Full is run first f = absurd f
+ends_so g can held mid holds before after reader cut start at end done more host left fault.Read is run first f = absurd f

@@ -1,5 +1,5 @@
 -- What single reads leave of a reader and its marks.
-use Rattle.std.proofs.Common.{◌≡◌, ◌≢◌, ℕ, ◌+◌, ◌<◌, List, [], ◌∷◌, ◌++◌, length, Option, Ok, true, false, ap, ◌∙◌, subst, append-nil, arith}
+use Rattle.std.proofs.Common.{◌≡◌, ◌≢◌, ℕ, ◌+◌, ◌<◌, List, [], ◌∷◌, ◌++◌, length, Option, Ok, true, ap, ◌∙◌, subst, append-nil, arith}
 use Rattle.std.proofs.lemmas.Grind.{common_steps}
 use Rattle.std.specs.Io.KnownBytes.{Consumes}
 use Rattle.tpm_bytes.specs.Tap.{Marks, after_read}
@@ -10,10 +10,10 @@ pub nothing_read : (had has : Option (List ℕ)) (read bytes : List ℕ) → len
 nothing_read had has read [] none got = subst (Consumes had has) (append-nil read) got
 nothing_read had has read (byte ∷ bytes) none got = absurd (omega arith)
 
--- marks that the reader has ended
-pub ended_read : (before after : Marks) (count : ℕ) → count ≡ 0 → after ≡ after_read {E = Failed} before (Ok count) 1 → after.ended ≡ true
-ended_read before after count none is = ap (λ (m : Marks). m.ended) (is ∙ ap (λ (n : ℕ). after_read {E = Failed} before (Ok n) 1) none)
+-- Where a read that has room gives nothing, the reader has ended, and is not counted.
+pub ended_read : (before after : Marks) (count room : ℕ) → count ≡ 0 → 0 < room → after ≡ after_read {E = Failed} before (Ok count) room → (after.ended ≡ true) × (after.room ≡ room) × (after.reads ≡ before.reads)
+ended_read before after count room none some is = (grind (arith, common_steps), grind (arith, common_steps), grind (arith, common_steps))
 
 -- A read of bytes is counted.
-pub counted_read : (before after : Marks) (count reads : ℕ) → before ≡ record { failed = false; ended = false; reads = reads } → count ≢ 0 → reads < 1048576 → after ≡ after_read {E = Failed} before (Ok count) 1 → after ≡ record { failed = false; ended = false; reads = reads + 1 }
-counted_read before after count reads so some few is = grind (arith, common_steps)
+pub counted_read : (before after : Marks) (count room reads : ℕ) → before.reads ≡ reads → count ≢ 0 → reads < 1048576 → after ≡ after_read {E = Failed} before (Ok count) room → after.reads ≡ reads + 1
+counted_read before after count room reads so some few is = grind (arith, common_steps)

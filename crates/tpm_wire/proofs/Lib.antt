@@ -2,3 +2,4 @@ pub mod Cutting
 pub mod Exchanging
 pub mod Filling
 pub mod Living
+pub mod Pieces

@@ -45,24 +45,21 @@ Exchanges g can old buffer new =
 abbrev pub Faults : {F : Type 0} → Asking F → F → F → Type 0
 Faults g old new = (e : HostFault) × Called g old tt (Err e) new
 
--- marks of a device of which nothing was asked yet
-abbrev pub unmarked : Marks
-unmarked = record { failed = false; ended = false; reads = 0 }
-
 -- ---- its parts
 
--- One read, of as many bytes as a stream has room for at most.
+-- One read, for which a stream's room was all lent.
 abbrev pub Fills : Option (List ℕ) → Option (List ℕ) → Marks → Marks
     → Stream → Result ℕ Failed → Stream → Type 0
 Fills had has before after old (Err failed) new =
-    (after.failed ≡ true) × (new ≡ old) × Keeps had has
+    (after ≡ after_read {E = Failed} before (Err failed) (4096 - length old.taken))
+    × (new ≡ old) × Keeps had has
 Fills had has before after old (Ok count) new =
     (bytes : List ℕ) × Consumes had has bytes × (new ≡ fed old bytes) × (length bytes ≡ count)
     × (length new.taken ≤ 4096)
-    × (length old.taken < 4096 → after ≡ after_read {E = Failed} before (Ok count) 1)
+    × (after ≡ after_read {E = Failed} before (Ok count) (4096 - length old.taken))
 
--- The writer failed at the response of the last buffer: all responses before were written whole, and
--- of this one a part from its front, perhaps none of it.
+-- The writer failed at the response of the last buffer: all responses before were written whole,
+-- and of this one a part from its front, perhaps none of it.
 abbrev pub LosesLast : {F : Type 0} → Asking F → Bool → Option (List ℕ) → Option (List ℕ)
     → Serving F → List (List ℕ) → Serving F → Type 0
 LosesLast {F} g can held holds start done end =
@@ -92,16 +89,16 @@ Finishes g can held holds before after start done end host left (Err e) = ⊥
 abbrev pub AreFirst : List (List ℕ) → List (List ℕ) → Type 0
 AreFirst done buffers = (others : List (List ℕ)) × (buffers ≡ done ++ others)
 
--- how many bytes more there is room for behind these, of which each whole buffer was executed
-abbrev pub room_behind : List ℕ → ℕ
-room_behind read = 4096 - length (cut_of read).rest
+-- how many bytes more there is room for, where each whole buffer was executed
+abbrev pub room_left : Cutting → ℕ
+room_left cut = 4096 - length cut.rest
 
 -- One read gave a piece, of at least one byte and at most as many as there was room for. It was
 -- made only since the stream went on behind what was read before, and all buffers that this holds
 -- whole are among those that were executed.
 abbrev pub ReadsPiece : (done : List (List ℕ)) → (old piece new : List ℕ) → Type 0
 ReadsPiece done old piece new =
-    (new ≡ old ++ piece) × (0 < length piece) × (length piece ≤ room_behind old)
+    (new ≡ old ++ piece) × (0 < length piece) × (length piece ≤ room_left (cut_of old))
     × ((cut_of old).ended ≡ false) × AreFirst (cut_of old).buffers done
 
 -- ---- how serving ends
@@ -111,18 +108,30 @@ abbrev pub AreFewer : List (List ℕ) → List (List ℕ) → Type 0
 AreFewer done buffers =
     (next : List ℕ) × (others : List (List ℕ)) × (buffers ≡ done ++ next ∷ others)
 
+-- The reader ended, at a read that had all the room that there was; or the stream did.
+abbrev pub IsAtEnd : Marks → Cutting → Type 0
+IsAtEnd reader cut =
+    ((reader.ended ≡ true) × (reader.room ≡ room_left cut)) ⊎ (cut.ended ≡ true)
+
+-- The reader failed, at a read that had all the room that there was; or it gave bytes in as many
+-- reads as one connection may have.
+abbrev pub ReadsNoMore : Marks → Cutting → Type 0
+ReadsNoMore reader cut =
+    ((reader.failed ≡ true) × (reader.room ≡ room_left cut)) ⊎ (reader.reads ≡ 1048576)
+
 -- At the end of what the reader gives, or of the stream itself: all buffers were executed and all
 -- responses written. Where the reader failed, or gave bytes in as many reads as one connection may
 -- have: the same. Where the writer failed: some buffers were executed, the last without its whole
 -- response. Where the host answered a fault: those before the next buffer, which is whole, with
 -- their responses.
-abbrev pub Ends : {F : Type 0} → Asking F → Bool → Option (List ℕ) → Option (List ℕ) → Marks → Marks
-    → Cutting → Serving F → List (List ℕ) → Serving F → F → Result ℕ ServeFault → Type 0
+abbrev pub Ends : {F : Type 0} → Asking F → Bool → Option (List ℕ) → Option (List ℕ)
+    → Marks → Marks → Cutting → Serving F → List (List ℕ) → Serving F → F → Result ℕ ServeFault
+    → Type 0
 Ends g can held holds reader writer cut start done end host (Ok count) =
-    (cut.buffers ≡ done) × ((reader.ended ≡ true) ⊎ (cut.ended ≡ true)) × (count ≡ length done)
+    (cut.buffers ≡ done) × IsAtEnd reader cut × (count ≡ length done)
     × Appends held holds end.written × (host ≡ end.host)
 Ends g can held holds reader writer cut start done end host (Err fault.Read) =
-    (cut.buffers ≡ done) × ((reader.failed ≡ true) ⊎ (reader.reads ≡ 1048576))
+    (cut.buffers ≡ done) × ReadsNoMore reader cut
     × Appends held holds end.written × (host ≡ end.host)
 Ends g can held holds reader writer cut start done end host (Err fault.Write) =
     AreFirst done cut.buffers × (writer.failed ≡ true) × (host ≡ end.host)

@@ -1,9 +1,9 @@
 ghost use Rattle.std.specs.Prelude.{◌≡◌, ◌≢◌, ◌+◌, ◌≤◌, Err, IfOk, List, None, OnOk, length, ℕ};
 ghost use Rattle.std.specs.List.{FoldsTo};
-ghost use Rattle.tpm_bytes.specs.Tap.{device_of, marks_of};
+ghost use Rattle.tpm_bytes.specs.Tap.{device_of, marks_of, unmarked};
 ghost use Rattle.tpm_machine.specs.State.{state_of};
 ghost use Rattle.tpm_places.specs.Places.{lowest_free};
-ghost use Rattle.tpm_wire.specs.Serve.{Exchanges, Finishes, Serves, Serving, started, unmarked};
+ghost use Rattle.tpm_wire.specs.Serve.{Exchanges, Finishes, Serves, Serving, started};
 ghost use Rattle.tpm_wire.specs.Stream.{CutsTo};
 ghost use Rattle.tpm_wire.specs.Wire.{wire_of};
 ghost use Rattle.tpm_wire.specs.declared.fault.ServeFault.TheVariants.{Full};

@@ -144,3 +144,53 @@ fn a_ninth_connection_is_not_served(rt: HostRuntime) -> Result<(), Fail> {
     check(&rt, ended, Err(ServeFault::Full));
     Ok(())
 }
+
+/// TPM2_SelfTest(YES), a byte a read, without end.
+#[derive(Drop)]
+struct Repeated {
+    next: usize,
+}
+
+/// What is repeated.
+const SELF_TEST: [u8; 11] = [0x80, 1, 0, 0, 0, 11, 0, 0, 1, 0x43, 1];
+
+impl Read for Repeated {
+    fn read(&mut self, buffer: &mut [u8]) -> io::Result<usize> {
+        let Some(first) = buffer.first_mut() else {
+            return Ok(0);
+        };
+        *first = SELF_TEST[self.next % SELF_TEST.len()];
+        self.next = self.next % SELF_TEST.len() + 1;
+        Ok(1)
+    }
+}
+
+/// Counts the bytes that are written.
+#[derive(Drop)]
+struct Counted {
+    bytes: usize,
+}
+
+impl Write for Counted {
+    fn write(&mut self, piece: &[u8]) -> io::Result<usize> {
+        self.bytes = self.bytes.saturating_add(piece.len());
+        Ok(piece.len())
+    }
+
+    fn flush(&mut self) -> io::Result<()> {
+        Ok(())
+    }
+}
+
+#[test]
+fn a_client_without_end_is_cut_off(rt: HostRuntime) -> Result<(), Fail> {
+    let mut reader = Tap::new(Repeated { next: 0 });
+    let mut writer = Tap::new(Counted { bytes: 0 });
+    let mut ask = || Ok(host());
+    let ended = serve(&mut mux(rt.alloc())?, &mut reader, &mut writer, &mut ask);
+    check(&rt, ended, Err(ServeFault::Read));
+    assert!(rt; reader.reads() == 1_048_576 && !reader.failed());
+    // A response of ten bytes to each of 95,325 commands.
+    assert!(rt; writer.into_inner().bytes == 953_250);
+    Ok(())
+}

@@ -16,6 +16,7 @@ use fault::Fault;
 use serving::serve_device;
 use std::process::ExitCode;
 use std::{env, fs};
+use tpm_bytes::Tap;
 use tpm_record::SlotKeep;
 use tpm_text::assemble;
 use tpmsim_arguments::Arguments;
@@ -50,12 +51,12 @@ fn try_main(rt: &HostRuntime) -> Result<(), Fault> {
 
 /// Runs the script of a file, or on standard input.
 fn run(rt: &HostRuntime, script: &str, trace: bool) -> Result<(), Fault> {
-    let output = &mut rt.stdout();
+    let output = &mut Tap::new(rt.stdout());
     if script == "-" {
-        run_script::<SlotKeep, _, _>(rt.alloc(), &mut rt.stdin(), output, trace)?;
+        run_script::<SlotKeep, _, _>(rt.alloc(), &mut Tap::new(rt.stdin()), output, trace)?;
     } else {
-        let mut file = fs::open(rt, script).map_err(|error| Fault::of_io(error, Fault::File))?;
-        run_script::<SlotKeep, _, _>(rt.alloc(), &mut file, output, trace)?;
+        let file = fs::open(rt, script).map_err(|error| Fault::of_io(error, Fault::File))?;
+        run_script::<SlotKeep, _, _>(rt.alloc(), &mut Tap::new(file), output, trace)?;
     }
     Ok(())
 }

@@ -1,6 +1,7 @@
 -- What a player is seen as, and what a line did.
-use Rattle.std.specs.Prelude.{◌≡◌, ℕ, List, Option, Some, None, Result, Ok, Err}
+use Rattle.std.specs.Prelude.{◌≡◌, ℕ, true, List, Option, Some, None, Result, Ok, Err}
 use Rattle.std.specs.Io.KnownBytes.{Appends}
+use Rattle.tpm_bytes.specs.Tap.{Marks}
 use Rattle.tpm_machine.specs.State.{state_of}
 use Rattle.tpm_record.specs.Record.{Record}
 use Rattle.tpmsim_script.specs.Script.{Playing, Effect, playing}
@@ -23,3 +24,8 @@ Did line old before (Ok done) new after =
     × Appends old new effect.text × (after ≡ effect.next)
 Did line old before (Err Bad) new after = (line ≡ None) × (new ≡ old) × (after ≡ before)
 Did line old before (Err Write) new after = Unit {0}
+
+-- Write is answered only where the writer failed.
+abbrev pub IsWriters : Result (Unit {0}) LineFault → Marks → Type 0
+IsWriters (Err Write) writer = writer.failed ≡ true
+IsWriters other writer = Unit {0}

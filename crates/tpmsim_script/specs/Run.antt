@@ -1,6 +1,7 @@
 -- How a run of a script ends, and what its steps find.
 use Rattle.std.specs.Prelude.{◌≡◌, ℕ, ◌+◌, Bool, true, false, List, [], ◌∷◌, ◌++◌, length}
 use Rattle.std.specs.Prelude.{Option, Some, None, IfSome, Result, Ok, Err}
+use Rattle.tpm_bytes.specs.Tap.{Marks}
 use Rattle.tpmsim_script.specs.Line.{lines_of}
 use Rattle.tpmsim_script.specs.Lines.{BeginsTooLong, IsUnbroken, LosesFirstLine}
 use Rattle.tpmsim_script.specs.Script.{IsOutput, Playing, play}
@@ -28,6 +29,12 @@ OnTooMany other fact = Unit {0}
 abbrev pub OnNoMemory : {X : Type 0} → Result X ScriptFault → Type 0 → Type 0
 OnNoMemory (Err fault.NoMemory) fact = fact
 OnNoMemory other fact = Unit {0}
+
+-- Read is answered only where the reader failed, and Write only where the writer did.
+abbrev pub AreTheirs : {X : Type 0} → Result X ScriptFault → (reader writer : Marks) → Type 0
+AreTheirs (Err fault.Read) reader writer = reader.failed ≡ true
+AreTheirs (Err fault.Write) reader writer = writer.failed ≡ true
+AreTheirs other reader writer = Unit {0}
 
 -- The lines before the number next were played from p on, the first of them under this number; none
 -- is bad; what they print was written behind what the writer held (old); the rest are the others.

@@ -4,8 +4,8 @@ ghost use Rattle.tpm_machine_step.specs.declared.event.TheConstants.{RESPONSE_LI
 ghost use Rattle.tpmsim_script.specs.declared.answers.TheConstants.{CAPACITY};
 
 use std::alloc::{AllocError, Global};
-use std::io;
 use std::io::Write;
+use tpm_bytes::{Failed, Tap};
 use tpm_machine_step::RESPONSE_LIMIT;
 
 /// How many bytes of text are held before they are written.
@@ -21,8 +21,9 @@ pub struct Answers {
 }
 
 impl Answers {
-    ghost use Rattle.std.specs.Prelude.{IfOk, OnOk};
+    ghost use Rattle.std.specs.Prelude.{IfOk, OnErr, OnOk, true};
     ghost use Rattle.std.specs.Io.KnownBytes.{Appends, Keeps};
+    ghost use Rattle.tpm_bytes.specs.Tap.{device_of, marks_of};
     ghost use Rattle.tpmsim_script.specs.Answers.{backlog, printout};
 
     pub fn new(alloc: Global) -> Result<Answers, AllocError>
@@ -33,11 +34,12 @@ impl Answers {
     }
 
     /// Adds the line of a response. It may stay in memory until [`Answers::flush`].
-    pub fn put<W: Write>(&mut self, writer: &mut W, response: &[u8]) -> io::Result<()>
+    pub fn put<W: Write>(&mut self, writer: &mut Tap<W>, response: &[u8]) -> Result<(), Failed>
         requires { length response.now ≤ RESPONSE_LIMIT }
-        ensures { OnOk result (Appends
-            (printout (W.contents writer.old) self.old)
-            (printout (W.contents writer.new) self.new)
+        ensures failed { OnErr result ((marks_of writer.new).failed ≡ true) }
+        ensures printed { OnOk result (Appends
+            (printout (W.contents (device_of writer.old)) self.old)
+            (printout (W.contents (device_of writer.new)) self.new)
             (printed_response response.now)) }
     {
         self.make_room(writer, 2 * response.len() + 1)?;
@@ -46,11 +48,12 @@ impl Answers {
     }
 
     /// Adds a line of text. It may stay in memory until [`Answers::flush`].
-    pub fn put_text<W: Write>(&mut self, writer: &mut W, text: &[u8]) -> io::Result<()>
+    pub fn put_text<W: Write>(&mut self, writer: &mut Tap<W>, text: &[u8]) -> Result<(), Failed>
         requires { length text.now ≤ RESPONSE_LIMIT }
-        ensures { OnOk result (Appends
-            (printout (W.contents writer.old) self.old)
-            (printout (W.contents writer.new) self.new)
+        ensures failed { OnErr result ((marks_of writer.new).failed ≡ true) }
+        ensures printed { OnOk result (Appends
+            (printout (W.contents (device_of writer.old)) self.old)
+            (printout (W.contents (device_of writer.new)) self.new)
             (text.now ++ 10 ∷ [])) }
     {
         self.make_room(writer, text.len() + 1)?;
@@ -59,12 +62,13 @@ impl Answers {
     }
 
     /// Makes room for a line of this many bytes with its end.
-    fn make_room<W: Write>(&mut self, writer: &mut W, size: usize) -> io::Result<()>
+    fn make_room<W: Write>(&mut self, writer: &mut Tap<W>, size: usize) -> Result<(), Failed>
         requires { size ≤ CAPACITY }
+        ensures failed { OnErr result ((marks_of writer.new).failed ≡ true) }
         ensures room { OnOk result (self.new.used + size ≤ CAPACITY) }
         ensures printed { OnOk result (Keeps
-            (printout (W.contents writer.old) self.old)
-            (printout (W.contents writer.new) self.new)) }
+            (printout (W.contents (device_of writer.old)) self.old)
+            (printout (W.contents (device_of writer.new)) self.new)) }
     {
         if CAPACITY - self.used < size {
             self.write(writer)?;
@@ -91,11 +95,13 @@ impl Answers {
     }
 
     /// Writes all lines so far. Those that an error cut off are not written again.
-    pub fn flush<W: Write>(&mut self, writer: &mut W) -> io::Result<()>
+    pub fn flush<W: Write>(&mut self, writer: &mut Tap<W>) -> Result<(), Failed>
+        ensures unmarked { OnOk result (marks_of writer.new ≡ marks_of writer.old) }
+        ensures failed { OnErr result ((marks_of writer.new).failed ≡ true) }
         ensures empty { OnOk result (backlog self.new ≡ []) }
         ensures printed { OnOk result (Keeps
-            (printout (W.contents writer.old) self.old)
-            (printout (W.contents writer.new) self.new)) }
+            (printout (W.contents (device_of writer.old)) self.old)
+            (printout (W.contents (device_of writer.new)) self.new)) }
     {
         if self.used == 0 {
             return Ok(());
@@ -104,11 +110,13 @@ impl Answers {
         writer.flush()
     }
 
-    fn write<W: Write>(&mut self, writer: &mut W) -> io::Result<()>
+    fn write<W: Write>(&mut self, writer: &mut Tap<W>) -> Result<(), Failed>
+        ensures unmarked { OnOk result (marks_of writer.new ≡ marks_of writer.old) }
+        ensures failed { OnErr result ((marks_of writer.new).failed ≡ true) }
         ensures empty { self.new.used ≡ 0 }
         ensures printed { OnOk result (Keeps
-            (printout (W.contents writer.old) self.old)
-            (printout (W.contents writer.new) self.new)) }
+            (printout (W.contents (device_of writer.old)) self.old)
+            (printout (W.contents (device_of writer.new)) self.new)) }
     {
         let used = self.used;
         self.used = 0;

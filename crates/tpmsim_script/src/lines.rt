@@ -3,8 +3,8 @@ ghost use Rattle.tpmsim_script.specs.declared.lines.TheConstants.{CAPACITY, LINE
 
 use arrayvec::ArrayVec;
 use std::alloc::{AllocError, Global};
-use std::io;
 use std::io::Read;
+use tpm_bytes::{Failed, Tap};
 use tpm_text::position_of;
 
 /// How many bytes a line may have, without the 0a at its end.
@@ -48,9 +48,10 @@ pub struct Lines {
 }
 
 impl Lines {
-    ghost use Rattle.std.specs.Prelude.{◌+◌, ◌<◌, ◌==◌, ◌++◌, [], false, take, drop, length};
+    ghost use Rattle.std.specs.Prelude.{◌+◌, ◌<◌, ◌==◌, ◌++◌, [], false, true, take, drop, length};
     ghost use Rattle.std.specs.Prelude.{IfOk, OnOk, OnErr};
     ghost use Rattle.std.specs.Io.KnownBytes.{Consumes, Keeps};
+    ghost use Rattle.tpm_bytes.specs.Tap.{device_of, marks_of};
     ghost use Rattle.tpmsim_script.specs.Lines.{Agrees, Finds, IsUnbroken};
     ghost use Rattle.tpmsim_script.specs.Lines.{line_of, next_at, rest_of};
 
@@ -146,20 +147,24 @@ impl Lines {
     }
 
     /// Reads more bytes, by one read of the reader.
-    pub fn fill<R: Read>(&mut self, reader: &mut R) -> io::Result<()>
+    pub fn fill<R: Read>(&mut self, reader: &mut Tap<R>) -> Result<(), Failed>
         requires { rest_of self.old ≡ [] }
+        ensures failed { OnErr result ((marks_of reader.new).failed ≡ true) }
         ensures line { line_of self.new ≡ line_of self.old }
         ensures more { OnOk result
-            (Consumes (R.remaining reader.old) (R.remaining reader.new) (rest_of self.new)) }
-        ensures agrees { OnOk result (Agrees (R.remaining reader.new) self.new) }
+            (Consumes (R.remaining (device_of reader.old)) (R.remaining (device_of reader.new)) (rest_of self.new)) }
+        ensures agrees { OnOk result (Agrees (R.remaining (device_of reader.new)) self.new) }
         ensures ended { OnOk result (self.new.ended ≡ (length (rest_of self.new) == 0)) }
         ensures none { OnErr result (rest_of self.new ≡ []) }
-        ensures kept { OnErr result (Keeps (R.remaining reader.old) (R.remaining reader.new)) }
+        ensures kept { OnErr result (Keeps (R.remaining (device_of reader.old)) (R.remaining (device_of reader.new))) }
     {
         self.next = 0;
         self.filled = 0;
-        self.filled = reader.read(&mut self.bytes)?;
-        self.ended = self.filled == 0;
+        let Ok(count) = reader.read(&mut self.bytes) else {
+            return Err(Failed);
+        };
+        self.filled = count;
+        self.ended = count == 0;
         Ok(())
     }
 }

@@ -1,12 +1,13 @@
-ghost use Rattle.std.specs.Prelude.{◌≡◌, ◌≤◌, [], false, length, IfOk, OnOk, OnErr};
+ghost use Rattle.std.specs.Prelude.{◌≡◌, ◌≤◌, [], false, true, length, IfOk, OnOk, OnErr};
 ghost use Rattle.std.specs.Io.KnownBytes.{Appends, Keeps};
+ghost use Rattle.tpm_bytes.specs.Tap.{device_of, marks_of};
 ghost use Rattle.tpm_machine.specs.State.{state_of};
 ghost use Rattle.tpm_machine_step.specs.Events.{happening};
 ghost use Rattle.tpm_machine_step.specs.Step.{outcome_step};
 ghost use Rattle.tpm_text.specs.Trace.{IsTraceable};
 ghost use Rattle.tpmsim_script.specs.Answers.{backlog, printout};
 ghost use Rattle.tpmsim_script.specs.Line.{hex_of, meaning_of};
-ghost use Rattle.tpmsim_script.specs.Player.{Did, playing_of};
+ghost use Rattle.tpmsim_script.specs.Player.{Did, IsWriters, playing_of};
 ghost use Rattle.tpmsim_script.specs.Script.{at_first, cycle, execute, perform, perform_line};
 ghost use Rattle.tpmsim_script.specs.Script.{printed_trace, script_bytes, set_entropy};
 
@@ -19,6 +20,7 @@ use crate::script::Script;
 use std::alloc::Global;
 use std::array;
 use std::io::Write;
+use tpm_bytes::Tap;
 use tpm_machine::Machine;
 use tpm_machine_step::{Event, Outcome};
 use tpm_record::Keep;
@@ -64,27 +66,30 @@ impl<K: Keep> Player<K> {
         &mut self,
         line: &[u8],
         room: &mut Room,
-        writer: &mut W,
+        writer: &mut Tap<W>,
     ) -> Result<(), LineFault>
         requires { length line.now ≤ 65536 }
-        ensures { K.can_refuse ≡ false → Did
+        ensures failed { IsWriters result (marks_of writer.new) }
+        ensures did { K.can_refuse ≡ false → Did
             (perform_line (playing_of K.record_of self.old) line.now)
-            (printout (W.contents writer.old) self.old.answers) (playing_of K.record_of self.old)
+            (printout (W.contents (device_of writer.old)) self.old.answers) (playing_of K.record_of self.old)
             result
-            (printout (W.contents writer.new) self.new.answers) (playing_of K.record_of self.new) }
+            (printout (W.contents (device_of writer.new)) self.new.answers) (playing_of K.record_of self.new) }
     {
         let said = Line::parse(line)?;
         self.perform(said, room, writer)
     }
 
     /// Writes all lines so far.
-    pub fn flush<W: Write>(&mut self, writer: &mut W) -> Result<(), ScriptFault>
+    pub fn flush<W: Write>(&mut self, writer: &mut Tap<W>) -> Result<(), ScriptFault>
         ensures fault { OnErr result (result ≡ Err ScriptFault.Write) }
+        ensures unmarked { OnOk result (marks_of writer.new ≡ marks_of writer.old) }
+        ensures failed { OnErr result ((marks_of writer.new).failed ≡ true) }
         ensures playing { playing_of K.record_of self.new ≡ playing_of K.record_of self.old }
         ensures empty { OnOk result (backlog self.new.answers ≡ []) }
         ensures printed { OnOk result (Keeps
-            (printout (W.contents writer.old) self.old.answers)
-            (printout (W.contents writer.new) self.new.answers)) }
+            (printout (W.contents (device_of writer.old)) self.old.answers)
+            (printout (W.contents (device_of writer.new)) self.new.answers)) }
     {
         self.answers.flush(writer).map_err(|_| ScriptFault::Write)
     }
@@ -95,14 +100,15 @@ impl<K: Keep> Player<K> {
         &mut self,
         line: Line,
         room: &mut Room,
-        writer: &mut W,
+        writer: &mut Tap<W>,
     ) -> Result<(), LineFault>
         requires { length (hex_of (meaning_of line)) ≤ 65536 }
-        ensures { K.can_refuse ≡ false → Did
+        ensures failed { IsWriters result (marks_of writer.new) }
+        ensures did { K.can_refuse ≡ false → Did
             (perform (playing_of K.record_of self.old) (meaning_of line.entry))
-            (printout (W.contents writer.old) self.old.answers) (playing_of K.record_of self.old)
+            (printout (W.contents (device_of writer.old)) self.old.answers) (playing_of K.record_of self.old)
             result
-            (printout (W.contents writer.new) self.new.answers) (playing_of K.record_of self.new) }
+            (printout (W.contents (device_of writer.new)) self.new.answers) (playing_of K.record_of self.new) }
     {
         match line {
             Line::Command(digits) => self.execute(room.decode(digits)?, writer)?,
@@ -117,12 +123,13 @@ impl<K: Keep> Player<K> {
     }
 
     /// Executes a command, and prints the response, behind its trace where that is asked for.
-    fn execute<W: Write>(&mut self, buffer: &[u8], writer: &mut W) -> Result<(), LineFault>
-        ensures { K.can_refuse ≡ false → Did
+    fn execute<W: Write>(&mut self, buffer: &[u8], writer: &mut Tap<W>) -> Result<(), LineFault>
+        ensures failed { IsWriters result (marks_of writer.new) }
+        ensures did { K.can_refuse ≡ false → Did
             (Some (execute (playing_of K.record_of self.old) buffer.now))
-            (printout (W.contents writer.old) self.old.answers) (playing_of K.record_of self.old)
+            (printout (W.contents (device_of writer.old)) self.old.answers) (playing_of K.record_of self.old)
             result
-            (printout (W.contents writer.new) self.new.answers) (playing_of K.record_of self.new) }
+            (printout (W.contents (device_of writer.new)) self.new.answers) (playing_of K.record_of self.new) }
     {
         let event = self.script.command(buffer);
         self.machine.execute_into(&event, &mut self.outcome);
@@ -135,12 +142,13 @@ impl<K: Keep> Player<K> {
     }
 
     /// Cycles the device's power, and prints the trace of that where it is asked for.
-    fn cycle_power<W: Write>(&mut self, writer: &mut W) -> Result<(), LineFault>
-        ensures { K.can_refuse ≡ false → Did
+    fn cycle_power<W: Write>(&mut self, writer: &mut Tap<W>) -> Result<(), LineFault>
+        ensures failed { IsWriters result (marks_of writer.new) }
+        ensures did { K.can_refuse ≡ false → Did
             (Some (cycle (playing_of K.record_of self.old)))
-            (printout (W.contents writer.old) self.old.answers) (playing_of K.record_of self.old)
+            (printout (W.contents (device_of writer.old)) self.old.answers) (playing_of K.record_of self.old)
             result
-            (printout (W.contents writer.new) self.new.answers) (playing_of K.record_of self.new) }
+            (printout (W.contents (device_of writer.new)) self.new.answers) (playing_of K.record_of self.new) }
     {
         let event = Event::PowerCycle;
         self.machine.execute_into(&event, &mut self.outcome);
@@ -150,14 +158,15 @@ impl<K: Keep> Player<K> {
 
     /// Prints the trace of an event with the outcome that was written last, where it is asked for.
     #[tactic(auto, unfolding(crate::specs::Script::printed_trace), using(crate::proofs::Doing::nothing_printed))]
-    fn trace<W: Write>(&mut self, event: &Event, writer: &mut W) -> Result<(), LineFault>
+    fn trace<W: Write>(&mut self, event: &Event, writer: &mut Tap<W>) -> Result<(), LineFault>
         requires { IsTraceable (happening event.now)
             (outcome_step (state_of K.record_of self.old.machine) self.old.outcome) }
         ensures fault { OnErr result (result ≡ Err LineFault.Write) }
+        ensures failed { OnErr result ((marks_of writer.new).failed ≡ true) }
         ensures kept { self.new ≡ record self.old { answers = self.new.answers } }
         ensures printed { OnOk result (Appends
-            (printout (W.contents writer.old) self.old.answers)
-            (printout (W.contents writer.new) self.new.answers)
+            (printout (W.contents (device_of writer.old)) self.old.answers)
+            (printout (W.contents (device_of writer.new)) self.new.answers)
             (printed_trace self.old.traced (happening event.now)
             (outcome_step (state_of K.record_of self.old.machine) self.old.outcome))) }
     {

@@ -1,9 +1,10 @@
 ghost use Rattle.std.specs.Prelude.{◌≡◌, [], false, IfOk, OnOk, OnErr};
 ghost use Rattle.std.specs.Io.KnownBytes.{Keeps};
+ghost use Rattle.tpm_bytes.specs.Tap.{device_of, marks_of};
 ghost use Rattle.tpmsim_script.specs.Answers.{backlog, printout};
 ghost use Rattle.tpmsim_script.specs.Lines.{Agrees, LosesStart, line_of, rest_of, text_left};
 ghost use Rattle.tpmsim_script.specs.Player.{playing_of};
-ghost use Rattle.tpmsim_script.specs.Run.{NextFound, OnNoMemory, OnTooMany, OnUnread};
+ghost use Rattle.tpmsim_script.specs.Run.{AreTheirs, NextFound, OnNoMemory, OnTooMany, OnUnread};
 ghost use Rattle.tpmsim_script.specs.Run.{PlaysAllAllowed, PlaysToFailure, UnlessFailed, Ran};
 ghost use Rattle.tpmsim_script.specs.Run.{end_at_limit};
 ghost use Rattle.tpmsim_script.specs.Script.{Plays, at_first};
@@ -14,6 +15,7 @@ use crate::player::Player;
 use crate::room::Room;
 use std::alloc::Global;
 use std::io::{Read, Write};
+use tpm_bytes::Tap;
 use tpm_record::Keep;
 
 /// How many lines a script may have.
@@ -26,27 +28,30 @@ pub const SCRIPT_LINES: u32 = 1_048_576;
 /// that a `Write` fault cut off. Of a script of more than [`SCRIPT_LINES`] lines so many are run.
 pub fn run_script<K: Keep, R: Read, W: Write>(
     alloc: Global,
-    reader: &mut R,
-    writer: &mut W,
+    reader: &mut Tap<R>,
+    writer: &mut Tap<W>,
     trace: bool,
 ) -> Result<(), ScriptFault>
     // What is written is what the script prints, to its end or up to its first bad line. This is
     // said of a keep that can never be refused memory.
-    ensures played { K.can_refuse ≡ false → Ran (Plays (R.remaining reader.old)
-        (W.contents writer.old) (W.contents writer.new) (at_first trace) 1) result }
+    ensures played { K.can_refuse ≡ false → Ran (Plays (R.remaining (device_of reader.old))
+        (W.contents (device_of writer.old)) (W.contents (device_of writer.new)) (at_first trace) 1) result }
 
     // Where the reader failed, the whole lines of what it had given were played and written, and
     // only the start of one more was not.
     ensures read { K.can_refuse ≡ false → OnUnread result (PlaysToFailure
-        (R.remaining reader.old) (R.remaining reader.new)
-        (W.contents writer.old) (W.contents writer.new)
+        (R.remaining (device_of reader.old)) (R.remaining (device_of reader.new))
+        (W.contents (device_of writer.old)) (W.contents (device_of writer.new))
         (at_first trace)) }
 
     // There are too many lines only where as many as a script may have were played and written, and
     // one more is there.
     ensures too_many { K.can_refuse ≡ false → OnTooMany result (PlaysAllAllowed
-        (R.remaining reader.old) (W.contents writer.old) (W.contents writer.new)
+        (R.remaining (device_of reader.old)) (W.contents (device_of writer.old)) (W.contents (device_of writer.new))
         (at_first trace)) }
+
+    // Read is answered only where the reader failed, and Write only where the writer did.
+    ensures failed { AreTheirs result (marks_of reader.new) (marks_of writer.new) }
 
     // Where there is no memory, nothing was read or written.
     ensures no_memory { OnNoMemory result
@@ -85,26 +90,27 @@ impl<K: Keep> Run<K> {
     /// goes to `room`.
     fn lines<R: Read, W: Write>(
         &mut self,
-        reader: &mut R,
-        writer: &mut W,
+        reader: &mut Tap<R>,
+        writer: &mut Tap<W>,
         room: &mut Room,
     ) -> Result<(), ScriptFault>
-        requires { Agrees (R.remaining reader.old) self.old.lines }
+        requires { Agrees (R.remaining (device_of reader.old)) self.old.lines }
         ensures played { K.can_refuse ≡ false → Ran (Plays
-            (text_left (R.remaining reader.old) self.old.lines)
-            (printout (W.contents writer.old) self.old.player.answers)
-            (printout (W.contents writer.new) self.new.player.answers)
+            (text_left (R.remaining (device_of reader.old)) self.old.lines)
+            (printout (W.contents (device_of writer.old)) self.old.player.answers)
+            (printout (W.contents (device_of writer.new)) self.new.player.answers)
             (playing_of K.record_of self.old.player) 1) result }
         ensures read { K.can_refuse ≡ false → OnUnread result (PlaysToFailure
-            (text_left (R.remaining reader.old) self.old.lines) (R.remaining reader.new)
-            (printout (W.contents writer.old) self.old.player.answers)
-            (printout (W.contents writer.new) self.new.player.answers)
+            (text_left (R.remaining (device_of reader.old)) self.old.lines) (R.remaining (device_of reader.new))
+            (printout (W.contents (device_of writer.old)) self.old.player.answers)
+            (printout (W.contents (device_of writer.new)) self.new.player.answers)
             (playing_of K.record_of self.old.player)) }
         ensures too_many { K.can_refuse ≡ false → OnTooMany result (PlaysAllAllowed
-            (text_left (R.remaining reader.old) self.old.lines)
-            (printout (W.contents writer.old) self.old.player.answers)
-            (printout (W.contents writer.new) self.new.player.answers)
+            (text_left (R.remaining (device_of reader.old)) self.old.lines)
+            (printout (W.contents (device_of writer.old)) self.old.player.answers)
+            (printout (W.contents (device_of writer.new)) self.new.player.answers)
             (playing_of K.record_of self.old.player)) }
+        ensures failed { AreTheirs result (marks_of reader.new) (marks_of writer.new) }
         ensures memory { OnNoMemory result ⊥ }
     {
         for number in 1..SCRIPT_LINES + 1 {
@@ -125,22 +131,23 @@ impl<K: Keep> Run<K> {
     /// written before more of the script is read.
     fn next_line<R: Read, W: Write>(
         &mut self,
-        reader: &mut R,
-        writer: &mut W,
+        reader: &mut Tap<R>,
+        writer: &mut Tap<W>,
         number: u32,
     ) -> Result<bool, ScriptFault>
-        requires { Agrees (R.remaining reader.old) self.old.lines }
+        requires { Agrees (R.remaining (device_of reader.old)) self.old.lines }
+        ensures failed { AreTheirs result (marks_of reader.new) (marks_of writer.new) }
         ensures played { playing_of K.record_of self.new.player
             ≡ playing_of K.record_of self.old.player }
         ensures found { NextFound number
-            (text_left (R.remaining reader.old) self.old.lines) result (line_of self.new.lines)
-            (text_left (R.remaining reader.new) self.new.lines) }
-        ensures agrees { OnOk result (Agrees (R.remaining reader.new) self.new.lines) }
+            (text_left (R.remaining (device_of reader.old)) self.old.lines) result (line_of self.new.lines)
+            (text_left (R.remaining (device_of reader.new)) self.new.lines) }
+        ensures agrees { OnOk result (Agrees (R.remaining (device_of reader.new)) self.new.lines) }
         ensures printed { UnlessFailed result (Keeps
-            (printout (W.contents writer.old) self.old.player.answers)
-            (printout (W.contents writer.new) self.new.player.answers)) }
+            (printout (W.contents (device_of writer.old)) self.old.player.answers)
+            (printout (W.contents (device_of writer.new)) self.new.player.answers)) }
         ensures read { OnUnread result (LosesStart
-            (text_left (R.remaining reader.old) self.old.lines) (R.remaining reader.new)) }
+            (text_left (R.remaining (device_of reader.old)) self.old.lines) (R.remaining (device_of reader.new))) }
     {
         self.lines.next();
         loop {

@@ -3,6 +3,7 @@
 use std::io;
 use std::io::{ErrorKind, Read, Write};
 use std::test::Fail;
+use tpm_bytes::Tap;
 use tpm_record::SlotKeep;
 use tpmsim_script::{ScriptFault, run_script};
 
@@ -49,12 +50,12 @@ fn a_reader_is_not_asked_again(rt: HostRuntime) -> Result<(), Fail> {
         (Turn::Gives(b""), Ok(()), SUCCESS_AND_COMMAND_SIZE),
     ] {
         let turns = [Turn::Gives(STARTUP), turn, Turn::Gives(b"\ncmd\n")];
-        let mut reader = Reader { turns: &turns };
-        let mut writer = Vec::new(rt.alloc());
+        let mut reader = Tap::new(Reader { turns: &turns });
+        let mut writer = Tap::new(Vec::new(rt.alloc()));
         let given = run_script::<SlotKeep, _, _>(rt.alloc(), &mut reader, &mut writer, false);
         assert_eq!(rt; given, outcome);
-        assert_eq!(rt; writer.as_slice(), written);
-        assert_eq!(rt; reader.turns.len(), 1);
+        assert_eq!(rt; writer.into_inner().as_slice(), written);
+        assert_eq!(rt; reader.into_inner().turns.len(), 1);
     }
     Ok(())
 }
@@ -95,16 +96,16 @@ fn a_writer_may_take_pieces_and_fail(rt: HostRuntime) -> Result<(), Fail> {
         (0, true, Err(ScriptFault::Write), 0),
         (42, false, Err(ScriptFault::Write), 21),
     ] {
-        let mut reader = STARTUP;
-        let mut writer = Narrow {
+        let mut reader = Tap::new(STARTUP);
+        let mut writer = Tap::new(Narrow {
             taken: Vec::new(rt.alloc()),
             room,
             flushes,
-        };
+        });
         let given = run_script::<SlotKeep, _, _>(rt.alloc(), &mut reader, &mut writer, false);
         assert_eq!(rt; given, outcome, "room for {room}");
         assert_eq!(rt;
-            Some(writer.taken.as_slice()),
+            Some(writer.into_inner().taken.as_slice()),
             SUCCESS_AND_COMMAND_SIZE.get(..taken),
             "room for {room}"
         );

@@ -1,11 +1,11 @@
 use Rattle.std.proofs.Common.{rules, of_calls, List, ℕ, [], ◌∷◌, ◌++◌, refl, ◌∙◌, subst, arith, length-append}
 use Rattle.std.proofs.KnownBytes.{Appends-nil, Appends-trans}
 use Rattle.std.specs.Io.KnownBytes.{Appends}
-use Rattle.tpm_bytes.specs.Tap.{device_of}
+use Rattle.tpm_bytes.specs.Tap.{AppendsFront, device_of}
 use Rattle.tpm_machine.specs.State.{state_of}
 use Rattle.tpm_wire.specs.Stream.{cut_at}
 use Rattle.tpm_wire.proofs.Cutting.{cuts_none, cuts_one, next_shorter}
-use Rattle.tpm_wire.proofs.Exchanging.{one_more}
+use Rattle.tpm_wire.proofs.Exchanging.{lost_last, one_more}
 use Rattle.tpm_wire.proofs.serving.answer_whole.Goals as goal
 
 pub loop-front-init : goal.loop-front-init
@@ -26,13 +26,14 @@ returns-in_default-write_all-clause-ran g c =
     let s = c.loop-front.connection in
     let front = c.in-Some.front in
     let x = cut_at front.size front.last s.taken in
+    let contents = g.W.Write.contents in
     let outcome = c.execute_front.new.outcome in (
       i.0 ++ x.buffer ∷ [],
       record { machine = state_of g.K.Keep.record_of c.execute_front.new.machine; host = c.host.new.self; written = i.1 ++ outcome.response.items },
       one_more _ _ _ _ _ _ _ i.1 i.0 x.buffer c.in-Ok.said outcome i.2 c.in-Ok.ensures c.execute_front.ensures.executes,
       refl,
       cuts_one c.args.connection.now s i.0 c.execute_front.new.connection x i.3 c.in-Some.ensures.1 c.execute_front.ensures.after,
-      (refl, c.in_default-write_all.ensures.failed),
+      (refl, c.in_default-write_all.ensures.failed, lost_last g.H.FnMut g.K.Keep.can_refuse (contents (device_of c.args.writer.now)) (contents (device_of c.loop-front.writer)) (contents (device_of c.write_all.new.self)) _ _ _ _ _ i.1 i.0 x.buffer c.in-Ok.said outcome i.2 c.in-Ok.ensures c.execute_front.ensures.executes i.5 (subst (AppendsFront (contents (device_of c.loop-front.writer)) (contents (device_of c.write_all.new.self))) c.as_slice.ensures.value c.in_default-write_all.ensures.cut_off)),
     )
 
 pub overflow_add-answered : goal.overflow_add-answered

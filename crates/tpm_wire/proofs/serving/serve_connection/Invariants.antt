@@ -1,10 +1,10 @@
-use Rattle.std.proofs.Common.{◌≡◌, ◌+◌, ◌*◌, ◌≤◌, List, ℕ, length, None, false}
+use Rattle.std.proofs.Common.{◌≡◌, ◌+◌, ◌*◌, ◌≤◌, List, [], ℕ, length, None, false}
 use denote.Param.Always.{always_mut}
 use Rattle.std.specs.Io.KnownBytes.{Appends, Consumes}
 use Rattle.std.specs.List.{FoldsTo}
 use Rattle.tpm_bytes.specs.Tap.{device_of, marks_of}
 use Rattle.tpm_machine.specs.State.{state_of}
-use Rattle.tpm_wire.specs.Serve.{Exchanges, started}
+use Rattle.tpm_wire.specs.Serve.{Exchanges, ReadsPiece, started}
 use Rattle.tpm_wire.specs.Stream.{cut_of, cut_with, next_of}
 use Rattle.tpm_wire.proofs.serving.serve_connection.Given as goal
 
@@ -15,9 +15,10 @@ invariant-loop g l =
       callable : always_mut g.H.FnMut l.host;
       goes_on : l.connection.ended ≡ false;
       waits : next_of l.connection ≡ None;
-      marks : marks_of l.reader ≡ record { failed = false; ended = false; reads = l.counter };
+      reads : (marks_of l.reader).reads ≡ l.counter;
       count : l.answered + length l.connection.taken ≤ 4096 * l.counter;
-      ran : (read : List ℕ) × (done : List (List ℕ)) × (written : List ℕ)
+      ran : (pieces : List (List ℕ)) × (read : List ℕ) × (done : List (List ℕ)) × (written : List ℕ)
+          × FoldsTo (ReadsPiece done) [] pieces read × (length pieces ≡ l.counter)
           × Consumes (g.R.Read.remaining (device_of l.fn.reader)) (g.R.Read.remaining (device_of l.reader)) read
           × FoldsTo (Exchanges g.H.FnMut g.K.Keep.can_refuse) (started (state_of record_of l.fn.machine) l.fn.host) done
           (record { machine = state_of record_of l.machine; host = l.host; written = written })

@@ -1,3 +1,4 @@
+use Rattle.tpm_bytes.specs.Tap.{device_of}
 use Rattle.tpmsim_script.specs.Answers.{backlog, printout}
 use Rattle.tpmsim_script.specs.Lines.{rest_of, text_left}
 use Rattle.tpmsim_script.specs.Player.{playing_of}
@@ -12,11 +13,11 @@ returns-clause-read g c = λ cannot.
     let run = c.in_ok-run.run' in
     let last = c.lines-outcome.new in
     let flushed = c.flush.new in
-    ran_unread (text_left (remaining c.args.reader.now) run.lines) (remaining c.args.reader.now) (remaining last.reader)
-    (printout (contents c.args.writer.now) run.player.answers) (contents c.args.writer.now) (printout (contents last.writer) last.self.player.answers)
-    (printout (contents flushed.writer) flushed.self.answers) (contents flushed.writer) (playing_of g.K.Keep.record_of run.player) (at_first c.args.trace) c.lines-outcome.result
-    (nothing_before (remaining c.args.reader.now) (rest_of run.lines) c.in_ok-run.ensures.lines) (nothing_behind (contents c.args.writer.now) (backlog run.player.answers) c.in_ok-run.ensures.answers)
-    c.in_ok-run.ensures.playing c.in_ok-flush.ensures.printed (nothing_behind (contents flushed.writer) (backlog flushed.self.answers) c.in_ok-flush.ensures.empty) (c.lines-outcome.ensures.read cannot)
+    ran_unread (text_left (remaining (device_of c.args.reader.now)) run.lines) (remaining (device_of c.args.reader.now)) (remaining (device_of last.reader))
+    (printout (contents (device_of c.args.writer.now)) run.player.answers) (contents (device_of c.args.writer.now)) (printout (contents (device_of last.writer)) last.self.player.answers)
+    (printout (contents (device_of flushed.writer)) flushed.self.answers) (contents (device_of flushed.writer)) (playing_of g.K.Keep.record_of run.player) (at_first c.args.trace) c.lines-outcome.result
+    (nothing_before (remaining (device_of c.args.reader.now)) (rest_of run.lines) c.in_ok-run.ensures.lines) (nothing_behind (contents (device_of c.args.writer.now)) (backlog run.player.answers) c.in_ok-run.ensures.answers)
+    c.in_ok-run.ensures.playing c.in_ok-flush.ensures.printed (nothing_behind (contents (device_of flushed.writer)) (backlog flushed.self.answers) c.in_ok-flush.ensures.empty) (c.lines-outcome.ensures.read cannot)
 
 pub returns-clause-too_many : goal.returns-clause-too_many
 returns-clause-too_many g c = λ cannot.
@@ -25,8 +26,8 @@ returns-clause-too_many g c = λ cannot.
     let run = c.in_ok-run.run' in
     let last = c.lines-outcome.new in
     let flushed = c.flush.new in
-    ran_too_many (text_left (remaining c.args.reader.now) run.lines) (remaining c.args.reader.now)
-    (printout (contents c.args.writer.now) run.player.answers) (contents c.args.writer.now) (printout (contents last.writer) last.self.player.answers)
-    (printout (contents flushed.writer) flushed.self.answers) (contents flushed.writer) (playing_of g.K.Keep.record_of run.player) (at_first c.args.trace) c.lines-outcome.result
-    (nothing_before (remaining c.args.reader.now) (rest_of run.lines) c.in_ok-run.ensures.lines) (nothing_behind (contents c.args.writer.now) (backlog run.player.answers) c.in_ok-run.ensures.answers)
-    c.in_ok-run.ensures.playing c.in_ok-flush.ensures.printed (nothing_behind (contents flushed.writer) (backlog flushed.self.answers) c.in_ok-flush.ensures.empty) (c.lines-outcome.ensures.too_many cannot)
+    ran_too_many (text_left (remaining (device_of c.args.reader.now)) run.lines) (remaining (device_of c.args.reader.now))
+    (printout (contents (device_of c.args.writer.now)) run.player.answers) (contents (device_of c.args.writer.now)) (printout (contents (device_of last.writer)) last.self.player.answers)
+    (printout (contents (device_of flushed.writer)) flushed.self.answers) (contents (device_of flushed.writer)) (playing_of g.K.Keep.record_of run.player) (at_first c.args.trace) c.lines-outcome.result
+    (nothing_before (remaining (device_of c.args.reader.now)) (rest_of run.lines) c.in_ok-run.ensures.lines) (nothing_behind (contents (device_of c.args.writer.now)) (backlog run.player.answers) c.in_ok-run.ensures.answers)
+    c.in_ok-run.ensures.playing c.in_ok-flush.ensures.printed (nothing_behind (contents (device_of flushed.writer)) (backlog flushed.self.answers) c.in_ok-flush.ensures.empty) (c.lines-outcome.ensures.too_many cannot)

@@ -8,8 +8,8 @@ use Rattle.tpmsim_script.proofs.player.Player.cycle_power.Goals as goal
 pub trace-requires : goal.trace-requires
 trace-requires g c = c.executions_are_traceable.ensures _ _ _ _ c.execute_into.ensures.executes
 
-pub returns : goal.returns
-returns g c = λ cannot.
+pub returns-clause-did : goal.returns-clause-did
+returns-clause-did g c = λ cannot.
     let record_of = g.K.Keep.record_of in
     let device = state_of record_of c.execute_into.new.self in
     cycled (playing_of record_of c.args.self.now) (outcome_step device c.execute_into.new.outcome) _ _ _ _ (c.execute_into.ensures.executes.exactly cannot)

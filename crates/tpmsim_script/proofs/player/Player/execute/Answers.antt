@@ -9,8 +9,8 @@ use Rattle.tpmsim_script.proofs.player.Player.execute.Goals as goal
 pub trace-requires : goal.trace-requires
 trace-requires g c = c.executions_are_traceable.ensures _ _ _ _ c.execute_into.ensures.executes
 
-pub returns : goal.returns
-returns g c = λ cannot.
+pub returns-clause-did : goal.returns-clause-did
+returns-clause-did g c = λ cannot.
     let record_of = g.K.Keep.record_of in
     let before = c.args.self.now in
     let device = state_of record_of c.execute_into.new.self in
@@ -19,5 +19,5 @@ returns g c = λ cannot.
     executed (playing_of record_of before) c.args.buffer.now (outcome_step device c.execute_into.new.outcome) _ _ _ _ _ is traced (search rules)
     (ap (playing_of record_of) c.trace.ensures.kept ∙ ap (λ script. playing before.traced script device) c.command-event.ensures.time) (search rules)
 
-pub returns-in_err-trace : goal.returns-in_err-trace
-returns-in_err-trace g c = λ cannot. untraced _ _ _ _ _ _ (search rules)
+pub returns-in_err-trace-clause-did : goal.returns-in_err-trace-clause-did
+returns-in_err-trace-clause-did g c = λ cannot. untraced _ _ _ _ _ _ (search rules)

@@ -2,6 +2,6 @@ use Rattle.tpmsim_script.specs.Line.{meaning_of}
 use Rattle.tpmsim_script.proofs.Doing.{did_said}
 use Rattle.tpmsim_script.proofs.player.Player.line.Goals as goal
 
-pub returns : goal.returns
-returns g c =
-    λ cannot. did_said _ _ (meaning_of c.in_ok-said.said) _ _ _ _ _ c.requires c.in_ok-said.ensures.meaning (c.perform.ensures cannot)
+pub returns-clause-did : goal.returns-clause-did
+returns-clause-did g c =
+    λ cannot. did_said _ _ (meaning_of c.in_ok-said.said) _ _ _ _ _ c.requires c.in_ok-said.ensures.meaning (c.perform.ensures.did cannot)

@@ -1,5 +1,6 @@
 use Rattle.std.proofs.Common.{arith}
 use Rattle.std.specs.Prelude.{◌≡◌, Ok, Err, false}
+use Rattle.tpm_bytes.specs.Tap.{device_of}
 use Rattle.tpmsim_script.specs.Answers.{printout}
 use Rattle.tpmsim_script.specs.Lines.{line_of, text_left}
 use Rattle.tpmsim_script.specs.Player.{playing_of}
@@ -13,9 +14,9 @@ returns-in-Err-clause-played g c = λ cannot.
     let record_of = g.K.Keep.record_of in
     let loop = c.loop-number in
     let after = c.next_line.new in
-    ran_to_fault (text_left (remaining loop.reader) loop.self.lines) (printout (contents loop.writer) loop.self.player.answers) (printout (contents after.writer) after.self.player.answers)
-    (text_left (remaining after.reader) after.self.lines) (playing_of record_of loop.self.player) loop.number c.in-Err.fault (line_of after.self.lines) _
-    c.in-Err.ensures.found c.in-Err.ensures.printed (λ bad. loop.invariant.whole cannot (printout (contents after.writer) after.self.player.answers) bad)
+    ran_to_fault (text_left (remaining (device_of loop.reader)) loop.self.lines) (printout (contents (device_of loop.writer)) loop.self.player.answers) (printout (contents (device_of after.writer)) after.self.player.answers)
+    (text_left (remaining (device_of after.reader)) after.self.lines) (playing_of record_of loop.self.player) loop.number c.in-Err.fault (line_of after.self.lines) _
+    c.in-Err.ensures.found c.in-Err.ensures.printed (λ bad. loop.invariant.whole cannot (printout (contents (device_of after.writer)) after.self.player.answers) bad)
 
 pub returns-in-Err-clause-read : goal.returns-in-Err-clause-read
 returns-in-Err-clause-read g c = λ cannot.
@@ -24,18 +25,18 @@ returns-in-Err-clause-read g c = λ cannot.
     let record_of = g.K.Keep.record_of in
     let loop = c.loop-number in
     let after = c.next_line.new in
-    failed_read (text_left (remaining loop.reader) loop.self.lines) (remaining after.reader) (printout (contents loop.writer) loop.self.player.answers) (printout (contents after.writer) after.self.player.answers)
-    _ _ (playing_of record_of loop.self.player) _ loop.number c.in-Err.fault c.in-Err.ensures.read c.in-Err.ensures.printed (loop.invariant.leads cannot (printout (contents after.writer) after.self.player.answers))
+    failed_read (text_left (remaining (device_of loop.reader)) loop.self.lines) (remaining (device_of after.reader)) (printout (contents (device_of loop.writer)) loop.self.player.answers) (printout (contents (device_of after.writer)) after.self.player.answers)
+    _ _ (playing_of record_of loop.self.player) _ loop.number c.in-Err.fault c.in-Err.ensures.read c.in-Err.ensures.printed (loop.invariant.leads cannot (printout (contents (device_of after.writer)) after.self.player.answers))
 
 pub returns-in-Err-clause-too_many : goal.returns-in-Err-clause-too_many
 returns-in-Err-clause-too_many g c = λ cannot.
     let loop = c.loop-number in
-    failed_few (text_left (g.R.Read.remaining loop.reader) loop.self.lines) _ loop.number c.in-Err.fault _ _ c.in-Err.ensures.found
+    failed_few (text_left (g.R.Read.remaining (device_of loop.reader)) loop.self.lines) _ loop.number c.in-Err.fault _ _ c.in-Err.ensures.found
 
 pub returns-in-Err-clause-memory : goal.returns-in-Err-clause-memory
 returns-in-Err-clause-memory g c =
     let loop = c.loop-number in
-    failed_with_memory (text_left (g.R.Read.remaining loop.reader) loop.self.lines) _ loop.number c.in-Err.fault _ c.in-Err.ensures.found
+    failed_with_memory (text_left (g.R.Read.remaining (device_of loop.reader)) loop.self.lines) _ loop.number c.in-Err.fault _ c.in-Err.ensures.found
 
 pub returns-in-Err-line-clause-read : goal.returns-in-Err-line-clause-read
 returns-in-Err-line-clause-read g c = λ cannot. rw c.at.ensures (stopped_read c.loop-number.number c.in-Err-line.fault _)
@@ -52,8 +53,8 @@ returns-clause-played g c = λ cannot.
     let contents = g.W.Write.contents in
     let loop = c.loop-number in
     let after = c.next_line-next.new in
-    rw c.end_at_limit.ensures (ended_played (text_left (remaining loop.reader) loop.self.lines) _ (printout (contents loop.writer) loop.self.player.answers) (printout (contents after.writer) after.self.player.answers)
-    (playing_of g.K.Keep.record_of loop.self.player) loop.number _ c.next_line-next.result _ _ c.next_line-next.ensures.found c.next_line-next.ensures.printed (λ bad. loop.invariant.whole cannot (printout (contents after.writer) after.self.player.answers) bad))
+    rw c.end_at_limit.ensures (ended_played (text_left (remaining (device_of loop.reader)) loop.self.lines) _ (printout (contents (device_of loop.writer)) loop.self.player.answers) (printout (contents (device_of after.writer)) after.self.player.answers)
+    (playing_of g.K.Keep.record_of loop.self.player) loop.number _ c.next_line-next.result _ _ c.next_line-next.ensures.found c.next_line-next.ensures.printed (λ bad. loop.invariant.whole cannot (printout (contents (device_of after.writer)) after.self.player.answers) bad))
 
 pub returns-clause-read : goal.returns-clause-read
 returns-clause-read g c = λ cannot.
@@ -61,8 +62,8 @@ returns-clause-read g c = λ cannot.
     let contents = g.W.Write.contents in
     let loop = c.loop-number in
     let after = c.next_line-next.new in
-    rw c.end_at_limit.ensures (ended_read (text_left (remaining loop.reader) loop.self.lines) (remaining after.reader) (printout (contents loop.writer) loop.self.player.answers) (printout (contents after.writer) after.self.player.answers)
-    _ _ (playing_of g.K.Keep.record_of loop.self.player) _ loop.number c.next_line-next.result c.next_line-next.ensures.read c.next_line-next.ensures.printed (loop.invariant.leads cannot (printout (contents after.writer) after.self.player.answers)))
+    rw c.end_at_limit.ensures (ended_read (text_left (remaining (device_of loop.reader)) loop.self.lines) (remaining (device_of after.reader)) (printout (contents (device_of loop.writer)) loop.self.player.answers) (printout (contents (device_of after.writer)) after.self.player.answers)
+    _ _ (playing_of g.K.Keep.record_of loop.self.player) _ loop.number c.next_line-next.result c.next_line-next.ensures.read c.next_line-next.ensures.printed (loop.invariant.leads cannot (printout (contents (device_of after.writer)) after.self.player.answers)))
 
 pub returns-clause-too_many : goal.returns-clause-too_many
 returns-clause-too_many g c = λ cannot.
@@ -70,13 +71,13 @@ returns-clause-too_many g c = λ cannot.
     let contents = g.W.Write.contents in
     let loop = c.loop-number in
     let after = c.next_line-next.new in
-    rw c.end_at_limit.ensures (ended_many (text_left (remaining loop.reader) loop.self.lines) _ (printout (contents loop.writer) loop.self.player.answers) (printout (contents after.writer) after.self.player.answers)
-    _ _ (playing_of g.K.Keep.record_of loop.self.player) _ loop.number _ c.next_line-next.result _ (omega arith) c.next_line-next.ensures.found c.next_line-next.ensures.printed (loop.invariant.leads cannot (printout (contents after.writer) after.self.player.answers)))
+    rw c.end_at_limit.ensures (ended_many (text_left (remaining (device_of loop.reader)) loop.self.lines) _ (printout (contents (device_of loop.writer)) loop.self.player.answers) (printout (contents (device_of after.writer)) after.self.player.answers)
+    _ _ (playing_of g.K.Keep.record_of loop.self.player) _ loop.number _ c.next_line-next.result _ (omega arith) c.next_line-next.ensures.found c.next_line-next.ensures.printed (loop.invariant.leads cannot (printout (contents (device_of after.writer)) after.self.player.answers)))
 
 pub returns-clause-memory : goal.returns-clause-memory
 returns-clause-memory g c =
     let loop = c.loop-number in
-    rw c.end_at_limit.ensures (ended_with_memory (text_left (g.R.Read.remaining loop.reader) loop.self.lines) _ _ c.next_line-next.result _ c.next_line-next.ensures.found)
+    rw c.end_at_limit.ensures (ended_with_memory (text_left (g.R.Read.remaining (device_of loop.reader)) loop.self.lines) _ _ c.next_line-next.result _ c.next_line-next.ensures.found)
 
 pub returns-in-Err-line-clause-played : goal.returns-in-Err-line-clause-played
 returns-in-Err-line-clause-played g c = λ cannot.
@@ -86,12 +87,12 @@ returns-in-Err-line-clause-played g c = λ cannot.
     let loop = c.loop-number in
     let after = c.next_line.new in
     let last = c.line-in-loop-number.new in
-    let did = did_there (playing_of record_of loop.self.player) (playing_of record_of after.self.player) (line_of after.self.lines) c.line.result.now (printout (contents after.writer) after.self.player.answers)
-    (Err c.in-Err-line.fault) (printout (contents last.writer) last.self.answers) (playing_of record_of last.self) c.in-Ok-true.ensures.played c.line.ensures.line (c.in-Err-line.ensures cannot) in
-    rw c.at.ensures (ran_to_line (text_left (remaining loop.reader) loop.self.lines) (text_left (remaining after.reader) after.self.lines)
-    (printout (contents loop.writer) loop.self.player.answers) (printout (contents after.writer) after.self.player.answers) (printout (contents last.writer) last.self.answers)
+    let did = did_there (playing_of record_of loop.self.player) (playing_of record_of after.self.player) (line_of after.self.lines) c.line.result.now (printout (contents (device_of after.writer)) after.self.player.answers)
+    (Err c.in-Err-line.fault) (printout (contents (device_of last.writer)) last.self.answers) (playing_of record_of last.self) c.in-Ok-true.ensures.played c.line.ensures.line (c.in-Err-line.ensures.did cannot) in
+    rw c.at.ensures (ran_to_line (text_left (remaining (device_of loop.reader)) loop.self.lines) (text_left (remaining (device_of after.reader)) after.self.lines)
+    (printout (contents (device_of loop.writer)) loop.self.player.answers) (printout (contents (device_of after.writer)) after.self.player.answers) (printout (contents (device_of last.writer)) last.self.answers)
     (playing_of record_of loop.self.player) (playing_of record_of last.self) loop.number (line_of after.self.lines) c.in-Err-line.fault _
-    (rw c.in-Ok-true.field-0-test at c.in-Ok-true.ensures.found) c.in-Ok-true.ensures.printed did (λ bad. loop.invariant.whole cannot (printout (contents last.writer) last.self.answers) bad))
+    (rw c.in-Ok-true.field-0-test at c.in-Ok-true.ensures.found) c.in-Ok-true.ensures.printed did (λ bad. loop.invariant.whole cannot (printout (contents (device_of last.writer)) last.self.answers) bad))
 
 pub loop-number-preserved : goal.loop-number-preserved
 loop-number-preserved g c =
@@ -101,17 +102,17 @@ loop-number-preserved g c =
     let loop = c.loop-number in
     let after = c.next_line.new in
     let last = c.line-in-loop-number.new in
-    let did = λ (cannot : g.K.Keep.can_refuse ≡ false). did_there (playing_of record_of loop.self.player) (playing_of record_of after.self.player) (line_of after.self.lines) c.line.result.now (printout (contents after.writer) after.self.player.answers)
-    (Ok tt) (printout (contents last.writer) last.self.answers) (playing_of record_of last.self) c.in-Ok-true.ensures.played c.line.ensures.line (c.in_default.ensures cannot) in
+    let did = λ (cannot : g.K.Keep.can_refuse ≡ false). did_there (playing_of record_of loop.self.player) (playing_of record_of after.self.player) (line_of after.self.lines) c.line.result.now (printout (contents (device_of after.writer)) after.self.player.answers)
+    (Ok tt) (printout (contents (device_of last.writer)) last.self.answers) (playing_of record_of last.self) c.in-Ok-true.ensures.played c.line.ensures.line (c.in_default.ensures.did cannot) in
     record {
       whole = λ cannot new bad rest. loop.invariant.whole cannot new bad
-          (did_and_went_on (text_left (remaining loop.reader) loop.self.lines) (text_left (remaining after.reader) after.self.lines)
-          (printout (contents loop.writer) loop.self.player.answers) (printout (contents after.writer) after.self.player.answers) (printout (contents last.writer) last.self.answers) new
+          (did_and_went_on (text_left (remaining (device_of loop.reader)) loop.self.lines) (text_left (remaining (device_of after.reader)) after.self.lines)
+          (printout (contents (device_of loop.writer)) loop.self.player.answers) (printout (contents (device_of after.writer)) after.self.player.answers) (printout (contents (device_of last.writer)) last.self.answers) new
           (playing_of record_of loop.self.player) (playing_of record_of last.self) loop.number (line_of after.self.lines) _ bad
           (rw c.in-Ok-true.field-0-test at c.in-Ok-true.ensures.found) c.in-Ok-true.ensures.printed (did cannot) rest);
       leads = λ cannot new next behind rest. loop.invariant.leads cannot new next behind
-          (reached_on (text_left (remaining loop.reader) loop.self.lines) (text_left (remaining after.reader) after.self.lines)
-          (printout (contents loop.writer) loop.self.player.answers) (printout (contents after.writer) after.self.player.answers) (printout (contents last.writer) last.self.answers) new
+          (reached_on (text_left (remaining (device_of loop.reader)) loop.self.lines) (text_left (remaining (device_of after.reader)) after.self.lines)
+          (printout (contents (device_of loop.writer)) loop.self.player.answers) (printout (contents (device_of after.writer)) after.self.player.answers) (printout (contents (device_of last.writer)) last.self.answers) new
           (playing_of record_of loop.self.player) (playing_of record_of last.self) loop.number (line_of after.self.lines) _ next behind
           (rw c.in-Ok-true.field-0-test at c.in-Ok-true.ensures.found) c.in-Ok-true.ensures.printed (did cannot) rest);
       agrees = c.in-Ok-true.ensures.agrees;

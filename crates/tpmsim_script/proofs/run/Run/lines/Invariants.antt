@@ -1,4 +1,5 @@
 use Rattle.std.proofs.Common.{◌≡◌, ℕ, List, Option, false}
+use Rattle.tpm_bytes.specs.Tap.{device_of}
 use Rattle.tpmsim_script.specs.Answers.{printout}
 use Rattle.tpmsim_script.specs.Lines.{Agrees, text_left}
 use Rattle.tpmsim_script.specs.Player.{playing_of}
@@ -14,10 +15,10 @@ invariant-loop-number g l =
     let record_of = g.K.Keep.record_of in
     record {
       whole : g.K.Keep.can_refuse ≡ false → (new : Option (List ℕ)) (bad : Option ℕ)
-          → Plays (text_left (remaining l.reader) l.self.lines) (printout (contents l.writer) l.self.player.answers) new (playing_of record_of l.self.player) l.number bad
-          → Plays (text_left (remaining l.fn.reader) l.fn.self.lines) (printout (contents l.fn.writer) l.fn.self.player.answers) new (playing_of record_of l.fn.self.player) 1 bad;
+          → Plays (text_left (remaining (device_of l.reader)) l.self.lines) (printout (contents (device_of l.writer)) l.self.player.answers) new (playing_of record_of l.self.player) l.number bad
+          → Plays (text_left (remaining (device_of l.fn.reader)) l.fn.self.lines) (printout (contents (device_of l.fn.writer)) l.fn.self.player.answers) new (playing_of record_of l.fn.self.player) 1 bad;
       leads : g.K.Keep.can_refuse ≡ false → (new : Option (List ℕ))
-          → Leads (text_left (remaining l.reader) l.self.lines) (printout (contents l.writer) l.self.player.answers) (playing_of record_of l.self.player) l.number
-          (text_left (remaining l.fn.reader) l.fn.self.lines) (printout (contents l.fn.writer) l.fn.self.player.answers) (playing_of record_of l.fn.self.player) new;
-      agrees : Agrees (remaining l.reader) l.self.lines;
+          → Leads (text_left (remaining (device_of l.reader)) l.self.lines) (printout (contents (device_of l.writer)) l.self.player.answers) (playing_of record_of l.self.player) l.number
+          (text_left (remaining (device_of l.fn.reader)) l.fn.self.lines) (printout (contents (device_of l.fn.writer)) l.fn.self.player.answers) (playing_of record_of l.fn.self.player) new;
+      agrees : Agrees (remaining (device_of l.reader)) l.self.lines;
     }

@@ -1,4 +1,5 @@
 use Rattle.std.proofs.Common.{◌≡◌, ◌+◌, refl, ap, length, ◌∙◌, length-append}
+use Rattle.tpm_bytes.specs.Tap.{device_of}
 use Rattle.tpmsim_script.specs.Lines.{line_of, rest_of, text_left}
 use Rattle.tpmsim_script.proofs.LineBreaks.{too_long_left}
 use Rattle.tpmsim_script.proofs.Plays.{reads_on, start_lost}
@@ -8,7 +9,7 @@ pub returns-in-TooLong-clause-found : goal.returns-in-TooLong-clause-found
 returns-in-TooLong-clause-found g c =
     let remaining = g.R.Read.remaining in
     let lines = c.loop-self.self.lines in
-    (refl, too_long_left (text_left (remaining c.args.reader.now) c.args.self.now.lines) (remaining c.loop-self.reader) (line_of lines) (rest_of lines) c.loop-self.invariant.text c.in-TooLong.ensures.found)
+    (refl, too_long_left (text_left (remaining (device_of c.args.reader.now)) c.args.self.now.lines) (remaining (device_of c.loop-self.reader)) (line_of lines) (rest_of lines) c.loop-self.invariant.text c.in-TooLong.ensures.found)
 
 pub loop-self-smaller : goal.loop-self-smaller
 loop-self-smaller g c =
@@ -23,4 +24,4 @@ pub returns-in-Err-clause-read : goal.returns-in-Err-clause-read
 returns-in-Err-clause-read g c =
     let old = c.loop-self.self.lines in
     let found = c.in-Incomplete.ensures.found in
-    start_lost (text_left (g.R.Read.remaining c.args.reader.now) c.args.self.now.lines) (g.R.Read.remaining c.loop-self.reader) (g.R.Read.remaining c.fill.new.reader) (line_of old) (rest_of old) _ c.loop-self.invariant.text c.in-Err.ensures.kept found.0 found.2
+    start_lost (text_left (g.R.Read.remaining (device_of c.args.reader.now)) c.args.self.now.lines) (g.R.Read.remaining (device_of c.loop-self.reader)) (g.R.Read.remaining (device_of c.fill.new.reader)) (line_of old) (rest_of old) _ c.loop-self.invariant.text c.in-Err.ensures.kept found.0 found.2

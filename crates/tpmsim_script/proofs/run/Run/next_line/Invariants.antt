@@ -1,5 +1,6 @@
 use Rattle.std.proofs.Common.{◌≡◌, ◌+◌, ◌-◌, ◌*◌, ◌++◌, cond, length}
 use Rattle.std.specs.Io.KnownBytes.{Keeps, prepend_known}
+use Rattle.tpm_bytes.specs.Tap.{device_of}
 use Rattle.tpmsim_script.specs.Answers.{printout}
 use Rattle.tpmsim_script.specs.Lines.{Agrees, IsUnbroken, line_of, rest_of, text_left}
 use Rattle.tpmsim_script.specs.Player.{playing_of}
@@ -11,9 +12,9 @@ invariant-loop-self g l =
     record {
       playing : playing_of g.K.Keep.record_of l.self.player ≡ playing_of g.K.Keep.record_of l.fn.self.player;
       unbroken : IsUnbroken (line_of l.self.lines);
-      text : Keeps (text_left (g.R.Read.remaining l.fn.reader) l.fn.self.lines) (prepend_known (line_of l.self.lines ++ rest_of l.self.lines) (g.R.Read.remaining l.reader));
-      agrees : Agrees (g.R.Read.remaining l.reader) l.self.lines;
-      printed : Keeps (printout (g.W.Write.contents l.fn.writer) l.fn.self.player.answers) (printout (g.W.Write.contents l.writer) l.self.player.answers);
+      text : Keeps (text_left (g.R.Read.remaining (device_of l.fn.reader)) l.fn.self.lines) (prepend_known (line_of l.self.lines ++ rest_of l.self.lines) (g.R.Read.remaining (device_of l.reader)));
+      agrees : Agrees (g.R.Read.remaining (device_of l.reader)) l.self.lines;
+      printed : Keeps (printout (g.W.Write.contents (device_of l.fn.writer)) l.fn.self.player.answers) (printout (g.W.Write.contents (device_of l.writer)) l.self.player.answers);
     }
 
 -- A read makes the line longer, but for the first one, or is the last.
