@@ -1,6 +1,6 @@
 //! Saving the image of a device, and opening a device from one.
 
-ghost use Rattle.std.specs.Prelude.{◌≡◌, ◌||◌, IfOk, OnErr, OnOk, is_ok, true};
+ghost use Rattle.std.specs.Prelude.{◌≡◌, ◌||◌, ◌++◌, IfOk, OnErr, OnOk, is_ok, true};
 ghost use Rattle.std.specs.Io.KnownBytes.{Appends};
 ghost use Rattle.tpm_bytes.specs.Tap.{AppendsFront, device_of, marks_of};
 ghost use Rattle.tpm_image.specs.Body.{body_of};
@@ -26,7 +26,7 @@ use tpm_types::bytes_fit;
 
 /// Writes the image of a device, which stays as it is. Of a tap that had not failed, Write stands
 /// just where the writer failed; a part of the image from its front went out then.
-#[tactic(auto, unfolding(crate::specs::Image::image_text), using(crate::proofs::Sent::appends_more, crate::proofs::Sent::front_of_more, crate::proofs::Sent::front_behind))]
+#[tactic(auto, unfolding(crate::specs::Image::image_text))]
 pub fn save<K: Keep, D: Write>(machine: &Machine<K>, tap: &mut Tap<D>) -> Result<(), SaveFault>
     ensures written { OnOk result (Appends (D.contents (device_of tap.old))
         (D.contents (device_of tap.new))
@@ -42,10 +42,22 @@ pub fn save<K: Keep, D: Write>(machine: &Machine<K>, tap: &mut Tap<D>) -> Result
     let head = head(text.len());
     let digest = digest_parts(HashAlg::Sha256, &[head.as_slice(), text.as_slice()]);
     let _ = text.put(digest.as_slice());
-    let Ok(()) = tap.write_all(head.as_slice()) else {
+    send(tap, head.as_slice(), text.as_slice())
+}
+
+/// Writes the head of an image, and what stands behind it.
+fn send<D: Write>(tap: &mut Tap<D>, head: &[u8], text: &[u8]) -> Result<(), SaveFault>
+    ensures written { OnOk result (Appends (D.contents (device_of tap.old))
+        (D.contents (device_of tap.new)) (head.now ++ text.now)) }
+    ensures cut_off { OnErr result (AppendsFront (D.contents (device_of tap.old))
+        (D.contents (device_of tap.new)) (head.now ++ text.now)) }
+    ensures unmarked { OnOk result (marks_of tap.new ≡ marks_of tap.old) }
+    ensures failed { OnErr result ((marks_of tap.new).failed ≡ true) }
+{
+    let Ok(()) = tap.write_all(head) else {
         return Err(SaveFault::Write);
     };
-    let Ok(()) = tap.write_all(text.as_slice()) else {
+    let Ok(()) = tap.write_all(text) else {
         return Err(SaveFault::Write);
     };
     Ok(())
