@@ -8,7 +8,7 @@
 set -eu
 
 top=$(CDPATH='' cd "$(dirname "$0")/.." && pwd -P)
-program=$top/crates/tpmsim/out/tpmsim
+program=$(cd "$top" && . tools/program.sh) || exit 1
 script=$top/examples/measured_boot.tpm
 work=$(mktemp -d)
 trap 'rm -rf "$work"' EXIT
@@ -115,7 +115,6 @@ refuse_each() {
     echo "tpmsim $*: $((turn - 1)) allocations, each refused, $harmless of them without harm"
 }
 
-"$top/tpmsim" run /dev/null # builds the program where it is not built
 build_shim
 check_calls
 

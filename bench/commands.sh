@@ -9,7 +9,7 @@
 set -eu
 
 top=$(CDPATH='' cd "$(dirname "$0")/.." && pwd -P)
-program=$top/crates/tpmsim/out/tpmsim
+program=$(cd "$top" && . tools/program.sh) || exit 1
 folder=$(mktemp -d)
 trap 'rm -rf "$folder"' EXIT
 
@@ -55,7 +55,6 @@ counts() {
     ' "$folder/all" "$folder/device"
 }
 
-"$top/tpmsim" run /dev/null # builds the program where it is not built
 echo 'command: all = text + hashing and ciphers + clearing and copying + what is left'
 for command in GetRandom PCR_Read PCR_Extend NV_Read NV_Write PCR_Reset StartAuthSession PolicyPCR \
     Create Load Unseal HMAC; do

@@ -8,11 +8,10 @@
 set -eu
 
 top=$(CDPATH='' cd "$(dirname "$0")/.." && pwd -P)
-program=$top/crates/tpmsim/out/tpmsim
+program=$(cd "$top" && . tools/program.sh) || exit 1
 folder=$(mktemp -d)
 trap 'rm -rf "$folder"' EXIT
 
-"$top/tpmsim" run /dev/null # builds the program, and most crates, where they are not built
 (cd "$top/crates/tpm_image" && rt lib >"$folder/build" 2>&1) || { cat "$folder/build"; exit 1; }
 
 # The crates of this repository that tpm_image stands on, and itself.

@@ -6,7 +6,7 @@
 set -eu
 
 top=$(CDPATH='' cd "$(dirname "$0")/.." && pwd -P)
-program=$top/crates/tpmsim/out/tpmsim
+program=$(cd "$top" && . tools/program.sh) || exit 1
 folder=$(mktemp -d)
 trap 'rm -rf "$folder"' EXIT
 
@@ -30,7 +30,6 @@ allocations() {
         sed -n 's/.*total heap usage: \([0-9,]*\) allocs.*/\1/p'
 }
 
-"$top/tpmsim" run /dev/null # builds the program where it is not built
 for kind in cmd do; do
     "$top/bench/script.sh" 1000000 "$kind" >"$folder/$kind"
     : >"$folder/seconds.$kind"

@@ -8,7 +8,7 @@
 set -eu
 
 top=$(CDPATH='' cd "$(dirname "$0")/.." && pwd -P)
-program=$top/crates/tpmsim/out/tpmsim
+program=$(cd "$top" && . tools/program.sh) || exit 1
 folder=$(mktemp -d)
 trap 'rm -rf "$folder"' EXIT
 
@@ -46,7 +46,6 @@ measure() {
     }'
 }
 
-"$top/tpmsim" run /dev/null # builds the program where it is not built
 for indices in 1 32; do
     measure read 64 "$indices" "NV_Read of 64 bytes"
     measure read 1024 "$indices" "NV_Read of 1,024 bytes"

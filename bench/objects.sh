@@ -4,7 +4,7 @@
 set -eu
 
 top=$(CDPATH='' cd "$(dirname "$0")/.." && pwd -P)
-program=$top/crates/tpmsim/out/tpmsim
+program=$(cd "$top" && . tools/program.sh) || exit 1
 folder=$(mktemp -d)
 trap 'rm -rf "$folder"' EXIT
 
@@ -16,7 +16,6 @@ least() {
     done | sort -n | head -n 1
 }
 
-"$top/tpmsim" run /dev/null # builds the program where it is not built
 for measured in CreatePrimary:20000 Create:2000 Load:2000 Unseal:100000 HMAC:10000; do
     command=${measured%:*}
     count=${measured#*:}

@@ -4,7 +4,7 @@
 set -eu
 
 top=$(CDPATH='' cd "$(dirname "$0")/.." && pwd -P)
-program=$top/crates/tpmsim/out/tpmsim
+program=$(cd "$top" && . tools/program.sh) || exit 1
 folder=$(mktemp -d)
 trap 'rm -rf "$folder"' EXIT
 
@@ -35,6 +35,5 @@ measure() {
         }' "$folder/runs"
 }
 
-"$top/tpmsim" run /dev/null # builds the program where it is not built
 measure 200000
 measure 1000000

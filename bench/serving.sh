@@ -6,7 +6,7 @@
 set -eu
 
 top=$(CDPATH='' cd "$(dirname "$0")/.." && pwd -P)
-program=$top/crates/tpmsim/out/tpmsim
+program=$(cd "$top" && . tools/program.sh) || exit 1
 folder=$(mktemp -d)
 trap 'rm -rf "$folder"' EXIT
 
@@ -33,7 +33,6 @@ int main(int count, char **words) {
 }
 C
 cc -O2 -o "$folder/bare" "$folder/bare.c"
-"$top/tpmsim" run /dev/null # builds the program where it is not built
 python3 "$top/tests/outside/scripts/images.py" "$top/tests/full_device.tpm" | sed 's/.*: //' |
     python3 -c 'import sys; sys.stdout.buffer.write(bytes.fromhex(sys.stdin.read()))' >"$folder/image"
 python3 "$top/bench/serving.py" "$program" "$folder/bare" "$folder/image"

@@ -4,11 +4,10 @@
 set -eu
 
 top=$(CDPATH='' cd "$(dirname "$0")/.." && pwd -P)
-program=$top/crates/tpmsim/out/tpmsim
+program=$(cd "$top" && . tools/program.sh) || exit 1
 folder=$(mktemp -d)
 trap 'rm -rf "$folder"' EXIT
 
-"$top/tpmsim" run /dev/null # builds the program where it is not built
 python3 "$top/bench/session_script.py" 100000 >"$folder/script"
 for _ in 1 2 3 4 5 6 7 8 9 10; do
     /usr/bin/time -f '%e' -o "$folder/time" "$program" run "$folder/script" >"$folder/answers"

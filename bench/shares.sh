@@ -8,7 +8,7 @@
 set -eu
 
 top=$(CDPATH='' cd "$(dirname "$0")/.." && pwd -P)
-program=$top/crates/tpmsim/out/tpmsim
+program=$(cd "$top" && . tools/program.sh) || exit 1
 folder=$(mktemp -d)
 trap 'rm -rf "$folder"' EXIT
 
@@ -36,7 +36,6 @@ counts() {
         END { print all + 0, device + 0, moved + 0 }'
 }
 
-"$top/tpmsim" run /dev/null # builds the program where it is not built
 short=$(counts 2000)
 long=$(counts 6000)
 echo "$short $long" | awk -v name="$0" '

@@ -11,7 +11,7 @@
 set -u
 
 top=$(CDPATH='' cd "$(dirname "$0")/.." && pwd -P) || exit 1
-program=${PROGRAM:-$top/crates/tpmsim/out/tpmsim}
+program=${PROGRAM:-$(cd "$top" && . tools/program.sh)} || exit 1
 first=${1:-1}
 last=${2:-${1:-20}}
 count=${3:-1000}

@@ -1,0 +1,48 @@
+#!/bin/sh
+# Makes dist/: the program that `rt ci` built and proved here, and PROVED, which names the kit of
+# that, and the checksums of the sources and of the program. Needs `rt`.
+#
+#   tools/dist.sh           makes it, where no source is newer than the program that was built here
+#   tools/dist.sh --check   says whether dist/ is of the sources as they stand and, where it names
+#                           the kit that is here, of the bytes that were built here
+set -u
+cd "$(dirname "$0")/.." || exit 1
+. tools/proved.sh
+
+# What is wrong with dist/, a fault a line.
+faults() {
+    for file in "$shipped" "$proved"; do
+        [ -f "$file" ] || { echo "$file is not there" && return; }
+    done
+    is_proved sources "$(sources_checksum)" ||
+        echo "$shipped was proved of other sources than these"
+    is_proved program "$(checksum <"$shipped")" ||
+        echo "$shipped is not the program that $proved names"
+    if ! is_proved kit "$kit"; then
+        echo "the kit here is $kit, and that of $shipped $(proved_line kit):" \
+            'the bytes are not compared' >&2
+    elif [ ! -x "$built" ] || ! cmp -s "$built" "$shipped"; then
+        echo "$shipped has other bytes than $built"
+    fi
+}
+
+kit=$(rt version) || exit 1
+case $* in
+--check)
+    faults=$(faults)
+    [ -z "$faults" ] || { printf '%s\n' "$faults" && exit 1; }
+    ;;
+'')
+    if ! is_newest "$built"; then
+        echo "$0: $built is not there, or a source is newer: tools/build.sh builds it" >&2
+        exit 1
+    fi
+    sources=$(sources_checksum) && program=$(checksum <"$built") && mkdir -p dist || exit 1
+    cp "$built" "$shipped.new" && chmod 755 "$shipped.new" && mv "$shipped.new" "$shipped" || exit 1
+    printf 'kit: %s\nsources: %s\nprogram: %s\n' "$kit" "$sources" "$program" >"$proved"
+    ;;
+*)
+    echo "usage: $0 [--check]" >&2
+    exit 2
+    ;;
+esac
