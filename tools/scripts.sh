@@ -1,8 +1,9 @@
 #!/bin/sh
 # Runs the scripts of tests/ and examples/, and the shell tests of tests/, with each of the two
-# programs that `rt ci` leaves, and compares what comes of them with the files beside them. Then it
-# runs the scripts that are to end well with tpmsim_lists, which keeps the device's state in lists
-# and not in fixed slots: the same bytes over both keeps.
+# programs that `rt ci` leaves and with the one in dist/, and compares what comes of them with the
+# files beside them. Then it runs the scripts that are to end well with tpmsim_lists, which keeps
+# the device's state in lists and not in fixed slots: the same bytes over both keeps. Where nothing
+# was built here, the program in dist/ is run alone; that takes a minute, and needs no `rt`.
 #
 #   tools/scripts.sh                   all of them
 #   tools/scripts.sh pcr_extend files  these
@@ -15,6 +16,7 @@
 set -u
 
 top=$(CDPATH='' cd "$(dirname "$0")/.." && pwd -P) || exit 1
+out=$top/crates/tpmsim/out
 lists=$top/crates/tpmsim_lists/out/tpmsim_lists
 work=$(mktemp -d) || exit 1
 trap 'rm -rf "$work"' EXIT
@@ -57,6 +59,14 @@ status_of() {
     if [ -f "${1%.*}.status" ]; then cat "${1%.*}.status"; else echo 0; fi
 }
 
+# name_of PROGRAM: by what it is told, which is its path for the one in dist/.
+name_of() {
+    case $1 in
+    */dist/*) echo "${1#"$top/"}" ;;
+    *) echo "${1##*/}" ;;
+    esac
+}
+
 # run TEST PROGRAM [OPTION]: runs a test with a program.
 run() {
     case $1,$2 in
@@ -70,7 +80,7 @@ run() {
 # from the file of what is wanted.
 check() {
     base=${1%.*}
-    named="${1#"$top/"} with ${2##*/}${4:+ $4}"
+    named="${1#"$top/"} with $(name_of "$2")${4:+ $4}"
     if [ ! -f "$3" ]; then
         fail "$named: ${3#"$top/"} is not there"
         return
@@ -112,10 +122,24 @@ else
     done
 fi
 
+# Whether the program in dist/ is of the sources as they stand.
+shipped_is_of_sources() (
+    cd "$top" && . tools/proved.sh && is_proved sources "$(sources_checksum)"
+)
+
+# missing PROGRAM: says so, where others were built here.
+missing() {
+    [ ! -x "$out/tpmsim" ] || echo "${1#"$top/"} is not there"
+}
+
 programs=0
-for program in "$top/crates/tpmsim/out/tpmsim" "$top/crates/tpmsim/out/tpmsim.by-rattle"; do
+for program in "$out/tpmsim" "$out/tpmsim.by-rattle" "$top/dist/tpmsim"; do
     if [ ! -x "$program" ]; then
-        echo "${program#"$top/"} is not there"
+        missing "$program"
+        continue
+    fi
+    if [ "$program" = "$top/dist/tpmsim" ] && ! shipped_is_of_sources; then
+        echo 'dist/tpmsim is not run: it was proved of other sources than these'
         continue
     fi
     programs=$((programs + 1))
@@ -135,8 +159,9 @@ if [ -x "$lists" ]; then
         esac
     done
 else
-    echo "${lists#"$top/"} is not there"
+    missing "$lists"
 fi
 
+[ -x "$out/tpmsim" ] || echo 'No proof was run: nothing was proved and built here.'
 echo "$passed passed, $failed failed"
 [ "$failed" -eq 0 ]
