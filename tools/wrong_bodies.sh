@@ -2,30 +2,50 @@
 # Tries the wrong bodies under wrong/: each turns the meaning of one function, and the prover must
 # refuse it. They are like those in the crates' must-fail/, which every run of the gate tries; these
 # are run whole before a piece of work is called done (docs/GATE.md says with which code). They
-# take the place of must-fail/ in a copy of the repository, where `rt ci` begins with what a gate
-# on this machine proved of the same files. Needs rt.
+# take the place of must-fail/ in a copy of the repository. First `rt` proves the crates there as
+# they stand, and those below them, but for what `rt lib` left proved in the repository. Needs rt.
 #
-#   tools/wrong_bodies.sh            all of them
-#   tools/wrong_bodies.sh tpm_pcr    those of one crate, or of several
+#   tools/wrong_bodies.sh                    all of them
+#   tools/wrong_bodies.sh tpm_pcr            those of one crate, or of several
+#   JOBS=1 tools/wrong_bodies.sh tpm_pcr     with one crate at a time, and not one a processor
 set -eu
 
-repository=$(CDPATH='' cd "$(dirname "$0")/.." && pwd -P)
-[ "$#" -gt 0 ] || set -- $(cd "$repository/wrong" && ls -d */ | tr -d /)
+cd "$(dirname "$0")/.."
+. tools/proved.sh
+if [ "$#" -eq 0 ]; then
+    for folder in wrong/*/; do
+        crate=${folder%/}
+        set -- "$@" "${crate#wrong/}"
+    done
+fi
 folder=$(mktemp -d)
 trap 'rm -rf "$folder"' EXIT
 
-cp "$repository/crates.txt" "$repository/HANDLES" "$folder"
-(cd "$repository" && tar cf - --exclude=out --exclude=must-fail crates) | (cd "$folder" && tar xf -)
+cp crates.txt HANDLES "$folder"
+tar cf - --exclude=incremental --exclude=must-fail crates | (cd "$folder" && tar xf -)
 for crate in "$@"; do
-    cp -R "$repository/wrong/$crate" "$folder/crates/$crate/must-fail"
+    cp -R "wrong/$crate" "$folder/crates/$crate/must-fail"
 done
 
 cd "$folder"
 git init --quiet
-status=0
-rt ci "$@" >"$folder/log" 2>&1 || status=$?
-grep -E '^(rt: )?must-fail|BAD EDIT|NOT REFUSED' "$folder/log" || cat "$folder/log"
-refused=$(grep -c 'refused, as it must be' "$folder/log") || true
-wanted=$(ls "$folder"/crates/*/must-fail/*.edit | wc -l)
+mkdir logs
+for crate in $(crates_below "$@") "$@"; do
+    prove=lib
+    [ ! -f "crates/$crate/src/main.rt" ] || prove=check
+    if ! (cd "crates/$crate" && rt "$prove") >logs/proof 2>&1; then
+        cat logs/proof
+        echo "$crate is not proved as it stands, so no wrong body says anything" >&2
+        exit 1
+    fi
+done
+rm logs/proof
+
+# shellcheck disable=SC2016 # the words are those of the shell that is begun
+printf '%s\n' "$@" | xargs -P "${JOBS:-$(nproc)}" -I CRATE sh -c '
+    rt must-fail CRATE >logs/CRATE 2>&1
+    grep -E "^(rt: )?must-fail|BAD EDIT|NOT REFUSED" logs/CRATE || cat logs/CRATE'
+refused=$(cat logs/* | grep -c 'refused, as it must be') || true
+wanted=$(find crates/*/must-fail -name '*.edit' | wc -l)
 echo "$refused of $wanted wrong bodies refused"
-[ "$status" -eq 0 ] && [ "$refused" -eq "$wanted" ]
+[ "$refused" -eq "$wanted" ]
