@@ -20,6 +20,7 @@ pub mod fixed;
 pub mod hierarchy;
 pub mod keep;
 pub mod kept;
+pub mod laws;
 pub mod objects;
 pub mod persistent;
 pub mod record;
