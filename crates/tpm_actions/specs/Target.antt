@@ -1,10 +1,15 @@
--- What a command on an NV index names: what authorizes it, the index, and whether the one may read
--- and write the other. TPM 2.0 Library, Part 3, section 31 (non-volatile storage), and Part 2,
+-- What a command on an NV index names: what authorizes it, the index, whether the one may write the
+-- other, and whether it may read it. TPM 2.0 Library, Part 3, section 31 (non-volatile storage), and Part 2,
 -- section 13.4 (TPMA_NV).
-use Rattle.std.specs.Prelude.{◌==◌, Bool, Result, Ok, ok_or, if◌then◌else◌}
-use Rattle.tpm_bytes.specs.Reading.{◌>>=◌}
+use Rattle.std.specs.Prelude.{◌==◌, not, Bool, Result, Ok, ok_or, if◌then◌else◌}
+use Rattle.tpm_bytes.specs.Reading.{◌>>=◌, refused_if}
 use Rattle.tpm_types.specs.Handle.{owner_handle, platform_handle}
+use Rattle.tpm_types.specs.Rc.{plain}
+use Rattle.tpm_types.specs.declared.action_check.ActionCheck.{ActionCheck}
+use Rattle.tpm_types.specs.declared.action_check.ActionCheck.TheVariants as action
 use Rattle.tpm_types.specs.declared.handle.Handle.{Handle}
+use Rattle.tpm_types.specs.declared.rc.ResponseCode.{ResponseCode}
+use Rattle.tpm_types.specs.declared.rc.ResponseCode.TheVariants as code
 use Rattle.tpm_types.specs.declared.refused.Refused.{Refused}
 use Rattle.tpm_types_nv.specs.NvAttributes.{has}
 use Rattle.tpm_types_nv.specs.declared.nv_attributes.NvAttribute.{NvAttribute}
@@ -14,6 +19,7 @@ use Rattle.tpm_nv.specs.Index.{NvIndex, index_at}
 use Rattle.tpm_record.specs.Record.{Record}
 use Rattle.tpm_actions.specs.Refusals.{handle_refusal}
 use Rattle.tpm_actions.specs.Request.{Request, first_handle, second_handle}
+use Rattle.tpm_actions.specs.declared.target.ReadingFault.{ReadingFault}
 use Rattle.tpm_actions.specs.declared.target.Target.{Target}
 
 -- the index of a handle, which the general checks have found
@@ -47,3 +53,19 @@ may_write target = may attribute.OwnerWrite attribute.PpWrite target
 
 abbrev pub may_read : Target → Bool
 may_read target = may attribute.OwnerRead attribute.PpRead target
+
+-- ---- what is read of an index, and by whom
+
+-- a check of the command's own that refuses the reading, with this code
+abbrev pub reading_fault : ActionCheck → ResponseCode → ReadingFault
+reading_fault check code = record { check = check; rc = plain code }
+
+-- the first checks of its own of each command that reads an index (Part 3, sections 23.9 and 31.13):
+-- A1: authHandle may not read it; A2: it is locked against reading; A3: it is not written
+abbrev pub reading_passes : Target → Result (Unit {0}) ReadingFault
+reading_passes target = do
+  a1 ← refused_if (not (may_read target)) (reading_fault action.First code.NvAuthorization)
+  a2 ← refused_if (has target.attributes attribute.ReadLocked)
+      (reading_fault action.Second code.NvLocked)
+  refused_if (not (has target.attributes attribute.Written))
+      (reading_fault action.Third code.NvUninitialized)

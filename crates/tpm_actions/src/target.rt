@@ -1,12 +1,16 @@
-ghost use Rattle.std.specs.Prelude.{◌≡◌};
-ghost use Rattle.tpm_actions.specs.Request.{request_of};
-ghost use Rattle.tpm_actions.specs.Target.{attributes_of, may, may_read, may_write, target_of};
+ghost use Rattle.std.specs.Prelude.{◌≡◌, ℕ, IfErr, IfOk, Ok};
+ghost use Rattle.tpm_nv.specs.Access.{read_at};
+ghost use Rattle.tpm_nv.specs.declared.fault.NvFault.TheVariants.{Range};
+ghost use Rattle.tpm_record.specs.Record.{Record};
+ghost use Rattle.tpm_actions.specs.Request.{Request, request_of};
+ghost use Rattle.tpm_actions.specs.Target.{attributes_of, may, may_read, may_write, reading_fault};
+ghost use Rattle.tpm_actions.specs.Target.{reading_passes, target_of};
 
 use crate::call::Call;
 use crate::refusals::handle_refusal;
 use tpm_nv::Indices;
 use tpm_record::Keep;
-use tpm_types::{Handle, Refused};
+use tpm_types::{ActionCheck, Handle, Rc, Refused, ResponseCode};
 use tpm_types_nv::{NvAttribute, NvAttributes};
 
 /// What authorizes a command on an NV index, the index, and its attributes.
@@ -15,6 +19,24 @@ pub struct Target {
     pub authority: Handle,
     pub handle: Handle,
     pub attributes: NvAttributes,
+}
+
+/// Why a command may not read an index: by which check of its own, and with which response code.
+#[derive(Clone, Copy, Debug, PartialEq, Eq)]
+pub struct ReadingFault {
+    pub check: ActionCheck,
+    pub rc: Rc,
+}
+
+impl ReadingFault {
+    fn of(check: ActionCheck, code: ResponseCode) -> ReadingFault
+        ensures { result ≡ reading_fault check code }
+    {
+        ReadingFault {
+            check,
+            rc: code.anywhere(),
+        }
+    }
 }
 
 /// The attributes of an index.
@@ -69,4 +91,30 @@ impl Target {
     {
         self.may(NvAttribute::OwnerRead, NvAttribute::PpRead)
     }
+
+    /// Refuses to read the index: who may not, what is locked, and what is not written.
+    pub fn check_reading(&self) -> Result<(), ReadingFault>
+        ensures { result ≡ reading_passes self.now }
+    {
+        if !self.may_read() {
+            return Err(ReadingFault::of(ActionCheck::First, ResponseCode::NvAuthorization));
+        }
+        if self.attributes.has(NvAttribute::ReadLocked) {
+            return Err(ReadingFault::of(ActionCheck::Second, ResponseCode::NvLocked));
+        }
+        if !self.attributes.has(NvAttribute::Written) {
+            return Err(ReadingFault::of(ActionCheck::Third, ResponseCode::NvUninitialized));
+        }
+        Ok(())
+    }
 }
+
+/// The reading of an index that a command names, and that these checks let it read, is refused only
+/// where it goes past the data. It does nothing.
+#[inline(always)]
+#[tactic(auto, using(crate::proofs::TargetLaws::reading_within))]
+pub fn reading_laws()
+    ensures { (r : Record) (q : Request) (offset size : ℕ)
+        → IfOk (target_of r q) (λ target. reading_passes target ≡ Ok tt
+        → IfErr (read_at r.nv target.handle offset size) (λ fault. fault ≡ Range)) }
+{}

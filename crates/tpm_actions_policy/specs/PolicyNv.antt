@@ -1,11 +1,9 @@
 -- TPM2_PolicyNV. TPM 2.0 Library, Part 3, section 23.9. The order of the checks is this device's
 -- own.
-use Rattle.std.specs.Prelude.{◌≢◌, ℕ, not, List, length, Result, Ok, Err}
+use Rattle.std.specs.Prelude.{ℕ, List, length, Result, Ok, Err}
 use Rattle.std.specs.Int.{w16}
-use Rattle.tpm_bytes.specs.Reading.{◌>>=◌, number_at, or_fault, refused_if}
+use Rattle.tpm_bytes.specs.Reading.{◌>>=◌, number_at, or_fault}
 use Rattle.tpm_nv.specs.Access.{read_at}
-use Rattle.tpm_nv.specs.declared.fault.NvFault.{NvFault}
-use Rattle.tpm_nv.specs.declared.fault.NvFault.TheVariants as fault
 use Rattle.tpm_policy.specs.Assertion.{Assertion, Nv, NvParts, fault_of}
 use Rattle.tpm_policy.specs.declared.fault.PolicyFault.{PolicyFault}
 use Rattle.tpm_session.specs.declared.session.Session.{Session}
@@ -20,7 +18,8 @@ use Rattle.tpm_record.specs.Entity.{name_of}
 use Rattle.tpm_record.specs.Record.{Record}
 use Rattle.tpm_actions.specs.Request.{Request}
 use Rattle.tpm_actions.specs.Rows.{all_read, parameter}
-use Rattle.tpm_actions.specs.Target.{may_read, target_of}
+use Rattle.tpm_actions.specs.Target.{reading_passes, target_of}
+use Rattle.tpm_actions.specs.declared.target.ReadingFault.{ReadingFault}
 use Rattle.tpm_actions.specs.declared.target.Target.{Target}
 
 -- operandB, at most 32 bytes; offset; operation
@@ -37,29 +36,19 @@ nv_parameters text = do
   ended ← all_read operation.1
   Ok (record { operand = operand.0; offset = offset.0; operation = operation.0 })
 
--- what refuses the reading of an index behind A1. A2: it is locked against reading; A3: it is not
--- written; A4: what would be read is past its data. The last two do not occur (no_reading_fails)
-abbrev pub read_fault : NvFault → PolicyFault
-read_fault fault.Locked = fault_of action.Second (plain code.NvLocked)
-read_fault fault.Uninitialized = fault_of action.Third (plain code.NvUninitialized)
-read_fault fault.Range = fault_of action.Fourth (plain code.NvRange)
-read_fault fault.Attributes = fault_of action.First (plain code.Failure)
-read_fault fault.Undefined = fault_of action.First (plain code.Failure)
+-- a fault of reading refuses the assertion, by the same check
+abbrev pub or_reading_fault : {X : Type 0} → Result X ReadingFault → Result X PolicyFault
+or_reading_fault (Ok x) = Ok x
+or_reading_fault (Err fault) = Err (fault_of fault.check fault.rc)
 
-abbrev pub or_read_fault : {X : Type 0} → Result X NvFault → Result X PolicyFault
-or_read_fault (Ok x) = Ok x
-or_read_fault (Err fault) = Err (read_fault fault)
-
--- what is compared with the operand: as many bytes of the index from the offset on; A1: authHandle
--- may not read it
+-- what is compared with the operand: as many bytes of the index from the offset on. A1 to A3: those
+-- of every command that reads; A4: past the data, which is all that then refuses it (reading_laws of
+-- tpm_actions)
 abbrev pub compared : Record → Target → Parameters → Result (List ℕ) PolicyFault
 compared r target p = do
-  a1 ← refused_if (not (may_read target)) (fault_of action.First (plain code.NvAuthorization))
-  or_read_fault (read_at r.nv target.handle p.offset (length p.operand))
-
--- What refuses a reading is none of the faults that do not occur.
-abbrev pub IsNoFailure : PolicyFault → Type 0
-IsNoFailure fault = fault.rc.code ≢ code.Failure
+  readable ← or_reading_fault (reading_passes target)
+  or_fault (read_at r.nv target.handle p.offset (length p.operand))
+      (fault_of action.Fourth (plain code.NvRange))
 
 -- the index is asserted by its Name
 abbrev pub nv_parts_of : Record → Target → Parameters → NvParts

@@ -1,11 +1,11 @@
 ghost use Rattle.std.specs.Prelude.{◌≡◌, ◌≤◌, length};
 ghost use Rattle.tpm_policy.specs.Assertion as assertion;
-ghost use Rattle.tpm_policy.specs.Assertion.{Asserts, asserted, compared_bytes};
+ghost use Rattle.tpm_policy.specs.Assertion.{Asserts, asserted, compared_bytes, fault_of};
 ghost use Rattle.tpm_types.specs.SessionType.{is_trial};
-ghost use Rattle.tpm_actions_policy.specs.PolicyNv.{compared, nv_parts_of, read_fault};
+ghost use Rattle.tpm_actions_policy.specs.PolicyNv.{compared, nv_parts_of};
 
-use tpm_actions::target::Target;
-use tpm_nv::{Indices, NvFault};
+use tpm_actions::target::{ReadingFault, Target};
+use tpm_nv::Indices;
 use tpm_policy::{NvAssertion, PolicyFault, PolicyState};
 use tpm_record::{Keep, name_of};
 use tpm_session::Session;
@@ -21,19 +21,13 @@ pub struct ComparedIndex<'a> {
     ghost few: { length operand.now ≤ 32 },
 }
 
-/// What refuses the reading of an index.
-fn read_fault(fault: NvFault) -> PolicyFault
-    ensures { result ≡ read_fault fault }
+/// The fault of an assertion whose index may not be read.
+fn reading_fault(fault: ReadingFault) -> PolicyFault
+    ensures { result ≡ fault_of fault.check fault.rc }
 {
-    let (check, code) = match fault {
-        NvFault::Locked => (ActionCheck::Second, ResponseCode::NvLocked),
-        NvFault::Uninitialized => (ActionCheck::Third, ResponseCode::NvUninitialized),
-        NvFault::Range => (ActionCheck::Fourth, ResponseCode::NvRange),
-        NvFault::Attributes | NvFault::Undefined => (ActionCheck::First, ResponseCode::Failure),
-    };
     PolicyFault {
-        check,
-        rc: code.anywhere(),
+        check: fault.check,
+        rc: fault.rc,
     }
 }
 
@@ -45,16 +39,14 @@ impl ComparedIndex<'_> {
         ensures { compared_bytes result
             ≡ compared (K.record_of keep.now) self.now.target (nv_asked self.now) }
     {
-        if !self.target.may_read() {
-            return Err(PolicyFault {
-                check: ActionCheck::First,
-                rc: ResponseCode::NvAuthorization.anywhere(),
-            });
-        }
+        self.target.check_reading().map_err(reading_fault)?;
         let size = self.operand.len() as u16;
         match keep.nv().read(self.target.handle, self.offset, size) {
             Ok(bytes) => Ok(bytes),
-            Err(fault) => Err(read_fault(fault)),
+            Err(_) => Err(PolicyFault {
+                check: ActionCheck::Fourth,
+                rc: ResponseCode::NvRange.anywhere(),
+            }),
         }
     }
 

@@ -1,13 +1,10 @@
-ghost use Rattle.std.specs.Prelude.{IfErr, IfOk};
 ghost use Rattle.tpm_types_command.specs.declared.command_code.CommandCode.TheVariants as command;
-ghost use Rattle.tpm_record.specs.Record.{Record};
 ghost use Rattle.tpm_actions.specs.Answer.{IsEmpty};
-ghost use Rattle.tpm_actions.specs.Request.{Request, request_of};
+ghost use Rattle.tpm_actions.specs.Request.{request_of};
 ghost use Rattle.tpm_actions.specs.Rows.{Acts};
-ghost use Rattle.tpm_actions.specs.Target.{target_of};
 ghost use Rattle.tpm_actions_policy.specs.Asked.{AsksNv};
 ghost use Rattle.tpm_actions_policy.specs.Assertions.{assertion_row};
-ghost use Rattle.tpm_actions_policy.specs.PolicyNv.{IsNoFailure, Parameters, compared, nv_parameters};
+ghost use Rattle.tpm_actions_policy.specs.PolicyNv.{nv_parameters};
 
 use crate::assertions::{Asked, make_assertion};
 use crate::compared_index::ComparedIndex;
@@ -47,12 +44,3 @@ pub fn policy_nv<K: Keep>(keep: &mut K, call: &Call, _answer: &mut Answer) -> Re
     let index = read_compared(target_of(keep, call)?, call.parameters)?;
     make_assertion(keep, handle, &Asked::Nv(index))
 }
-
-/// The index that a command names is there, so its reading is refused by the checks A1 to A4 alone:
-/// never by FAILURE, which stands for what does not occur. It does nothing.
-#[inline(always)]
-#[tactic(auto, using(crate::proofs::Reading::reading_occurs))]
-pub fn no_reading_fails()
-    ensures { (r : Record) (q : Request) (p : Parameters)
-        → IfOk (target_of r q) (λ target. IfErr (compared r target p) IsNoFailure) }
-{}

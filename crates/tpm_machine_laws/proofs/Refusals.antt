@@ -85,11 +85,12 @@ use Rattle.tpm_nvactions.specs.NvSetBits.{nv_set_bits_row}
 use Rattle.tpm_nvactions.specs.NvUndefineSpace.{nv_undefine_space_row}
 use Rattle.tpm_nvactions.specs.NvWrite.{nv_write_row, parameters_in as nv_write_parameters}
 use Rattle.tpm_nvactions.specs.NvWriteLock.{nv_write_lock_row}
-use Rattle.tpm_nvactions.specs.Access.{lock_refusal, read_refusal, write_refusal}
+use Rattle.tpm_nvactions.specs.Access.{lock_refusal, reading_refusal, write_refusal}
 use Rattle.tpm_actions.specs.Target.{attributes_of, index_or_refusal}
+use Rattle.tpm_actions.specs.declared.target.ReadingFault.{ReadingFault}
 use Rattle.tpm_actions.specs.declared.target.Target.{Target}
 use Rattle.tpm_actions_policy.specs.PolicyNv.{nv_parameters}
-use Rattle.tpm_nv.specs.Access.{bits_set, check_readable, extended, incremented, index_or_fault, read_at, read_locked, with_auth_value, write_locked, written}
+use Rattle.tpm_nv.specs.Access.{bits_set, extended, incremented, index_or_fault, read_locked, with_auth_value, write_locked, written}
 use Rattle.tpm_nv.specs.Head.{head_of}
 use Rattle.tpm_nv.specs.Index.{NvContents, NvIndex, index_at}
 use Rattle.tpm_nv.specs.declared.definition.DefinitionFault.{DefinitionFault}
@@ -367,13 +368,10 @@ late_extended : (Fit : Type 0) (nv : NvContents) (h : Handle) (bytes : List ℕ)
 unfolding extended
 late_extended Fit nv h bytes there = search changes
 
-late_readable : (Fit : Type 0) (nv : NvContents) (h : Handle) → (Fit → is_some (index_at nv h) ≡ true) → Late Fit (or_refusal read_refusal (check_readable nv h))
-unfolding check_readable
-late_readable Fit nv h there = search changes
-
-late_read : (Fit : Type 0) (nv : NvContents) (h : Handle) (offset size : ℕ) → (Fit → is_some (index_at nv h) ≡ true) → Late Fit (or_refusal read_refusal (read_at nv h offset size))
-unfolding read_at
-late_read Fit nv h offset size there = search changes
+-- what refuses a reading before it
+late_reading : (Fit : Type 0) (x : Result (Unit {0}) ReadingFault) → Late Fit (or_refusal reading_refusal x)
+late_reading Fit (Ok u) = tt
+late_reading Fit (Err fault) = tt
 
 late_write_locked : (Fit : Type 0) (nv : NvContents) (h : Handle) → (Fit → is_some (index_at nv h) ≡ true) → Late Fit (or_refusal lock_refusal (write_locked nv h))
 unfolding write_locked
@@ -390,7 +388,7 @@ late_auth_value Fit r role h value fits =
     let there = λ (fit : Fit). index_there r role h (fits fit) in
     search changes
 
-ruleset late_changes = (late_written, late_incremented, late_bits, late_extended, late_readable, late_read, late_write_locked, late_read_locked, late_auth_value, late_definition)
+ruleset late_changes = (late_written, late_incremented, late_bits, late_extended, late_reading, late_write_locked, late_read_locked, late_auth_value, late_definition)
 
 -- and all others
 ruleset late_steps = (rules, err_bind, err_if, err_or, err_fault, late_capability, late_told, late_template, late_creation, late_scheme, late_assertion, late_session, late_evicted)

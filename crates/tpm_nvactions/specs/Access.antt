@@ -4,6 +4,8 @@
 use Rattle.std.specs.Prelude.{not, Result, Ok}
 use Rattle.tpm_bytes.specs.Reading.{◌>>=◌, refused_if}
 use Rattle.tpm_types.specs.Rc.{at, plain}
+use Rattle.tpm_types.specs.Refused.{refusal}
+use Rattle.tpm_types.specs.declared.check.Check.TheVariants as check
 use Rattle.tpm_types.specs.declared.handle.Handle.{Handle}
 use Rattle.tpm_types.specs.declared.rc.Place.TheVariants as place
 use Rattle.tpm_types.specs.declared.rc.ResponseCode.TheVariants as code
@@ -17,9 +19,10 @@ use Rattle.tpm_actions.specs.Refusals.{action_refusal, handle_refusal, or_refusa
 use Rattle.tpm_actions.specs.Request.{Request}
 use Rattle.tpm_actions.specs.Rows.{Success}
 use Rattle.tpm_actions.specs.Target.{may_read, may_write, target_of}
+use Rattle.tpm_actions.specs.declared.target.ReadingFault.{ReadingFault}
 use Rattle.tpm_actions.specs.declared.target.Target.{Target}
 
--- A1 of the commands that write, and of those that read
+-- A1 of the commands that write, and of TPM2_NV_ReadLock
 abbrev pub writer_passes : Target → Result (Unit {0}) Refused
 writer_passes target =
     refused_if (not (may_write target)) (action_refusal 1 (plain code.NvAuthorization))
@@ -37,14 +40,9 @@ write_refusal fault.Range = action_refusal 4 (plain code.NvRange)
 write_refusal fault.Uninitialized = handle_refusal
 write_refusal fault.Undefined = handle_refusal
 
--- what refuses a read behind A1. A2: the index is locked against reading; A3: it is not written;
--- A5: what would be read is out of range. The last two do not occur
-abbrev pub read_refusal : NvFault → Refused
-read_refusal fault.Locked = action_refusal 2 (plain code.NvLocked)
-read_refusal fault.Uninitialized = action_refusal 3 (plain code.NvUninitialized)
-read_refusal fault.Range = action_refusal 5 (plain code.NvRange)
-read_refusal fault.Attributes = handle_refusal
-read_refusal fault.Undefined = handle_refusal
+-- the refusal by A1 to A3 of a read
+abbrev pub reading_refusal : ReadingFault → Refused
+reading_refusal fault = refusal (check.Action fault.check) fault.rc
 
 -- what refuses a lock behind A1. A2: the index has no attribute that lets it be locked so
 abbrev pub lock_refusal : NvFault → Refused

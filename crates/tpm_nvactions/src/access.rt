@@ -1,10 +1,10 @@
 ghost use Rattle.std.specs.Prelude.{◌≡◌};
-ghost use Rattle.tpm_nvactions.specs.Access.{lock_refusal, read_refusal, reader_passes, write_refusal, writer_passes};
+ghost use Rattle.tpm_nvactions.specs.Access.{lock_refusal, reader_passes, reading_refusal, write_refusal, writer_passes};
 
 use tpm_actions::refusals::{action_refusal, handle_refusal};
-use tpm_actions::target::Target;
+use tpm_actions::target::{ReadingFault, Target};
 use tpm_nv::NvFault;
-use tpm_types::{Refused, ResponseCode};
+use tpm_types::{Check, Refused, ResponseCode};
 
 /// Refuses an authority that may not write the index.
 pub fn check_writer(target: &Target) -> Result<(), Refused>
@@ -40,16 +40,11 @@ pub fn write_refusal(fault: NvFault) -> Refused
     }
 }
 
-/// The refusal of a read.
-pub fn read_refusal(fault: NvFault) -> Refused
-    ensures { result ≡ read_refusal fault }
+/// The refusal of a read by its first checks.
+pub fn reading_refusal(fault: ReadingFault) -> Refused
+    ensures { result ≡ reading_refusal fault }
 {
-    match fault {
-        NvFault::Locked => action_refusal(2, ResponseCode::NvLocked.anywhere()),
-        NvFault::Uninitialized => action_refusal(3, ResponseCode::NvUninitialized.anywhere()),
-        NvFault::Range => action_refusal(5, ResponseCode::NvRange.anywhere()),
-        NvFault::Attributes | NvFault::Undefined => handle_refusal(),
-    }
+    Refused::by(Check::Action(fault.check), fault.rc)
 }
 
 /// The refusal of a lock.

@@ -4,11 +4,11 @@ ghost use Rattle.tpm_actions.specs.Request.{request_of};
 ghost use Rattle.tpm_actions.specs.Rows.{Acts};
 ghost use Rattle.tpm_nvactions.specs.NvRead.{nv_read_row, parameters_in};
 
-use crate::access::{check_reader, read_refusal};
+use crate::access::reading_refusal;
 use tpm_actions::answer::Answer;
 use tpm_actions::call::Call;
 use tpm_actions::reading::{end, number};
-use tpm_actions::refusals::parameter_fault;
+use tpm_actions::refusals::{action_refusal, parameter_fault};
 use tpm_actions::target::target_of;
 use tpm_bytes::Cursor;
 use tpm_nv::Indices;
@@ -45,10 +45,7 @@ pub fn nv_read<K: Keep>(keep: &mut K, call: &Call, answer: &mut Answer) -> Resul
 {
     let target = target_of(keep, call)?;
     let asked = read_parameters(call.parameters)?;
-    check_reader(&target)?;
-    if let Err(fault) = keep.nv().check_readable(target.handle) {
-        return Err(read_refusal(fault));
-    }
+    target.check_reading().map_err(reading_refusal)?;
     if asked.size > MOST_BYTES {
         return Err(parameter_fault(4, 1, ResponseCode::Value));
     }
@@ -57,6 +54,6 @@ pub fn nv_read<K: Keep>(keep: &mut K, call: &Call, answer: &mut Answer) -> Resul
             let _ = answer.parameters.put_sized(bytes);
             Ok(())
         }
-        Err(fault) => Err(read_refusal(fault)),
+        Err(_) => Err(action_refusal(5, ResponseCode::NvRange.anywhere())),
     }
 }
