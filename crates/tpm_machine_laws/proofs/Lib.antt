@@ -7,6 +7,7 @@ pub mod Accepted
 pub mod Readings
 pub mod Refusals
 pub mod Handles
+pub mod Memory
 pub mod Grants
 pub mod AllPlaces
 pub mod SizedParts

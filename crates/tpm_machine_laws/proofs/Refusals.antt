@@ -149,6 +149,13 @@ in_order_passes Fit s (Err e) faults (inl handle) fit = absurd (handle.1 fit)
 in_order_passes Fit s (Err e) faults (inr (inl fault)) fit = λ same. let never : check.Parameters ≡ check.Handles = sym (IfErr-at_err (λ (e : Refused). e.check ≡ check.Parameters) fault faults) ∙ same in absurd cc
 in_order_passes Fit s (Err e) faults (inr (inr late)) fit = λ same. subst (IsLate Fit) same late.1 fit
 
+-- and it never refuses anything for want of memory
+in_order_wants : {X : Type 0} (Fit : Type 0) (s : Result (Unit {0}) Refused) (row : Result X Refused) → IfErr s (λ e. e.check ≡ check.Parameters) → InOrder Fit s row → Passes check.Memory row
+in_order_wants Fit s (Ok x) faults order = tt
+in_order_wants Fit s (Err e) faults (inl handle) = λ same. let never : check.Handles ≡ check.Memory = sym handle.0 ∙ same in absurd cc
+in_order_wants Fit s (Err e) faults (inr (inl fault)) = λ same. let never : check.Parameters ≡ check.Memory = sym (IfErr-at_err (λ (e : Refused). e.check ≡ check.Parameters) fault faults) ∙ same in absurd cc
+in_order_wants Fit s (Err e) faults (inr (inr late)) = λ same. subst (IsLate Fit) same late.1
+
 -- authHandle and nvIndex, as a row reads them
 abbrev target_at : Record → List Handle → Result Target Refused
 target_at r handles = do
@@ -439,3 +446,6 @@ row_reads r c q = in_order_reads _ _ _ (row_orders r c q).order
 
 pub row_passes : (r : Record) (c : CommandCode) (q : Request) → HandlesFit r (shape_of c).handles q.handles → Passes check.Handles (row_of r c q)
 row_passes r c q fit = in_order_passes _ _ _ (spelled_faults 1 (shape_of c).parameters q.parameters) (row_orders r c q).order fit
+
+pub row_wants : (r : Record) (c : CommandCode) (q : Request) → Passes check.Memory (row_of r c q)
+row_wants r c q = in_order_wants _ _ _ (spelled_faults 1 (shape_of c).parameters q.parameters) (row_orders r c q).order

@@ -8,9 +8,10 @@
 //! It stands on the definitions of tpm_machine_step. A row is opened here, so that theorems over
 //! histories need not open any.
 
-ghost use Rattle.std.specs.Prelude.{◌≡◌, ℕ, ◌+◌, ◌*◌, ◌≤◌, Bool, IfOk, List, [], Ok, Option};
+ghost use Rattle.std.specs.Prelude.{◌≡◌, ◌≢◌, ℕ, ◌+◌, ◌*◌, ◌≤◌, Bool, IfOk, List, [], Ok, Option};
 ghost use Rattle.std.specs.Prelude.{false, length};
 ghost use Rattle.std.specs.List.{AllByRecursion};
+ghost use Rattle.tpm_types.specs.Check.{check_number};
 ghost use Rattle.tpm_types.specs.declared.check.Check.TheVariants as check;
 ghost use Rattle.tpm_types_command.specs.Command.{Whole};
 ghost use Rattle.tpm_types_command.specs.CommandCode.{shape_of};
@@ -26,7 +27,7 @@ ghost use Rattle.tpm_machine_step.specs.Events.{Happening, IsEvent};
 ghost use Rattle.tpm_machine_step.specs.Execution.{Executes};
 ghost use Rattle.tpm_machine_step.specs.General.{general};
 ghost use Rattle.tpm_machine_step.specs.Run.{Runs, after_all};
-ghost use Rattle.tpm_machine_step.specs.Step.{Accepted, Stepped, acceptance, step_where};
+ghost use Rattle.tpm_machine_step.specs.Step.{Accepted, Stepped, acceptance, step, step_where};
 ghost use Rattle.tpm_machine_step.specs.Table.{row_of};
 ghost use Rattle.tpm_machine_laws.specs.Footprint.{Touches, part_of};
 ghost use Rattle.tpm_machine_laws.specs.Grants.{GrantsFit};
@@ -115,6 +116,23 @@ pub fn general_checks_fit_handles()
 pub fn no_handle_is_refused_later()
     ensures { (r : Record) (buffer : List ℕ) (c : Whole) (locality : ℕ) (random : List ℕ)
         → general r buffer ≡ Ok c → Passes check.Handles (acceptance r c locality random) }
+{}
+
+/// No row refuses anything for want of memory.
+#[inline(always)]
+#[tactic(auto, using(crate::proofs::Refusals::row_wants))]
+pub fn rows_want_no_memory()
+    ensures { (r : Record) (c : CommandCode) (q : Request) → Passes check.Memory (row_of r c q) }
+{}
+
+/// So no step to which memory is not refused reports M, and no execution where it cannot be.
+#[inline(always)]
+#[tactic(auto, using(crate::proofs::Memory::step_wants, crate::proofs::Memory::execution_wants))]
+pub fn steps_want_no_memory()
+    ensures step { (r : Record) (event : Happening)
+        → (step r event).row.check ≢ check_number check.Memory }
+    ensures execution { (old : Record) (event : Happening) (x : Stepped)
+        → Executes false old event x → x.row.check ≢ check_number check.Memory }
 {}
 
 /// Where the entries' own checks pass, the walk of grants finds the session of each entry that is
