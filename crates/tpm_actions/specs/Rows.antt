@@ -43,8 +43,9 @@ abbrev pub unchanged : Record → AnswerParts → Success
 unchanged r answer = record { answer = answer; after = r }
 
 -- A command that grows something did what its row says, and its answer is the row's; or it was
--- refused memory, where it can be, in place of a success. A refusal changes nothing, and of the
--- answer nothing is said then.
+-- refused memory, where it can be, in place of a success. A refusal leaves the record. Of the answer
+-- nothing is said then, of any command: it may hold a part of what a success would have answered,
+-- and what is sent of a refusal is made of the refusal alone.
 abbrev pub ActsIfRoom : Bool → Result Success Refused
     → Record → Result (Unit {0}) Refused → Answer → Record → Type 0
 ActsIfRoom can (Ok s) old (Ok done) answer new = IsAnswer s.answer answer × (new ≡ s.after)
@@ -53,7 +54,7 @@ ActsIfRoom can (Ok s) old (Err e) answer new =
 ActsIfRoom can (Err refused) old (Ok done) answer new = ⊥
 ActsIfRoom can (Err refused) old (Err e) answer new = (e ≡ refused) × (new ≡ old)
 
--- A command that grows nothing did what its row says.
+-- A command that grows nothing did what its row says, and the same is said of its refusal.
 abbrev pub Acts : Result Success Refused
     → Record → Result (Unit {0}) Refused → Answer → Record → Type 0
 Acts row old result answer new = ActsIfRoom false row old result answer new
