@@ -1,5 +1,5 @@
 -- Heads and the row of their bytes: that a change of the one and of the other is a change of the indices.
-use Rattle.std.proofs.Common.{◌≡◌, ◌≢◌, ℕ, ◌+◌, ◌-◌, ◌<◌, ◌≤◌, cond, eqb, leb, List, [], ◌∷◌, ◌++◌, length, take, drop, replicate, Option, Some, None, refl, sym, ap, subst, ◌∙◌, arith, inl, inr, append_assoc, length-append, length-drop}
+use Rattle.std.proofs.Common.{◌≡◌, ◌≢◌, ℕ, ◌+◌, ◌-◌, ◌<◌, ◌≤◌, cond, eqb, leb, zero, suc, List, [], ◌∷◌, ◌++◌, length, get_or, take, drop, replicate, Option, Some, None, refl, sym, ap, subst, ◌∙◌, arith, inl, inr, append_assoc, length-append, length-drop}
 use Rattle.std.proofs.Math.Seq.{drop-append-add, take-append-add}
 use Rattle.std.specs.List.{sum_by}
 use Rattle.std.specs.Prelude.{map}
@@ -49,6 +49,19 @@ place e es key h up there =
           let found = sym (cond-false _ _ _ (ne_eqb e.0 key apart)) ∙ there in
           behind apart (above_first e.0 es key h up.0 found) found
     ]
+
+-- no key is found below all keys
+pub none_below : (es : Entries Head) (key low : ℕ) → AllAbove low es → key ≤ low → at_key es key ≡ None
+none_below [] key low above under = refl
+none_below (e ∷ es) key low above under =
+    rw (ne_eqb e.0 key (λ same. omega (arith, same, above.0, under))) (none_below es key low above.1 under)
+
+-- nor behind keys below it where the next is above it
+pub none_from : (es : Entries Head) (i key : ℕ) (d : ℕ × Head) → i < length es → Ascends (drop i es) → key ≤ (get_or es i d).0 → key ≢ (get_or es i d).0 → at_key (drop i es) key ≡ None
+none_from [] i key d in_es up under apart = absurd (omega (arith, in_es))
+none_from (e ∷ es) zero key d in_es up under apart =
+    rw (ne_eqb e.0 key (λ same. apart (sym same))) (none_below es key e.0 up.0 under)
+none_from (e ∷ es) (suc i) key d in_es up under apart = none_from es i key d (omega (arith, in_es)) up under apart
 
 -- ---- where the bytes of a key begin
 

@@ -24,11 +24,14 @@ use Rattle.tpm_nv.specs.Access.{data_or, marked, with_data, writable}
 use Rattle.tpm_nv.specs.declared.fault.NvFault.TheVariants.{Locked, Attributes}
 use Rattle.tpm_nv.specs.Bytes.{closed_up, filled, piece_of, put_over}
 use Rattle.tpm_nv.specs.Definition.{has_type_size, is_type_size}
-use Rattle.tpm_nv.specs.Head.{AreHeads, AreKept, IsHead, IsIndexOf, head_of, index_with, indices_of, size_of, start_of, total, with_attributes}
+use Rattle.tpm_nv.specs.Head.{AreHeads, AreKept, IsHead, IsIndexOf, head_of, index_with, indices_of, size_of, start_in, start_of, total, with_attributes}
 use Rattle.tpm_nv.specs.Index.{NvContents, NvIndex, changed_index, has_room, index_at}
 use Rattle.tpm_nv.specs.IsContents.{AreIndices, IsContents}
+use Rattle.tpm_nv.specs.Place.{IsPlaceOf, place_of}
 use Rattle.tpm_nv.specs.declared.head.Head.{Head}
-use Rattle.tpm_nv.proofs.Cuts.{ascends_among, bytes_among, changed_among, found_among, head_at, heads_changed, heads_put, heads_removed, length_among, length_put, none_among, piece_fits, put_anew, put_back, put_within, start_fits, total_changed, total_put, total_removed}
+use Rattle.tpm_nv.specs.declared.place.Found.{Found}
+use Rattle.tpm_nv.specs.declared.place.Place.{Place}
+use Rattle.tpm_nv.proofs.Cuts.{ascends_among, bytes_among, changed_among, found_among, head_at, heads_among, heads_changed, heads_put, heads_removed, length_among, length_put, none_among, piece_fits, put_anew, put_back, put_within, start_fits, total_changed, total_put, total_removed}
 
 -- ---- what a lookup of a head says of the index
 
@@ -213,6 +216,43 @@ piece_inside es row key h kept there = omega (arith, kept.whole, piece_fits es k
 pub seen_head : (es : Entries Head) (row : List ℕ) (key : ℕ) (found : Option (Bor Head)) → Ascends es → option_copied found ≡ at_key es key → option_copied found ≡ option_map head_of (at_key (indices_of es row) key)
 seen_head es row key None up is = rw (none_among es row key (sym is)) refl
 seen_head es row key (Some h) up is = rw (found_among es row key h.now up (sym is)) refl
+
+-- the head of an index that is there, and what is known of the index
+pub head_of_index : (P : NvIndex → Type 0) (es : Entries Head) (row : List ℕ) (count : ℕ) (handle : Handle) (shown : NvContents) → (let view : NvContents = record { indices = indices_of es row; max_count = count } in view ≡ shown) → AreKept es row → IsSomeAnd (index_at shown handle) P → (h : Head) × (at_key es handle.number ≡ Some h) × P (index_with h (piece_of (start_of es handle.number) (size_of h) row))
+head_of_index P es row count handle shown view kept known = by (at_key es handle.number) refl
+  where
+    by : (found : Option Head) → at_key es handle.number ≡ found → (h : Head) × (at_key es handle.number ≡ Some h) × P (index_with h (piece_of (start_of es handle.number) (size_of h) row))
+    by (Some h) is = (h, is, known_of P (index_at shown handle) (index_with h (piece_of (start_of es handle.number) (size_of h) row)) (some_at es row count handle shown h view kept is) known)
+    by None is =
+        let never : ⊥ = subst (λ (o : Option NvIndex). IsSomeAnd o P) (none_at es row count handle shown view is) known in
+        absurd never
+
+-- where its bytes begin, as the indices show it
+pub start_is : (es : Entries Head) (row : List ℕ) (count : ℕ) (handle : Handle) (shown : NvContents) → (let view : NvContents = record { indices = indices_of es row; max_count = count } in view ≡ shown) → start_in shown handle ≡ start_of es handle.number
+start_is es row count handle shown view =
+    ap (λ (s : NvContents). start_in s handle) (sym view) ∙ ap (λ (l : Entries Head). start_of l handle.number) (sym (heads_among es row))
+
+pub known_some : (P : NvIndex → Type 0) (found : Option NvIndex) (x : NvIndex) → found ≡ Some x → P x → IsSomeAnd found P
+known_some P found x is known = subst (λ (o : Option NvIndex). IsSomeAnd o P) (sym is) known
+
+-- what a walk over the heads found
+module _ (es : Entries Head) (row : List ℕ) (count : ℕ) (handle : Handle) (shown : NvContents) (view : (let kept : NvContents = record { indices = indices_of es row; max_count = count } in kept ≡ shown)) where
+  pub found_none : (found : Option Found) → IfNone found (at_key es handle.number ≡ None) → IfNone found (index_at shown handle ≡ None)
+  found_none None none = none_at es row count handle shown view none
+  found_none (Some f) none = tt
+
+  pub found_some : (found : Option Found) → AreKept es row → IfSome found (λ f. (at_key es handle.number ≡ Some f.head.now) × (f.start ≡ start_of es handle.number)) → IfSome found (λ f. (old : List ℕ) × IsIndexOf shown handle f.head.now old × (f.start ≡ start_in shown handle))
+  found_some None kept some = tt
+  found_some (Some f) kept some =
+      let t = subst (λ (s : NvContents). (old : List ℕ) × IsIndexOf s handle f.head.now old) view (there_is es row count handle (Some f.head) kept (sym some.0)) in
+      (t.0, t.1, some.1 ∙ sym (start_is es row count handle shown view))
+
+-- the place of an index that was found
+pub is_place : (contents : NvContents) (handle : Handle) (h : Head) (old : List ℕ) (start : ℕ) (place : Place) → place ≡ place_of h start → IsIndexOf contents handle h old → start ≡ start_in contents handle → IsPlaceOf contents handle place
+is_place contents handle h old start place same is from = (
+  known_some (λ (i : NvIndex). (place.attributes ≡ i.public.attributes) × (place.size ≡ i.public.data_size)) (index_at contents handle) (index_with h old) is.found (ap (λ (p : Place). p.attributes) same, ap (λ (p : Place). p.size) same),
+  ap (λ (p : Place). p.start) same ∙ from,
+)
 
 -- the data of an index that is written are its bytes
 pub bytes_of : (h : Head) (bytes : List ℕ) (index : NvIndex) → index_with h bytes ≡ index → has index.public.attributes attribute.Written ≡ true → bytes ≡ index.bytes

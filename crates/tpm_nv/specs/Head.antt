@@ -50,6 +50,10 @@ abbrev pub start_of : Entries Head → ℕ → ℕ
 start_of [] key = 0
 start_of (e ∷ es) key = if nat_le key e.0 then 0 else size_of e.1 + start_of es key
 
+-- where the bytes of a handle begin in the row of all
+abbrev pub start_in : NvContents → Handle → ℕ
+start_in contents handle = start_of (heads_of contents) handle.number
+
 -- a head under its handle: its public area has a text and the size of its type
 pub record IsHead (key : ℕ) (head : Head) : Type 0 where
   pub named : key ≡ head.public.nv_index.number

@@ -6,6 +6,7 @@ pub mod Startup
 pub mod Clear
 pub mod IsContents
 pub mod Head
+pub mod Place
 pub use Rattle.tpm_ascending.specs.Ascending
 pub use Rattle.tpm_ascending.specs.IsAscendingMap
 pub use Rattle.tpm_types_nv.specs.NvAttributes

@@ -1,12 +1,14 @@
 //! What is done to the heads alone.
 
-ghost use Rattle.std.specs.Prelude.{◌≡◌, ◌<◌, ◌≤◌, ℕ, None, OnErr, OnOk, Some, length, true};
-ghost use Rattle.tpm_ascending.specs.Ascending.{at_key, changed_key, with_key};
+ghost use Rattle.std.specs.Prelude.{◌≡◌, ◌<◌, ◌≤◌, ℕ, IfNone, IfSome, None, OnErr, OnOk, Some, length};
+ghost use Rattle.std.specs.Prelude.{true};
+ghost use Rattle.tpm_ascending.specs.Ascending.{Ascends, at_key, changed_key, with_key};
 ghost use Rattle.tpm_nv.specs.Head.{start_of, total, with_attributes};
 ghost use Rattle.tpm_nv.specs.declared.head.Head.{Head};
 ghost use Rattle.tpm_types.specs.AuthValue.{IsAuthValue};
 
 use crate::head::Head;
+use crate::place::Found;
 use crate::row::NoMemory;
 use tpm_ascending::{Ascending, KeyFault};
 use tpm_types::AuthValue;
@@ -25,6 +27,28 @@ pub(crate) fn start_of(heads: &[(u32, Head)], key: u32) -> usize
         start += usize::from(head.public.data_size);
     }
     start
+}
+
+/// The head of a key, and where its bytes begin in the row of all, found in one walk.
+pub(crate) fn found_at(heads: &[(u32, Head)], key: u32) -> Option<Found<'_>>
+    requires ascends { Ascends heads.now }
+    requires small { total heads.now ≤ 8192 }
+    ensures absent { IfNone result (at_key heads.now key ≡ None) }
+    ensures there { IfSome result (λ found. (at_key heads.now key ≡ Some found.head.now)
+        × (found.start ≡ start_of heads.now key)) }
+{
+    let mut start = 0;
+    for (other, head) in heads {
+        if key <= *other {
+            return if key == *other {
+                Some(Found { head, start })
+            } else {
+                None
+            };
+        }
+        start += usize::from(head.public.data_size);
+    }
+    None
 }
 
 /// Gives the index of a key other attributes.

@@ -23,6 +23,7 @@ pub mod indices;
 pub mod laws;
 pub mod list_row;
 mod pieces;
+mod place;
 pub mod row;
 mod startup;
 pub mod stored_indices;

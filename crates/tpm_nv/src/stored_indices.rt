@@ -1,11 +1,12 @@
 ghost use Rattle.std.specs.Prelude.{◌≡◌, ◌≢◌, ◌<◌, ◌≤◌, ◌+◌, ◌||◌, ℕ, List, ◌++◌, None, Some, Ok, Err};
 ghost use Rattle.std.specs.Prelude.{IfErr, IfNone, IfOk, IfSome, IsSomeAnd, OnErr, OnOk};
-ghost use Rattle.std.specs.Prelude.{length, true, if◌then◌else◌};
+ghost use Rattle.std.specs.Prelude.{is_some, length, true, if◌then◌else◌};
 ghost use Rattle.tpm_mac.specs.Digest.{digest_size, hash_of};
 ghost use Rattle.tpm_nv.specs.Access.{check_writable, data_or, marked, number_or, with_data, writable};
 ghost use Rattle.tpm_nv.specs.Bytes.{put_over};
 ghost use Rattle.tpm_nv.specs.Definition.{HasRoomFor, has_type_size};
-ghost use Rattle.tpm_nv.specs.Head.{IsIndexOf, index_with};
+ghost use Rattle.tpm_nv.specs.Head.{IsIndexOf, index_with, start_in};
+ghost use Rattle.tpm_nv.specs.Place.{IsFound, IsPlaceOf};
 ghost use Rattle.tpm_nv.specs.Index.{NvIndex, changed_index, has_room, index_at, with_index};
 ghost use Rattle.tpm_types_nv.specs.NvAttributes.{attribute_bit, has};
 ghost use Rattle.tpm_types_nv.specs.NvPublic.{IsNvPublic};
@@ -15,10 +16,11 @@ use crate::clear::{PlatformIndices, keep_bytes};
 use crate::fault::{DefineFault, NvFault};
 use crate::fixed_row::FixedRow;
 use crate::head::Head;
-use crate::heads::{auth_value_fits, put_head, set_attributes, set_auth_value, start_of};
+use crate::heads::{auth_value_fits, found_at, put_head, set_attributes, set_auth_value, start_of};
 use crate::indices::Indices;
 use crate::list_row::ListRow;
-use crate::pieces::{Piece, piece_at, put_between, put_bytes};
+use crate::pieces::{piece_at, put_between, put_bytes};
+use crate::place::{Found, Place};
 use crate::row::{NoMemory, Row};
 use crate::startup::start_heads;
 use crate::values::{count_fits, digest_of, is_part, is_room, is_write_lockable, number_of, zeros};
@@ -27,7 +29,7 @@ use std::marker::Model;
 use tpm_ascending::{Ascending, FixedAscending, ListAscending};
 use tpm_mac::Digest;
 use tpm_types::{AuthValue, Handle};
-use tpm_types_nv::{NvAttribute, NvPublic, NvType};
+use tpm_types_nv::{NvAttribute, NvAttributes, NvPublic, NvType};
 
 /// NV indices: their heads in a map by handles, and the bytes of all in one row, in the order of
 /// the handles. Each has its bytes from its definition on, so that no write takes memory.
@@ -69,83 +71,79 @@ impl<H: Ascending<Head, 32>, R: Row> StoredIndices<H, R> {
         self.heads.get(handle.number)
     }
 
-    /// The head of an index that a command for this type may write.
-    fn writable(&self, handle: Handle, kind: NvType) -> Result<&Head, NvFault>
-        ensures refused { IfErr result (λ fault. check_writable self.now handle kind ≡ Err fault) }
-        ensures there { IfOk result (λ head. (old : List ℕ)
-            × IsIndexOf self.now handle head.now old
-            × (writable kind (index_with head.now old) ≡ Ok tt)) }
+    /// The head of an index, and where its bytes begin.
+    fn find(&self, handle: Handle) -> Option<Found<'_>>
+        ensures absent { IfNone result (index_at self.now handle ≡ None) }
+        ensures there { IfSome result (λ found. (old : List ℕ)
+            × IsIndexOf self.now handle found.head.now old
+            × (found.start ≡ start_in self.now handle)) }
     {
-        let Some(head) = self.head(handle) else {
+        found_at(self.heads.as_slice(), handle.number)
+    }
+
+    /// An index that a command for this type may write.
+    fn writable(&self, handle: Handle, kind: NvType) -> Result<Found<'_>, NvFault>
+        ensures refused { IfErr result (λ fault. check_writable self.now handle kind ≡ Err fault) }
+        ensures there { IfOk result (λ found. (old : List ℕ)
+            × IsIndexOf self.now handle found.head.now old
+            × (writable kind (index_with found.head.now old) ≡ Ok tt)
+            × (found.start ≡ start_in self.now handle)) }
+    {
+        let Some(found) = self.find(handle) else {
             return Err(NvFault::Undefined);
         };
-        if head.public.attributes.has(NvAttribute::WriteLocked) {
+        if found.head.public.attributes.has(NvAttribute::WriteLocked) {
             return Err(NvFault::Locked);
         }
-        if !head.public.attributes.is_of(kind) {
+        if !found.head.public.attributes.is_of(kind) {
             return Err(NvFault::Attributes);
         }
-        Ok(head)
+        Ok(found)
     }
 
     /// Puts bytes over the data of an index from an offset on, or until it is written over so many
     /// of the first byte; it is written then.
-    fn put_data(&mut self, handle: Handle, offset: usize, first: u8, bytes: &[u8])
-        requires { IsSomeAnd (index_at self.old handle) (λ index.
-            offset + length bytes.now ≤ index.public.data_size) }
+    fn put_data(&mut self, handle: Handle, place: Place, offset: usize, first: u8, bytes: &[u8])
+        requires there { IsPlaceOf self.old handle place }
+        requires within { offset + length bytes.now ≤ place.size }
         ensures { (index : NvIndex) → index_at self.old handle ≡ Some index
             → self.new ≡ changed_index self.old handle
             (with_data index (put_over offset bytes.now (data_or first index))) }
     {
-        let Some(head) = self.heads.get(handle.number) else {
-            return;
-        };
-        let attributes = head.public.attributes;
-        let size = usize::from(head.public.data_size);
-        let start = start_of(self.heads.as_slice(), handle.number);
-        let is_written = attributes.has(NvAttribute::Written);
-        let piece = Piece {
-            start,
-            size,
-            is_written,
-        };
-        put_bytes(&mut self.row, piece, first, offset, bytes);
-        let written = attributes.with(NvAttribute::Written);
+        put_bytes(&mut self.row, place.piece(), first, offset, bytes);
+        let written = place.attributes.with(NvAttribute::Written);
         set_attributes(&mut self.heads, handle.number, written);
     }
 
-    /// Gives an index an attribute.
-    fn mark(&mut self, handle: Handle, attribute: NvAttribute)
-        requires { attribute_bit attribute ≢ attribute_bit attributes.Written }
+    /// Gives an index that has these attributes one more.
+    fn mark(&mut self, handle: Handle, of: NvAttributes, attribute: NvAttribute)
+        requires there { IsSomeAnd (index_at self.old handle) (λ index.
+            of ≡ index.public.attributes) }
+        requires other { attribute_bit attribute ≢ attribute_bit attributes.Written }
         ensures { (index : NvIndex) → index_at self.old handle ≡ Some index
             → self.new ≡ changed_index self.old handle (marked index attribute) }
     {
-        let Some(head) = self.heads.get(handle.number) else {
-            return;
-        };
-        let attributes = head.public.attributes.with(attribute);
-        set_attributes(&mut self.heads, handle.number, attributes);
+        set_attributes(&mut self.heads, handle.number, of.with(attribute));
     }
 
     /// Puts other data in the place of all data of an index; it is written then.
-    fn set_data(&mut self, handle: Handle, bytes: &[u8])
-        requires { IsSomeAnd (index_at self.old handle) (λ index.
+    fn set_data(&mut self, handle: Handle, place: Place, bytes: &[u8])
+        requires there { IsPlaceOf self.old handle place }
+        requires whole { IsSomeAnd (index_at self.old handle) (λ index.
             (length bytes.now ≡ index.public.data_size)
             × (length (data_or 0 index) ≡ index.public.data_size)) }
         ensures { (index : NvIndex) → index_at self.old handle ≡ Some index
             → self.new ≡ changed_index self.old handle (with_data index bytes.now) }
     {
-        self.put_data(handle, 0, 0, bytes);
+        self.put_data(handle, place, 0, 0, bytes);
     }
 
-    /// Gives an index another authorization value.
+    /// Gives an index that is there another authorization value.
     fn replace_auth(&mut self, handle: Handle, value: AuthValue)
+        requires { is_some (index_at self.old handle) ≡ true }
         ensures { (index : NvIndex) → index_at self.old handle ≡ Some index
             → self.new ≡ changed_index self.old handle (record index { auth_value = value }) }
     {
-        let Some(_) = self.heads.get(handle.number) else {
-            return;
-        };
         auth_value_fits(&value);
         set_auth_value(&mut self.heads, handle.number, value);
     }
@@ -198,41 +196,43 @@ impl<H: Ascending<Head, 32>, R: Row> StoredIndices<H, R> {
         }
     }
 
-    /// The data of an index that is written.
-    fn data(&self, handle: Handle) -> &[u8]
-        ensures { (index : NvIndex) → index_at self.now handle ≡ Some index
-            → has index.public.attributes attributes.Written ≡ true → result.now ≡ index.bytes }
+    /// The bytes of an index that was found.
+    fn data(&self, found: Found) -> &[u8]
+        requires { (handle : Handle) × IsFound self.now handle found }
+        ensures { let head = found.entry.head.now in (handle : Handle) (old : List ℕ)
+            → IsIndexOf self.now handle head old → found.entry.start ≡ start_in self.now handle
+            → has head.public.attributes attributes.Written ≡ true → result.now ≡ old }
     {
-        let Some(head) = self.heads.get(handle.number) else {
-            return &[];
-        };
-        let size = usize::from(head.public.data_size);
-        let start = start_of(self.heads.as_slice(), handle.number);
-        piece_at(self.row.as_slice(), start, size)
+        let size = usize::from(found.head.public.data_size);
+        piece_at(self.row.as_slice(), found.start, size)
     }
 
     /// The number that the data of an index are, or until it is written this one.
-    fn number(&self, handle: Handle, head: &Head, first: u64) -> u64
-        ensures { (old : List ℕ) → IsIndexOf self.now handle head.now old
-            → length old ≡ 8 → result ≡ number_or first (index_with head.now old) }
+    fn number(&self, found: Found, first: u64) -> u64
+        requires { (handle : Handle) × IsFound self.now handle found }
+        ensures { let head = found.entry.head.now in (handle : Handle) (old : List ℕ)
+            → IsIndexOf self.now handle head old → found.entry.start ≡ start_in self.now handle
+            → length old ≡ 8 → result ≡ number_or first (index_with head old) }
     {
-        if head.public.attributes.has(NvAttribute::Written) {
-            return number_of(self.data(handle));
+        if found.head.public.attributes.has(NvAttribute::Written) {
+            return number_of(self.data(found));
         }
         first
     }
 
     /// The digest of the data of an index, or of zeros until it is written, and of these bytes.
-    fn extended_digest(&self, handle: Handle, head: &Head, bytes: &[u8]) -> Digest
-        ensures value { (old : List ℕ) → IsIndexOf self.now handle head.now old
-            → head.now.public.data_size ≡ digest_size head.now.public.name_alg
-            → result.items ≡ hash_of head.now.public.name_alg
-            (data_or 0 (index_with head.now old) ++ bytes.now) }
-        ensures size { length result.items ≡ digest_size head.now.public.name_alg }
+    fn extended_digest(&self, found: Found, bytes: &[u8]) -> Digest
+        requires { (handle : Handle) × IsFound self.now handle found }
+        ensures value { let head = found.entry.head.now in (handle : Handle) (old : List ℕ)
+            → IsIndexOf self.now handle head old → found.entry.start ≡ start_in self.now handle
+            → head.public.data_size ≡ digest_size head.public.name_alg
+            → result.items ≡ hash_of head.public.name_alg
+            (data_or 0 (index_with head old) ++ bytes.now) }
+        ensures size { length result.items ≡ digest_size found.entry.head.now.public.name_alg }
     {
-        let name_alg = head.public.name_alg;
-        if head.public.attributes.has(NvAttribute::Written) {
-            return digest_of(name_alg, self.data(handle), bytes);
+        let name_alg = found.head.public.name_alg;
+        if found.head.public.attributes.has(NvAttribute::Written) {
+            return digest_of(name_alg, self.data(found), bytes);
         }
         digest_of(name_alg, zeros(name_alg), bytes)
     }
@@ -300,46 +300,47 @@ impl<H: Ascending<Head, 32>, R: Row> Indices for StoredIndices<H, R> {
 
     #[tactic(auto, unfolding(crate::specs::Access::written))]
     fn write(&mut self, handle: Handle, offset: u16, bytes: &[u8]) -> Result<(), NvFault> {
-        let head = self.writable(handle, NvType::Ordinary)?;
-        let size = usize::from(head.public.data_size);
+        let place = self.writable(handle, NvType::Ordinary)?.place();
         let offset = usize::from(offset);
-        let is_part = is_part(head.public.attributes, bytes.len(), size);
-        if offset + bytes.len() > size {
+        if offset + bytes.len() > place.size {
             return Err(NvFault::Range);
         }
-        if is_part {
+        if is_part(place.attributes, bytes.len(), place.size) {
             return Err(NvFault::Range);
         }
-        self.put_data(handle, offset, 0xff, bytes);
+        self.put_data(handle, place, offset, 0xff, bytes);
         Ok(())
     }
 
     #[tactic(auto, unfolding(crate::specs::Access::incremented))]
     fn increment(&mut self, handle: Handle) -> Result<(), NvFault> {
-        let head = self.writable(handle, NvType::Counter)?;
-        let last = self.number(handle, head, self.max_count);
+        let found = self.writable(handle, NvType::Counter)?;
+        let place = found.place();
+        let last = self.number(found, self.max_count);
         if last == u64::MAX {
             return Err(NvFault::Range);
         }
         let count = last + 1;
-        self.set_data(handle, &count.to_be_bytes());
+        self.set_data(handle, place, &count.to_be_bytes());
         self.max_count = self.max_count.max(count);
         Ok(())
     }
 
     #[tactic(auto, unfolding(crate::specs::Access::bits_set))]
     fn set_bits(&mut self, handle: Handle, bits: u64) -> Result<(), NvFault> {
-        let head = self.writable(handle, NvType::Bits)?;
-        let number = self.number(handle, head, 0) | bits;
-        self.set_data(handle, &number.to_be_bytes());
+        let found = self.writable(handle, NvType::Bits)?;
+        let place = found.place();
+        let number = self.number(found, 0) | bits;
+        self.set_data(handle, place, &number.to_be_bytes());
         Ok(())
     }
 
     #[tactic(auto, unfolding(crate::specs::Access::extended))]
     fn extend(&mut self, handle: Handle, bytes: &[u8]) -> Result<(), NvFault> {
-        let head = self.writable(handle, NvType::Extend)?;
-        let digest = self.extended_digest(handle, head, bytes);
-        self.set_data(handle, digest.as_slice());
+        let found = self.writable(handle, NvType::Extend)?;
+        let place = found.place();
+        let digest = self.extended_digest(found, bytes);
+        self.set_data(handle, place, digest.as_slice());
         Ok(())
     }
 
@@ -359,9 +360,10 @@ impl<H: Ascending<Head, 32>, R: Row> Indices for StoredIndices<H, R> {
 
     #[tactic(auto, unfolding(crate::specs::Access::read_at))]
     fn read(&self, handle: Handle, offset: u16, size: u16) -> Result<&[u8], NvFault> {
-        let Some(head) = self.head(handle) else {
+        let Some(found) = self.find(handle) else {
             return Err(NvFault::Undefined);
         };
+        let head = found.head;
         if head.public.attributes.has(NvAttribute::ReadLocked) {
             return Err(NvFault::Locked);
         }
@@ -373,7 +375,7 @@ impl<H: Ascending<Head, 32>, R: Row> Indices for StoredIndices<H, R> {
         if offset + size > usize::from(head.public.data_size) {
             return Err(NvFault::Range);
         }
-        Ok(piece_at(self.data(handle), offset, size))
+        Ok(piece_at(self.data(found), offset, size))
     }
 
     #[tactic(auto, unfolding(crate::specs::Access::write_locked))]
@@ -381,10 +383,11 @@ impl<H: Ascending<Head, 32>, R: Row> Indices for StoredIndices<H, R> {
         let Some(head) = self.head(handle) else {
             return Err(NvFault::Undefined);
         };
-        if !is_write_lockable(head.public.attributes) {
+        let attributes = head.public.attributes;
+        if !is_write_lockable(attributes) {
             return Err(NvFault::Attributes);
         }
-        self.mark(handle, NvAttribute::WriteLocked);
+        self.mark(handle, attributes, NvAttribute::WriteLocked);
         Ok(())
     }
 
@@ -393,10 +396,11 @@ impl<H: Ascending<Head, 32>, R: Row> Indices for StoredIndices<H, R> {
         let Some(head) = self.head(handle) else {
             return Err(NvFault::Undefined);
         };
-        if !head.public.attributes.has(NvAttribute::ReadStClear) {
+        let attributes = head.public.attributes;
+        if !attributes.has(NvAttribute::ReadStClear) {
             return Err(NvFault::Attributes);
         }
-        self.mark(handle, NvAttribute::ReadLocked);
+        self.mark(handle, attributes, NvAttribute::ReadLocked);
         Ok(())
     }
 

@@ -1,56 +1,50 @@
-use Rattle.std.proofs.Common.{◌≡◌, ◌+◌, ◌≤◌, Some, None, length, sym, ap, ◌∙◌, arith}
-use Rattle.tpm_ascending.specs.Ascending.{at_key, changed_key}
-use Rattle.tpm_types_nv.specs.NvAttributes.{has}
+use Rattle.std.proofs.Common.{◌≡◌, ◌+◌, ◌≤◌, length, ap, ◌∙◌, arith}
+use Rattle.tpm_ascending.specs.Ascending.{changed_key}
+use Rattle.tpm_types_nv.specs.NvAttributes.{has, with_attribute}
 use Rattle.tpm_types_nv.specs.declared.nv_attributes.NvAttribute.TheVariants as attribute
 use Rattle.tpm_types_nv.specs.declared.nv_attributes.NvAttributes.{NvAttributes}
 use Rattle.tpm_nv.specs.Access.{data_or, with_data}
 use Rattle.tpm_nv.specs.Bytes.{piece_of, put_over}
 use Rattle.tpm_nv.specs.Head.{index_with, indices_of, size_of, start_of, with_attributes}
-use Rattle.tpm_nv.specs.Index.{index_at}
-use Rattle.tpm_nv.proofs.Cuts.{found_among, none_among, piece_fits}
-use Rattle.tpm_nv.proofs.KeptLaws.{contents_changed, kept_put, known_of, put_is, seen_put, written_head}
+use Rattle.tpm_nv.specs.declared.head.Head.{Head}
+use Rattle.tpm_nv.specs.declared.pieces.Piece.{Piece}
+use Rattle.tpm_nv.proofs.Cuts.{found_among}
+use Rattle.tpm_nv.proofs.KeptLaws.{contents_changed, head_of_index, kept_put, piece_inside, put_is, seen_put, start_is, written_head}
 use Rattle.tpm_nv.proofs.stored_indices.StoredIndices.put_data.Goals as goal
-
-pub returns-in_default : goal.returns-in_default
-returns-in_default g c = λ index is.
-    let es = g.H.Ascending.entries c.self.inside.heads in
-    let row = g.R.Row.bytes c.self.inside.row in
-    let none : index_at c.args.self.now c.args.handle ≡ None = rw (← c.self.view_is) (none_among es row c.args.handle.number (sym c.in_default.ensures.value)) in
-    absurd cc
 
 pub put_bytes-requires-clause-inside : goal.put_bytes-requires-clause-inside
 put_bytes-requires-clause-inside g c =
     let es = g.H.Ascending.entries c.self.inside.heads in
-    let key = c.args.handle.number in
-    let h = c.in-Some.head.now in
-    let from : c.start_of-start.result ≡ start_of es key = c.start_of-start.ensures ∙ ap (λ l. start_of l key) c.as_slice.ensures in
-    omega (arith, from, c.from-size.ensures, c.self.invariant.whole, piece_fits es key h c.self.invariant.ascends (sym c.in-Some.ensures.value))
-
-pub put_bytes-requires-clause-within : goal.put_bytes-requires-clause-within
-put_bytes-requires-clause-within g c =
-    let es = g.H.Ascending.entries c.self.inside.heads in
     let row = g.R.Row.bytes c.self.inside.row in
     let key = c.args.handle.number in
-    let h = c.in-Some.head.now in
-    let index = index_with h (piece_of (start_of es key) (size_of h) row) in
-    let found : index_at c.args.self.now c.args.handle ≡ Some index = rw (← c.self.view_is) (found_among es row key h c.self.invariant.ascends (sym c.in-Some.ensures.value)) in
-    let known : c.args.offset + length c.args.bytes.now ≤ size_of h = known_of (λ i. c.args.offset + length c.args.bytes.now ≤ i.public.data_size) (index_at c.args.self.now c.args.handle) index found c.requires in
-    omega (arith, known, c.from-size.ensures)
+    let place = c.args.place in
+    let t = head_of_index (λ i. (place.attributes ≡ i.public.attributes) × (place.size ≡ i.public.data_size)) es row c.self.inside.max_count c.args.handle c.args.self.now c.self.view_is c.self.invariant c.requires.there.0 in
+    let h : Head = t.0 in
+    let there = t.1 in
+    let from : place.start ≡ start_of es key = c.requires.there.1 ∙ start_is es row c.self.inside.max_count c.args.handle c.args.self.now c.self.view_is in
+    let p = c.piece.ensures in
+    omega (arith, ap (λ (x : Piece). x.start) p, ap (λ (x : Piece). x.size) p, from, t.2.1, piece_inside es row key h c.self.invariant there)
+
+pub put_bytes-requires-clause-within : goal.put_bytes-requires-clause-within
+put_bytes-requires-clause-within g c = omega (arith, ap (λ (x : Piece). x.size) c.piece.ensures, c.requires.within)
 
 pub invariant_of-self : goal.invariant_of-self
 invariant_of-self g c =
     let es = g.H.Ascending.entries c.self.inside.heads in
     let row = g.R.Row.bytes c.self.inside.row in
     let key = c.args.handle.number in
-    let h = c.in-Some.head.now in
+    let place = c.args.place in
+    let t = head_of_index (λ i. (place.attributes ≡ i.public.attributes) × (place.size ≡ i.public.data_size)) es row c.self.inside.max_count c.args.handle c.args.self.now c.self.view_is c.self.invariant c.requires.there.0 in
+    let h : Head = t.0 in
+    let there = t.1 in
+    let from : place.start ≡ start_of es key = c.requires.there.1 ∙ start_is es row c.self.inside.max_count c.args.handle c.args.self.now c.self.view_is in
     let bytes = c.args.bytes.now in
-    let there : at_key es key ≡ Some h = sym c.in-Some.ensures.value in
-    let index = index_with h (piece_of (start_of es key) (size_of h) row) in
-    let found : index_at c.args.self.now c.args.handle ≡ Some index = rw (← c.self.view_is) (found_among es row key h c.self.invariant.ascends there) in
-    let within : c.args.offset + length bytes ≤ size_of h = known_of (λ i. c.args.offset + length bytes ≤ i.public.data_size) (index_at c.args.self.now c.args.handle) index found c.requires in
-    let from : c.start_of-start.result ≡ start_of es key = c.start_of-start.ensures ∙ ap (λ l. start_of l key) c.as_slice.ensures in
-    let heads = c.set_attributes.ensures h there ∙ ap (λ (a : NvAttributes). changed_key es key (with_attributes h a)) c.with-written.ensures in
-    let bytes_are = put_is (g.R.Row.bytes c.put_bytes.new.row) bytes row (has h.public.attributes attribute.Written) (start_of es key) (size_of h) c.args.offset c.args.first c.start_of-start.result c.from-size.result c.has-is_written.result c.put_bytes.ensures c.has-is_written.ensures from c.from-size.ensures in
+    let within : c.args.offset + length bytes ≤ size_of h = omega (arith, c.requires.within, t.2.1) in
+    let marked : with_attribute place.attributes attribute.Written ≡ with_attribute h.public.attributes attribute.Written = ap (λ (a : NvAttributes). with_attribute a attribute.Written) t.2.0 in
+    let heads = c.set_attributes.ensures h there ∙ ap (λ (a : NvAttributes). changed_key es key (with_attributes h a)) (c.with-written.ensures ∙ marked) in
+    let piece = c.piece.result in
+    let p = c.piece.ensures in
+    let bytes_are = put_is (g.R.Row.bytes c.put_bytes.new.row) bytes row (has h.public.attributes attribute.Written) (start_of es key) (size_of h) c.args.offset c.args.first piece.start piece.size piece.is_written c.put_bytes.ensures (ap (λ (x : Piece). x.is_written) p ∙ ap (λ (a : NvAttributes). has a attribute.Written) t.2.0) (ap (λ (x : Piece). x.start) p ∙ from) (ap (λ (x : Piece). x.size) p ∙ t.2.1) in
     rw (heads, bytes_are) (kept_put es row bytes key c.args.offset c.args.first h c.self.invariant there within)
 
 pub returns : goal.returns
@@ -58,15 +52,19 @@ returns g c =
     let es = g.H.Ascending.entries c.self.inside.heads in
     let row = g.R.Row.bytes c.self.inside.row in
     let key = c.args.handle.number in
-    let h = c.in-Some.head.now in
+    let place = c.args.place in
+    let t = head_of_index (λ i. (place.attributes ≡ i.public.attributes) × (place.size ≡ i.public.data_size)) es row c.self.inside.max_count c.args.handle c.args.self.now c.self.view_is c.self.invariant c.requires.there.0 in
+    let h : Head = t.0 in
+    let there = t.1 in
+    let from : place.start ≡ start_of es key = c.requires.there.1 ∙ start_is es row c.self.inside.max_count c.args.handle c.args.self.now c.self.view_is in
     let bytes = c.args.bytes.now in
-    let there : at_key es key ≡ Some h = sym c.in-Some.ensures.value in
+    let within : c.args.offset + length bytes ≤ size_of h = omega (arith, c.requires.within, t.2.1) in
+    let marked : with_attribute place.attributes attribute.Written ≡ with_attribute h.public.attributes attribute.Written = ap (λ (a : NvAttributes). with_attribute a attribute.Written) t.2.0 in
+    let heads = c.set_attributes.ensures h there ∙ ap (λ (a : NvAttributes). changed_key es key (with_attributes h a)) (c.with-written.ensures ∙ marked) in
+    let piece = c.piece.result in
+    let p = c.piece.ensures in
+    let bytes_are = put_is (g.R.Row.bytes c.put_bytes.new.row) bytes row (has h.public.attributes attribute.Written) (start_of es key) (size_of h) c.args.offset c.args.first piece.start piece.size piece.is_written c.put_bytes.ensures (ap (λ (x : Piece). x.is_written) p ∙ ap (λ (a : NvAttributes). has a attribute.Written) t.2.0) (ap (λ (x : Piece). x.start) p ∙ from) (ap (λ (x : Piece). x.size) p ∙ t.2.1) in
     let index = index_with h (piece_of (start_of es key) (size_of h) row) in
-    let found : index_at c.args.self.now c.args.handle ≡ Some index = rw (← c.self.view_is) (found_among es row key h c.self.invariant.ascends there) in
-    let within : c.args.offset + length bytes ≤ size_of h = known_of (λ i. c.args.offset + length bytes ≤ i.public.data_size) (index_at c.args.self.now c.args.handle) index found c.requires in
-    let from : c.start_of-start.result ≡ start_of es key = c.start_of-start.ensures ∙ ap (λ l. start_of l key) c.as_slice.ensures in
-    let heads = c.set_attributes.ensures h there ∙ ap (λ (a : NvAttributes). changed_key es key (with_attributes h a)) c.with-written.ensures in
-    let bytes_are = put_is (g.R.Row.bytes c.put_bytes.new.row) bytes row (has h.public.attributes attribute.Written) (start_of es key) (size_of h) c.args.offset c.args.first c.start_of-start.result c.from-size.result c.has-is_written.result c.put_bytes.ensures c.has-is_written.ensures from c.from-size.ensures in
     let seen =
     ap (λ l. indices_of l (g.R.Row.bytes c.put_bytes.new.row)) heads
     ∙ ap (λ l. indices_of (changed_key es key (written_head h)) l) bytes_are

@@ -1,4 +1,4 @@
-use Rattle.std.proofs.Common.{sym, ap, ◌∙◌, ◌≡◌, length}
+use Rattle.std.proofs.Common.{sym, ap, ◌∙◌, length}
 use Rattle.tpm_nv.specs.Head.{indices_of}
 use Rattle.tpm_nv.proofs.Cuts.{bytes_among, heads_among}
 use Rattle.tpm_nv.proofs.stored_indices.StoredIndicesIndices.bytes.Goals as goal

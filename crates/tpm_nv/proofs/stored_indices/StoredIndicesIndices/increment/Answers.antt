@@ -11,23 +11,23 @@ use Rattle.tpm_nv.proofs.KeptLaws.{data_long, size_of_type, type_of_writable}
 use Rattle.tpm_nv.proofs.RowLaws.{incremented_is}
 use Rattle.tpm_nv.proofs.stored_indices.StoredIndicesIndices.increment.Goals as goal
 
-pub set_data-requires : goal.set_data-requires
-set_data-requires g c =
-    let t = c.in_ok-head.ensures.there in
-    let h = c.in_ok-head.head.now in
+pub set_data-requires-clause-whole : goal.set_data-requires-clause-whole
+set_data-requires-clause-whole g c =
+    let t = c.in_ok-found.ensures.there in
+    let h = c.in_ok-found.found.head.now in
     let size : size_of h ≡ 8 = eqb-true _ _ (size_of_type h.public type.Counter (type_of_writable type.Counter (index_with h t.0) t.2) t.1.sized) in
     let many : length c.to_be_bytes.result ≡ size_of h = ap length c.to_be_bytes.ensures ∙ sym size in
     rw t.1.found (many, data_long h t.0 0 t.1.long)
 
 pub returns : goal.returns
 returns g c =
-    let t = c.in_ok-head.ensures.there in
-    let h = c.in_ok-head.head.now in
+    let t = c.in_ok-found.ensures.there in
+    let h = c.in_ok-found.found.head.now in
     let index = index_with h t.0 in
     let size : size_of h ≡ 8 = eqb-true _ _ (size_of_type h.public type.Counter (type_of_writable type.Counter index t.2) t.1.sized) in
     let last = c.number-last.result in
     let most = ap (λ (s : NvContents). s.max_count) c.self.view_is in
-    let number : last ≡ number_or c.args.self.now.max_count index = c.number-last.ensures t.0 t.1 (t.1.long ∙ size) ∙ ap (λ (m : ℕ). number_or m index) most in
+    let number : last ≡ number_or c.args.self.now.max_count index = c.number-last.ensures c.args.handle t.0 t.1 t.3 (t.1.long ∙ size) ∙ ap (λ (m : ℕ). number_or m index) most in
     let fits : last + 1 < 2 ^ 64 = omega (arith, c.number-last.type_inv, c.if-last.false) in
     let set : c.set_data.new.self ≡ changed_index c.args.self.now c.args.handle (with_data index (to_be_bytes w64 (last + 1))) =
     c.set_data.ensures index t.1.found

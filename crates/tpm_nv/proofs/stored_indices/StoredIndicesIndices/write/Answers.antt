@@ -7,19 +7,21 @@ use Rattle.tpm_nv.specs.Bytes.{put_over}
 use Rattle.tpm_nv.specs.Head.{index_with, size_of}
 use Rattle.tpm_nv.specs.Index.{NvContents, changed_index}
 use Rattle.tpm_nv.specs.declared.fault.NvFault.{NvFault}
+use Rattle.tpm_nv.specs.declared.place.Place.{Place}
 use Rattle.tpm_nv.proofs.RowLaws.{written_is}
 use Rattle.tpm_nv.proofs.stored_indices.StoredIndicesIndices.write.Goals as goal
 
 pub returns : goal.returns
 returns g c =
-    let t = c.in_ok-head.ensures.there in
-    let h = c.in_ok-head.head.now in
+    let t = c.in_ok-writable.ensures.there in
+    let h = c.in_ok-writable.field-0.head.now in
     let bytes = c.args.bytes.now in
     let index = index_with h t.0 in
-    let inside : c.args.offset + length bytes ≤ size_of h = omega (arith, c.from-offset.ensures, c.from-size.ensures, c.if-offset-bytes.false) in
+    let place = c.place-place.ensures in
+    let inside : c.args.offset + length bytes ≤ size_of h = omega (arith, c.from-offset.ensures, ap (λ (p : Place). p.size) place, c.if-offset-bytes.false) in
     let whole : (has h.public.attributes attribute.WriteAll && not (length bytes == size_of h)) ≡ false =
-    ap (λ n. has h.public.attributes attribute.WriteAll && not (length bytes == n)) (sym c.from-size.ensures)
-    ∙ sym c.is_part-is_part.ensures
+    ap (λ (p : Place). has p.attributes attribute.WriteAll && not (length bytes == p.size)) (sym place)
+    ∙ sym c.is_part.ensures
     ∙ c.if-is_part.false in
     let put : c.put_data.new.self ≡ changed_index c.args.self.now c.args.handle (with_data index (put_over c.args.offset bytes (data_or 0xff index))) =
     c.put_data.ensures index t.1.found

@@ -1,0 +1,11 @@
+use Rattle.std.proofs.Common.{◌≡◌, ◌+◌, drop}
+use Rattle.tpm_ascending.specs.Ascending.{Ascends, at_key}
+use Rattle.tpm_nv.specs.Head.{start_of}
+use Rattle.tpm_nv.proofs.heads.found_at.Given as goal
+
+-- what is left decides what is found, and where its bytes begin
+abbrev pub invariant-loop-other : goal.invariant-loop-other
+invariant-loop-other l =
+    (l.start + start_of (drop l.other-index l.heads) l.key ≡ start_of l.heads l.key)
+    × (at_key (drop l.other-index l.heads) l.key ≡ at_key l.heads l.key)
+    × Ascends (drop l.other-index l.heads)

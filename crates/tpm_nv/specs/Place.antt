@@ -1,0 +1,36 @@
+-- Where an index stands in what is kept, which a call finds once and hands on.
+use Rattle.std.specs.Prelude.{◌≡◌, ℕ, List, IsSomeAnd}
+use Rattle.tpm_types.specs.declared.handle.Handle.{Handle}
+use Rattle.tpm_types_nv.specs.NvAttributes.{has}
+use Rattle.tpm_types_nv.specs.declared.nv_attributes.NvAttribute.TheVariants as attribute
+use Rattle.tpm_nv.specs.Head.{IsIndexOf, size_of, start_in}
+use Rattle.tpm_nv.specs.Index.{NvContents, index_at}
+use Rattle.tpm_nv.specs.declared.head.Head.{Head}
+use Rattle.tpm_nv.specs.declared.pieces.Piece.{Piece}
+use Rattle.tpm_nv.specs.declared.place.Found.{Found}
+use Rattle.tpm_nv.specs.declared.place.Place.{Place}
+
+-- the place of an index with this head whose bytes begin here, and its bytes there
+abbrev pub place_of : Head → ℕ → Place
+place_of head start =
+    record { attributes = head.public.attributes; start = start; size = size_of head }
+
+abbrev pub piece_at_place : Place → Piece
+piece_at_place place = record {
+  start = place.start;
+  size = place.size;
+  is_written = has place.attributes attribute.Written;
+}
+
+-- The index of a handle was found so.
+abbrev pub IsFound : NvContents → Handle → Found → Type 0
+IsFound contents handle found =
+    (old : List ℕ) × IsIndexOf contents handle found.head.now old
+    × (found.start ≡ start_in contents handle)
+
+-- The index of a handle is there, and stands in this place.
+abbrev pub IsPlaceOf : NvContents → Handle → Place → Type 0
+IsPlaceOf contents handle place =
+    IsSomeAnd (index_at contents handle) (λ index.
+    (place.attributes ≡ index.public.attributes) × (place.size ≡ index.public.data_size))
+    × (place.start ≡ start_in contents handle)

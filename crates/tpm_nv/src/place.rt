@@ -1,0 +1,48 @@
+//! Where an index stands, which each call finds once.
+
+ghost use Rattle.std.specs.Prelude.{◌≡◌};
+ghost use Rattle.tpm_nv.specs.Place.{piece_at_place, place_of};
+
+use crate::head::Head;
+use crate::pieces::Piece;
+use tpm_types_nv::{NvAttribute, NvAttributes};
+
+/// An index that was found: its head, and where its bytes begin in the row of all.
+#[derive(Clone, Copy)]
+pub(crate) struct Found<'a> {
+    pub(crate) head: &'a Head,
+    pub(crate) start: usize,
+}
+
+/// What a change of its data needs of it.
+#[derive(Clone, Copy)]
+pub(crate) struct Place {
+    pub(crate) attributes: NvAttributes,
+    pub(crate) start: usize,
+    pub(crate) size: usize,
+}
+
+impl Found<'_> {
+    pub(crate) fn place(&self) -> Place
+        ensures { result ≡ place_of self.now.head.now self.now.start }
+    {
+        Place {
+            attributes: self.head.public.attributes,
+            start: self.start,
+            size: usize::from(self.head.public.data_size),
+        }
+    }
+}
+
+impl Place {
+    /// Its bytes, and whether they are data.
+    pub(crate) fn piece(&self) -> Piece
+        ensures { result ≡ piece_at_place self.now }
+    {
+        Piece {
+            start: self.start,
+            size: self.size,
+            is_written: self.attributes.has(NvAttribute::Written),
+        }
+    }
+}
