@@ -1,5 +1,5 @@
 -- The entries of the tables.
-use Rattle.std.proofs.Common.{◌≡◌, ℕ, ◌<◌, List, [], ◌∷◌, map, length, ap, ap₂, arith, bit_xor, refl, slice_index_or, sym, ◌∙◌}
+use Rattle.std.proofs.Common.{◌≡◌, ℕ, suc, zero, ◌<◌, List, [], ◌∷◌, map, length, ap, ap₂, arith, bit_xor, refl, slice_index_or, sym, ◌∙◌}
 use Rattle.std.proofs.lemmas.List.{get_or-map}
 use Rattle.std.proofs.lemmas.List.FromFn.{get_or-map-range_with_len}
 use Rattle.std.specs.Int.{to_le_bytes, w32}
@@ -8,6 +8,7 @@ use Rattle.std.specs.List.{range_with_len}
 use Rattle.tpm_aes.proofs.Words.{bytes-xor}
 use Rattle.tpm_aes.specs.Cipher.{mix_column, xor_of}
 use Rattle.tpm_aes.specs.Field.{affine, inverse, sub_byte, times, times_power, times_terms}
+use Rattle.tpm_aes.specs.Tables.{AreMixed, IsSBox}
 use Rattle.tpm_aes.specs.declared.tables.TheConstants.{MIXED, S_BOX}
 
 s_box_values : S_BOX ≡ map sub_byte (range_with_len 0 256)
@@ -79,6 +80,17 @@ mixed_2_at = word_at mixed_2 (mixed_table 2) refl mixed_2_values
 pub mixed_3_at : (i a : ℕ) → i ≡ a → a < 256
     → to_le_bytes w32 (slice_index_or (mixed_table 3) i 0) ≡ mixed_3 (sub_byte a)
 mixed_3_at = word_at mixed_3 (mixed_table 3) refl mixed_3_values
+
+-- every entry of the S-box, and of the four round tables
+pub s_box_entries : IsSBox S_BOX
+s_box_entries a byte = s_box_at a a refl byte
+
+pub mixed_entries : AreMixed MIXED
+mixed_entries zero a row byte = mixed_0_at a a refl byte
+mixed_entries (suc zero) a row byte = mixed_1_at a a refl byte
+mixed_entries (suc (suc zero)) a row byte = mixed_2_at a a refl byte
+mixed_entries (suc (suc (suc zero))) a row byte = mixed_3_at a a refl byte
+mixed_entries (suc (suc (suc (suc r)))) a row byte = absurd (omega arith)
 
 times_zero_two : times 0 2 ≡ 0
 unfolding times_power times_terms

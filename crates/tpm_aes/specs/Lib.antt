@@ -1,4 +1,5 @@
 pub mod Cfb
 pub mod Cipher
 pub mod Field
+pub mod Tables
 pub mod Words

@@ -3,8 +3,8 @@
 //!
 //! It stands on nothing. Each call equals its definition in `specs/` for every length of its data,
 //! and decryption and encryption undo each other. None takes memory or refuses. Rounds read tables,
-//! each entry of which is proved, at places that depend on the key and the text: nothing is said of
-//! the time that a call takes.
+//! each entry of which is proved (`table_laws`), at places that depend on the key and the text:
+//! nothing is said of the time that a call takes.
 
 #![tactic(auto)]
 
@@ -16,3 +16,4 @@ mod rounds;
 mod tables;
 
 pub use cipher::Aes128;
+pub use tables::table_laws;

@@ -5,6 +5,7 @@ ghost use Rattle.std.specs.Prelude.{◌≡◌};
 ghost use Rattle.std.specs.Int.{to_le_bytes, w32};
 ghost use Rattle.tpm_aes.specs.Cipher.{mix_column, sub_bytes};
 ghost use Rattle.tpm_aes.specs.Field.{sub_byte};
+ghost use Rattle.tpm_aes.specs.Tables.{AreMixed, IsSBox};
 
 /// The column that MixColumns makes of the bytes that the S-box gives.
 pub(crate) fn mixed_column(bytes: [u8; 4]) -> u32
@@ -31,6 +32,17 @@ fn sub_byte(a: u8) -> u8
 {
     S_BOX[usize::from(a)]
 }
+
+/// Every entry of the tables is what the standard says, and not only the sum of those that a column
+/// takes; the S-box, as defined, gives two of the bytes that the standard prints (FIPS 197, 5.1.1,
+/// figure 7). It does nothing.
+#[inline(always)]
+#[tactic(auto, using(crate::proofs::Entries::s_box_entries, crate::proofs::Entries::mixed_entries, crate::proofs::Vectors::published_bytes))]
+pub fn table_laws()
+    ensures s_box { IsSBox S_BOX }
+    ensures mixed { AreMixed MIXED }
+    ensures published { (sub_byte 0x00 ≡ 0x63) × (sub_byte 0x53 ≡ 0xed) }
+{}
 
 /// The S-box: entry a is what it gives for a.
 static S_BOX: [u8; 256] = [
