@@ -1,7 +1,8 @@
 -- What is wrapped is unwrapped, and what is unwrapped was wrapped so.
 use Rattle.std.proofs.Common.{◌≡◌, ℕ, ◌<◌, ◌≤◌, Bool, true, false, List, [], ◌++◌, length, Result, Ok, Err, refl, sym, ap, subst, ◌∙◌, append-nil, arith}
-use Rattle.std.specs.Prelude.{◌==◌, not, IfOk}
+use Rattle.std.specs.Prelude.{◌==◌, ◌≢◌, not, IfOk}
 use Rattle.std.specs.Str.{bytes_eq}
+use Rattle.std.proofs.lemmas.Bool.{ne_eqb}
 use Rattle.std.proofs.lemmas.Bool.Decides.{Decides-eqb}
 use Rattle.std.proofs.lemmas.Slice.Eq.{bytes_eq-Decides}
 use Rattle.tpm_aes.proofs.Undone.{cfb_undone, length-cfb_decrypt_of}
@@ -164,22 +165,13 @@ decrypted_law parent name protected iv encrypted plain (Err fault) fits read who
 
 -- ---- the private area
 
-passes : (a b : ObjectType) (area : Sensitive) → a ≡ b
-    → (refused_if (not (object_type_number a == object_type_number b)) integrity_fault >>= λ typed. Ok area) ≡ Ok area
-passes a b area same = rw ((Decides-eqb (object_type_number a) (object_type_number b)).1 (ap object_type_number same)) refl
+-- whether an area of one type is taken for a public area of another
+abbrev of_type : (a b : ObjectType) → Sensitive → Result Sensitive IntegrityFault
+of_type a b area =
+    refused_if (not (object_type_number a == object_type_number b)) integrity_fault >>= λ typed. Ok area
 
--- what was wrapped is unwrapped
-pub unwrapped_only : (parent : Object) (public : Public) (text : List ℕ) (area : Sensitive)
-    → IsWrapped parent public text area → unwrapped parent public text ≡ Ok area
-unfolding unwrapped private_text
-unwrapped_only parent public text area is =
-    let name : List ℕ = object_name public in
-    let protected : List ℕ = protected_text parent name is.iv area in
-    ap (unwrapped parent public) is.spelled
-    ∙ rw (
-      protected_again parent name protected,
-      decrypted_again parent name is.iv area is.whole is.sized,
-    ) (passes area.object_type (object_type public) area is.typed)
+passes : (a b : ObjectType) (area : Sensitive) → a ≡ b → of_type a b area ≡ Ok area
+passes a b area same = rw ((Decides-eqb (object_type_number a) (object_type_number b)).1 (ap object_type_number same)) refl
 
 -- types of one number are one
 same_type : (a b : ObjectType) → object_type_number a ≡ object_type_number b → a ≡ b
@@ -187,6 +179,45 @@ same_type object.KeyedHash object.KeyedHash e = refl
 same_type object.KeyedHash object.SymCipher e = absurd (omega arith)
 same_type object.SymCipher object.KeyedHash e = absurd (omega arith)
 same_type object.SymCipher object.SymCipher e = refl
+
+refuses : (a b : ObjectType) (area : Sensitive) → b ≢ a → of_type a b area ≡ Err integrity_fault
+refuses a b area other =
+    rw (ne_eqb (object_type_number a) (object_type_number b) (λ same. other (sym (same_type a b same)))) refl
+
+-- what was wrapped comes to its type
+wrapped_is : (parent : Object) (public : Public) (name iv : List ℕ) (area : Sensitive)
+    → name ≡ object_name public → length iv ≡ 16 → IsSensitive area
+    → unwrapped parent public (private_text parent name iv area)
+    ≡ of_type area.object_type (object_type public) area
+unfolding unwrapped private_text
+wrapped_is parent public name iv area named whole is =
+    let protected : List ℕ = protected_text parent name iv area in
+    rw (sym named, protected_again parent name protected, decrypted_again parent name iv area whole is) refl
+
+-- it is unwrapped, where both areas are of one type
+pub wrapped_undone : (parent : Object) (public : Public) (name iv text : List ℕ) (area : Sensitive)
+    → text ≡ private_text parent name iv area → length iv ≡ 16 → IsSensitive area
+    → name ≡ object_name public → object_type public ≡ area.object_type
+    → unwrapped parent public text ≡ Ok area
+wrapped_undone parent public name iv text area spelled whole is named typed =
+    ap (unwrapped parent public) spelled ∙ wrapped_is parent public name iv area named whole is
+    ∙ passes area.object_type (object_type public) area (sym typed)
+
+-- and is not, where they are of two
+pub wrapped_refused : (parent : Object) (public : Public) (name iv text : List ℕ) (area : Sensitive)
+    → text ≡ private_text parent name iv area → length iv ≡ 16 → IsSensitive area
+    → name ≡ object_name public → object_type public ≢ area.object_type
+    → unwrapped parent public text ≡ Err integrity_fault
+wrapped_refused parent public name iv text area spelled whole is named other =
+    ap (unwrapped parent public) spelled ∙ wrapped_is parent public name iv area named whole is
+    ∙ refuses area.object_type (object_type public) area other
+
+-- what was wrapped for a public area is unwrapped
+pub unwrapped_only : (parent : Object) (public : Public) (text : List ℕ) (area : Sensitive)
+    → IsWrapped parent public text area → unwrapped parent public text ≡ Ok area
+unwrapped_only parent public text area is =
+    wrapped_undone parent public (object_name public) is.iv text area is.spelled is.whole is.sized refl
+    (sym is.typed)
 
 -- what is unwrapped was wrapped
 pub unwrapped_found : (parent : Object) (public : Public) (name text protected : List ℕ) (area : Sensitive)

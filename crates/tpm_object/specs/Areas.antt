@@ -1,6 +1,6 @@
 -- The areas of a new object. TPM 2.0 Library, Part 1, section 27 (object creation), and Part 2,
 -- section 12.2.3.2 (TPMU_PUBLIC_ID: unique of a KEYEDHASH and of a SYMCIPHER).
-use Rattle.std.specs.Prelude.{ℕ, if◌then◌else◌, List, ◌++◌, take, drop}
+use Rattle.std.specs.Prelude.{◌≡◌, ℕ, if◌then◌else◌, List, ◌++◌, take, drop}
 use Rattle.tpm_mac.specs.Digest.{digest_size, hash_of}
 use Rattle.tpm_types.specs.AuthValue.{trimmed}
 use Rattle.tpm_types_object.specs.Public.{object_type}
@@ -38,3 +38,7 @@ created template given random =
     new_object_areas template given
     (take (digest_size template.name_alg) (drop (generated_size template given) random))
     (take (generated_size template given) random)
+
+-- the public and the sensitive area are of one type
+abbrev pub AreOfOneType : Created → Type 0
+AreOfOneType areas = object_type areas.public ≡ areas.sensitive.object_type

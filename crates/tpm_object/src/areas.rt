@@ -1,5 +1,6 @@
-ghost use Rattle.std.specs.Prelude.{◌≡◌, ◌≤◌, length};
-ghost use Rattle.tpm_types_object.specs.SensitiveCreate.{sensitive_values_of};
+ghost use Rattle.std.specs.Prelude.{◌≡◌, ◌≤◌, ℕ, length, List};
+ghost use Rattle.tpm_types_object.specs.SensitiveCreate.{SensitiveValues, sensitive_values_of};
+ghost use Rattle.tpm_types_object.specs.declared.public.Public.{Public};
 
 use crate::creation::{drawn_by, generated_size, is_given};
 use tpm_mac::digest_parts;
@@ -13,7 +14,8 @@ pub struct Created {
     pub sensitive: Sensitive,
 }
 
-ghost use Rattle.tpm_object.specs.Areas.{created, new_object_areas, new_public, new_sensitive};
+ghost use Rattle.tpm_object.specs.Areas.{AreOfOneType, created, new_object_areas, new_public, new_sensitive};
+ghost use Rattle.tpm_object.specs.Primary.{primary_areas};
 
 /// The sensitive area of an object with this seed, and this key where the caller gives no data.
 fn new_sensitive(template: &Public, given: &SensitiveCreate, seed: &[u8], key: &[u8]) -> Sensitive
@@ -74,3 +76,14 @@ pub fn create(template: &Public, given: &SensitiveCreate, random: &[u8; 256]) ->
     let (seed, _) = others.split_at(template.name_alg.size());
     new_object_areas(template, given, seed, key)
 }
+
+/// Both areas of an object that is made, by random bytes or by a seed, are of one type: so what a
+/// parent wraps of it is unwrapped for it. It does nothing.
+#[inline(always)]
+#[tactic(auto, unfolding(crate::specs::Areas::created, crate::specs::Areas::new_object_areas, crate::specs::Primary::primary_areas))]
+pub fn area_laws()
+    ensures by_random { (template : Public) (given : SensitiveValues) (random : List ℕ)
+        → AreOfOneType (created template given random) }
+    ensures by_seed { (seed : List ℕ) (template : Public) (given : SensitiveValues)
+        → AreOfOneType (primary_areas seed template given) }
+{}

@@ -5,8 +5,8 @@
 //!
 //! It stands on `tpm_mac` and `tpm_aes` for digests, keys and encryption, on `tpm_name` for Names,
 //! and on `tpm_types`. Each call equals its definition in `specs/`. Unwrapping a private area gives
-//! back the sensitive area that was wrapped, and accepts nothing but what its parent wraps. No call
-//! here takes memory.
+//! back the sensitive area that was wrapped for a public area of its type, as that of each object
+//! that is made, and accepts nothing but what its parent wraps. No call here takes memory.
 
 mod areas;
 mod creation;
@@ -15,7 +15,7 @@ mod primary;
 mod private_area;
 mod template;
 
-pub use areas::create;
+pub use areas::{area_laws, create};
 pub use creation::{CreationFault, check_creation, drawn_by};
 pub use object::{Object, TRANSIENT_BYTE, is_keyed_hash, is_storage_parent};
 pub use primary::derive_primary;

@@ -1,9 +1,10 @@
-ghost use Rattle.std.specs.Prelude.{◌≡◌, ◌≤◌, length, Ok, IfOk};
+ghost use Rattle.std.specs.Prelude.{◌≡◌, ◌≢◌, ◌≤◌, length, Ok, Err, IfOk};
 ghost use Rattle.tpm_aes.specs.Cfb.{cfb_decrypt_of, cfb_encrypt_of};
 ghost use Rattle.tpm_bytes.specs.Writing.{sized_text};
 ghost use Rattle.tpm_types_object.specs.ObjectName.{object_name};
 ghost use Rattle.tpm_types_object.specs.Public.{object_type};
 ghost use Rattle.tpm_types_object.specs.Sensitive.{IsSensitive, sensitive_text};
+ghost use Rattle.tpm_types_object.specs.declared.public.Public.{Public};
 ghost use Rattle.tpm_types_object.specs.declared.sensitive.Sensitive.{Sensitive};
 
 use crate::object::Object;
@@ -28,7 +29,7 @@ const STORAGE_LABEL: &[u8] = b"STORAGE";
 /// The label of the keys by which a parent authenticates.
 const INTEGRITY_LABEL: &[u8] = b"INTEGRITY";
 
-ghost use Rattle.tpm_object.specs.PrivateArea.{Gives, IsProtected, IsWrapped, area_in, decrypted_area, encrypted_area, integrity_key, integrity_of, private_text, protected_in, protected_text, authenticated_text, storage_key, unwrapped};
+ghost use Rattle.tpm_object.specs.PrivateArea.{Gives, IsProtected, IsWrapped, area_in, decrypted_area, encrypted_area, integrity_fault, integrity_key, integrity_of, private_text, protected_in, protected_text, authenticated_text, storage_key, unwrapped};
 
 /// The key by which a parent encrypts the sensitive area of the object of this Name.
 #[tactic(auto, unfolding(crate::specs::PrivateArea::storage_key))]
@@ -121,8 +122,10 @@ pub fn wrap(parent: &Object, public: &Public, sensitive: &Sensitive, iv: &[u8; 1
     // Unwrapping undoes it, where both areas are of one type.
     ensures undone { object_type public.now ≡ sensitive.now.object_type
         → unwrapped parent.now public.now result ≡ Ok sensitive.now }
+    // Where they are not, it is not unwrapped.
+    ensures other_type { object_type public.now ≢ sensitive.now.object_type
+        → unwrapped parent.now public.now result ≡ Err integrity_fault }
 {
-    buffers_fit(sensitive);
     wrap_named(parent, &public.name(), sensitive, iv)
 }
 
@@ -131,7 +134,16 @@ pub fn wrap(parent: &Object, public: &Public, sensitive: &Sensitive, iv: &[u8; 1
 pub fn wrap_named(parent: &Object, name: &Name, sensitive: &Sensitive, iv: &[u8; 16]) -> Sink<256>
     ensures value { result ≡ private_text parent.now name.now iv.now sensitive.now }
     ensures small { length result ≤ 254 }
+    // For each public area of this Name: unwrapping undoes it, where both areas are of one type.
+    ensures undone { (public : Public) → name.now ≡ object_name public
+        → object_type public ≡ sensitive.now.object_type
+        → unwrapped parent.now public result ≡ Ok sensitive.now }
+    // Where they are not, it is not unwrapped.
+    ensures other_type { (public : Public) → name.now ≡ object_name public
+        → object_type public ≢ sensitive.now.object_type
+        → unwrapped parent.now public result ≡ Err integrity_fault }
 {
+    buffers_fit(sensitive);
     let protected = protected_text(parent, name, sensitive, iv);
     let integrity = integrity(parent, name, protected.as_slice());
     let mut text = Sink::new();
