@@ -1,10 +1,14 @@
+ghost use Rattle.std.specs.Prelude.{◌≡◌, IfOk, length};
 ghost use Rattle.tpm_types_command.specs.declared.command_code.CommandCode.TheVariants as command;
+ghost use Rattle.tpm_nv.specs.IsContents.{IsContents};
+ghost use Rattle.tpm_record.specs.Record.{Record};
 ghost use Rattle.tpm_actions.specs.Answer.{IsEmpty};
 ghost use Rattle.tpm_actions.specs.Request.{request_of};
 ghost use Rattle.tpm_actions.specs.Rows.{Acts};
+ghost use Rattle.tpm_actions.specs.declared.target.Target.{Target};
 ghost use Rattle.tpm_actions_policy.specs.Asked.{AsksNv};
 ghost use Rattle.tpm_actions_policy.specs.Assertions.{assertion_row};
-ghost use Rattle.tpm_actions_policy.specs.PolicyNv.{nv_parameters};
+ghost use Rattle.tpm_actions_policy.specs.PolicyNv.{Parameters, compared, nv_parameters};
 
 use crate::assertions::{Asked, make_assertion};
 use crate::compared_index::ComparedIndex;
@@ -44,3 +48,12 @@ pub fn policy_nv<K: Keep>(keep: &mut K, call: &Call, _answer: &mut Answer) -> Re
     let index = read_compared(target_of(keep, call)?, call.parameters)?;
     make_assertion(keep, handle, &Asked::Nv(index))
 }
+
+/// What is compared has the size of its operand where the NV indices have the sizes that they say,
+/// as those of every device have: so no comparison fails for its sizes. It does nothing.
+#[inline(always)]
+#[tactic(auto, using(crate::proofs::ComparedSizes::compared_whole))]
+pub fn compared_bytes_have_the_operand_s_size()
+    ensures { (r : Record) (target : Target) (p : Parameters) → IsContents r.nv
+        → IfOk (compared r target p) (λ bytes. length bytes ≡ length p.operand) }
+{}

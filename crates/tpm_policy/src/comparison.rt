@@ -1,12 +1,14 @@
-ghost use Rattle.std.specs.Prelude.{◌≡◌, ◌+◌, ◌-◌, nat_lt, if◌then◌else◌};
-ghost use Rattle.tpm_policy.specs.Comparison.{compares, has_clear, has_set, is_less, raised, raised_byte};
+ghost use Rattle.std.specs.Prelude.{◌≡◌, ◌+◌, ◌%◌, int_lt, length, nat_lt};
+ghost use Rattle.tpm_policy.specs.Comparison.{compares, has_clear, has_set, signed_number, unsigned_number};
 
 use tpm_bytes::is_equal;
 use tpm_types::Operation;
 
-/// Whether a number is less than another of the same size.
+/// Whether a number is less than another of the same size: the first byte in which they differ
+/// decides.
 fn is_less(bytes: &[u8], others: &[u8]) -> bool
-    ensures { result ≡ is_less bytes.now others.now }
+    ensures { length bytes.now ≡ length others.now
+        → result ≡ nat_lt (unsigned_number bytes.now) (unsigned_number others.now) }
 {
     let [byte, bytes @ ..] = bytes else {
         return false;
@@ -17,16 +19,18 @@ fn is_less(bytes: &[u8], others: &[u8]) -> bool
     byte < other || byte == other && is_less(bytes, others)
 }
 
-/// The first byte of a signed number that is raised by half of the range of its size.
+/// The first byte of a signed number, raised by half of the range of its size: so the least one
+/// becomes zero, and the order of signed numbers that of unsigned ones.
 fn raised_byte(byte: u8) -> u8
-    ensures { result ≡ raised_byte byte }
+    ensures { result ≡ (byte + 128) % 256 }
 {
     if byte < 128 { byte + 128 } else { byte - 128 }
 }
 
 /// Whether a signed number is less than another of the same size.
 fn is_signed_less(bytes: &[u8], others: &[u8]) -> bool
-    ensures { result ≡ is_less (raised bytes.now) (raised others.now) }
+    ensures { length bytes.now ≡ length others.now
+        → result ≡ int_lt (signed_number bytes.now) (signed_number others.now) }
 {
     let [byte, bytes @ ..] = bytes else {
         return false;
@@ -69,6 +73,9 @@ fn has_clear(bytes: &[u8], operand: &[u8]) -> bool
 pub(crate) fn compares(operation: Operation, bytes: &[u8], operand: &[u8]) -> bool
     ensures { result ≡ compares operation bytes.now operand.now }
 {
+    if bytes.len() != operand.len() {
+        return false;
+    }
     match operation {
         Operation::Equal => is_equal(bytes, operand),
         Operation::NotEqual => !is_equal(bytes, operand),
@@ -76,12 +83,10 @@ pub(crate) fn compares(operation: Operation, bytes: &[u8], operand: &[u8]) -> bo
         Operation::UnsignedGreater => is_less(operand, bytes),
         Operation::SignedLess => is_signed_less(bytes, operand),
         Operation::UnsignedLess => is_less(bytes, operand),
-        Operation::SignedGreaterOrEqual => {
-            is_signed_less(operand, bytes) || is_equal(bytes, operand)
-        }
-        Operation::UnsignedGreaterOrEqual => is_less(operand, bytes) || is_equal(bytes, operand),
-        Operation::SignedLessOrEqual => is_signed_less(bytes, operand) || is_equal(bytes, operand),
-        Operation::UnsignedLessOrEqual => is_less(bytes, operand) || is_equal(bytes, operand),
+        Operation::SignedGreaterOrEqual => !is_signed_less(bytes, operand),
+        Operation::UnsignedGreaterOrEqual => !is_less(bytes, operand),
+        Operation::SignedLessOrEqual => !is_signed_less(operand, bytes),
+        Operation::UnsignedLessOrEqual => !is_less(operand, bytes),
         Operation::BitSet => has_set(bytes, operand),
         Operation::BitClear => has_clear(bytes, operand),
     }
