@@ -11,6 +11,7 @@ mod image_file;
 mod serving;
 mod socket;
 mod source;
+mod stopwatch;
 
 use fault::Fault;
 use serving::serve_device;

@@ -1,4 +1,5 @@
 use crate::fault::Fault;
+use crate::stopwatch::Stopwatch;
 use std::fs::File;
 use std::io::{BufReader, Read};
 use std::time::{Clock, Instant};
@@ -14,8 +15,7 @@ const READ_SIZE: usize = 16 * 256;
 pub struct Source {
     entropy: BufReader<File>,
     locality: Locality,
-    /// When the command before came.
-    last: Option<Instant>,
+    stopwatch: Stopwatch,
 }
 
 impl Source {
@@ -28,7 +28,7 @@ impl Source {
         Ok(Source {
             entropy,
             locality,
-            last: None,
+            stopwatch: Stopwatch::new(),
         })
     }
 
@@ -41,22 +41,12 @@ impl Source {
 
     /// The values of the next command, which came now.
     pub fn host(&mut self, clock: &impl Clock) -> io::Result<Host> {
-        let elapsed_ms = self.elapsed_ms(Instant::now(clock)?);
+        let elapsed_ms = self.stopwatch.tell(Instant::now(clock)?);
         let random = self.random()?;
         Ok(Host {
             locality: self.locality,
             elapsed_ms,
             random,
         })
-    }
-
-    /// How many milliseconds passed since the command before, 2^32 - 1 at most; none at the first.
-    fn elapsed_ms(&mut self, now: Instant) -> u32 {
-        let elapsed = match self.last {
-            Some(last) => now.saturating_duration_since(last).as_millis(),
-            None => 0,
-        };
-        self.last = Some(now);
-        u32::try_from(elapsed).unwrap_or(u32::MAX)
     }
 }
