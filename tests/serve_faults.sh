@@ -5,6 +5,7 @@ common=$(cd "$(dirname "$0")" && pwd -P)/common
 
 startup=80010000000c000001440000
 random=80010000000c0000017b0004
+small=
 
 head -c 768 /dev/zero >entropy
 mkdir a_folder
@@ -23,11 +24,18 @@ serve() {
     [ ! -e socket ] || echo '    the socket is still there'
 }
 
-# talk COUNT BUFFER..: serves one connection that sends so many bytes at once, and says how that ended.
+# small WORDS..: runs a program that can write no file of over 512 bytes.
+small() {
+    trap '' XFSZ
+    ulimit -f 1
+    exec "$@"
+}
+
+# talk LABEL BUFFER..: serves one connection that sends these commands, and says how that ended.
 talk() {
     label=$1
     shift
-    timeout 60 "$program" serve --socket socket --image "${image:-image}" --entropy entropy \
+    $small timeout 60 "$program" serve --socket socket --image "${image:-image}" --entropy entropy \
         --locality 0 --connections 1 >"$room/output" 2>"$room/error" &
     python3 "$common/client.py" socket 4096 "$@" >"$room/responses"
     status=0
@@ -69,6 +77,8 @@ serve 'a bad locality, and no image' --locality 5 --image a_folder
 serve 'no image, and no random bytes' --image a_folder --entropy missing
 serve '2^32 - 1 connections, and no random bytes' --connections 4294967295 --entropy missing
 serve 'no random bytes, and no socket' --entropy missing --socket a_folder
+head -c 255 /dev/zero >few
+serve 'too few random bytes for a new device, and no socket' --entropy few --socket a_folder
 
 # Images that are read, and files that are none.
 talk 'the image of a new device' "$startup"
@@ -86,7 +96,6 @@ serve 'a file in place of a folder' --image empty/image
 # before the program ends.
 serve 'no random bytes' --entropy missing
 rm -f image
-head -c 255 /dev/zero >few
 serve 'too few for a new device' --entropy few
 serve 'a folder of random bytes' --entropy a_folder
 talk 'random bytes for two commands' "$startup" "$random" "$random"
@@ -98,10 +107,15 @@ serve 'a folder in place of a socket' --socket a_folder
 serve 'a socket in no folder' --socket missing/socket
 serve 'a path that is too long' --socket "$(printf '%0108d' 0)"
 
-# An image that cannot be written: the old one stays.
+# An image that cannot be written: the old one stays. It has an NV index of 1,024 bytes.
+define=$("$program" asm 'NV_DefineSpace OWNER pw:- - 01000001000b0002000200000400')
+write=$("$program" asm "NV_Write OWNER 01000001 pw:- $(printf '%02048d' 0) 0")
+talk 'an NV index' "$startup" "$define" "$write"
 cp image kept
-ln -s /dev/full image.new
-talk 'a full disk' "$startup"
+small=small
+talk 'no room for the new image' "$startup"
+small=
+cmp image kept && echo '    the image is as it was'
 rm -f image.new
 mkdir image.new
 talk 'a folder in place of the new image' "$startup"

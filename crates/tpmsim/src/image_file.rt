@@ -1,10 +1,17 @@
 use crate::fault::Fault;
-use std::fs;
+use crate::folder::folder_of;
+use std::fs::{File, OpenOptions};
 use std::io::ErrorKind;
+use std::os::unix::fs::OpenOptionsExt;
+use std::{fs, io};
 use tpm_bytes::Tap;
 use tpm_image::{open, save};
 use tpm_machine::Machine;
 use tpm_record::SlotKeep;
+
+/// The permissions of an image: its owner alone reads and writes it, since it has the device's seeds
+/// and every authorization value.
+const OWNER_ALONE: u32 = 0o600;
 
 /// The device whose image is in this file, or none where there is no file.
 pub fn open_file(rt: &HostRuntime, path: &str) -> Result<Option<Machine<SlotKeep>>, Fault> {
@@ -16,14 +23,47 @@ pub fn open_file(rt: &HostRuntime, path: &str) -> Result<Option<Machine<SlotKeep
 }
 
 /// Writes the image of a device to a new file beside this one, forces it to the disk, and puts it
-/// in its place. The old image stays where that fails.
+/// in its place, of which the folder is forced to the disk too. Where a fault comes before that, the
+/// old image stays.
 pub fn save_file(rt: &HostRuntime, path: &str, machine: &Machine<SlotKeep>) -> Result<(), Fault> {
     let new = format!(in rt.alloc(); "{path}.new")?;
-    let file = fs::create(rt, new.as_str()).map_err(|error| Fault::of_io(error, Fault::File))?;
+    write_image(rt, new.as_str(), machine)?;
+    let folder = folder_of(path);
+    let folder = format!(in rt.alloc(); "{folder}.")?;
+    put_in_place(rt, new.as_str(), path, folder.as_str()).map_err(|error| Fault::of_io(
+        error,
+        Fault::File,
+    ))
+}
+
+/// Writes the image of a device to a file that is made anew, and forces it to the disk.
+fn write_image(rt: &HostRuntime, path: &str, machine: &Machine<SlotKeep>) -> Result<(), Fault> {
+    let file = create_anew(rt, path).map_err(|error| Fault::of_io(error, Fault::File))?;
     let mut tap = Tap::new(file);
     save(machine, &mut tap).map_err(|_| Fault::File)?;
     let file = tap.into_inner();
     file.sync_all()
-        .map_err(|error| Fault::of_io(error, Fault::File))?;
-    fs::rename(rt, new.as_str(), path).map_err(|error| Fault::of_io(error, Fault::File))
+        .map_err(|error| Fault::of_io(error, Fault::File))
+}
+
+/// A new file, its owner's alone. What is at the path is removed: a file that a killed run left, or
+/// a link, and not what the link leads to.
+fn create_anew(rt: &HostRuntime, path: &str) -> io::Result<File> {
+    match fs::remove_file(rt, path) {
+        Err(error) if error.kind() != ErrorKind::NotFound => return Err(error),
+        _ => {}
+    }
+    OpenOptions::new()
+        .write(true)
+        .create_new(true)
+        .mode(OWNER_ALONE)
+        .open(rt, path)
+}
+
+/// Renames a file to another path of its folder, and forces the folder to the disk. The folder is
+/// opened first, so that nothing is renamed where that fails.
+fn put_in_place(rt: &HostRuntime, new: &str, path: &str, folder: &str) -> io::Result<()> {
+    let folder = fs::open(rt, folder)?;
+    fs::rename(rt, new, path)?;
+    folder.sync_all()
 }

@@ -7,6 +7,7 @@
 //! the buffer in hex; or a help. A run that fails says why in one line on standard error.
 
 mod fault;
+mod folder;
 mod image_file;
 mod serving;
 mod socket;
