@@ -1,5 +1,5 @@
 # What a device keeps in its image until it is served again: the value of the largest counter, and
-# the PCRs that a shutdown saved.
+# the PCRs that a shutdown saved. Its sessions are gone.
 tests=$(cd "$(dirname "$0")" && pwd -P)
 . "$tests/common/cases.sh"
 . "$tests/common/served.sh"
@@ -33,3 +33,9 @@ after 'Startup 1' 'PCR_Read sha1:3,16'
 echo 'a saved state that a command cancelled is not resumed: VALUE/p1 (1C4)'
 before 'Startup 0' 'Shutdown 1' "PCR_Extend 00000003 $extend"
 after 'Startup 1'
+
+echo 'a policy session is gone, and its handle names none: REFERENCE_H0 (910)'
+before 'Startup 0' \
+    'StartAuthSession NULL NULL 00000000000000000000000000000000 - 1 null sha256' \
+    'PolicyGetDigest 03000000'
+after 'Startup 0' 'PolicyGetDigest 03000000'

@@ -32,6 +32,14 @@ talk 'nothing' 4096
 talk 'the next connection' 4096 "$startup" "$random"
 ended 'three connections'
 
+# Two connections at once, which take turns with each byte: the first is served to its end, and then
+# the second, each with the answers to its own commands.
+rm -f image
+begin 2
+echo 'two connections that take turns with each byte:'
+python3 "$tests/common/ends.py" turns socket "$startup" "$random" "$random" | sed 's/^/    /'
+ended 'two connections'
+
 # A size field of 9, or of 4,097, is answered, and ends the connection.
 rm -f image
 begin 2
