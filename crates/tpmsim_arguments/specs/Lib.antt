@@ -1,1 +1,4 @@
+pub mod Answers
+pub mod Asked
+pub mod CommandLine
 pub mod Fault

@@ -1,3 +1,14 @@
+ghost use Rattle.std.specs.Prelude.{◌≡◌, false, map, ok_or, option_map, IfOk};
+ghost use Rattle.clap.specs.Words.{app_of, first_of, found_of, rows_of, rule_of, shape_of};
+ghost use Rattle.clap.specs.Words.{subcommand_rows_of};
+ghost use Rattle.tpm_text.specs.Fault.{Gives};
+ghost use Rattle.tpmsim_arguments.specs.Answers.{Answers};
+ghost use Rattle.tpmsim_arguments.specs.Asked.{asked, asked_in, asked_of, is_set, served};
+ghost use Rattle.tpmsim_arguments.specs.Asked.{service_in};
+ghost use Rattle.tpmsim_arguments.specs.CommandLine.{asm_command, program, run_command};
+ghost use Rattle.tpmsim_arguments.specs.CommandLine.{serve_command, setting};
+ghost use Rattle.tpmsim_arguments.specs.declared.fault.ArgumentFault.TheVariants.{Usage};
+
 use crate::fault::ArgumentFault;
 use crate::service::Service;
 use clap::{Arg, ArgAction, ArgMatches, Command};
@@ -21,23 +32,37 @@ pub enum Arguments<'a> {
 
 impl<'a> Arguments<'a> {
     /// Reads the words of a command line, of which the first is the program's name.
-    pub fn parse<S: AsStr>(alloc: Global, words: &'a [S]) -> Result<Arguments<'a>, ArgumentFault> {
+    pub fn parse<S: AsStr>(alloc: Global, words: &'a [S]) -> Result<Arguments<'a>, ArgumentFault>
+        ensures { Answers (map S.text words.entry.now) result }
+    {
         match command(alloc)?.try_get_matches_from(words) {
-            Ok(matches) => Arguments::of_matches(&matches).ok_or(ArgumentFault::Usage),
+            Ok(matches) => Arguments::of_matches(&matches),
             Err(error) if error.use_stderr() => Err(ArgumentFault::from(error)),
             Err(error) => Ok(Arguments::Tell(error)),
         }
     }
 
-    fn of_matches(matches: &ArgMatches<'a>) -> Option<Arguments<'a>> {
-        let (name, options) = matches.subcommand()?;
+    /// What the matches of a command line ask for.
+    fn of_matches(matches: &ArgMatches<'a>) -> Result<Arguments<'a>, ArgumentFault>
+        ensures { Gives asked (ok_or (asked_in (subcommand_rows_of matches.now)) Usage) result }
+    {
+        let Some((name, options)) = entered(matches) else {
+            return Err(ArgumentFault::Usage);
+        };
+        Arguments::of_command(name, options).ok_or(ArgumentFault::Usage)
+    }
+
+    /// What a command of this name asks for.
+    fn of_command(name: &str, options: &ArgMatches<'a>) -> Option<Arguments<'a>>
+        ensures { option_map asked result ≡ asked_of name.now (rows_of (found_of options.now)) }
+    {
         match name {
             "run" => Some(Arguments::Run {
-                script: options.get_str("script")?,
-                trace: options.get_flag("trace"),
+                script: value(options, "script")?,
+                trace: is_set(options, "trace"),
             }),
             "asm" => Some(Arguments::Assemble {
-                line: options.get_str("line")?,
+                line: value(options, "line")?,
             }),
             "serve" => Some(Arguments::Serve(service_of(options)?)),
             _ => None,
@@ -45,17 +70,47 @@ impl<'a> Arguments<'a> {
     }
 }
 
-fn service_of<'a>(options: &ArgMatches<'a>) -> Option<Service<'a>> {
+/// The subcommand that was entered, with its matches.
+fn entered<'m, 'a>(matches: &'m ArgMatches<'a>) -> Option<(&'a str, &'m ArgMatches<'a>)>
+    ensures { option_map (λ p. (p.0.now, rows_of (found_of p.1.now))) result
+        ≡ subcommand_rows_of matches.now }
+{
+    matches.subcommand()
+}
+
+/// The value of an argument.
+fn value<'a>(options: &ArgMatches<'a>, name: &str) -> Option<&'a str>
+    ensures { option_map (λ text. text.now) result
+        ≡ first_of name.now (rows_of (found_of options.now)) }
+{
+    options.get_str(name)
+}
+
+/// Whether a flag was given.
+fn is_set(options: &ArgMatches<'_>, flag: &str) -> bool
+    ensures { result ≡ is_set flag.now (rows_of (found_of options.now)) }
+{
+    match value(options, flag) {
+        Some(text) => text == "true",
+        None => false,
+    }
+}
+
+fn service_of<'a>(options: &ArgMatches<'a>) -> Option<Service<'a>>
+    ensures { option_map served result ≡ service_in (rows_of (found_of options.now)) }
+{
     Some(Service {
-        socket: options.get_str("socket")?,
-        image: options.get_str("image")?,
-        entropy: options.get_str("entropy")?,
-        locality: locality(options.get_str("locality")?.as_bytes())?,
-        connections: decimal(options.get_str("connections")?.as_bytes())?,
+        socket: value(options, "socket")?,
+        image: value(options, "image")?,
+        entropy: value(options, "entropy")?,
+        locality: locality(value(options, "locality")?.as_bytes())?,
+        connections: decimal(value(options, "connections")?.as_bytes())?,
     })
 }
 
-fn command<'a>(alloc: Global) -> Result<Command<'a>, AllocError> {
+fn command<'a>(alloc: Global) -> Result<Command<'a>, AllocError>
+    ensures { IfOk result (λ command. app_of command ≡ program) }
+{
     Command::new(alloc, "tpmsim")
         .about("A TPM 2.0 in software: serves a device, and runs scripts of commands")
         .version("0.1.0")
@@ -65,7 +120,9 @@ fn command<'a>(alloc: Global) -> Result<Command<'a>, AllocError> {
         .subcommand(serve_command(alloc)?)
 }
 
-fn run_command<'a>(alloc: Global) -> Result<Command<'a>, AllocError> {
+fn run_command<'a>(alloc: Global) -> Result<Command<'a>, AllocError>
+    ensures { IfOk result (λ command. shape_of command ≡ run_command) }
+{
     let trace = Arg::new(alloc, "trace")
         .long("trace")
         .action(ArgAction::SetTrue)
@@ -82,7 +139,9 @@ fn run_command<'a>(alloc: Global) -> Result<Command<'a>, AllocError> {
         .arg(script)
 }
 
-fn asm_command<'a>(alloc: Global) -> Result<Command<'a>, AllocError> {
+fn asm_command<'a>(alloc: Global) -> Result<Command<'a>, AllocError>
+    ensures { IfOk result (λ command. shape_of command ≡ asm_command) }
+{
     let line = Arg::new(alloc, "line")
         .value_name("LINE")
         .required(true)
@@ -94,7 +153,9 @@ fn asm_command<'a>(alloc: Global) -> Result<Command<'a>, AllocError> {
         .arg(line)
 }
 
-fn serve_command<'a>(alloc: Global) -> Result<Command<'a>, AllocError> {
+fn serve_command<'a>(alloc: Global) -> Result<Command<'a>, AllocError>
+    ensures { IfOk result (λ command. shape_of command ≡ serve_command) }
+{
     Command::new(alloc, "serve")
         .about("Serves a device on a Unix socket, and keeps its state in an image")
         .after_help(
@@ -134,7 +195,10 @@ fn serve_command<'a>(alloc: Global) -> Result<Command<'a>, AllocError> {
 }
 
 /// An option of `serve` that has to be given.
-fn service_option<'a>(alloc: Global, name: &'a str, value: &'a str, help: &'a str) -> Arg<'a> {
+fn service_option<'a>(alloc: Global, name: &'a str, value: &'a str, help: &'a str) -> Arg<'a>
+    ensures rule { rule_of result ≡ setting name.entry.now }
+    ensures local { result.global ≡ false }
+{
     Arg::new(alloc, name)
         .long(name)
         .value_name(value)

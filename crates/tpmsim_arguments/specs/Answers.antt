@@ -1,0 +1,32 @@
+-- What a command line is answered by.
+use Rattle.std.specs.Prelude.{◌≡◌, ◌⊎◌, List, [], Some, None, Result, Ok, Err}
+use Rattle.clap.specs.Words.{IsAmong, Text, fault_of, kind_of}
+use Rattle.clap.specs.declared.error.kind.ErrorKind.{ErrorKind}
+use Rattle.clap.specs.declared.error.kind.ErrorKind.TheVariants.{DisplayHelp, DisplayVersion}
+use Rattle.tpmsim_arguments.specs.Asked.{asked, asked_by}
+use Rattle.tpmsim_arguments.specs.CommandLine.{program}
+use Rattle.tpmsim_arguments.specs.declared.arguments.Arguments.{Arguments}
+use Rattle.tpmsim_arguments.specs.declared.arguments.Arguments.TheVariants.{Tell}
+use Rattle.tpmsim_arguments.specs.declared.fault.ArgumentFault.{ArgumentFault}
+use Rattle.tpmsim_arguments.specs.declared.fault.ArgumentFault.TheVariants.{Usage, NoMemory}
+
+-- clap finds no fault with the words
+abbrev pub AreTaken : List Text → Type 0
+AreTaken words = fault_of program words ≡ []
+
+-- help or the version is wanted, which is told, and no mistake
+abbrev pub IsTold : ErrorKind → Type 0
+IsTold kind = (kind ≡ DisplayHelp) ⊎ (kind ≡ DisplayVersion)
+
+abbrev pub HaveMistake : List Text → Type 0
+HaveMistake words =
+    (kind : ErrorKind) × IsAmong kind (fault_of program words) × (IsTold kind → ⊥)
+
+-- What is given is what the words ask for; or clap's text, where it finds that one is wanted. Usage
+-- is for words with a mistake, and for words that ask for nothing, as with a locality above 4.
+abbrev pub Answers : List Text → Result Arguments ArgumentFault → Type 0
+Answers words (Ok (Tell error)) =
+    IsAmong (kind_of error) (fault_of program words) × IsTold (kind_of error)
+Answers words (Ok arguments) = AreTaken words × (asked_by words ≡ Some (asked arguments))
+Answers words (Err Usage) = HaveMistake words ⊎ (AreTaken words × (asked_by words ≡ None))
+Answers words (Err NoMemory) = Unit

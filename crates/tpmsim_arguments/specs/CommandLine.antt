@@ -1,0 +1,50 @@
+-- The program's command line, in the words of clap.
+use Rattle.std.specs.Prelude.{List, [], ◌∷◌, Some, true, codes}
+use Rattle.clap.specs.Words.{App, Rule, Shape, Text, new_rule, with_subcommand}
+use Rattle.clap.specs.Simple.{new_shape}
+use Rattle.clap.specs.declared.builder.action.ArgAction.TheVariants.{Set, SetTrue}
+
+-- --NAME, which may be left out
+abbrev pub flag : Text → Rule
+flag name = record (new_rule name) { long = Some name; action = Some SetTrue }
+
+-- a value in its place, which has to be given
+abbrev pub operand : Text → Rule
+operand name = record (new_rule name) {
+  action = Some Set;
+  value_names = 1;
+  required = true;
+}
+
+-- --NAME with a value, which has to be given
+abbrev pub setting : Text → Rule
+setting name = record (operand name) { long = Some name }
+
+-- a command of this name, with these arguments
+abbrev pub with_arguments : Text → List Rule → Shape
+with_arguments name rules = record (new_shape name) { rules = rules }
+
+-- run [--trace] SCRIPT
+abbrev pub run_command : Shape
+run_command = with_arguments (codes "run") (flag (codes "trace") ∷ operand (codes "script") ∷ [])
+
+-- asm LINE
+abbrev pub asm_command : Shape
+asm_command = with_arguments (codes "asm") (operand (codes "line") ∷ [])
+
+-- serve --socket PATH --image FILE --entropy FILE --locality NUMBER --connections NUMBER
+abbrev pub serve_command : Shape
+serve_command = with_arguments (codes "serve") (setting (codes "socket")
+    ∷ setting (codes "image") ∷ setting (codes "entropy") ∷ setting (codes "locality")
+    ∷ setting (codes "connections") ∷ [])
+
+-- the program, which has a version, and wants one of its commands
+abbrev pub bare_program : App
+bare_program = record {
+  top = record (new_shape (codes "tpmsim")) { has_version = true; subcommand_required = true };
+  subs = [];
+}
+
+abbrev pub program : App
+program = with_subcommand (with_subcommand (with_subcommand bare_program run_command) asm_command)
+    serve_command
