@@ -1,0 +1,71 @@
+-- Command lines as people write them.
+use Rattle.std.proofs.Common.{◌≡◌, ◌∙◌, ℕ, ◌≤◌, refl, inl, inr, true, false, [], ◌∷◌, Some, None, Option, ap₂, option_map, option_and_then}
+use Rattle.std.proofs.lemmas.Bool.{le-leb}
+use Rattle.std.specs.Str.{bytes_eq}
+use Rattle.clap.specs.Lexer.{long_of, short_of, strip_byte}
+use Rattle.clap.specs.Words.{Text}
+use Rattle.clap.proofs.OnLiterals.{clap_on_literals}
+use Rattle.tpm_text.specs.Number.{decimal_of, locality_of}
+use Rattle.tpmsim_arguments.specs.Answers.{AreTaken}
+use Rattle.tpmsim_arguments.specs.Asked.{Asked, asked_by, assemble, run, serve}
+use Rattle.tpmsim_arguments.specs.Lines.{AskFor, IsScript, asm_line, begins_with_hyphen, run_line, serve_line, trace_line}
+
+-- a word that begins with no hyphen is no name of an argument
+no_hyphen : (word : Text) → begins_with_hyphen word ≡ false → strip_byte 45 word ≡ None
+no_hyphen [] e = refl
+no_hyphen (byte ∷ rest) e = rw e refl
+
+no_end : (word : Text) → begins_with_hyphen word ≡ false → bytes_eq word (45 ∷ 45 ∷ []) ≡ false
+no_end [] e = refl
+no_end (byte ∷ rest) e = rw e refl
+
+no_long : (word : Text) → begins_with_hyphen word ≡ false → long_of word ≡ None
+no_long word e = rw (no_hyphen word e) refl
+
+no_short : (word : Text) → begins_with_hyphen word ≡ false → short_of word ≡ None
+no_short word e = rw (no_hyphen word e) refl
+
+pub line_is_assembled : (name line : Text) → begins_with_hyphen line ≡ false → AskFor (asm_line name line) (assemble line)
+unfolding clap_on_literals
+line_is_assembled name line e = rw (no_end line e, no_long line e, no_short line e) (refl, refl)
+
+pub script_is_run : (name script : Text) → IsScript script → AskFor (run_line name script) (run script false)
+unfolding clap_on_literals
+script_is_run name script (inl e) = rw (no_end script e, no_long script e, no_short script e) (refl, refl)
+script_is_run name script (inr e) = rw e (refl, refl)
+
+pub script_is_traced : (name script : Text) → IsScript script → AskFor (trace_line name script) (run script true)
+unfolding clap_on_literals
+script_is_traced name script (inl e) = rw (no_end script e, no_long script e, no_short script e) (refl, refl)
+script_is_traced name script (inr e) = rw e (refl, refl)
+
+locality_is : (number : ℕ) → number ≤ 4 → locality_of number ≡ Some number
+locality_is number small = rw (le-leb number 4 small) refl
+
+-- a service with these numbers, if they are
+abbrev with_numbers : (socket image entropy : Text) → Option ℕ → Option ℕ → Option Asked
+with_numbers socket image entropy locality connections = option_map serve (option_and_then (λ l. option_and_then (λ c.
+    Some (record { socket = socket; image = image; entropy = entropy; locality = l; connections = c })) connections)
+    (option_and_then locality_of locality))
+
+numbers_are_read : (name socket image entropy locality connections : Text)
+    → AreTaken (serve_line name socket image entropy locality connections)
+    × (asked_by (serve_line name socket image entropy locality connections)
+    ≡ with_numbers socket image entropy (decimal_of locality) (decimal_of connections))
+unfolding clap_on_literals
+numbers_are_read name socket image entropy locality connections = (refl, refl)
+
+pub device_is_served : (name socket image entropy locality connections : Text) (l c : ℕ) → decimal_of locality ≡ Some l → l ≤ 4
+    → decimal_of connections ≡ Some c
+    → AskFor (serve_line name socket image entropy locality connections)
+    (serve (record { socket = socket; image = image; entropy = entropy; locality = l; connections = c }))
+device_is_served name socket image entropy locality connections l c is_l small is_c =
+    let read = numbers_are_read name socket image entropy locality connections in
+    let numbers : with_numbers socket image entropy (decimal_of locality) (decimal_of connections)
+    ≡ Some (serve (record { socket = socket; image = image; entropy = entropy; locality = l; connections = c })) =
+    ap₂ (with_numbers socket image entropy) is_l is_c ∙ given l c (locality_is l small) in
+    (read.0, read.1 ∙ numbers)
+  where
+    given : (l c : ℕ) → locality_of l ≡ Some l → with_numbers socket image entropy (Some l) (Some c)
+        ≡ Some (serve (record { socket = socket; image = image; entropy = entropy; locality = l; connections = c }))
+    given l c e = rw e refl

@@ -1,0 +1,10 @@
+use Rattle.tpmsim_arguments.proofs.Lines.{device_is_served, line_is_assembled, script_is_run, script_is_traced}
+use Rattle.tpmsim_arguments.proofs.laws.lines_ask_for_what_they_say.Goals as goal
+
+pub returns : goal.returns
+returns c = record {
+  asm = line_is_assembled;
+  run = script_is_run;
+  trace = script_is_traced;
+  serve = device_is_served;
+}
