@@ -4,8 +4,8 @@ tests=$(cd "$(dirname "$0")" && pwd -P)
 . "$tests/common/served.sh"
 
 # A second of commands, one behind the other.
-head -c 64000000 /dev/zero >entropy
-rm -f image
+rm -f entropy image
+ln -s /dev/zero entropy
 begin 1
 python3 "$tests/common/clock.py" socket
 ended 'a second of commands'

@@ -28,7 +28,7 @@ pub fn encode(bytes: &[u8], digits: &mut [u8])
     }
 }
 
-/// PairsTell the bytes that hex digits of either case write. Of a text that is no hex it is not said
+/// Tells the bytes that hex digits of either case write. Of a text that is no hex it is not said
 /// what it leaves there.
 pub fn decode(digits: &[u8], bytes: &mut [u8]) -> Result<(), NotHex>
     requires { length bytes.old ≡ length digits.now / 2 }
@@ -42,7 +42,7 @@ pub fn decode(digits: &[u8], bytes: &mut [u8]) -> Result<(), NotHex>
     Ok(())
 }
 
-/// PairsTell the bytes that pairs of digits write, and gives the largest of the digits' values.
+/// Tells the bytes that pairs of digits write, and gives the largest of the digits' values.
 fn largest_value(digits: &[u8], bytes: &mut [u8]) -> u8
     requires { length digits.now ≡ 2 * length bytes.old }
     ensures { PairsTell digits.now result bytes.new }

@@ -1,4 +1,4 @@
-//! Time, Clock and the counts, which no command reads yet, over both keeps.
+//! Time, Clock and the counts over a power cycle and at their ends, over both keeps.
 
 use std::alloc::Global;
 use std::process::Abort;
