@@ -1,5 +1,5 @@
 -- Command lines as people write them.
-use Rattle.std.proofs.Common.{◌≡◌, ◌∙◌, ℕ, ◌≤◌, refl, inl, inr, true, false, [], ◌∷◌, Some, None, Option, ap₂, option_map, option_and_then}
+use Rattle.std.proofs.Common.{◌≡◌, List, ◌∙◌, ℕ, ◌≤◌, refl, inl, inr, true, false, [], ◌∷◌, Some, None, Option, ap₂, option_map, option_and_then}
 use Rattle.std.proofs.lemmas.Bool.{le-leb}
 use Rattle.std.specs.Str.{bytes_eq}
 use Rattle.clap.specs.Lexer.{long_of, short_of, strip_byte}
@@ -8,21 +8,21 @@ use Rattle.clap.proofs.OnLiterals.{clap_on_literals}
 use Rattle.tpm_text.specs.Number.{decimal_of, locality_of}
 use Rattle.tpmsim_arguments.specs.Answers.{AreTaken}
 use Rattle.tpmsim_arguments.specs.Asked.{Asked, asked_by, assemble, run, serve}
-use Rattle.tpmsim_arguments.specs.Lines.{AskFor, IsScript, asm_line, begins_with_hyphen, run_line, serve_line, trace_line}
+use Rattle.tpmsim_arguments.specs.Lines.{AskFor, AskForDevice, IsScript, asm_line, begins_with_hyphen, run_line, joined_line, trace_line}
 
 -- a word that begins with no hyphen is no name of an argument
 no_hyphen : (word : Text) → begins_with_hyphen word ≡ false → strip_byte 45 word ≡ None
 no_hyphen [] e = refl
 no_hyphen (byte ∷ rest) e = rw e refl
 
-no_end : (word : Text) → begins_with_hyphen word ≡ false → bytes_eq word (45 ∷ 45 ∷ []) ≡ false
+pub no_end : (word : Text) → begins_with_hyphen word ≡ false → bytes_eq word (45 ∷ 45 ∷ []) ≡ false
 no_end [] e = refl
 no_end (byte ∷ rest) e = rw e refl
 
-no_long : (word : Text) → begins_with_hyphen word ≡ false → long_of word ≡ None
+pub no_long : (word : Text) → begins_with_hyphen word ≡ false → long_of word ≡ None
 no_long word e = rw (no_hyphen word e) refl
 
-no_short : (word : Text) → begins_with_hyphen word ≡ false → short_of word ≡ None
+pub no_short : (word : Text) → begins_with_hyphen word ≡ false → short_of word ≡ None
 no_short word e = rw (no_hyphen word e) refl
 
 pub line_is_assembled : (name line : Text) → begins_with_hyphen line ≡ false → AskFor (asm_line name line) (assemble line)
@@ -42,30 +42,31 @@ script_is_traced name script (inr e) = rw e (refl, refl)
 locality_is : (number : ℕ) → number ≤ 4 → locality_of number ≡ Some number
 locality_is number small = rw (le-leb number 4 small) refl
 
--- a service with these numbers, if they are
-abbrev with_numbers : (socket image entropy : Text) → Option ℕ → Option ℕ → Option Asked
+-- a service with these numbers, if they are some
+abbrev pub with_numbers : (socket image entropy : Text) → Option ℕ → Option ℕ → Option Asked
 with_numbers socket image entropy locality connections = option_map serve (option_and_then (λ l. option_and_then (λ c.
     Some (record { socket = socket; image = image; entropy = entropy; locality = l; connections = c })) connections)
     (option_and_then locality_of locality))
 
-numbers_are_read : (name socket image entropy locality connections : Text)
-    → AreTaken (serve_line name socket image entropy locality connections)
-    × (asked_by (serve_line name socket image entropy locality connections)
-    ≡ with_numbers socket image entropy (decimal_of locality) (decimal_of connections))
-unfolding clap_on_literals
-numbers_are_read name socket image entropy locality connections = (refl, refl)
-
-pub device_is_served : (name socket image entropy locality connections : Text) (l c : ℕ) → decimal_of locality ≡ Some l → l ≤ 4
-    → decimal_of connections ≡ Some c
-    → AskFor (serve_line name socket image entropy locality connections)
-    (serve (record { socket = socket; image = image; entropy = entropy; locality = l; connections = c }))
-device_is_served name socket image entropy locality connections l c is_l small is_c =
-    let read = numbers_are_read name socket image entropy locality connections in
-    let numbers : with_numbers socket image entropy (decimal_of locality) (decimal_of connections)
-    ≡ Some (serve (record { socket = socket; image = image; entropy = entropy; locality = l; connections = c })) =
-    ap₂ (with_numbers socket image entropy) is_l is_c ∙ given l c (locality_is l small) in
-    (read.0, read.1 ∙ numbers)
+pub device_is_asked_for : (words : List Text) (socket image entropy locality connections : Text) → AreTaken words
+    → asked_by words ≡ with_numbers socket image entropy (decimal_of locality) (decimal_of connections)
+    → AskForDevice words socket image entropy locality connections
+device_is_asked_for words socket image entropy locality connections right e = λ l c is_l small is_c.
+    (right, e ∙ ap₂ (with_numbers socket image entropy) is_l is_c ∙ given l c (locality_is l small))
   where
     given : (l c : ℕ) → locality_of l ≡ Some l → with_numbers socket image entropy (Some l) (Some c)
         ≡ Some (serve (record { socket = socket; image = image; entropy = entropy; locality = l; connections = c }))
     given l c e = rw e refl
+
+joined_is_read : (name socket image entropy locality connections : Text)
+    → AreTaken (joined_line name socket image entropy locality connections)
+    × (asked_by (joined_line name socket image entropy locality connections)
+    ≡ with_numbers socket image entropy (decimal_of locality) (decimal_of connections))
+unfolding clap_on_literals
+joined_is_read name socket image entropy locality connections = (refl, refl)
+
+pub joined_is_served : (name socket image entropy locality connections : Text)
+    → AskForDevice (joined_line name socket image entropy locality connections) socket image entropy locality connections
+joined_is_served name socket image entropy locality connections =
+    let read = joined_is_read name socket image entropy locality connections in
+    device_is_asked_for (joined_line name socket image entropy locality connections) socket image entropy locality connections read.0 read.1

@@ -1,8 +1,10 @@
 -- Command lines as people write them.
-use Rattle.std.specs.Prelude.{◌≡◌, ◌⊎◌, ◌==◌, ◌++◌, Bool, false, List, [], ◌∷◌, Some, codes}
+use Rattle.std.specs.Prelude.{◌≡◌, ◌≤◌, ◌⊎◌, ◌==◌, ◌++◌, ℕ, Bool, false, List, [], ◌∷◌, Some, codes}
+use Rattle.std.specs.List.{AllByRecursion}
 use Rattle.clap.specs.Words.{Text}
+use Rattle.tpm_text.specs.Number.{decimal_of}
 use Rattle.tpmsim_arguments.specs.Answers.{AreTaken}
-use Rattle.tpmsim_arguments.specs.Asked.{Asked, asked_by}
+use Rattle.tpmsim_arguments.specs.Asked.{Asked, asked_by, serve}
 
 -- clap takes the words, and this is what they ask for
 abbrev pub AskFor : List Text → Asked → Type 0
@@ -12,6 +14,9 @@ AskFor words asked = AreTaken words × (asked_by words ≡ Some asked)
 abbrev pub begins_with_hyphen : Text → Bool
 begins_with_hyphen [] = false
 begins_with_hyphen (byte ∷ rest) = byte == 45
+
+abbrev pub NoneBeginsWithHyphen : List Text → Type 0
+NoneBeginsWithHyphen = AllByRecursion (λ word. begins_with_hyphen word ≡ false)
 
 -- a word that begins with no hyphen, or is one: then it stands for standard input
 abbrev pub IsScript : Text → Type 0
@@ -29,10 +34,29 @@ run_line name script = name ∷ codes "run" ∷ script ∷ []
 abbrev pub trace_line : (name script : Text) → List Text
 trace_line name script = name ∷ codes "run" ∷ codes "--trace" ∷ script ∷ []
 
--- NAME serve --socket=SOCKET --image=IMAGE --entropy=ENTROPY --locality=LOCALITY
---     --connections=CONNECTIONS
+-- NAME serve --socket SOCKET --image IMAGE --entropy ENTROPY --locality LOCALITY
+--     --connections CONNECTIONS
 abbrev pub serve_line : (name socket image entropy locality connections : Text) → List Text
 serve_line name socket image entropy locality connections = name ∷ codes "serve"
+    ∷ codes "--socket" ∷ socket ∷ codes "--image" ∷ image ∷ codes "--entropy" ∷ entropy
+    ∷ codes "--locality" ∷ locality ∷ codes "--connections" ∷ connections ∷ []
+
+-- the same with each value in the word of its name, as --socket=SOCKET
+abbrev pub joined_line : (name socket image entropy locality connections : Text) → List Text
+joined_line name socket image entropy locality connections = name ∷ codes "serve"
     ∷ (codes "--socket=" ++ socket) ∷ (codes "--image=" ++ image)
     ∷ (codes "--entropy=" ++ entropy) ∷ (codes "--locality=" ++ locality)
     ∷ (codes "--connections=" ++ connections) ∷ []
+
+-- the words ask for a device with these paths, and with these numbers where they are some
+abbrev pub AskForDevice : (words : List Text) (socket image entropy locality connections : Text)
+    → Type 0
+AskForDevice words socket image entropy locality connections = (place count : ℕ)
+    → decimal_of locality ≡ Some place → place ≤ 4 → decimal_of connections ≡ Some count
+    → AskFor words (serve (record {
+      socket = socket;
+      image = image;
+      entropy = entropy;
+      locality = place;
+      connections = count;
+    }))

@@ -86,7 +86,8 @@ fn value<'a>(options: &ArgMatches<'a>, name: &str) -> Option<&'a str>
     options.get_str(name)
 }
 
-/// Whether a flag was given.
+/// Whether a flag was given. clap has "true" for it then, and else "false"; of any other text its own
+/// `get_flag` would promise nothing.
 fn is_set(options: &ArgMatches<'_>, flag: &str) -> bool
     ensures { result ≡ is_set flag.now (rows_of (found_of options.now)) }
 {
@@ -96,6 +97,7 @@ fn is_set(options: &ArgMatches<'_>, flag: &str) -> bool
     }
 }
 
+/// What the matches of `serve` ask for.
 fn service_of<'a>(options: &ArgMatches<'a>) -> Option<Service<'a>>
     ensures { option_map served result ≡ service_in (rows_of (found_of options.now)) }
 {

@@ -1,11 +1,13 @@
-ghost use Rattle.std.specs.Prelude.{◌≡◌, ◌≤◌, ℕ, List, Some, false, true};
-ghost use Rattle.tpm_text.specs.Number.{decimal_of};
-ghost use Rattle.tpmsim_arguments.specs.Asked.{assemble, run, serve};
-ghost use Rattle.tpmsim_arguments.specs.Lines.{AskFor, IsScript, asm_line, begins_with_hyphen};
-ghost use Rattle.tpmsim_arguments.specs.Lines.{run_line, serve_line, trace_line};
+ghost use Rattle.std.specs.Prelude.{◌≡◌, ◌∷◌, List, [], ℕ, false, true};
+ghost use Rattle.tpmsim_arguments.specs.Asked.{assemble, run};
+ghost use Rattle.tpmsim_arguments.specs.Lines.{AskFor, AskForDevice, IsScript};
+ghost use Rattle.tpmsim_arguments.specs.Lines.{NoneBeginsWithHyphen, asm_line};
+ghost use Rattle.tpmsim_arguments.specs.Lines.{begins_with_hyphen, joined_line, run_line};
+ghost use Rattle.tpmsim_arguments.specs.Lines.{serve_line, trace_line};
 
-/// Command lines as people write them ask for what they say: a line and a script that begin with no
-/// hyphen, or a script that is one hyphen; and paths that are any text.
+/// Command lines as people write them ask for what they say, where no word but the names of
+/// settings begins with a hyphen; a script may be one hyphen. A value that is joined to its name
+/// may be any text.
 #[inline(always)]
 pub fn lines_ask_for_what_they_say()
     ensures asm { (name line : List ℕ) → begins_with_hyphen line ≡ false
@@ -14,13 +16,11 @@ pub fn lines_ask_for_what_they_say()
         → AskFor (run_line name script) (run script false) }
     ensures trace { (name script : List ℕ) → IsScript script
         → AskFor (trace_line name script) (run script true) }
-    ensures serve { (name socket image entropy locality connections : List ℕ) (l c : ℕ)
-        → decimal_of locality ≡ Some l → l ≤ 4 → decimal_of connections ≡ Some c
-        → AskFor (serve_line name socket image entropy locality connections) (serve (record {
-          socket = socket;
-          image = image;
-          entropy = entropy;
-          locality = l;
-          connections = c;
-        })) }
+    ensures serve { (name socket image entropy locality connections : List ℕ)
+        → NoneBeginsWithHyphen (socket ∷ image ∷ entropy ∷ locality ∷ connections ∷ [])
+        → AskForDevice (serve_line name socket image entropy locality connections) socket image
+        entropy locality connections }
+    ensures joined { (name socket image entropy locality connections : List ℕ)
+        → AskForDevice (joined_line name socket image entropy locality connections) socket image
+        entropy locality connections }
 {}

@@ -1,4 +1,5 @@
-use Rattle.tpmsim_arguments.proofs.Lines.{device_is_served, line_is_assembled, script_is_run, script_is_traced}
+use Rattle.tpmsim_arguments.proofs.Lines.{joined_is_served, line_is_assembled, script_is_run, script_is_traced}
+use Rattle.tpmsim_arguments.proofs.Settings.{device_is_served}
 use Rattle.tpmsim_arguments.proofs.laws.lines_ask_for_what_they_say.Goals as goal
 
 pub returns : goal.returns
@@ -7,4 +8,5 @@ returns c = record {
   run = script_is_run;
   trace = script_is_traced;
   serve = device_is_served;
+  joined = joined_is_served;
 }
