@@ -12,16 +12,25 @@ import frames
 from cuts import AREA, HANDLE
 from frames import SHA1, SHA256, area, command, digests, entry, number, on_handle, sized
 
-HEAD = """\
-# Each command that succeeds, cut to every shorter length: first as it is, and then with its
-# commandSize corrected. At last it comes whole. So do TPM2_PolicySecret by a wrong password and
-# TPM2_GetRandom with a password, which are refused whole too. Written by
-# tests/outside/scripts/cut_commands.py.
-"""
+HEAD = (
+    "Each command that succeeds, cut to every shorter length: first as it is, and then with "
+    "its commandSize corrected. At last it comes whole. So do TPM2_PolicySecret by a wrong "
+    "password and TPM2_GetRandom with a password, which are refused whole too."
+)
+
+# The kind of handles that is looked at behind each refusal.
+LISTED = frames.HMAC_SESSION
 
 # A session that is bound to nothing, and so has neither a key nor an hmac.
 SESSION = 0x0200_0000
 BY_SESSION = [entry(SESSION, nonce=bytes(16))]
+
+# The same session, which decrypts the first parameter.
+BY_DECRYPTING = [entry(SESSION, bytes(16), frames.CONTINUE_SESSION | frames.DECRYPT)]
+
+# Three entries. The last session ends when they are accepted.
+OTHER = 0x0200_0001
+BY_THREE = [entry(), *BY_SESSION, entry(OTHER, nonce=bytes(16), attributes=0)]
 HANDLES, PARAMETERS = frames.start_auth_session(bytes(16), aes=True)
 START = command(
     frames.START_AUTH_SESSION, b"".join(number(it, 4) for it in HANDLES) + PARAMETERS
@@ -119,6 +128,23 @@ COMMANDS = [
         "SUCCESS",
     ),
     (
+        "TPM2_PCR_Event by it, where it decrypts",
+        on_handle(frames.PCR_EVENT, 10, sized(b"abc"), BY_DECRYPTING),
+        [
+            HANDLE,
+            (43, "within the authorization area", "AUTHSIZE"),
+            (48, "within its data", "INSUFFICIENT/p1"),
+        ],
+        "SUCCESS",
+    ),
+    ("TPM2_StartAuthSession of another session", START, [], "SUCCESS"),
+    (
+        "TPM2_PCR_Reset by the password, with both sessions, the second of which ends",
+        on_handle(frames.PCR_RESET, 16, b"", BY_THREE),
+        [HANDLE, (77, "within the authorization area", "AUTHSIZE")],
+        "SUCCESS",
+    ),
+    (
         "TPM2_FlushContext",
         command(frames.FLUSH_CONTEXT, number(SESSION, 4)),
         [(14, "within flushHandle", "INSUFFICIENT/p1")],
@@ -180,7 +206,7 @@ COMMANDS = [
         "BAD_AUTH/s1",
     ),
     (
-        "By the right one",
+        "TPM2_PolicySecret by the right password",
         secret(b"abc"),
         [
             (14, "within authHandle", "INSUFFICIENT/h1"),
@@ -207,4 +233,5 @@ COMMANDS = [
 ]
 
 
-cuts.write("cut_commands.tpm", HEAD, COMMANDS)
+if __name__ == "__main__":
+    cuts.write("cut_commands.tpm", HEAD, LISTED, COMMANDS)

@@ -11,11 +11,13 @@ from cuts import AREA, HANDLE
 from frames import RH_OWNER, SHA256, command, entry, number, on_handle, on_handles, sized
 from nv import Attribute, Type
 
-HEAD = """\
-# The commands on NV indices, each cut to every shorter length: first as it is, and then with its
-# commandSize corrected. At last it comes whole. Written by
-# tests/outside/scripts/cut_nv_commands.py.
-"""
+HEAD = (
+    "The commands on NV indices, each cut to every shorter length: first as it is, and then "
+    "with its commandSize corrected. At last it comes whole."
+)
+
+# The kind of handles that is looked at behind each refusal.
+LISTED = frames.NV
 
 ORDINARY, COUNTER, BITS, EXTENDED = range(0x0100_0001, 0x0100_0005)
 SESSION = 0x0300_0000
@@ -149,4 +151,6 @@ COMMANDS = [
     ("TPM2_NV_UndefineSpace", *by_owner(frames.NV_UNDEFINE_SPACE, ORDINARY)),
 ]
 
-cuts.write("cut_nv_commands.tpm", HEAD, COMMANDS)
+
+if __name__ == "__main__":
+    cuts.write("cut_nv_commands.tpm", HEAD, LISTED, COMMANDS)

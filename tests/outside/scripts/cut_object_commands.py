@@ -12,10 +12,13 @@ from frames import SHA256, command, entry, number, on_handle, sized
 from object_caller import hmac_key, sealed, storage_key
 from state import SECRET_BYTES
 
-HEAD = """\
-# The commands of objects, each cut to every shorter length: first as it is, and then with its
-# commandSize corrected. At last it comes whole. Written by tests/outside/scripts/cut_object_commands.py.
-"""
+HEAD = (
+    "The commands of objects, each cut to every shorter length: first as it is, and then with "
+    "its commandSize corrected. At last it comes whole."
+)
+
+# The kind of handles that is looked at behind each refusal.
+LISTED = frames.TRANSIENT
 
 # A storage key, and what is sealed under it, with random bytes that are zeros.
 PARENT, CHILD = 0x8000_0000, 0x8000_0001
@@ -127,4 +130,6 @@ COMMANDS = [
     ),
 ]
 
-cuts.write("cut_object_commands.tpm", HEAD, COMMANDS)
+
+if __name__ == "__main__":
+    cuts.write("cut_object_commands.tpm", HEAD, LISTED, COMMANDS)

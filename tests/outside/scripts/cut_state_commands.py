@@ -11,11 +11,14 @@ from cuts import AREA, HANDLE
 from frames import RH_LOCKOUT, RH_OWNER, RH_PLATFORM, command, number, on_handle, on_handles, sized
 from object_caller import storage_key
 
-HEAD = """\
-# The commands of starts, of capabilities, of dictionary attack protection, of persistent objects
-# and of clearing, each cut to every shorter length: first as it is, and then with its commandSize
-# corrected. At last it comes whole. Written by tests/outside/scripts/cut_state_commands.py.
-"""
+HEAD = (
+    "The commands of starts, of capabilities, of dictionary attack protection, of persistent "
+    "objects and of clearing, each cut to every shorter length: first as it is, and then with "
+    "its commandSize corrected. At last it comes whole."
+)
+
+# The kind of handles that is looked at behind each refusal.
+LISTED = frames.PERSISTENT
 
 OBJECT, KEPT = 0x8000_0000, 0x8100_0000
 
@@ -93,4 +96,6 @@ COMMANDS = [
     ("TPM2_Clear", on_handle(frames.CLEAR, RH_LOCKOUT), [HANDLE, AREA], "SUCCESS"),
 ]
 
-cuts.write("cut_state_commands.tpm", HEAD, COMMANDS)
+
+if __name__ == "__main__":
+    cuts.write("cut_state_commands.tpm", HEAD, LISTED, COMMANDS)

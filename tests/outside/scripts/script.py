@@ -23,14 +23,20 @@ def line(buffer):
     return f"cmd {buffer.hex()}" if words is None else f"do {words}"
 
 
+def line_in_bytes(buffer):
+    """The same as bytes, be there words or not; that of the empty buffer is `cmd` alone."""
+    return f"cmd {buffer.hex()}".rstrip()
+
+
 class Script:
     """Lines, and a device that executes them as they are written."""
 
-    def __init__(self, path, head):
+    def __init__(self, path, head, program=None):
         self.path, self.lines, self.played = paths.TOP / path, [], []
         self.device, self.locality, self.random = Device(), 0, bytes(RANDOM_BYTES)
         self.seeds, self.elapsed, self.pause = 0, 0, 0
-        self.write_comment(f"{head} Written by tests/outside/scripts/{self.path.stem}.py.")
+        program = program or self.path.stem
+        self.write_comment(f"{head} Written by tests/outside/scripts/{program}.py.")
 
     @property
     def last_response(self):
@@ -73,7 +79,7 @@ class Script:
         self.seeds += 1
         self.entropy(hashlib.sha256(b"entropy %d" % self.seeds).digest()[:SEED_BYTES])
 
-    def command(self, what, outcome, *buffers, fresh=False):
+    def command(self, what, outcome, *buffers, fresh=False, as_bytes=False):
         """Commands that have one outcome, and the last one's response. In the comment the outcome
         stands behind `what`, or before what follows a `|`; with no words the last comment goes on.
         """
@@ -86,7 +92,7 @@ class Script:
         for buffer in buffers:
             if self.pause:
                 self.let_pass(self.pause)
-            self.lines.append(line(buffer))
+            self.lines.append(line_in_bytes(buffer) if as_bytes else line(buffer))
             answered = self.device.execute(buffer, self.locality, self.random, self.elapsed)
             refused = answered.refused
             if (refused or "SUCCESS") != outcome:

@@ -1,0 +1,187 @@
+"""Commands that are bent: where the sizes and counts of a buffer stand, and the buffers in which
+one of them is changed by one.
+
+A size or a count is found by the form of the command: its handles, its entries, and its parameters
+by their kinds, as lines.py has them. So a new command is bent without a line here, but where a
+sized buffer of it holds a structure.
+"""
+
+from dataclasses import dataclass
+
+import paths
+
+import frames
+import general
+import lines
+from frames import AES, ALG_NULL, KEYEDHASH, number
+from sessions import digest_bytes
+
+
+@dataclass(frozen=True)
+class Number:
+    """A size or a count: what it is, and where its bytes stand."""
+
+    name: str
+    at: int
+    size: int
+
+
+COMMAND_SIZE = Number("commandSize", 2, 4)
+
+
+class Walk:
+    """A buffer that is read from its front; `found` has the sizes and counts that were come by."""
+
+    def __init__(self, buffer):
+        self.buffer, self.at, self.found = buffer, 0, []
+
+    def take(self, count):
+        taken = self.buffer[self.at : self.at + count]
+        assert len(taken) == count >= 0
+        self.at += count
+        return taken
+
+    def number(self, size):
+        return int.from_bytes(self.take(size), "big")
+
+    def found_number(self, name, size):
+        self.found.append(Number(name, self.at, size))
+        return self.number(size)
+
+    def sized(self, name, inside=None):
+        """A sized buffer; `inside` reads what it holds, up to the last size in that."""
+        size = self.found_number(f"the size of {name}", 2)
+        end = self.at + size
+        if inside:
+            inside(self)
+        self.take(end - self.at)
+
+    def items(self, name, item):
+        """A list behind its count; the items are counted from 1."""
+        for place in range(1, self.found_number(f"the count of {name}", 4) + 1):
+            item(f"item {place} of {name}")
+
+    def bank(self, name):
+        self.take(2)
+        self.take(self.found_number(f"sizeofSelect in {name}", 1))
+
+    def digest(self, name):
+        self.take(digest_bytes(self.number(2)))
+
+    def cipher(self, name=None):
+        if self.number(2) == AES:
+            self.take(4)
+
+    def entries(self):
+        size, place = self.found_number("authorizationSize", 4), 0
+        end = self.at + size
+        while self.at < end:
+            place += 1
+            self.entry(place)
+
+    def entry(self, place):
+        self.take(4)
+        self.sized(f"the nonce in entry {place}")
+        self.take(1)
+        self.sized(f"the hmac in entry {place}")
+
+
+# The forms of parameters, by the names of their kinds.
+FORMS = {
+    "u8": lambda walk, name: walk.take(1),
+    "u16": lambda walk, name: walk.take(2),
+    "u32": lambda walk, name: walk.take(4),
+    "u64": lambda walk, name: walk.take(8),
+    "Hash": lambda walk, name: walk.take(2),
+    "Cipher": Walk.cipher,
+    "Buffer": Walk.sized,
+    "Buffers": lambda walk, name: walk.items(name, walk.sized),
+    "Selection": lambda walk, name: walk.items(name, walk.bank),
+    "Digests": lambda walk, name: walk.items(name, walk.digest),
+}
+
+
+# Structures in sized buffers, each up to its last size.
+
+
+def sensitive_create(walk):
+    walk.sized("userAuth")
+    walk.sized("data")
+
+
+def public_area(walk):
+    kind = walk.number(2)
+    walk.take(6)
+    walk.sized("authPolicy")
+    if kind != KEYEDHASH:
+        walk.cipher()
+    elif walk.number(2) != ALG_NULL:
+        walk.take(2)
+    walk.sized("unique")
+
+
+def nv_public(walk):
+    walk.take(10)
+    walk.sized("authPolicy")
+
+
+def private_area(walk):
+    """What stands behind these is encrypted."""
+    walk.sized("integrity")
+    walk.sized("iv")
+
+
+# The parameters that hold them, each by its command and its place.
+STRUCTURES = {
+    (frames.CREATE_PRIMARY, 1): sensitive_create,
+    (frames.CREATE_PRIMARY, 2): public_area,
+    (frames.CREATE, 1): sensitive_create,
+    (frames.CREATE, 2): public_area,
+    (frames.LOAD, 1): private_area,
+    (frames.LOAD, 2): public_area,
+    (frames.NV_DEFINE_SPACE, 2): nv_public,
+}
+
+
+def numbers(buffer):
+    """The sizes and counts of a command behind its header."""
+    walk = Walk(buffer)
+    tag, _, code = walk.number(2), walk.number(4), walk.number(4)
+    for _ in general.SHAPES[code].handles:
+        walk.take(4)
+    if tag == frames.SESSIONS:
+        walk.entries()
+    _, *kinds = lines.COMMANDS[lines.NAMES[code]]
+    for place, kind in enumerate(kinds, 1):
+        name, inside = f"parameter {place}", STRUCTURES.get((code, place))
+        if inside:
+            walk.sized(name, inside)
+        else:
+            FORMS[kind.name](walk, name)
+    assert walk.at == len(buffer)
+    return walk.found
+
+
+def changed(buffer, it, by):
+    """The buffer with a number changed by so much; 0 is lowered to the largest one."""
+    end = it.at + it.size
+    value = int.from_bytes(buffer[it.at : end], "big") + by
+    return buffer[: it.at] + number(value % 256**it.size, it.size) + buffer[end:]
+
+
+def raised_and_lowered(buffer, it):
+    """A number's name with what is done to it, and the buffer."""
+    for by, done in ((1, "raised"), (-1, "lowered")):
+        yield f"{it.name} {done}", changed(buffer, it, by)
+
+
+def with_a_byte_more(buffer):
+    return changed(buffer + b"\0", COMMAND_SIZE, 1)
+
+
+def bends(buffer):
+    """What is bent, and the buffer that is bent so."""
+    yield from raised_and_lowered(buffer, COMMAND_SIZE)
+    yield "a zero byte more and commandSize corrected", with_a_byte_more(buffer)
+    for it in numbers(buffer):
+        yield from raised_and_lowered(buffer, it)

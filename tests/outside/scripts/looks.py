@@ -1,0 +1,132 @@
+"""Scripts of commands that are refused, and then come whole: behind each refusal some commands look
+at the state of the device, which is as before.
+"""
+
+import copy
+
+import paths
+
+import capability
+import frames
+import general
+from frames import HMAC_SESSION, NV, PERSISTENT, RH_OWNER, SHA1, SHA256, TRANSIENT
+from frames import command, number, on_handles, sized
+from nv import Attribute
+from script import Script
+
+AS_BYTES = (
+    "All commands stand as bytes, whole ones too, so that others can be held against them; but "
+    "those that look stand in words."
+)
+
+# The handles that can be listed, and what they are of.
+LISTED = {
+    NV: "NV indices",
+    HMAC_SESSION: "sessions",
+    TRANSIENT: "transient objects",
+    PERSISTENT: "persistent objects",
+}
+
+# The PCRs that the commands change.
+PCRS = (10, 16)
+
+
+def capabilities(kind, first, count=capability.MOST_ELEMENTS):
+    return command(frames.GET_CAPABILITY, number(kind, 4) + number(first, 4) + number(count, 4))
+
+
+def at_pcrs():
+    """These PCRs in both banks, and the update counter, which each change of a PCR raises."""
+    return command(frames.PCR_READ, frames.selection((SHA1, PCRS), (SHA256, PCRS)))
+
+
+def at_handles(kind):
+    return capabilities(capability.HANDLES, kind << 24)
+
+
+def at_protection():
+    """The failed tries, maxTries, recoveryTime and lockoutRecovery."""
+    return capabilities(capability.PROPERTIES, capability.LOCKOUT_COUNTER, 4)
+
+
+def at_index(index, owner_auth):
+    """The public area of an index, and its data where the owner reads them."""
+    public = index.public
+    yield command(frames.NV_READ_PUBLIC, number(public.index, 4))
+    is_open = public.has(Attribute.WRITTEN) and not public.has(Attribute.READLOCKED)
+    if is_open and public.has(Attribute.OWNERREAD):
+        yield on_handles(
+            frames.NV_READ,
+            [RH_OWNER, public.index],
+            frames.nv_read(public.data_size),
+            [frames.entry(hmac=owner_auth)],
+        )
+
+
+def at_all(device):
+    """All that look at the state of a device."""
+    yield at_pcrs()
+    for kind in LISTED:
+        yield at_handles(kind)
+    yield at_protection()
+    yield command(frames.READ_CLOCK, b"")
+    for handle in device.sessions:
+        if general.is_policy(handle):
+            yield command(frames.POLICY_GET_DIGEST, number(handle, 4))
+    for index in device.indices.values():
+        yield from at_index(index, device.auth_value(RH_OWNER))
+
+
+class LookingScript(Script):
+    """A script that looks behind each refusal at the PCRs and at the handles of a kind, and behind
+    the last one of a command at all that can be seen.
+    """
+
+    def __init__(self, path, head, kind, program=None):
+        super().__init__(
+            path,
+            f"{head} Behind each refusal, or a row of equal ones, TPM2_PCR_Read of PCRs 10 and 16, "
+            "which answers the update counter too, and TPM2_GetCapability of the "
+            f"{LISTED[kind]} show that nothing changed. Behind the last one of a command so do "
+            "all that look: at the handles of each kind, at the failed tries, at the clock, at the "
+            "digest of a policy session, and at the NV indices.",
+            program,
+        )
+        self.write_comment(AS_BYTES)
+        self.kind, self.seen = kind, {}
+
+    def look(self, what, looks):
+        """They must answer what they answered before, since the last whole command."""
+        outcome = "SUCCESS" if self.device.started else "INITIALIZE"
+        number = "" if outcome == "SUCCESS" else f" ({frames.code_of(outcome):03X})"
+        self.write_comment(f"{what}: {outcome}{number}.")
+        for buffer in looks:
+            answer = self.command("", outcome, buffer)
+            if self.seen.setdefault(buffer, answer) != answer:
+                raise ValueError(f"{self.path.name}: a refusal changed what {buffer.hex()} sees")
+
+    def look_at_all(self, what):
+        self.look(what, list(at_all(self.device)))
+
+    def refusal_of(self, buffer):
+        """The code that refuses a command now, or None."""
+        return copy.deepcopy(self.device).execute(buffer, self.locality, self.random).refused
+
+    def refusals(self, name, whole, outcome, refused):
+        """A command: what of it is refused, in rows of a comment, a code and the buffers; and then
+        the whole one.
+        """
+        self.seen = {}
+        rows = list(refused)
+        if not rows:
+            self.command(name, outcome, whole, as_bytes=True)
+            return
+        self.lines.append("")
+        self.look_at_all(f"{name}. What is seen before it")
+        for what, code, buffers in rows:
+            self.command(what, code, *buffers, as_bytes=True)
+            self.look("As before", [at_pcrs(), at_handles(self.kind)])
+        self.look_at_all("All as before")
+        self.command("Whole", outcome, whole, as_bytes=True)
+        if outcome != "SUCCESS":
+            self.look_at_all("All as before")
