@@ -1,0 +1,236 @@
+"""Lines of commands, bent token by token, against lines.py of the device in Python:
+
+    PYTHONPATH=tests/outside/device python3 tests/common/bent_lines.py PROGRAM
+
+Of each command the first `do` line of tests/ and examples/ is taken. For each way to bend a token
+there is a line: how many bent lines there are, how many buffers and faults come of them, and how
+many differ from what the program says. Each difference has a line too, which begins with DIFFERS.
+Then some of them stand in scripts.
+"""
+
+import collections
+import concurrent.futures
+import functools
+import itertools
+import pathlib
+import subprocess
+import sys
+import tempfile
+
+import lines
+from device import Device
+
+TESTS = pathlib.Path(__file__).resolve().parent.parent
+AT_ONCE = 4
+STARTUP, STARTED = b"do Startup 0\n", "80010000000a00000000\n"
+
+# One in so many bent lines that are none stands in a script of its own, between two commands.
+SAMPLED = 5
+
+# What a token is replaced by, each behind what it is called.
+REPLACEMENTS = {
+    "a word": b"word",
+    "a number": b"7",
+    "a number of 17 bits": b"65536",
+    "a number of 33 bits": b"0x100000000",
+    "a number of 65 bits": b"18446744073709551616",
+    "0x without digits": b"0x",
+    "a number with a sign": b"-1",
+    "nothing as a buffer": b"-",
+    "hex": b"616263",
+    "hex of odd length": b"61626",
+    "hex of 4,096 bytes": b"5a" * 4096,
+    "a handle": b"80000000",
+    "a handle's name": b"OWNER",
+    "pw: alone": b"pw:",
+    "pw:-": b"pw:-",
+    "a session's entry": b"s:02000000:5a5a:21:c3d4",
+    "a session's entry without its hmac": b"s:02000000:-:01",
+    "a list": b"61+-+6263",
+    "a list with an empty piece": b"61++62",
+    "a selection": b"sha256:0",
+    "a selection of a PCR over 23": b"sha256:24",
+    "a selection of two faults": b"sha1:x,24",
+    "a digest": b"sha1:" + b"5a" * 20,
+    "a hash": b"sha256",
+    "null": b"null",
+    "aes": b"aes",
+    "a letter of two bytes": b"\xc3\xa9",
+    "a tab": b"\t",
+    "a byte that is no UTF-8": b"\xff",
+    "half a letter": b"\xc3",
+}
+
+
+# Ways to bend a line at one of its tokens: what it is in pieces, before the token, it, and behind.
+
+
+def replaced(word, before, token, behind):
+    return [*before, word, *behind]
+
+
+def swapped(before, token, behind):
+    return [*before, *behind[:1], token, *behind[1:]]
+
+
+BENDS = {
+    "removed": lambda before, token, behind: before + behind,
+    "removed with all behind it": lambda before, token, behind: before,
+    "doubled": lambda before, token, behind: [*before, token, token, *behind],
+    "swapped with the next": swapped,
+    "emptied": lambda before, token, behind: [*before, b"", *behind],
+    "behind an empty one": lambda before, token, behind: [*before, b"", token, *behind],
+    "without its first byte": lambda before, token, behind: [*before, token[1:], *behind],
+    "without its last byte": lambda before, token, behind: [*before, token[:-1], *behind],
+    "with a digit more": lambda before, token, behind: [*before, token + b"0", *behind],
+    "with a + behind it": lambda before, token, behind: [*before, token + b"+", *behind],
+    "with a colon behind it": lambda before, token, behind: [*before, token + b":", *behind],
+    "with a comma behind it": lambda before, token, behind: [*before, token + b",", *behind],
+    "with itself as a piece more": lambda before, token, behind: (
+        [*before, token + b"+" + token, *behind]
+    ),
+    "in the other case": lambda before, token, behind: [*before, token.swapcase(), *behind],
+    "joined with the next": lambda before, token, behind: (
+        [*before, token + behind[0], *behind[1:]] if behind else [*before, token]
+    ),
+}
+BENDS |= {
+    f"replaced by {name}": functools.partial(replaced, word) for name, word in REPLACEMENTS.items()
+}
+
+
+def first_lines():
+    """Of each command the first `do` line that stands in a script which is to end well."""
+    found = {}
+    for path in sorted([*TESTS.glob("*.tpm"), *(TESTS.parent / "examples").glob("*.tpm")]):
+        if path.with_suffix(".status").exists():
+            continue
+        for line in path.read_bytes().splitlines():
+            if line.startswith(b"do "):
+                found.setdefault(line[3:].partition(b" ")[0], line[3:])
+    return [found[name] for name in sorted(found)]
+
+
+def bent(line, bend):
+    """The line, bent in a way at one of its tokens after the other."""
+    tokens = line.split(b" ")
+    for at, token in enumerate(tokens):
+        yield b" ".join(bend(tokens[:at], token, tokens[at + 1 :]))
+
+
+# `tpmsim asm`.
+
+
+def is_usage(line):
+    """A word of the command line that is not UTF-8, or an option that there is none of."""
+    try:
+        line.decode("utf-8")
+    except UnicodeDecodeError:
+        return True
+    return line.startswith(b"-") and line != b"-"
+
+
+def wanted(line):
+    """What is to come of a line: what it is called, and what is printed on the two streams."""
+    if is_usage(line):
+        return "usage", "", "tpmsim: usage\n"
+    try:
+        return "buffers", lines.assemble(line).hex() + "\n", ""
+    except lines.Fault as fault:
+        return str(fault).partition(" ")[0], "", f"tpmsim: asm {fault}\n"
+
+
+def given(program, *words, text=None):
+    ran = subprocess.run([program, *words], input=text, capture_output=True, timeout=60)
+    return ran.returncode, ran.stdout.decode("ascii"), ran.stderr.decode("ascii")
+
+
+def shown(line):
+    return repr(line)[1:]
+
+
+def compared(cases):
+    """How many of the cases differ: a label, what is wanted, and what is given, of each."""
+    differ = 0
+    for label, want, give in cases:
+        if want != give:
+            differ += 1
+            print(f"DIFFERS: {label}: wanted {want}, given {give}")
+    return differ
+
+
+def counted(outcomes):
+    return ", ".join(f"{name} {count}" for name, count in sorted(outcomes.items()))
+
+
+def try_bend(pool, program, name, bent_lines):
+    """The lines that are bent in one way, by `tpmsim asm`."""
+    want = [wanted(line) for line in bent_lines]
+    give = pool.map(lambda line: given(program, "asm", line), bent_lines)
+    differ = compared(
+        (shown(line), (0 if kind == "buffers" else 2, output, error), it)
+        for line, (kind, output, error), it in zip(bent_lines, want, give)
+    )
+    outcomes = collections.Counter(kind for kind, _, _ in want)
+    print(f"{name}: {len(bent_lines)} lines: {counted(outcomes)}; {differ} differ")
+
+
+# Scripts.
+
+
+def is_line(line):
+    try:
+        lines.assemble(line)
+        return True
+    except lines.Fault:
+        return False
+
+
+def try_faults(pool, program, what, bad):
+    """Scripts of three lines, of which the second is bad, and is told."""
+
+    def run(line):
+        text = STARTUP + b"do " + line + b"\n" + STARTUP
+        return given(program, "run", "-", text=text)
+
+    want = 2, STARTED, "tpmsim: script line 2\n"
+    differ = compared((shown(b"do " + it), want, give) for it, give in zip(bad, pool.map(run, bad)))
+    print(f"{what}: {len(bad)} scripts, each with one as its second line; {differ} differ")
+
+
+def try_answers(program, good):
+    """One script of all that are lines, as the device in Python answers it."""
+    device, random = Device(), bytes(256)
+    text = b"".join(b"do " + line + b"\n" for line in good)
+    want = [device.execute(lines.assemble(line), 0, random).response.hex() for line in good]
+    with tempfile.NamedTemporaryFile() as script:
+        script.write(text)
+        script.flush()
+        status, output, error = given(program, "run", script.name)
+    give = output.splitlines()
+    differ = compared([("the script of all lines", (0, ""), (status, error))])
+    pairs = itertools.zip_longest(good, want, give)
+    differ += compared((shown(line or b""), it, answer) for line, it, answer in pairs)
+    print(f"bent lines that are lines: one script, {len(good)} commands; {differ} differ")
+
+
+def main(program):
+    first = first_lines()
+    print(f"{len(first)} commands, {sum(len(it.split(b' ')) for it in first)} tokens")
+    tried = []
+    with concurrent.futures.ThreadPoolExecutor(AT_ONCE) as pool:
+        for name, bend in BENDS.items():
+            bent_lines = [it for line in first for it in bent(line, bend)]
+            try_bend(pool, program, name, bent_lines)
+            tried += bent_lines
+        once = list(dict.fromkeys(tried))
+        bad = [it for it in once if not is_line(it)]
+        try_faults(pool, program, "bent lines that are none", bad[::SAMPLED])
+        # A NUL cannot stand in a word of a command line.
+        nul = [it for line in first for it in bent(line, functools.partial(replaced, b"\0"))]
+        try_faults(pool, program, "lines with a NUL in place of a token", nul)
+        try_answers(program, [it for it in once if is_line(it)])
+
+
+if __name__ == "__main__":
+    main(sys.argv[1])
