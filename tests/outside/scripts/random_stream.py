@@ -1,0 +1,84 @@
+"""Random connections to a served device, in runs one after another: the lines of streams.py."""
+
+import paths  # first: it finds the device
+
+import frames
+import state
+import streams
+from random_script import MOST_TRIES, Writer
+
+# No time passes that counts for dictionary attack protection: none of these is over before the
+# runs are, or never is.
+RECOVERIES = 1000, 2**32 - 1, 0
+
+PIECES = 1, 2, 3, 7, 100, 4096, 65536
+MOST_CONNECTIONS, MOST_COMMANDS = 4, 24
+
+
+def parameters(writer):
+    """Of dictionary attack protection."""
+    numbers = (writer.choice(it) for it in (MOST_TRIES, RECOVERIES, RECOVERIES))
+    return [frames.RH_LOCKOUT], frames.attack_parameters(*numbers)
+
+
+class StreamWriter(Writer):
+    """Connections, with what a device answers to them, which the writer knows from within."""
+
+    COMMANDS = {**Writer.COMMANDS, frames.DICTIONARY_ATTACK_PARAMETERS: (2, parameters)}
+
+    def __init__(self, seed):
+        super().__init__(seed)
+        self.served, self.lines = streams.Served(), []
+
+    def say(self, line):
+        self.lines.append(line)
+        for buffer, outcome in self.served.play(len(self.lines), line):
+            self.note(buffer, outcome.response, outcome.refused)
+        self.device = self.served.device
+
+    def send(self, data):
+        self.say(f"send {data.hex()}")
+
+    def next_buffer(self):
+        if not self.device.started and not self.happens(0.1):
+            return self.startup()
+        return self.buffer()
+
+    def with_wrong_size(self, buffer):
+        size = len(buffer)
+        wrong = 0, 6, 9, 4097, 2**32 - 1, size - 1, size + 1, 2 * size, self.randrange(4097)
+        return buffer[:2] + frames.number(self.choice(wrong), 4) + buffer[6:]
+
+    def command(self):
+        buffer = self.next_buffer()
+        if self.happens(0.01):
+            buffer = self.with_wrong_size(buffer)
+        # Two sends are no two pieces: these are of the connection's size.
+        self.send(buffer)
+
+    def connection(self):
+        self.say(f"connection {self.choice(PIECES)}")
+        for _ in range(self.randrange(MOST_COMMANDS)):
+            self.command()
+        if self.happens(0.2):
+            buffer = self.next_buffer()
+            self.send(buffer[: self.randrange(len(buffer))])
+
+    def run(self):
+        self.say(f"run {self.randrange(5)}")
+        for _ in range(self.randrange(1, MOST_CONNECTIONS + 1)):
+            if self.device.saved == state.Saved.NONE or self.happens(0.5):
+                self.connection()
+        if self.happens(0.1):
+            self.say("dry")
+            self.connection()
+
+
+def random_stream(seed, runs):
+    """The lines of so many runs on an image, which is seldom taken away."""
+    writer = StreamWriter(seed)
+    for at in range(runs):
+        if at == 0 or writer.happens(0.1):
+            writer.say(f"new {writer.randbytes(32).hex()}")
+        writer.run()
+    return writer.lines

@@ -1,0 +1,138 @@
+"""`tpmsim serve`, as the lines of streams.py say: what the program answers, and what is wanted."""
+
+import pathlib
+import select
+import socket
+import subprocess
+import tempfile
+import time
+from itertools import zip_longest
+
+import paths  # first: it finds the device
+
+import streams
+from image import Fault, open_image
+
+SECONDS = 60
+
+
+def connected(path, process):
+    """A connection, as soon as the socket is there, or None where the program has ended."""
+    until = time.monotonic() + SECONDS
+    while process.poll() is None and time.monotonic() < until:
+        client = socket.socket(socket.AF_UNIX, socket.SOCK_STREAM)
+        try:
+            client.connect(path)
+            return client
+        except (FileNotFoundError, ConnectionRefusedError):
+            client.close()
+            time.sleep(0.001)
+    return None
+
+
+def exchanged(client, connection):
+    """What comes back, while the bytes are sent in their pieces."""
+    left, answered, is_sending = connection.sent, b"", True
+    while True:
+        writers = [client] if is_sending else []
+        readable, writable, _ = select.select([client], writers, [], SECONDS)
+        if not readable and not writable:
+            return answered
+        try:
+            if readable:
+                answer = client.recv(65536)
+                if not answer:
+                    return answered
+                answered += answer
+            if writable and left:
+                left = left[client.send(left[: connection.piece]) :]
+            elif writable:
+                client.shutdown(socket.SHUT_WR)
+                is_sending = False
+        except BrokenPipeError:
+            is_sending = False
+        except ConnectionResetError:
+            # The program closed it before it had read all of it.
+            return answered
+
+
+def cut(answered):
+    """The responses in what came back."""
+    while answered:
+        size = max(int.from_bytes(answered[2:6], "big"), 1)
+        yield answered[:size]
+        answered = answered[size:]
+
+
+def image_in(path):
+    """The image in a file as it is compared, or what is wrong with it."""
+    if not path.exists():
+        return "no image"
+    try:
+        return "image " + streams.without_clock(open_image(path.read_bytes())).hex()
+    except Fault as fault:
+        return f"image {fault}"
+
+
+class Folder:
+    """Where the program finds its files; it is there for all runs of one device after another."""
+
+    def __init__(self, program, path):
+        self.program, self.path = program, pathlib.Path(path)
+        self.image = self.path / "image"
+
+    def began(self, run):
+        if run.is_first:
+            self.image.unlink(missing_ok=True)
+        (self.path / "entropy").write_bytes(run.random)
+        (self.path / "socket").unlink(missing_ok=True)
+        words = f"serve --socket socket --image image --entropy entropy --locality {run.locality}"
+        count = str(len(run.connections))
+        return subprocess.Popen(
+            [self.program, *words.split(), "--connections", count],
+            cwd=self.path,
+            stderr=subprocess.PIPE,
+        )
+
+    def serve(self, run):
+        """What comes of each connection, what is said at the end, and the image."""
+        process, answers = self.began(run), []
+        try:
+            for connection in run.connections:
+                client = connected(str(self.path / "socket"), process)
+                answered = b""
+                if client:
+                    with client:
+                        answered = exchanged(client, connection)
+                answers.append(list(cut(answered)))
+            _, error = process.communicate(timeout=SECONDS)
+        except subprocess.TimeoutExpired:
+            error = b"it does not end"
+        finally:
+            process.kill()
+            process.wait()
+        return answers, error.decode("utf-8", "replace").strip(), image_in(self.image)
+
+
+def compared(run, answers, error, image):
+    """Pairs of what is wanted and given in a run, each with the number of its line."""
+    for connection, given in zip(run.connections, answers):
+        number = run.number
+        for wanted, response in zip_longest(connection.answered, given, fillvalue=None):
+            number, buffer, answer = wanted or (number, b"", b"")
+            shown = streams.without_times(buffer, response or b"").hex()
+            yield number, streams.without_times(buffer, answer).hex(), shown
+    yield run.number, f"end {run.error}", f"end {error}"
+    yield run.number, "image " + run.image.hex() if run.image else "no image", image
+
+
+def first_difference(program, lines):
+    """The number of the line, what is wanted, and what is given; or None."""
+    runs = streams.played(lines)
+    with tempfile.TemporaryDirectory() as path:
+        folder = Folder(program, path)
+        for run in runs:
+            for number, wanted, given in compared(run, *folder.serve(run)):
+                if wanted != given:
+                    return number, wanted, given
+    return None
