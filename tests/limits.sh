@@ -24,6 +24,22 @@ for bytes in 65536 65537; do
     { echo "$startup"; padded 'do GetRandom ' "$bytes"; } >script
     run "a command in words in a line of $bytes bytes" run script
 done
+for word in loc wait; do
+    for bytes in 65536 65537; do
+        { echo "$startup"; padded "$word " "$bytes"; echo; echo "$startup"; } >script
+        run "$word and zeros in a line of $bytes bytes" run script
+    done
+done
+for octal in 000 377; do
+    for bytes in 65536 65537; do
+        { echo "$startup"; printf '#'; } >script
+        head -c "$((bytes - 1))" /dev/zero | tr '\0' "\\$octal" >>script
+        { echo; echo "$startup"; } >>script
+        run "a comment of bytes $octal in a line of $bytes bytes" run script
+    done
+    { echo "$startup"; head -c 65536 /dev/zero | tr '\0' "\\$octal"; } >script
+    run "a line of 65536 bytes $octal" run script
+done
 { echo "$startup"; padded '#' 1000000; echo; echo "$startup"; } >script
 run 'a comment of 1000000 bytes' run script
 for _ in 1 2 3; do

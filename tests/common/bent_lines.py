@@ -5,7 +5,7 @@
 Of each command the first `do` line of tests/ and examples/ is taken. For each way to bend a token
 there is a line: how many bent lines there are, how many buffers and faults come of them, and how
 many differ from what the program says. Each difference has a line too, which begins with DIFFERS.
-Then some of them stand in scripts.
+Then some of them stand in scripts, and lines of scripts have bytes of other kinds at each place.
 """
 
 import collections
@@ -18,6 +18,7 @@ import sys
 import tempfile
 
 import lines
+import player
 from device import Device
 
 TESTS = pathlib.Path(__file__).resolve().parent.parent
@@ -59,6 +60,26 @@ REPLACEMENTS = {
     "a tab": b"\t",
     "a byte that is no UTF-8": b"\xff",
     "half a letter": b"\xc3",
+}
+
+
+# A script's lines, and what is put at each of their places, and in place of each of their bytes.
+SCRIPT_LINES = (
+    *(b"cmd 80010000000c0000017b0004", b"do GetRandom 4", b"loc 3", b"wait 1500"),
+    *(b"entropy 5Ac3", b"power", b"# words", b""),
+)
+BYTES = {
+    "a NUL": b"\0",
+    "a byte that is no UTF-8": b"\xff",
+    "half a letter": b"\xc3",
+    "a letter of two bytes": b"\xc3\xa9",
+    "a carriage return": b"\r",
+    "a tab": b"\t",
+    "a space": b" ",
+    "a line break": b"\n",
+    "a digit": b"0",
+    "a sign": b"#",
+    "nothing": b"",
 }
 
 
@@ -214,6 +235,30 @@ def try_answers(program, good):
     print(f"bent lines that are lines: one script, {len(good)} commands; {differ} differ")
 
 
+def try_bytes(pool, program, what, put):
+    """Scripts of which the second line has these bytes at one of its places."""
+    bent_lines = [
+        line[:at] + put + line[at + taken :]
+        for line in SCRIPT_LINES
+        for at in range(len(line) + 1)
+        for taken in (0, 1)
+    ]
+    texts = [STARTUP + line + b"\n" + STARTUP for line in bent_lines]
+    want = [player.played(text) for text in texts]
+    give = pool.map(lambda text: given(program, "run", "--trace", "-", text=text), texts)
+    differ = compared(
+        (
+            shown(line),
+            (2 if error else 0, [it for _, it in printed], error),
+            (status, output.splitlines(), said.strip()),
+        )
+        for line, (printed, error), (status, output, said) in zip(bent_lines, want, give)
+    )
+    bad = sum(bool(error) for _, error in want)
+    counts = f"{len(texts)} scripts, {bad} with a bad line"
+    print(f"{what} in a script's line: {counts}; {differ} differ")
+
+
 def main(program):
     first = first_lines()
     print(f"{len(first)} commands, {sum(len(it.split(b' ')) for it in first)} tokens")
@@ -230,6 +275,8 @@ def main(program):
         nul = [it for line in first for it in bent(line, functools.partial(replaced, b"\0"))]
         try_faults(pool, program, "lines with a NUL in place of a token", nul)
         try_answers(program, [it for it in once if is_line(it)])
+        for name, put in BYTES.items():
+            try_bytes(pool, program, name, put)
 
 
 if __name__ == "__main__":

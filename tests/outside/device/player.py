@@ -1,5 +1,5 @@
-"""Scripts: what `tpmsim run --trace` prints of one, line by line, and how it ends. expected.py reads
-those of tests/ by their comments; here a line may be anything.
+"""Scripts: what `tpmsim run --trace` prints of one, line by line, and how it ends. A line may be
+anything; expected.py reads the scripts of tests/, which have comments that say what must come.
 """
 
 import re

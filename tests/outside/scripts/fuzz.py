@@ -29,7 +29,7 @@ from random_stream import random_stream
 
 COMMANDS, RUNS = 400, 12
 SHRINKING_SECONDS = 60
-SHOWN = 400
+SHOWN = 200
 
 
 # Scripts.
@@ -123,8 +123,13 @@ def shrunken(lines, differs):
     return lines
 
 
-def shortened(text):
-    return text if len(text) <= SHOWN else f"{text[:SHOWN]}.. ({len(text)} characters)"
+def shown(wanted, given):
+    """Two texts, each from shortly before the place at which they differ, if they are long."""
+    same = next((at for at, (a, b) in enumerate(zip(wanted, given)) if a != b), 0)
+    first = max(0, same - SHOWN // 4) if max(len(wanted), len(given)) > SHOWN else 0
+    for text in (wanted, given):
+        before = f"({first} characters).." if first else ""
+        yield before + text[first : first + SHOWN] + (".." if len(text) > first + SHOWN else "")
 
 
 class Fuzz:
@@ -195,9 +200,10 @@ class Fuzz:
 
 
 def show(path, number, wanted, given):
+    wanted, given = shown(wanted, given)
     print(f"    {path}:{number}")
-    print(f"        wanted: {shortened(wanted)}")
-    print(f"        given:  {shortened(given)}", flush=True)
+    print(f"        wanted: {wanted}")
+    print(f"        given:  {given}", flush=True)
 
 
 def replay(program, name):

@@ -51,10 +51,7 @@ class StreamWriter(Writer):
 
     def command(self):
         buffer = self.next_buffer()
-        if self.happens(0.01):
-            buffer = self.with_wrong_size(buffer)
-        # Two sends are no two pieces: these are of the connection's size.
-        self.send(buffer)
+        self.send(self.with_wrong_size(buffer) if self.happens(0.02) else buffer)
 
     def connection(self):
         self.say(f"connection {self.choice(PIECES)}")
@@ -79,6 +76,6 @@ def random_stream(seed, runs):
     writer = StreamWriter(seed)
     for at in range(runs):
         if at == 0 or writer.happens(0.1):
-            writer.say(f"new {writer.randbytes(32).hex()}")
+            writer.say(f"new {writer.randbytes(7).hex()}")
         writer.run()
     return writer.lines

@@ -118,10 +118,11 @@ def compared(run, answers, error, image):
     """Pairs of what is wanted and given in a run, each with the number of its line."""
     for connection, given in zip(run.connections, answers):
         number = run.number
-        for wanted, response in zip_longest(connection.answered, given, fillvalue=None):
-            number, buffer, answer = wanted or (number, b"", b"")
+        for answered, response in zip_longest(connection.answered, given):
+            number, buffer, answer = answered or (number, b"", b"")
             shown = streams.without_times(buffer, response or b"").hex()
-            yield number, streams.without_times(buffer, answer).hex(), shown
+            wanted = streams.without_times(buffer, answer).hex()
+            yield number, wanted or "no response", shown or "no response"
     yield run.number, f"end {run.error}", f"end {error}"
     yield run.number, "image " + run.image.hex() if run.image else "no image", image
 
