@@ -2,8 +2,8 @@
 # Plays at random, and compares what the program answers with what the device in plain Python under
 # tests/outside/device answers. Needs python3. In a round are a random script; a bent one, in which
 # commands' bytes, lines and letters are changed; and a stream: connections to a served device, in
-# runs one after another on its image, of which some bytes are missing or have wrong sizes. What
-# comes in a round hangs on its seed alone.
+# runs one after another on its image, of which some bytes are missing or have wrong sizes, and
+# images that are bent. What comes in a round hangs on its seed alone.
 #
 #   tools/fuzz.sh 600             rounds for 600 seconds, from a seed by the clock on, which it says
 #   tools/fuzz.sh 600 7           from seed 7 on, then 8, and so on
@@ -12,8 +12,9 @@
 #
 # It runs PROGRAM, or the one that tools/program.sh names. Where an answer differs it says the seed,
 # leaves the script or the stream, and says at which of its lines; the first one it leaves once
-# more, with no line that the difference does not need. The last lines count what was tried, and the
-# status is 1 where anything differs.
+# more, with no line that the difference does not need; tests/outside/device/streams.py says what
+# the lines of a stream are. The last lines count what was tried, and the status is 1 where anything
+# differs.
 set -u
 
 is_number() {

@@ -2,6 +2,7 @@
 another on one image. What happens is said in lines:
 
     new HEX        the image is taken away; the next run makes a device of these random bytes
+    image HEX      these bytes are put in its place
     run N          a run from locality N, on the image
     connection N   a connection, which sends its bytes in pieces of N
     send HEX       some of its bytes
@@ -14,7 +15,7 @@ import frames
 import state
 from device import Device
 from general import COMMAND_BYTES, HEADER_BYTES
-from image import image
+from image import Fault, image, open_image
 
 RANDOM_BYTES = 256
 
@@ -84,35 +85,49 @@ class Connection:
             yield buffer
 
 
+def image_told(text):
+    """What a file holds, as it is compared: no image, or one, or bytes that are none."""
+    if text is None:
+        return "no image"
+    try:
+        return "image " + without_clock(open_image(text)).hex()
+    except Fault as fault:
+        return f"image {fault}"
+
+
 class Run:
-    """A run: the number of its line, its locality, whether it makes a device, the bytes of its file
-    of random bytes, its connections, and the image that it leaves, if any. It is over where random
-    bytes are missing.
+    """A run: the number of its line, its locality, its image, and whether that is given by a line
+    and not by the run before; what is in its file of random bytes, its connections, what is said on
+    standard error, and what is told of the image that it leaves. It is over where random bytes are
+    missing, or the image is none.
     """
 
-    def __init__(self, number, locality, is_first, random):
-        self.number, self.locality, self.is_first = number, locality, is_first
-        self.random, self.connections, self.image = random, [], None
-        self.is_dry = self.is_over = False
+    def __init__(self, number, locality, image_before, is_given):
+        self.number, self.locality = number, locality
+        self.image_before, self.is_given = image_before, is_given
+        self.random, self.connections, self.image_told = b"", [], None
+        self.is_dry, self.error = False, ""
 
     @property
-    def error(self):
-        return "tpmsim: entropy" if self.is_over else ""
+    def is_over(self):
+        return bool(self.error)
 
 
 class Served:
-    """The device in its runs, as the lines say. A line in a wrong place does nothing."""
+    """The device in its runs, as the lines say, and what is in the file of its image. A line in a
+    wrong place does nothing.
+    """
 
     def __init__(self):
         self.device, self.runs, self.run = None, [], None
-        self.made_of, self.is_saved = bytes(RANDOM_BYTES), False
+        self.made_of, self.image, self.is_given = bytes(RANDOM_BYTES), None, False
 
     def play(self, number, line):
         """A line, by its number. Gives the commands that it executes, each with its outcome."""
         word, _, argument = line.partition(" ")
-        if word == "new":
+        if word in ("new", "image"):
             self.end()
-            self.made_of, self.is_saved = repeated(bytes.fromhex(argument)), False
+            self.take(word, bytes.fromhex(argument))
         elif word == "run":
             self.end()
             self.begin(number, int(argument))
@@ -120,32 +135,46 @@ class Served:
             pass
         elif word == "connection":
             self.run.connections.append(Connection(int(argument)))
-            self.is_saved = True
         elif word == "dry":
             self.run.is_dry = True
         elif word == "send" and self.run.connections:
             return list(self.executed(number, bytes.fromhex(argument)))
         return []
 
+    def take(self, word, data):
+        self.is_given = word == "image"
+        if self.is_given:
+            self.image = data
+        else:
+            self.image, self.made_of = None, repeated(data)
+
     def begin(self, number, locality):
-        """Where nothing is saved, a device is made."""
-        is_first = not self.is_saved
-        if is_first:
-            self.device = new_device(self.made_of)
-        self.device.power_cycle()
-        self.run = Run(number, locality, is_first, self.made_of if is_first else b"")
+        """Where there is no image, a device is made. Behind a run it is the same, without power."""
+        self.run = Run(number, locality, self.image, self.is_given)
         self.runs.append(self.run)
+        if self.image is None:
+            self.device, self.run.random = new_device(self.made_of), self.made_of
+        elif not self.is_given:
+            self.device.power_cycle()
+        else:
+            try:
+                self.device = open_image(self.image)
+            except Fault as fault:
+                self.run.error = f"tpmsim: image {fault}"
 
     def end(self):
-        if self.run and self.is_saved:
-            self.run.image = without_clock(self.device)
+        """A run saves its device where it had a connection."""
+        if self.run:
+            if self.run.connections:
+                self.image, self.is_given = without_clock(self.device), False
+            self.run.image_told = image_told(self.image)
         self.run = None
 
     def executed(self, number, data):
         run, connection = self.run, self.run.connections[-1]
         for buffer in connection.send(data):
             if run.is_dry:
-                run.is_over = True
+                run.error = "tpmsim: entropy"
                 return
             random = random_of(buffer)
             run.random += random

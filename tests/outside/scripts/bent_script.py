@@ -1,5 +1,5 @@
 """Bent scripts: a script with some of its commands' bytes changed at random, some of its lines lost
-or turned, and at times a byte of its text changed.
+or turned, and at times a byte of its text changed. And bent images.
 """
 
 import paths  # first: it finds the device
@@ -7,7 +7,12 @@ import paths  # first: it finds the device
 import frames
 import general
 from expected import buffer_of
+from image import DIGEST_AT_END, HEAD_BYTES
 from script import line
+from sessions import digest
+
+# Where the length of an image stands in it, and what is behind the seeds and proofs.
+LENGTH_AT, BEHIND_SEEDS = 6, 10 + 4 * 66
 
 # How often a line is bent, and how often a byte of the text.
 SELDOM, OFTEN = 0.06, 0.3
@@ -29,7 +34,7 @@ def sized_right(buffer):
     return put(buffer, 2, frames.number(len(buffer), 4)) if len(buffer) >= 6 else buffer
 
 
-# Ways to bend a command's bytes, each with a source of random numbers.
+# Ways to bend bytes, each with a source of random numbers.
 
 
 def bit(random, buffer):
@@ -47,6 +52,25 @@ def size_within(random, buffer):
     return put(buffer, random.randrange(len(buffer)), frames.number(random.choice(SIZES), 2))
 
 
+def less(random, buffer):
+    at = random.randrange(len(buffer))
+    return buffer[:at] + buffer[at + random.choice((1, 1, 2, 4, 32)) :]
+
+
+def more(random, buffer):
+    at = random.randrange(len(buffer) + 1)
+    return buffer[:at] + random.randbytes(random.choice((1, 1, 2, 4, 32))) + buffer[at:]
+
+
+def doubled(random, buffer):
+    """A piece of it twice, as an entry or a handle may be."""
+    at, size = random.randrange(len(buffer)), random.choice((4, 9, 9, 20))
+    return buffer[: at + size] + buffer[at:]
+
+
+# And the same where they are a command's.
+
+
 def handle_within(random, buffer):
     handle = frames.number(random.choice(HANDLES), 4)
     return put(buffer, random.choice((10, 14, random.randrange(len(buffer)))), handle)
@@ -60,21 +84,8 @@ def tag(random, buffer):
     return put(buffer, 0, frames.number(random.choice((0x8001, 0x8002, 0x8003, 0x00C4)), 2))
 
 
-def less(random, buffer):
-    at = random.randrange(len(buffer))
-    return sized_right(buffer[:at] + buffer[at + random.choice((1, 1, 2, 4, 32)) :])
-
-
-def more(random, buffer):
-    at = random.randrange(len(buffer) + 1)
-    added = random.randbytes(random.choice((1, 1, 2, 4, 32)))
-    return sized_right(buffer[:at] + added + buffer[at:])
-
-
-def doubled(random, buffer):
-    """A piece of it twice, as an entry or a handle may be."""
-    at, size = random.randrange(len(buffer)), random.choice((4, 9, 9, 20))
-    return sized_right(buffer[: at + size] + buffer[at:])
+def with_right_size(bend):
+    return lambda random, buffer: sized_right(bend(random, buffer))
 
 
 def wrong_size(random, buffer):
@@ -83,9 +94,10 @@ def wrong_size(random, buffer):
 
 
 BENDS = (
-    *(bit, byte, byte, size_within, handle_within, code, tag),
-    *(less, more, doubled, wrong_size),
+    *(bit, byte, byte, size_within, handle_within, code, tag, wrong_size),
+    *(with_right_size(less), with_right_size(more), with_right_size(doubled)),
 )
+IMAGE_BENDS = bit, byte, byte, size_within, less, more, doubled
 
 
 def bent_buffer(random, buffer):
@@ -93,6 +105,19 @@ def bent_buffer(random, buffer):
         if buffer:
             buffer = random.choice(BENDS)(random, buffer)
     return buffer
+
+
+def bent_image(random, text):
+    """An image that is bent at one or two places, mostly behind its seeds and with the length and
+    digest of what it is then.
+    """
+    for _ in range(random.choice((1, 1, 2))):
+        first = 0 if random.random() < 0.2 else BEHIND_SEEDS
+        text = text[:first] + random.choice(IMAGE_BENDS)(random, text[first:] or b"\0")
+    if len(text) > HEAD_BYTES + DIGEST_AT_END and random.random() < 0.9:
+        text = put(text[:-DIGEST_AT_END], LENGTH_AT, frames.number(len(text), 4))
+        text += digest(frames.SHA256, text)
+    return text
 
 
 def bent_lines(random, lines):

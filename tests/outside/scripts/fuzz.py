@@ -5,7 +5,7 @@
     fuzz.py PROGRAM --replay FILE      a script or a stream that was left
 
 A round has a random script, a bent one, and a stream, which is connections to a served device, in
-runs one after another. It hangs on its seed alone.
+runs one after another, some of them on a bent image. It hangs on its seed alone.
 """
 
 import pathlib
@@ -27,7 +27,7 @@ from bent_script import bent_script
 from random_script import Writer
 from random_stream import random_stream
 
-COMMANDS, RUNS = 400, 12
+COMMANDS, RUNS = 400, 8
 SHRINKING_SECONDS = 60
 SHOWN = 200
 
@@ -86,13 +86,13 @@ class Kind:
     def first_difference(self, program, lines):
         try:
             return self.difference(program, lines)
-        except Exception as fault:  # pylint: disable=broad-except
+        except Exception as fault:
             return 0, "a device in Python that does not fail", repr(fault)
 
     def told(self):
         agree, differ = self.tried["texts"] - self.tried["differ"], self.tried["differ"]
         within = ", ".join(
-            f"{count} {name}"
+            f"{count} {name.replace('_', ' ')}"
             for name, count in self.tried.items()
             if name not in ("texts", "differ")
         )
@@ -169,7 +169,8 @@ class Fuzz:
             [it.encode("ascii") for it in lines],
             commands=sum(len(it.answered) for it in connections),
             connections=len(connections),
-            reloads=sum(not it.is_first for it in runs),
+            reloads=sum(it.image_before is not None for it in runs),
+            given_images=sum(it.is_given for it in runs),
         )
 
     def compare(self, seed, kind, lines, **counts):
@@ -230,7 +231,11 @@ def main(program, *words):
     print(f"from seed {first} on", flush=True)
     seed = first
     while seed < last and time.monotonic() - began < seconds:
-        fuzz.round(seed)
+        try:
+            fuzz.round(seed)
+        except Exception:
+            print(f"FAILS: seed {seed}", flush=True)
+            raise
         seed += 1
     print(f"{seed - first} rounds")
     fuzz.tell()

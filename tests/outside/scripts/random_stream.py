@@ -5,20 +5,33 @@ import paths  # first: it finds the device
 import frames
 import state
 import streams
+from bent_script import bent_image
+from image import Fault, open_image
 from random_script import MOST_TRIES, Writer
 
 # No time passes that counts for dictionary attack protection: none of these is over before the
 # runs are, or never is.
 RECOVERIES = 1000, 2**32 - 1, 0
+LEAST_RECOVERY = 500
 
 PIECES = 1, 2, 3, 7, 100, 4096, 65536
-MOST_CONNECTIONS, MOST_COMMANDS = 4, 24
+MOST_CONNECTIONS, MOST_COMMANDS = 6, 24
 
 
 def parameters(writer):
     """Of dictionary attack protection."""
     numbers = (writer.choice(it) for it in (MOST_TRIES, RECOVERIES, RECOVERIES))
     return [frames.RH_LOCKOUT], frames.attack_parameters(*numbers)
+
+
+def is_quick(text):
+    """Whether dictionary attack protection of an image's device may forgive while a run goes on."""
+    try:
+        lockout = open_image(text).lockout
+    except Fault:
+        return False
+    times = lockout.recovery_time, lockout.lockout_recovery
+    return any(0 < it < LEAST_RECOVERY for it in times)
 
 
 class StreamWriter(Writer):
@@ -46,7 +59,7 @@ class StreamWriter(Writer):
 
     def with_wrong_size(self, buffer):
         size = len(buffer)
-        wrong = 0, 6, 9, 4097, 2**32 - 1, size - 1, size + 1, 2 * size, self.randrange(4097)
+        wrong = 0, 6, 9, 4097, 2**32 - 1, max(0, size - 1), size + 1, 2 * size, self.randrange(4097)
         return buffer[:2] + frames.number(self.choice(wrong), 4) + buffer[6:]
 
     def command(self):
@@ -59,10 +72,24 @@ class StreamWriter(Writer):
             self.command()
         if self.happens(0.2):
             buffer = self.next_buffer()
-            self.send(buffer[: self.randrange(len(buffer))])
+            self.send(buffer[: self.randrange(len(buffer) or 1)])
+
+    def bend_image(self):
+        """A run on a bent image; where that is none, the image stands there again behind it."""
+        self.served.end()
+        image = self.served.image
+        bent = bent_image(self, image)
+        if is_quick(bent):
+            return
+        self.say(f"image {bent.hex()}")
+        self.run()
+        if self.served.run.error.startswith("tpmsim: image"):
+            self.say(f"image {image.hex()}")
 
     def run(self):
         self.say(f"run {self.randrange(5)}")
+        if self.served.run.is_over:
+            return
         for _ in range(self.randrange(1, MOST_CONNECTIONS + 1)):
             if self.device.saved == state.Saved.NONE or self.happens(0.5):
                 self.connection()
@@ -78,4 +105,6 @@ def random_stream(seed, runs):
         if at == 0 or writer.happens(0.1):
             writer.say(f"new {writer.randbytes(7).hex()}")
         writer.run()
+        if writer.happens(0.4):
+            writer.bend_image()
     return writer.lines

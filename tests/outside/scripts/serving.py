@@ -11,7 +11,6 @@ from itertools import zip_longest
 import paths  # first: it finds the device
 
 import streams
-from image import Fault, open_image
 
 SECONDS = 60
 
@@ -64,16 +63,6 @@ def cut(answered):
         answered = answered[size:]
 
 
-def image_in(path):
-    """The image in a file as it is compared, or what is wrong with it."""
-    if not path.exists():
-        return "no image"
-    try:
-        return "image " + streams.without_clock(open_image(path.read_bytes())).hex()
-    except Fault as fault:
-        return f"image {fault}"
-
-
 class Folder:
     """Where the program finds its files; it is there for all runs of one device after another."""
 
@@ -81,9 +70,14 @@ class Folder:
         self.program, self.path = program, pathlib.Path(path)
         self.image = self.path / "image"
 
+    def told(self):
+        return streams.image_told(self.image.read_bytes() if self.image.exists() else None)
+
     def began(self, run):
-        if run.is_first:
+        if run.image_before is None:
             self.image.unlink(missing_ok=True)
+        elif run.is_given:
+            self.image.write_bytes(run.image_before)
         (self.path / "entropy").write_bytes(run.random)
         (self.path / "socket").unlink(missing_ok=True)
         words = f"serve --socket socket --image image --entropy entropy --locality {run.locality}"
@@ -111,7 +105,7 @@ class Folder:
         finally:
             process.kill()
             process.wait()
-        return answers, error.decode("utf-8", "replace").strip(), image_in(self.image)
+        return answers, error.decode("utf-8", "replace").strip(), self.told()
 
 
 def compared(run, answers, error, image):
@@ -124,7 +118,7 @@ def compared(run, answers, error, image):
             wanted = streams.without_times(buffer, answer).hex()
             yield number, wanted or "no response", shown or "no response"
     yield run.number, f"end {run.error}", f"end {error}"
-    yield run.number, "image " + run.image.hex() if run.image else "no image", image
+    yield run.number, run.image_told, image
 
 
 def first_difference(program, lines):
