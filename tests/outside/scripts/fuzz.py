@@ -110,8 +110,8 @@ def of_stream(program, lines):
 def shrunken(lines, differs):
     """The lines without those that the difference does not need."""
     until = time.monotonic() + SHRINKING_SECONDS
-    size = len(lines)
-    while size:
+    size, before = len(lines), len(lines)
+    while size and time.monotonic() < until:
         at = 0
         while at < len(lines) and time.monotonic() < until:
             fewer = lines[:at] + lines[at + size :]
@@ -120,6 +120,8 @@ def shrunken(lines, differs):
             else:
                 at += size
         size //= 2
+        if not size and len(lines) < before:
+            size, before = len(lines), len(lines)
     return lines
 
 
