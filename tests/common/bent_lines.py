@@ -2,7 +2,7 @@
 
     PYTHONPATH=tests/outside/device python3 tests/common/bent_lines.py PROGRAM
 
-Of each command the first `do` line of tests/ and examples/ is taken. For each way to bend a token
+Of each command the line of assemble.lines is taken, which begins with one of each. For each way to bend a token
 there is a line: how many bent lines there are, how many buffers and faults come of them, and how
 many differ from what the program says. Each difference has a line too, which begins with DIFFERS.
 Then some of them stand in scripts, and lines of scripts have bytes of other kinds at each place.
@@ -121,15 +121,9 @@ BENDS |= {
 
 
 def first_lines():
-    """Of each command the first `do` line that stands in a script which is to end well."""
-    found = {}
-    for path in sorted([*TESTS.glob("*.tpm"), *(TESTS.parent / "examples").glob("*.tpm")]):
-        if path.with_suffix(".status").exists():
-            continue
-        for line in path.read_bytes().splitlines():
-            if line.startswith(b"do "):
-                found.setdefault(line[3:].partition(b" ")[0], line[3:])
-    return [found[name] for name in sorted(found)]
+    """Of each command the first line of assemble.lines, where each has one."""
+    lines_of = (TESTS / "assemble.lines").read_bytes().split(b"\n# ")[0].splitlines()[1:]
+    return sorted(line for line in lines_of if line)
 
 
 def bent(line, bend):
