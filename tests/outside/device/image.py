@@ -44,6 +44,11 @@ def image(device):
             indices_text(device),
         )
     )
+    return framed(body)
+
+
+def framed(body):
+    """A body between its head and its digest."""
     length = HEAD_BYTES + len(body) + DIGEST_AT_END
     text = MAGIC + number(VERSION, 2) + number(length, 4) + body
     return text + digest(SHA256, text)
@@ -123,6 +128,16 @@ def open_image(text):
         return read_body(Parameters(text[HEAD_BYTES:-DIGEST_AT_END]))
     except (Refusal, Short):
         raise Fault("Body") from None
+
+
+def fault_of(text):
+    """Why a text is no image, or nothing where it is one."""
+    try:
+        open_image(text)
+    except Fault as fault:
+        (name,) = fault.args
+        return name
+    return None
 
 
 def read_body(fields):

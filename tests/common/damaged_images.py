@@ -1,0 +1,235 @@
+"""Has a program open damaged images, and compares its answers with those of the device in Python:
+
+    damaged_images.py PROGRAM                      of a device that saved its state, and of bodies
+                                                   with one thing wrong
+    damaged_images.py PROGRAM full [SEED [COUNT]]  the largest, and so many bodies of a full device
+                                                   that are bent
+
+A line says of each kind how many texts there were, and what they are; each difference is a line of
+its own. The last line is `N agree, M differ`. It works in the folder where it is begun, and there
+it leaves the first texts that differ, as the files that these lines name.
+"""
+
+import collections
+import os
+import pathlib
+import socket
+import sys
+
+import client
+
+OUTSIDE = pathlib.Path(__file__).resolve().parent.parent / "outside"
+sys.path += [str(OUTSIDE / "scripts"), str(OUTSIDE / "device")]
+
+import image
+import image_bodies
+import lines
+from bent_bodies import Bender
+from device import Device
+
+STATUS_OF_FAULT, FAULT = 4, "tpmsim: image "
+EXTEND = "PCR_Extend {} pw:- sha1:a9993e364706816aba3e25717850c26c9cd0d89d"
+LINES = "Startup 0", EXTEND.format("00000003"), EXTEND.format("00000010"), "Shutdown 1"
+SUCCESS = bytes(4)
+RANDOM = bytes(range(256))
+SEED, BENT = 1, 300
+DEFAULTS = [1, 10_000]
+XORS = 0x01, 0x80
+MOST_LEFT = 100
+
+# The clock of the device whose image is damaged: the milliseconds that really passed are not told.
+CLOCK = 0x0102_0304
+
+
+class Program:
+    """A program that serves a device, each time for the one image that it is given."""
+
+    def __init__(self, path):
+        self.path = path
+        pathlib.Path("entropy").write_bytes(RANDOM * (len(LINES) + 1))
+
+    def start(self, connections):
+        words = "serve --socket socket --image image --entropy entropy --locality 0"
+        arguments = [self.path, *words.split(), "--connections", str(connections)]
+        error, writing = os.pipe()
+        to_error = [(os.POSIX_SPAWN_DUP2, writing, 2)]
+        process = os.posix_spawn(self.path, arguments, {}, file_actions=to_error)
+        os.close(writing)
+        return process, error
+
+    def end(self, process, error):
+        """The fault of the image, or nothing where the program ended well."""
+        with os.fdopen(error) as reader:
+            told = reader.read()
+        _, status = os.waitpid(process, 0)
+        status = os.waitstatus_to_exitcode(status)
+        if (status, told) == (0, ""):
+            return None
+        if status == STATUS_OF_FAULT and told.startswith(FAULT) and told.endswith("\n"):
+            return told[len(FAULT) : -1]
+        return f"status {status}, {told!r}"
+
+    def fault_of(self, text):
+        """What the program answers to an image; where it opens it, it saves nothing."""
+        pathlib.Path("image").write_bytes(text)
+        return self.end(*self.start(0))
+
+    def saved(self, commands):
+        """What the program saves behind a connection with these commands."""
+        started = self.start(1)
+        connection = client.connected("socket")
+        connection.sendall(commands)
+        connection.shutdown(socket.SHUT_WR)
+        client.received(connection)
+        connection.close()
+        assert self.end(*started) is None
+        return pathlib.Path("image").read_bytes()
+
+    def saved_again(self, text):
+        pathlib.Path("image").write_bytes(text)
+        return self.saved(b"")
+
+
+class Comparison:
+    def __init__(self, program):
+        self.program, self.agree, self.differ = program, 0, 0
+        self.saved = set()
+
+    def count(self, agrees, words, text):
+        if agrees:
+            self.agree += 1
+            return
+        self.differ += 1
+        print(f"DIFFERS: {words}", flush=True)
+        if self.differ <= MOST_LEFT:
+            name = os.path.abspath(f"differs.{self.differ}")
+            pathlib.Path(name).write_bytes(text)
+            print(f"    {name}", flush=True)
+
+    def fault_of(self, words, text):
+        """The fault of the device in Python, which the program's has to be."""
+        wanted, given = image.fault_of(text), self.program.fault_of(text)
+        words = f"{words}: {wanted or 'opened'} is wanted, {given or 'opened'} is given"
+        self.count(given == wanted, words, text)
+        return wanted or "opened"
+
+    def kind(self, name, texts):
+        """A line on texts of a kind, each with words for it."""
+        faults = collections.Counter(self.fault_of(f"{name}, {words}", it) for words, it in texts)
+        told = ", ".join(f"{count:,} {fault}" for fault, count in sorted(faults.items()))
+        print(f"{name}: {sum(faults.values()):,} texts: {told}", flush=True)
+
+    def is_saved_again(self, words, text):
+        """Whether what is opened from an image has that image; each is asked for once. One that the
+        program does not open was told before.
+        """
+        if text in self.saved or self.program.fault_of(text) is not None:
+            return
+        self.saved.add(text)
+        again = self.program.saved_again(text)
+        self.count(again == text, f"{words}: another image is saved", text)
+
+    def case(self, case):
+        """One that is told in words; a good one is opened, and saved again as it was."""
+        wanted = "opened" if case.is_good else "Body"
+        given = self.fault_of(case.words, case.text)
+        self.count(given == wanted, f"{case.words}: by the device in Python {given}", case.text)
+        if case.is_good:
+            self.is_saved_again(case.words, case.text)
+        return f"{wanted}: {case.words}"
+
+
+# Damage.
+
+
+def prefixes(text):
+    return ((f"of {size} bytes", text[:size]) for size in range(len(text)))
+
+
+def changed(text, places, changes):
+    """Each of these bytes, changed in each of these ways."""
+    for at in places:
+        for change in changes:
+            value = change(text[at])
+            yield f"{at} is {value:02x}", text[:at] + bytes([value]) + text[at + 1 :]
+
+
+def in_all_ways():
+    return [lambda byte, added=added: byte + added & 0xFF for added in range(1, 256)]
+
+
+def in_some_ways():
+    """The lowest bit, the highest one, and by one in the direction that is not the lowest bit's."""
+    xors = [lambda byte, bits=bits: byte ^ bits for bits in XORS]
+    return [*xors, lambda byte: byte + (1 if byte & 1 else -1) & 0xFF]
+
+
+def bent(device, seed, count):
+    bender = Bender(seed)
+    for number in range(1, count + 1):
+        words, text = bender.bent(device)
+        yield f"{number} of seed {seed}, {words}", text
+
+
+def damage(comparison, text):
+    comparison.kind("the image", [("whole", text)])
+    comparison.kind("its proper prefixes", prefixes(text))
+    head, rest = range(image.HEAD_BYTES), range(image.HEAD_BYTES, len(text))
+    comparison.kind("a byte of its head, in all ways", changed(text, head, in_all_ways()))
+    comparison.kind("a byte behind, in three ways", changed(text, rest, in_some_ways()))
+    longer = ((f"of {count} bytes", text + bytes(count)) for count in (1, 32, 1 << 16, 1 << 20))
+    comparison.kind("it with bytes behind it", longer)
+
+
+def device_that_saved(program):
+    """The device in Python behind the lines, made sure that the program saves its image, too."""
+    device = Device()
+    commands = [lines.assemble(line.encode("ascii")) for line in LINES]
+    for buffer in commands:
+        assert device.execute(buffer, 0, RANDOM).response[6:10] == SUCCESS
+    saved = program.saved(b"".join(commands))
+    device.clock = image.open_image(saved).clock
+    print(f"the program saved {'this' if image.image(device) == saved else 'ANOTHER'} image")
+    device.clock = CLOCK
+    return device
+
+
+def in_the_gate(comparison):
+    device = device_that_saved(comparison.program)
+    damage(comparison, image.image(device))
+    for words, it in ("its body", device), ("the body of a full device", image_bodies.FULL):
+        comparison.kind(f"{words}, bent", bent(it, SEED, BENT))
+    told = []
+    for case in image_bodies.cases():
+        told.append(comparison.case(case))
+        # Behind what is wrong stands the image next to it.
+        if case.is_good:
+            print("; ".join(told))
+            told = []
+
+
+def of_a_full_device(comparison, seed, count):
+    damage(comparison, image.image(image_bodies.largest()))
+    device = image_bodies.FULL
+    comparison.kind("the body of a full device, bent", bent(device, seed, count))
+    before = comparison.agree
+    for words, text in bent(device, seed, count):
+        if image.fault_of(text) is None:
+            comparison.is_saved_again(words, text)
+    again, different = comparison.agree - before, len(comparison.saved)
+    print(f"{different:,} images among these: {again:,} saved again as they were")
+
+
+def main():
+    path, *mode = sys.argv[1:]
+    comparison = Comparison(Program(os.path.abspath(path)))
+    if mode[:1] == ["full"]:
+        seed, count = (int(it) for it in (mode[1:] + DEFAULTS[len(mode) - 1 :]))
+        of_a_full_device(comparison, seed, count)
+    else:
+        in_the_gate(comparison)
+    print(f"{comparison.agree:,} agree, {comparison.differ:,} differ")
+    sys.exit(comparison.differ > 0)
+
+
+main()

@@ -1,0 +1,117 @@
+"""An image of a device as its fields: what is sized, what is counted, and what is neither.
+
+They can be changed, and are then written again with the sizes and the counts that they have, or
+with others that are set in their place.
+"""
+
+from dataclasses import dataclass
+
+import image
+import persistent
+from frames import RH_LOCKOUT, number
+from state import Saved
+
+# Of a SYMCIPHER's cipher and of the scheme of a KEYEDHASH, each number has so many bytes.
+DETAIL_BYTES = 2
+
+
+@dataclass
+class Plain:
+    """Bytes, as many as their field always has."""
+
+    text: bytes
+
+
+@dataclass
+class Sized:
+    """Fields behind their size."""
+
+    fields: list
+    size: int = None
+
+    @property
+    def text(self):
+        text = text_of(self.fields)
+        return number(len(text) if self.size is None else self.size, 2) + text
+
+
+@dataclass
+class Counted:
+    """Groups of fields behind their count."""
+
+    groups: list
+    count: int = None
+
+    @property
+    def text(self):
+        count = len(self.groups) if self.count is None else self.count
+        return number(count, 2) + b"".join(map(text_of, self.groups))
+
+
+def text_of(fields):
+    return b"".join(it.text for it in fields)
+
+
+def image_of(fields):
+    """The fields between a head and a digest that are right."""
+    return image.framed(text_of(fields))
+
+
+def buffer(text):
+    return Sized([Plain(text)])
+
+
+def numbers(*sizes_and_values):
+    return [Plain(number(value, size)) for size, value in sizes_and_values]
+
+
+def pieces(text, size):
+    return [Plain(text[at : at + size]) for at in range(0, len(text), size)]
+
+
+def body_of(device):
+    """The fields of a device's body; `objects_of` and `indices_of` find the two lists in it."""
+    fields = []
+    for hierarchy in image.HIERARCHIES:
+        secrets = device.seeds[hierarchy], device.proofs[hierarchy]
+        fields += [buffer(device.auth_value(hierarchy)), *map(Plain, secrets)]
+    fields += [buffer(device.auth_value(RH_LOCKOUT)), *numbers((1, device.disable_clear))]
+    fields += pieces(image.lockout_text(device.lockout), 4)
+    fields += pieces(image.counts_text(device), 4) + numbers((1, device.saved))
+    if device.saved == Saved.STATE:
+        banks = (device.saved_banks[bank] for bank in image.BANKS)
+        fields += [Plain(value) for bank in banks for value in bank]
+    held = sorted(it for it in device.objects if persistent.is_persistent(it))
+    fields.append(Counted([object_fields(it, device.objects[it]) for it in held]))
+    fields.append(Counted([index_fields(it) for _, it in sorted(device.indices.items())]))
+    assert image_of(fields) == image.image(device)
+    return fields
+
+
+def objects_of(fields):
+    return fields[-2]
+
+
+def indices_of(fields):
+    return fields[-1]
+
+
+def object_fields(handle, kept):
+    public, sensitive = kept.public, kept.sensitive
+    head = numbers((2, public.kind), (2, public.name_algorithm), (4, public.attributes))
+    policy, unique = buffer(public.auth_policy), buffer(public.unique)
+    details = public.text[len(text_of([*head, policy])) : -len(unique.text)]
+    buffers = sensitive.auth_value, sensitive.seed_value, sensitive.data
+    return [
+        *numbers((4, handle), (4, kept.hierarchy)),
+        buffer(kept.qualified_name),
+        Sized([*head, policy, *pieces(details, DETAIL_BYTES), unique]),
+        Sized([*numbers((2, sensitive.kind)), *map(buffer, buffers)]),
+    ]
+
+
+def index_fields(index):
+    public = index.public
+    head = numbers((4, public.index), (2, public.name_algorithm), (4, public.attributes))
+    area = [*head, buffer(public.auth_policy), *numbers((2, public.data_size))]
+    return [Sized(area), buffer(index.auth_value), buffer(index.data)]

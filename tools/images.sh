@@ -1,0 +1,24 @@
+#!/bin/sh
+# Has a program open damaged images, and compares its answers with those of the device in plain
+# Python under tests/outside/device: every beginning of the largest image, each of its bytes changed
+# in three ways or more, and bodies of a full device that are bent at random, with the length and
+# the digest that they have to have. What is opened of these is saved again, too. It is no part of
+# the gate; tests/images.sh is. Needs python3; takes some minutes.
+#
+#   tools/images.sh             ten thousand bent bodies of seed 1
+#   tools/images.sh 7           those of seed 7
+#   tools/images.sh 7 100       a hundred of them
+#
+# Where they differ it says so, leaves the first texts that do, and says where. Its last line is
+# `N agree, M differ`.
+set -u
+
+top=$(CDPATH='' cd "$(dirname "$0")/.." && pwd -P) || exit 1
+program=${PROGRAM:-$(cd "$top" && . tools/program.sh)} || exit 1
+program=$(cd "$(dirname "$program")" && pwd -P)/$(basename "$program")
+folder=$(mktemp -d) || exit 1
+cd "$folder" || exit 1
+export PYTHONDONTWRITEBYTECODE=1
+
+python3 "$top/tests/common/damaged_images.py" "$program" full "$@" || exit 1
+rm -rf "$folder"
