@@ -1,0 +1,24 @@
+#!/bin/sh
+# Kills a served device at random moments while connections come one after another, and looks at the
+# image that is left behind each kill, as tests/killed.sh does a few times. It is no part of the gate.
+# Needs python3.
+#
+#   tools/kills.sh               1,000 kills, of seed 1
+#   tools/kills.sh 5000 7        5,000 kills, of seed 7
+#
+# Its first line says that all went as it must, or what did not; then the last image is left, and it
+# says where. The second line says where the kills fell, which is not the same in each run.
+set -u
+
+top=$(CDPATH='' cd "$(dirname "$0")/.." && pwd -P) || exit 1
+program=${PROGRAM:-$(cd "$top" && . tools/program.sh)} || exit 1
+folder=$(mktemp -d) || exit 1
+cd "$folder" || exit 1
+
+export PYTHONDONTWRITEBYTECODE=1
+if python3 "$top/tests/common/kills.py" "$program" "${1:-1000}" "${2:-1}" counts; then
+    rm -rf "$folder"
+else
+    echo "The image is in $folder"
+    exit 1
+fi
