@@ -9,14 +9,15 @@ random=$(words 'GetRandom 4')
 rm -f entropy
 ln -s /dev/zero entropy
 
-# client_of KIND HEX: one of the clients in common/clients.py. A long one is told how long before that.
+# client_of KIND HEX: one of the clients in common/clients.py. The long one is told how long it is to
+# be before that.
 client_of() {
     python3 "$tests/common/clients.py" "$1" socket "$2" ${3:+"$3"} | sed 's/^/    /'
 }
 
-# Clients that close at once: having sent nothing, the tag, the header, and a command but for its last
-# byte. Nothing of that is done, so that a Startup behind them succeeds. Then one that has sent a whole
-# command, which is done though nobody reads the response.
+# Clients that close at once: having sent nothing, a tag, a header, and a command but for its last
+# byte. Nothing of that is done, so that a Startup behind them succeeds. Then one that has sent a
+# whole command, which is done though nobody reads the response.
 rm -f image
 begin 6
 client_of close ''

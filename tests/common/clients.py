@@ -8,8 +8,10 @@
                                              nothing more is taken, and reads nothing
     python3 clients.py removed SOCKET HEX    has two clients, removes the socket's path, then sends
                                              these commands with each, and prints what is answered
-    python3 clients.py file SOCKET HEX       the same, with a file put in its place
     python3 clients.py folder SOCKET HEX     the same, with a folder put in its place
+    python3 clients.py during SOCKET HEX LINE
+                                             sends these commands, and does the shell's LINE once the
+                                             first one is answered, before it closes
     python3 clients.py long SOCKET MILLIONS WRITE
                                              sends this TPM2_NV_Write, and TPM2_GetRandom, in turn
                                              until there were so many million bytes, while it reads
@@ -21,6 +23,7 @@ import os
 import pathlib
 import select
 import socket
+import subprocess
 import sys
 import threading
 
@@ -58,7 +61,7 @@ def fill(client):
 
 
 def replaced(path, text, replace):
-    """Two clients, and their socket's path is removed or taken by something else."""
+    """Two clients, and their socket is removed, and its path may be taken."""
     clients = [connected(path), connected(path)]
     os.unlink(path)
     replace(pathlib.Path(path))
@@ -67,6 +70,16 @@ def replaced(path, text, replace):
         client.shutdown(socket.SHUT_WR)
         for response in responses(received(client)):
             print(number, response.hex())
+
+
+def during(path, text, line):
+    client = connected(path)
+    client.sendall(text)
+    answer = client.recv(4096)
+    subprocess.run(line, shell=True, check=True)
+    client.shutdown(socket.SHUT_WR)
+    for response in responses(answer + received(client)):
+        print(response.hex())
 
 
 def go_on(path, text, millions):
@@ -99,7 +112,6 @@ KINDS = {
     "idle": lambda path, text: beside(path, text, lambda client: None),
     "unread": lambda path, text: beside(path, text, fill),
     "removed": lambda path, text: replaced(path, text, lambda path: None),
-    "file": lambda path, text: replaced(path, text, pathlib.Path.touch),
     "folder": lambda path, text: replaced(path, text, pathlib.Path.mkdir),
 }
 
@@ -108,6 +120,8 @@ def main():
     kind, path, *words = sys.argv[1:]
     if kind == "long":
         go_on(path, bytes.fromhex(words[1]), int(words[0]))
+    elif kind == "during":
+        during(path, bytes.fromhex(words[0]), words[1])
     else:
         KINDS[kind](path, bytes.fromhex("".join(words)))
 

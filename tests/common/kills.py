@@ -1,6 +1,6 @@
 """Kills a served device at random moments, and looks at its image behind each:
 
-    python3 kills.py PROGRAM COUNT SEED          says in a line that all went as it must, or what did not
+    python3 kills.py PROGRAM COUNT SEED          says that all went as it must, or what did not
     python3 kills.py PROGRAM COUNT SEED counts   says in a second line where the kills fell
 
 It works in the folder that it is run in. The device has a counter and an index of 8 bytes. A

@@ -14,11 +14,11 @@ for octal in 001 002 003 004 005 006 007 010 011 012 013 014 015; do
     bytes_of 256 "$octal" >>entropy
 done
 
-# begin CONNECTIONS: serves so many connections in the background, from locality 0 where the test
-# says no other.
+# begin CONNECTIONS: serves so many connections in the background, from locality 0 and with `image`
+# where the test says no other.
 begin() {
     rm -f "$room/output" "$room/error"
-    timeout 60 "$program" serve --socket socket --image image --entropy entropy \
+    timeout 60 "$program" serve --socket socket --image "${image:-image}" --entropy entropy \
         --locality "${locality:-0}" --connections "$1" >"$room/output" 2>"$room/error" &
 }
 
