@@ -70,7 +70,7 @@ name_of() {
 # run TEST PROGRAM [OPTION]: runs a test with a program.
 run() {
     case $1,$2 in
-    *.sh,*) timeout 120 sh "$1" "$2" </dev/null ;;
+    *.sh,*) timeout 300 sh "$1" "$2" </dev/null ;;
     *,"$lists") timeout 120 "$2" <"$1" ;;
     *) timeout 120 "$2" run ${3:+"$3"} "$1" </dev/null ;;
     esac
