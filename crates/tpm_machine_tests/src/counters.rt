@@ -8,7 +8,7 @@ use tpm_machine_step::Event;
 use tpm_record::{Keep, ListKeep, SlotKeep};
 use tpm_types::Locality;
 
-/// TPM2_Startup(CLEAR), so many milliseconds after the command before it.
+/// TPM2_Startup(CLEAR), this number of milliseconds after the command before it.
 fn startup(elapsed_ms: u32) -> Event<'static> {
     let buffer = b"\x80\x01\0\0\0\x0c\0\0\x01\x44\0\0";
     Event::of_command(buffer, Locality::new(0).unwrap(), elapsed_ms, [0; 256])

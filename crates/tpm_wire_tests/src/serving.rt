@@ -31,7 +31,7 @@ enum Failing {
     Host,
 }
 
-/// Gives at most so many bytes a read, and then ends or fails.
+/// Gives at most `size` bytes a read, and then ends or fails.
 #[derive(Drop)]
 struct Pieces<'a> {
     left: &'a [u8],
