@@ -1,30 +1,58 @@
 #![tactic(auto)]
 
-//! What each command does: a file a command, with one public call that reads its plain parameters,
-//! checks them, and changes the record last (TPM 2.0 Library, Part 3).
+//! What each command does: one call for each command that is served, which reads its plain
+//! parameters, checks them, and changes the record last (TPM 2.0 Library, Part 3).
 //!
-//! A call takes the command's [`call::Call`] and gives its [`answer::Answer`] or the first refusal,
-//! which leaves the record. `specs/` has a row a command under the same name; each call is proved
-//! to be its row, for each way of keeping the record. It stands on tpm_record.
+//! This crate only passes the calls on. They stand in its parts, a file for each command:
+//! tpm_actions_device, tpm_actions_policy, tpm_actions_object, tpm_actions_capability and
+//! tpm_nvactions, all of which stand on tpm_actions_base. A call takes the command's
+//! [`tpm_actions_base::call::Call`] and gives its [`tpm_actions_base::answer::Answer`], or the
+//! first refusal, which leaves the record; each is proved to be its row.
 
-pub mod answer;
-pub mod call;
-pub mod clear_control;
-pub mod dictionary_attack_lock_reset;
-pub mod dictionary_attack_parameters;
-pub mod flush_context;
-pub mod get_random;
-pub mod hierarchy_change_auth;
-mod pcr_change;
-pub mod pcr_event;
-pub mod pcr_extend;
-pub mod pcr_read;
-pub mod pcr_reset;
-pub mod read_clock;
-pub mod reading;
-pub mod refusals;
-pub mod self_test;
-pub mod shutdown;
-pub mod start_auth_session;
-pub mod startup;
-pub mod target;
+pub use tpm_actions_base::answer::Answer;
+pub use tpm_actions_base::call::Call;
+pub use tpm_actions_capability::get_capability::get_capability;
+pub use tpm_actions_device::clear_control::clear_control;
+pub use tpm_actions_device::dictionary_attack_lock_reset::dictionary_attack_lock_reset;
+pub use tpm_actions_device::dictionary_attack_parameters::dictionary_attack_parameters;
+pub use tpm_actions_device::flush_context::flush_context;
+pub use tpm_actions_device::get_random::get_random;
+pub use tpm_actions_device::hierarchy_change_auth::hierarchy_change_auth;
+pub use tpm_actions_device::pcr_event::pcr_event;
+pub use tpm_actions_device::pcr_extend::pcr_extend;
+pub use tpm_actions_device::pcr_read::pcr_read;
+pub use tpm_actions_device::pcr_reset::pcr_reset;
+pub use tpm_actions_device::read_clock::read_clock;
+pub use tpm_actions_device::self_test::self_test;
+pub use tpm_actions_device::shutdown::shutdown;
+pub use tpm_actions_device::start_auth_session::start_auth_session;
+pub use tpm_actions_device::startup::startup;
+pub use tpm_actions_object::clear::clear;
+pub use tpm_actions_object::create::create;
+pub use tpm_actions_object::create_primary::create_primary;
+pub use tpm_actions_object::evict_control::evict_control;
+pub use tpm_actions_object::hmac::hmac;
+pub use tpm_actions_object::load::load;
+pub use tpm_actions_object::read_public::read_public;
+pub use tpm_actions_object::unseal::unseal;
+pub use tpm_actions_policy::policy_auth_value::policy_auth_value;
+pub use tpm_actions_policy::policy_command_code::policy_command_code;
+pub use tpm_actions_policy::policy_get_digest::policy_get_digest;
+pub use tpm_actions_policy::policy_locality::policy_locality;
+pub use tpm_actions_policy::policy_nv::policy_nv;
+pub use tpm_actions_policy::policy_or::policy_or;
+pub use tpm_actions_policy::policy_password::policy_password;
+pub use tpm_actions_policy::policy_pcr::policy_pcr;
+pub use tpm_actions_policy::policy_restart::policy_restart;
+pub use tpm_actions_policy::policy_secret::policy_secret;
+pub use tpm_nvactions::nv_change_auth::nv_change_auth;
+pub use tpm_nvactions::nv_define_space::nv_define_space;
+pub use tpm_nvactions::nv_extend::nv_extend;
+pub use tpm_nvactions::nv_increment::nv_increment;
+pub use tpm_nvactions::nv_read::nv_read;
+pub use tpm_nvactions::nv_read_lock::nv_read_lock;
+pub use tpm_nvactions::nv_read_public::nv_read_public;
+pub use tpm_nvactions::nv_set_bits::nv_set_bits;
+pub use tpm_nvactions::nv_undefine_space::nv_undefine_space;
+pub use tpm_nvactions::nv_write::nv_write;
+pub use tpm_nvactions::nv_write_lock::nv_write_lock;

@@ -1,9 +1,9 @@
 -- One element more, and one number more.
+use Rattle.tpm_bytes.specs.Numbers.{numbers_below}
 use Rattle.std.proofs.Common.{arith, ◌≡◌, ℕ, suc, ◌+◌, ◌<◌, List, [], ◌∷◌, ◌++◌, length, map, take, get_or, refl, ap, sym, ◌∙◌, append-nil}
 use Rattle.std.proofs.lemmas.Grind.{flat_map-append}
-use Rattle.std.proofs.lemmas.List.{append_assoc, map-append, take_more}
+use Rattle.std.proofs.lemmas.List.{map-append, take_more}
 use Rattle.std.specs.List.{flat_map}
-use Rattle.tpm_actions_capability.specs.Element.{numbers_below}
 
 below_more : (n : ℕ) → numbers_below (n + 1) ≡ numbers_below n ++ n ∷ []
 below_more n = let next : n + 1 ≡ suc n = omega arith in ap numbers_below next
@@ -18,14 +18,9 @@ flat_more f n so new is more = more ∙ ap (λ (l : List _). l ++ f n) is ∙ ap
     one : {X : Type 0} (f : ℕ → List X) (n : ℕ) → flat_map f (n ∷ []) ≡ f n
     one f n = append-nil (f n)
 
--- and of two for each
-pub both_more : {X : Type 0} (f g : ℕ → List X) (n : ℕ) (so mid new : List X) → so ≡ flat_map (λ i. f i ++ g i) (numbers_below n) → mid ≡ so ++ f n → new ≡ mid ++ g n → new ≡ flat_map (λ i. f i ++ g i) (numbers_below (n + 1))
-both_more f g n so mid new is first second =
-    flat_more (λ i. f i ++ g i) n so new is (second ∙ ap (λ (l : List _). l ++ g n) first ∙ append_assoc so (f n) (g n))
-
 -- what stands for each of these values so far
 pub taken_more : {A X : Type 0} (f : A → X) (xs : List A) (i : ℕ) (d : A) (so new : List X) → i < length xs → so ≡ map f (take i xs) → new ≡ so ++ f (get_or xs i d) ∷ [] → new ≡ map f (take (i + 1) xs)
 taken_more f xs i d so new below is more =
     more ∙ ap (λ (l : List _). l ++ f (get_or xs i d) ∷ []) is ∙ sym (map-append f (take i xs) (get_or xs i d ∷ [])) ∙ sym (ap (map f) (take_more xs i d below))
 
-pub ruleset one_more = (mapped_more, flat_more, both_more, taken_more)
+pub ruleset one_more = (mapped_more, flat_more, taken_more)

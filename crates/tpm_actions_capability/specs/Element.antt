@@ -7,11 +7,6 @@ use Rattle.tpm_actions_capability.specs.declared.element.Element.{Element}
 use Rattle.tpm_actions_capability.specs.declared.element.Telling.{Telling}
 use Rattle.tpm_actions_capability.specs.declared.element.Telling.TheVariants as tell
 
--- the numbers below one, ascending
-abbrev pub numbers_below : ℕ → List ℕ
-numbers_below zero = []
-numbers_below (suc n) = numbers_below n ++ n ∷ []
-
 -- an element that is told by its own number
 abbrev pub by_itself : ℕ → Element
 by_itself number = record { number = number; told = number }
@@ -36,7 +31,7 @@ found_count from elements = count_by (is_from from) elements
 abbrev pub told_count : (from count : ℕ) → List Element → ℕ
 told_count from count elements = min (found_count from elements) (min count 64)
 
--- the text of the first elements from a number on, so many
+-- the text of the first elements from a number on, at most this many
 abbrev pub text_of : Telling → (from count : ℕ) → List Element → List ℕ
 text_of telling from count elements =
     flat_map (told_text telling) (take count (filter (is_from from) elements))

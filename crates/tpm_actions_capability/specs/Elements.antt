@@ -1,21 +1,26 @@
 -- The elements of each capability of a device, in ascending order. TPM 2.0 Library, Part 2,
 -- sections 6.12 (TPM_CAP), 6.13 (TPM_PT), 7.4 (TPM_RH) and 8.9 (TPMA_CC), and Part 3, section 30.2.
+use Rattle.tpm_types.specs.Limits.{object_limit, session_limit}
+use Rattle.tpm_bytes.specs.Numbers.{numbers_below}
 use Rattle.std.specs.Prelude.{ℕ, ◌+◌, ◌*◌, ◌^◌, Bool, true, false, List, [], ◌∷◌, ◌++◌, is_some, length, map, if◌then◌else◌}
 use Rattle.std.specs.List.{flat_map}
+use Rattle.std.specs.Option.{option_map_or}
 use Rattle.tpm_lockout.specs.Lockout.{LockoutState}
 use Rattle.tpm_nv.specs.Head.{heads_of}
-use Rattle.tpm_places.specs.Numbered.{number_of}
-use Rattle.tpm_session.specs.Sessions.{session_at}
+use Rattle.tpm_slots.specs.Numbered.{number_of}
+use Rattle.tpm_slots.specs.Slots.{at_place}
+use Rattle.tpm_session.specs.Sessions.{handle_of}
+use Rattle.tpm_session.specs.declared.session.Session.{Session}
 use Rattle.tpm_types.specs.Handle.{endorsement_handle, lockout_handle, null_handle, numbered, owner_handle, password_handle, platform_handle}
 use Rattle.tpm_types.specs.declared.handle.Handle.{Handle}
 use Rattle.tpm_types_command.specs.CommandCode.{all_codes, code_number, shape_of}
 use Rattle.tpm_types_command.specs.declared.command_code.CommandCode.{CommandCode}
 use Rattle.tpm_record.specs.Objects.{object_at}
 use Rattle.tpm_record.specs.Record.{Record}
-use Rattle.tpm_actions_capability.specs.Element.{by_itself, if_there, numbers_below}
+use Rattle.tpm_actions_capability.specs.Element.{by_itself, if_there}
 use Rattle.tpm_actions_capability.specs.declared.element.Element.{Element}
 
--- ---- handles, by the first byte of the one from which on they are asked for
+-- ---- handles, by the highest byte of the first one that is asked for
 
 -- 00: the PCRs
 abbrev pub pcr_elements : List Element
@@ -38,16 +43,13 @@ permanent_elements =
 
 -- 02: the sessions, of whatever type, in the order of their places: the place is compared, and the
 -- handle is told
-abbrev pub session_element : Record → (kind place : ℕ) → List Element
-session_element r kind place =
-    let handle : Handle = numbered (number_of kind place) in
-    if_there (is_some (session_at r.sessions handle))
-    (record { number = place; told = handle.number })
+abbrev pub session_element : Record → (place : ℕ) → List Element
+session_element r place =
+    option_map_or (λ (s : Session). record { number = place; told = (handle_of s.kind place).number } ∷ [])
+    (at_place r.sessions place) []
 
 abbrev pub session_elements : Record → List Element
-session_elements r =
-    flat_map (λ place. session_element r 0x02 place ++ session_element r 0x03 place)
-    (numbers_below 16)
+session_elements r = flat_map (session_element r) (numbers_below session_limit)
 
 -- 80: the transient objects
 abbrev pub object_element : Record → ℕ → List Element
@@ -56,7 +58,7 @@ object_element r place =
     if_there (is_some (object_at r.objects handle)) (by_itself handle.number)
 
 abbrev pub object_elements : Record → List Element
-object_elements r = flat_map (object_element r) (numbers_below 8)
+object_elements r = flat_map (object_element r) (numbers_below object_limit)
 
 -- 81: the persistent objects
 abbrev pub persistent_elements : Record → List Element
@@ -64,8 +66,8 @@ persistent_elements r = map (λ e. by_itself e.0) r.persistent
 
 -- ---- commands, with their attributes
 
--- the number in bits 0 to 15, how many handles it has in bits 25 to 27, and whether it answers one
--- in bit 28
+-- the attributes of a command (TPMA_CC): its number in bits 0 to 15, how many handles it has in
+-- bits 25 to 27, and whether it answers one in bit 28; the other bits are 0
 abbrev pub command_attributes : CommandCode → ℕ
 command_attributes code =
     code_number code + 2 ^ 25 * length (shape_of code).handles

@@ -1,4 +1,5 @@
 -- TPM2_GetCapability. TPM 2.0 Library, Part 3, section 30.2.
+use Rattle.tpm_types.specs.declared.action_check.ActionCheck.TheVariants as action
 use Rattle.std.specs.Prelude.{◌≡◌, ℕ, ◌==◌, ◌/◌, ◌%◌, ◌^◌, List, [], ◌∷◌, ◌++◌, if◌then◌else◌, Result, Ok, Err}
 use Rattle.std.specs.Int.{w32, to_be_bytes}
 use Rattle.tpm_bytes.specs.Reading.{◌>>=◌, number_at, or_fault}
@@ -9,20 +10,20 @@ use Rattle.tpm_types.specs.declared.pcr_selection.BankSelection.{BankSelection}
 use Rattle.tpm_types.specs.declared.rc.ResponseCode.TheVariants as code
 use Rattle.tpm_types.specs.declared.refused.Refused.{Refused}
 use Rattle.tpm_record.specs.Record.{Record}
-use Rattle.tpm_actions.specs.Answer.{Plain, answer_of}
-use Rattle.tpm_actions.specs.Refusals.{parameter_fault}
-use Rattle.tpm_actions.specs.Request.{Request}
-use Rattle.tpm_actions.specs.Rows.{Success, all_read, parameter, unchanged}
+use Rattle.tpm_actions_base.specs.Answer.{Plain, answer_of}
+use Rattle.tpm_actions_base.specs.Refusals.{parameter_refusal}
+use Rattle.tpm_actions_base.specs.Request.{Request}
+use Rattle.tpm_actions_base.specs.Rows.{Success, all_read, parameter, unchanged}
 use Rattle.tpm_actions_capability.specs.Element.{listing}
 use Rattle.tpm_actions_capability.specs.Elements.{command_elements, index_elements, object_elements, pcr_elements, permanent_elements, persistent_elements, property_elements, session_elements}
 use Rattle.tpm_actions_capability.specs.declared.element.Element.{Element}
 use Rattle.tpm_actions_capability.specs.declared.element.Telling.TheVariants as tell
-use Rattle.tpm_actions_capability.specs.declared.get_capability.Asked.{Asked}
+use Rattle.tpm_actions_capability.specs.declared.get_capability.CapabilityParameters.{CapabilityParameters}
 use Rattle.tpm_actions_capability.specs.declared.get_capability.Capability.{Capability}
 use Rattle.tpm_actions_capability.specs.declared.get_capability.Capability.TheVariants as capability
 
 -- capability, property, propertyCount
-unfoldable pub capability_parameters : List ℕ → Result Asked Refused
+unfoldable pub capability_parameters : List ℕ → Result CapabilityParameters Refused
 capability_parameters text = do
   capability ← parameter 1 (or_fault (number_at w32 text) (plain code.Insufficient))
   property ← parameter 2 (or_fault (number_at w32 capability.1) (plain code.Insufficient))
@@ -37,10 +38,10 @@ capability_of number =
     else (if number == 2 then Ok capability.Commands
     else (if number == 5 then Ok capability.Pcrs
     else (if number == 6 then Ok capability.Properties
-    else Err (parameter_fault 1 1 code.Value))))
+    else Err (parameter_refusal action.First 1 code.Value))))
 
--- the handles whose first byte is this one; saved sessions (03) there are none. A2: there are none
--- of such a kind
+-- the handles whose highest byte is this one; there are never saved sessions (03). A2: no handle
+-- has such a byte
 abbrev pub handle_elements : Record → (kind : ℕ) → Result (List Element) Refused
 handle_elements r kind =
     if kind == 0x00 then Ok pcr_elements
@@ -50,7 +51,7 @@ handle_elements r kind =
     else (if kind == 0x40 then Ok permanent_elements
     else (if kind == 0x80 then Ok (object_elements r)
     else (if kind == 0x81 then Ok (persistent_elements r)
-    else Err (parameter_fault 2 2 code.Handle)))))))
+    else Err (parameter_refusal action.Second 2 code.Handle)))))))
 
 -- from which on handles are listed: sessions by their places
 abbrev pub first_handle_of : ℕ → ℕ
@@ -67,7 +68,7 @@ abbrev pub pcrs_text : List ℕ
 pcrs_text = 0 ∷ to_be_bytes w32 5 ++ selection_text all_banks
 
 -- moreData, and the capability with its elements
-abbrev pub told_of : Record → Asked → Capability → Result (List ℕ) Refused
+abbrev pub told_of : Record → CapabilityParameters → Capability → Result (List ℕ) Refused
 told_of r p capability.Handles = do
   elements ← handle_elements r (p.property / 2 ^ 24)
   Ok (listing tell.Value 1 (first_handle_of p.property) p.count elements)
@@ -83,16 +84,9 @@ get_capability_row r q = do
   text ← told_of r p capability
   Ok (unchanged r (answer_of (Plain text)))
 
--- The code's text is the definition's, or its refusal is.
-abbrev pub Tells : Result (List ℕ) Refused → Result (Unit {0}) Refused → List ℕ → Type 0
-Tells (Ok text) (Ok done) new = new ≡ text
-Tells (Ok text) (Err e) new = ⊥
+-- What the code wrote, a text or elements, is the definition's, or its refusal is.
+abbrev pub Tells : {X : Type 0} → Result X Refused → Result (Unit {0}) Refused → X → Type 0
+Tells (Ok wanted) (Ok done) new = new ≡ wanted
+Tells (Ok wanted) (Err e) new = ⊥
 Tells (Err refused) (Ok done) new = ⊥
 Tells (Err refused) (Err e) new = e ≡ refused
-
--- The same of elements.
-abbrev pub Lists : Result (List Element) Refused → Result (Unit {0}) Refused → List Element → Type 0
-Lists (Ok elements) (Ok done) new = new ≡ elements
-Lists (Ok elements) (Err e) new = ⊥
-Lists (Err refused) (Ok done) new = ⊥
-Lists (Err refused) (Err e) new = e ≡ refused

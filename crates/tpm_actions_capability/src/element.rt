@@ -1,15 +1,19 @@
+//! An element of a capability's list, and how a list is answered: from a number on, as many
+//! elements as are asked for (TPM 2.0 Library, Part 3, section 30.2).
+
 ghost use Rattle.std.specs.Prelude.{◌≡◌, ◌≤◌, ◌+◌, ◌*◌, ◌++◌, List, [], ◌∷◌, length};
+ghost use Rattle.tpm_types.specs.Limits.{answer_limit};
 ghost use Rattle.tpm_actions_capability.specs.Element.{by_itself, found_count, is_from, listing, text_of, told_text};
 ghost use Rattle.tpm_actions_capability.specs.declared.element.Element.{Element as ListedElement};
 
 use arrayvec::ArrayVec;
-use tpm_actions::answer::Parameters;
+use tpm_actions_base::answer::Parameters;
 
 /// The most elements of one answer, of whatever capability: there are never more.
-pub(crate) const MOST_ELEMENTS: usize = 64;
+pub(crate) const ELEMENT_LIMIT: usize = 64;
 
 /// All that a capability lists.
-pub(crate) type Elements = ArrayVec<Element, MOST_ELEMENTS>;
+pub(crate) type Elements = ArrayVec<Element, ELEMENT_LIMIT>;
 
 /// What a capability lists.
 #[derive(Clone, Copy, Debug, PartialEq, Eq, Default)]
@@ -44,7 +48,7 @@ impl Element {
     }
 
     fn tell(&self, telling: Telling, text: &mut Parameters)
-        requires { length text.old + 8 ≤ 1026 }
+        requires { length text.old + 8 ≤ answer_limit }
         ensures told { text.new ≡ text.old ++ told_text telling self.now }
         ensures few { length text.new ≤ length text.old + 8 }
     {
@@ -69,11 +73,11 @@ fn found_count(elements: &[Element], from: u32) -> usize
 /// left then.
 #[tactic(auto, using(crate::proofs::Telling::telling_one))]
 fn tell_if(e: &Element, telling: Telling, from: u32, left: usize, text: &mut Parameters) -> usize
-    requires { length text.old + 8 * left ≤ 1026 }
+    requires { length text.old + 8 * left ≤ answer_limit }
     ensures told { (others : List ListedElement)
         → text.new ++ text_of telling from result others
         ≡ text.old ++ text_of telling from left (e.now ∷ others) }
-    ensures room { length text.new + 8 * result ≤ 1026 }
+    ensures room { length text.new + 8 * result ≤ answer_limit }
 {
     if left == 0 || !e.is_from(from) {
         return left;
@@ -82,7 +86,7 @@ fn tell_if(e: &Element, telling: Telling, from: u32, left: usize, text: &mut Par
     left - 1
 }
 
-/// Tells the first elements from a number on, so many.
+/// Tells the first elements from a number on.
 fn tell_elements(
     elements: &[Element],
     telling: Telling,
@@ -90,7 +94,7 @@ fn tell_elements(
     count: usize,
     text: &mut Parameters,
 )
-    requires { length text.old + 8 * count ≤ 1026 }
+    requires { length text.old + 8 * count ≤ answer_limit }
     ensures { text.new ≡ text.old ++ text_of telling from count elements.now }
 {
     let mut left = count;
@@ -112,7 +116,7 @@ pub(crate) fn list(
     ensures { text.new ≡ listing telling capability from count elements.now }
 {
     let found = found_count(elements, from);
-    let told = found.min((count as usize).min(MOST_ELEMENTS));
+    let told = found.min((count as usize).min(ELEMENT_LIMIT));
     let _ = text.put_u8(u8::from(told < found));
     let _ = text.put_u32(capability);
     let _ = text.put_u32(told as u32);

@@ -1,3 +1,7 @@
+//! The elements that each capability of the device lists, in ascending order: PCRs, handles,
+//! commands and properties.
+
+ghost use Rattle.tpm_types.specs.Limits.{object_limit, session_limit};
 ghost use Rattle.std.specs.Prelude.{◌≡◌, ◌≤◌, ◌<◌, ◌+◌, ◌++◌, [], length, map};
 ghost use Rattle.tpm_actions_capability.specs.Element.{by_itself};
 ghost use Rattle.tpm_actions_capability.specs.Elements.{command_attributes, command_element, command_elements};
@@ -7,9 +11,10 @@ ghost use Rattle.tpm_actions_capability.specs.Elements.{pcr_elements, permanent_
 use crate::element::{Element, Elements};
 use tpm_lockout::Lockout;
 use tpm_nv::Indices;
-use tpm_places::numbered;
 use tpm_record::{Keep, PersistentObjects};
-use tpm_types::{Handle, PCR_COUNT};
+use tpm_session::handle_of;
+use tpm_slots::numbered;
+use tpm_types::{Handle, OBJECT_LIMIT, PCR_COUNT, SESSION_LIMIT};
 use tpm_types_command::CommandCode;
 
 /// The PCRs.
@@ -36,22 +41,18 @@ pub(crate) fn permanent(elements: &mut Elements)
     elements.push(Element::by_itself(Handle::PLATFORM.number));
 }
 
-/// The session of this kind in a place, if there is one.
-fn session<K: Keep>(keep: &K, kind: u32, place: u32, elements: &mut Elements)
-    requires kind { kind < 256 }
-    requires place { place < 16 }
+/// The session in a place, if there is one.
+fn session<K: Keep>(keep: &K, place: u32, elements: &mut Elements)
+    requires place { place < session_limit }
     requires room { length elements.old.items < 64 }
     ensures added { elements.new.items
-        ≡ elements.old.items ++ session_element (K.record_of keep.now) kind place }
+        ≡ elements.old.items ++ session_element (K.record_of keep.now) place }
     ensures few { length elements.new.items ≤ length elements.old.items + 1 }
 {
-    let handle = Handle {
-        number: numbered::number_of(kind, place as usize),
-    };
-    if keep.sessions().get(handle).is_some() {
+    if let Some(session) = keep.sessions().in_place(place as usize) {
         elements.push(Element {
             number: place,
-            told: handle.number,
+            told: handle_of(session.kind, place as usize).number,
         });
     }
 }
@@ -62,15 +63,14 @@ pub(crate) fn sessions<K: Keep>(keep: &K, elements: &mut Elements)
     requires { elements.old.items ≡ [] }
     ensures { elements.new.items ≡ session_elements (K.record_of keep.now) }
 {
-    for place in 0..16 {
-        session(keep, 0x02, place, elements);
-        session(keep, 0x03, place, elements);
+    for place in 0..SESSION_LIMIT as u32 {
+        session(keep, place, elements);
     }
 }
 
 /// The transient object in a place, if there is one.
 fn object<K: Keep>(keep: &K, place: u32, elements: &mut Elements)
-    requires place { place < 8 }
+    requires place { place < object_limit }
     requires room { length elements.old.items < 64 }
     ensures added { elements.new.items
         ≡ elements.old.items ++ object_element (K.record_of keep.now) place }
@@ -90,7 +90,7 @@ pub(crate) fn objects<K: Keep>(keep: &K, elements: &mut Elements)
     requires { elements.old.items ≡ [] }
     ensures { elements.new.items ≡ object_elements (K.record_of keep.now) }
 {
-    for place in 0..8 {
+    for place in 0..OBJECT_LIMIT as u32 {
         object(keep, place, elements);
     }
 }

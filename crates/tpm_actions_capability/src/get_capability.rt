@@ -1,10 +1,12 @@
+//! TPM2_GetCapability: answers what the device has and is, by its row in `specs/GetCapability`.
+
 ghost use Rattle.std.specs.Prelude.{◌≡◌, []};
-ghost use Rattle.tpm_actions.specs.Answer.{IsEmpty};
-ghost use Rattle.tpm_actions.specs.Request.{request_of};
-ghost use Rattle.tpm_actions.specs.Rows.{Acts};
+ghost use Rattle.tpm_actions_base.specs.Answer.{IsEmpty};
+ghost use Rattle.tpm_actions_base.specs.Request.{request_of};
+ghost use Rattle.tpm_actions_base.specs.Rows.{Acts};
 ghost use Rattle.tpm_actions_capability.specs.Element.{listing};
 ghost use Rattle.tpm_actions_capability.specs.Elements.{command_elements, property_elements};
-ghost use Rattle.tpm_actions_capability.specs.GetCapability.{Lists, Tells, capability_of, capability_parameters, first_handle_of};
+ghost use Rattle.tpm_actions_capability.specs.GetCapability.{Tells, capability_of, capability_parameters, first_handle_of};
 ghost use Rattle.tpm_actions_capability.specs.GetCapability.{get_capability_row, handle_elements, pcrs_text, told_of};
 ghost use Rattle.tpm_actions_capability.specs.declared.element.Telling.TheVariants as tell;
 ghost use Rattle.tpm_actions_capability.specs.declared.get_capability.Capability.TheVariants.{Handles};
@@ -14,18 +16,18 @@ use crate::elements::{
     commands, indices, objects, pcrs, permanent, persistent, properties, sessions,
 };
 use arrayvec::ArrayVec;
-use tpm_actions::answer::{Answer, Parameters};
-use tpm_actions::call::Call;
-use tpm_actions::reading::{end, number};
-use tpm_actions::refusals::parameter_fault;
+use tpm_actions_base::answer::{Answer, Parameters};
+use tpm_actions_base::call::Call;
+use tpm_actions_base::reading::{end, number};
+use tpm_actions_base::refusals::parameter_refusal;
 use tpm_bytes::Cursor;
 use tpm_mac::HashAlg;
 use tpm_record::Keep;
-use tpm_types::{BankSelection, PcrSelect, PcrSelection, Refused, ResponseCode};
+use tpm_types::{ActionCheck, BankSelection, PcrSelect, PcrSelection, Refused, ResponseCode};
 
 /// What is asked for.
 #[derive(Clone, Copy)]
-pub struct Asked {
+pub struct CapabilityParameters {
     capability: u32,
     property: u32,
     count: u32,
@@ -41,7 +43,7 @@ pub enum Capability {
 }
 
 #[tactic(auto, unfolding(crate::specs::GetCapability::capability_parameters))]
-fn read_parameters(parameters: &[u8]) -> Result<Asked, Refused>
+fn read_parameters(parameters: &[u8]) -> Result<CapabilityParameters, Refused>
     ensures { result ≡ capability_parameters parameters.now }
 {
     let mut text = Cursor::new(parameters);
@@ -49,7 +51,7 @@ fn read_parameters(parameters: &[u8]) -> Result<Asked, Refused>
     let property = number(2, text.u32())?;
     let count = number(3, text.u32())?;
     end(&text)?;
-    Ok(Asked {
+    Ok(CapabilityParameters {
         capability,
         property,
         count,
@@ -66,7 +68,7 @@ impl Capability {
             2 => Ok(Capability::Commands),
             5 => Ok(Capability::Pcrs),
             6 => Ok(Capability::Properties),
-            _ => Err(parameter_fault(1, 1, ResponseCode::Value)),
+            _ => Err(parameter_refusal(ActionCheck::First, 1, ResponseCode::Value)),
         }
     }
 }
@@ -74,7 +76,7 @@ impl Capability {
 /// The handles with this first byte; HANDLE where there are none of such a kind.
 fn handles<K: Keep>(keep: &K, kind: u32, elements: &mut Elements) -> Result<(), Refused>
     requires { elements.old.items ≡ [] }
-    ensures { Lists (handle_elements (K.record_of keep.now) kind) result elements.new.items }
+    ensures { Tells (handle_elements (K.record_of keep.now) kind) result elements.new.items }
 {
     match kind {
         0x00 => pcrs(elements),
@@ -84,7 +86,7 @@ fn handles<K: Keep>(keep: &K, kind: u32, elements: &mut Elements) -> Result<(), 
         0x40 => permanent(elements),
         0x80 => objects(keep, elements),
         0x81 => persistent(keep, elements),
-        _ => return Err(parameter_fault(2, 2, ResponseCode::Handle)),
+        _ => return Err(parameter_refusal(ActionCheck::Second, 2, ResponseCode::Handle)),
     }
     Ok(())
 }
@@ -100,7 +102,11 @@ fn first_handle_of(property: u32) -> u32
     }
 }
 
-fn tell_handles<K: Keep>(keep: &K, asked: Asked, text: &mut Parameters) -> Result<(), Refused>
+fn tell_handles<K: Keep>(
+    keep: &K,
+    asked: CapabilityParameters,
+    text: &mut Parameters,
+) -> Result<(), Refused>
     requires { text.old ≡ [] }
     ensures { Tells (told_of (K.record_of keep.now) asked Handles) result text.new }
 {
@@ -118,7 +124,7 @@ fn tell_handles<K: Keep>(keep: &K, asked: Asked, text: &mut Parameters) -> Resul
     Ok(())
 }
 
-fn tell_commands(asked: Asked, text: &mut Parameters)
+fn tell_commands(asked: CapabilityParameters, text: &mut Parameters)
     requires { text.old ≡ [] }
     ensures { text.new ≡ listing tell.Value 2 asked.property asked.count command_elements }
 {
@@ -153,7 +159,7 @@ fn tell_pcrs(text: &mut Parameters)
     let _ = PcrSelection { banks }.write(text);
 }
 
-fn tell_properties<K: Keep>(keep: &K, asked: Asked, text: &mut Parameters)
+fn tell_properties<K: Keep>(keep: &K, asked: CapabilityParameters, text: &mut Parameters)
     requires { text.old ≡ [] }
     ensures { text.new ≡ listing tell.NumberAndValue 6 asked.property asked.count
         (property_elements (K.record_of keep.now).fixed.lockout) }

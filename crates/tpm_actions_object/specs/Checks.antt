@@ -1,5 +1,6 @@
 -- The checks of a template and of a creation among a command's own. TPM 2.0 Library, Part 3,
 -- section 12 (object commands); which code refuses what, and in which order, is this device's own.
+use Rattle.tpm_types.specs.ActionCheck.{action_named}
 use Rattle.std.specs.Prelude.{ℕ, ◌+◌, Bool, Result}
 use Rattle.tpm_object.specs.declared.creation.CreationFault.{CreationFault}
 use Rattle.tpm_object.specs.declared.creation.CreationFault.TheVariants as creation
@@ -11,21 +12,21 @@ use Rattle.tpm_types_object.specs.declared.public.Public.{Public}
 use Rattle.tpm_types_object.specs.SensitiveCreate.{SensitiveValues}
 use Rattle.tpm_types.specs.declared.rc.ResponseCode.TheVariants as code
 use Rattle.tpm_types.specs.declared.refused.Refused.{Refused}
-use Rattle.tpm_actions.specs.Refusals.{or_refusal, parameter_fault}
+use Rattle.tpm_actions_base.specs.Refusals.{or_refusal, parameter_refusal}
 
--- the refusal of a template, or of a public area to be loaded, by its checks; so many of the
+-- the refusal of a template, or of a public area to be loaded, by its checks; this many of the
 -- command's checks come before them. It is the second parameter
 abbrev pub template_refusal : (before : ℕ) → TemplateFault → Refused
-template_refusal before template.AuthPolicySize = parameter_fault (before + 1) 2 code.Size
-template_refusal before template.Attributes = parameter_fault (before + 2) 2 code.Attributes
-template_refusal before template.Scheme = parameter_fault (before + 3) 2 code.Scheme
+template_refusal before template.AuthPolicySize = parameter_refusal (action_named (before + 1)) 2 code.Size
+template_refusal before template.Attributes = parameter_refusal (action_named (before + 2)) 2 code.Attributes
+template_refusal before template.Scheme = parameter_refusal (action_named (before + 3)) 2 code.Scheme
 
 -- and of what is given beside a template, the first parameter; what conflicts with the template's
 -- attributes is a fault of these
 abbrev pub creation_refusal : (before : ℕ) → CreationFault → Refused
-creation_refusal before creation.AuthValueSize = parameter_fault (before + 1) 1 code.Size
-creation_refusal before creation.Attributes = parameter_fault (before + 2) 2 code.Attributes
-creation_refusal before creation.DataSize = parameter_fault (before + 3) 1 code.Size
+creation_refusal before creation.AuthValueSize = parameter_refusal (action_named (before + 1)) 1 code.Size
+creation_refusal before creation.Attributes = parameter_refusal (action_named (before + 2)) 2 code.Attributes
+creation_refusal before creation.DataSize = parameter_refusal (action_named (before + 3)) 1 code.Size
 
 -- the checks of a public area, and of what is given beside a template
 abbrev pub public_passes : (before : ℕ)

@@ -1,4 +1,5 @@
 -- TPM2_Clear. TPM 2.0 Library, Part 3, section 24.6; the owner of the computer is another now.
+use Rattle.tpm_types.specs.declared.action_check.ActionCheck.TheVariants as action
 use Rattle.std.specs.Prelude.{ℕ, false, List, Result, Ok}
 use Rattle.tpm_bytes.specs.Reading.{◌>>=◌, refused_if}
 use Rattle.tpm_lockout.specs.Lockout.{LockoutState}
@@ -14,10 +15,10 @@ use Rattle.tpm_record.specs.Clear.{cleared_objects, cleared_persistent}
 use Rattle.tpm_record.specs.Hierarchy.{cleared_hierarchies}
 use Rattle.tpm_record.specs.Record.{Record}
 use Rattle.tpm_record.specs.declared.fixed.Fixed.{Fixed}
-use Rattle.tpm_actions.specs.Answer.{nothing}
-use Rattle.tpm_actions.specs.Refusals.{action_refusal, or_refusal}
-use Rattle.tpm_actions.specs.Request.{Request}
-use Rattle.tpm_actions.specs.Rows.{Success, all_read}
+use Rattle.tpm_actions_base.specs.Answer.{nothing}
+use Rattle.tpm_actions_base.specs.Refusals.{action_refusal, or_refusal}
+use Rattle.tpm_actions_base.specs.Request.{Request}
+use Rattle.tpm_actions_base.specs.Rows.{Success, all_read}
 
 -- lockoutAuth is open, and no failed try is left; the parameters and the times stay
 abbrev pub cleared_lockout : LockoutState → LockoutState
@@ -41,8 +42,8 @@ cleared_fixed banks random f = record f {
 unfoldable pub clear_row : Record → Request → Result Success Refused
 clear_row r q = do
   ended ← all_read q.parameters
-  a1 ← refused_if r.fixed.disable_clear (action_refusal 1 (plain code.Disabled))
-  banks ← or_refusal (λ fault. action_refusal 2 (plain code.Failure)) (clear_counted r.fixed.banks)
+  a1 ← refused_if r.fixed.disable_clear (action_refusal action.First (plain code.Disabled))
+  banks ← or_refusal (λ fault. action_refusal action.Second (plain code.Failure)) (clear_counted r.fixed.banks)
   Ok (record {
     answer = record nothing { drawn = 96 };
     after = record r {

@@ -1,4 +1,5 @@
 -- TPM2_CreatePrimary. TPM 2.0 Library, Part 3, section 24.1.
+use Rattle.tpm_types.specs.declared.action_check.ActionCheck.TheVariants as action
 use Rattle.std.specs.Prelude.{ℕ, ◌++◌, true, Some, Result, Ok, ok_or}
 use Rattle.tpm_bytes.specs.Reading.{◌>>=◌}
 use Rattle.tpm_bytes.specs.Writing.{sized_text}
@@ -13,10 +14,10 @@ use Rattle.tpm_record.specs.Hierarchy.{secrets_of}
 use Rattle.tpm_record.specs.Objects.{object_handle, with_object}
 use Rattle.tpm_record.specs.Record.{Record}
 use Rattle.tpm_types.specs.declared.refused.Refused.{Refused}
-use Rattle.tpm_actions.specs.Refusals.{handle_refusal}
-use Rattle.tpm_actions.specs.Request.{Request, first_handle}
-use Rattle.tpm_actions.specs.Answer.{AnswerParts, SizedFirst}
-use Rattle.tpm_actions.specs.Rows.{Success}
+use Rattle.tpm_actions_base.specs.Refusals.{handle_refusal}
+use Rattle.tpm_actions_base.specs.Request.{Request, first_handle}
+use Rattle.tpm_actions_base.specs.Answer.{AnswerParts, SizedFirst}
+use Rattle.tpm_actions_base.specs.Rows.{Success}
 use Rattle.tpm_actions_object.specs.Checks.{given_passes, public_passes}
 use Rattle.tpm_actions_object.specs.Creation.{Parameters, creation_rest, hierarchy_parent, parameters_in}
 use Rattle.tpm_actions_object.specs.Loaded.{place_for}
@@ -49,7 +50,7 @@ create_primary_row r q = do
   p ← parameters_in q.parameters
   t ← public_passes 0 true p.template
   c ← given_passes 3 p.given p.template
-  place ← place_for 7 r
+  place ← place_for action.Seventh r
   let object : Object = derived r hierarchy p
   Ok (record {
     answer = primary_answer r q hierarchy p place object;

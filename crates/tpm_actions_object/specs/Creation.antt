@@ -26,8 +26,8 @@ use Rattle.tpm_types_object.specs.SensitiveCreate.{SensitiveValues, sensitive_cr
 use Rattle.tpm_record.specs.Hierarchy.{secrets_of}
 use Rattle.tpm_record.specs.Record.{Record}
 use Rattle.tpm_types.specs.declared.refused.Refused.{Refused}
-use Rattle.tpm_actions.specs.Rows.{all_read, parameter}
-use Rattle.tpm_actions_object.specs.declared.creation.Asked.{Asked}
+use Rattle.tpm_actions_base.specs.Rows.{all_read, parameter}
+use Rattle.tpm_actions_object.specs.declared.creation.CreationParameters.{CreationParameters}
 use Rattle.tpm_actions_object.specs.declared.creation.Parent.{Parent}
 
 -- inSensitive, inPublic, outsideInfo and creationPCR
@@ -51,18 +51,13 @@ parameters_in text = do
     selection = selection.0;
   })
 
-abbrev pub parameters_of : Asked → Parameters
+abbrev pub parameters_of : CreationParameters → Parameters
 parameters_of asked = record {
   given = sensitive_values_of asked.given;
   template = asked.template;
   outside_info = asked.outside_info;
   selection = asked.selection.banks.items;
 }
-
--- The code's reading of the parameters stands for the definition's.
-abbrev pub Asks : Result Parameters Refused → Result Asked Refused → Type 0
-Asks read (Ok asked) = read ≡ Ok (parameters_of asked)
-Asks read (Err e) = read ≡ Err e
 
 -- a hierarchy below which an object is created: it has no nameAlg, and both Names are its handle
 abbrev pub hierarchy_parent : HierarchyHandle → Parent
@@ -110,7 +105,7 @@ ticket_text hierarchy proof name hash =
     creation_tag ++ to_be_bytes w32 (hierarchy_handle hierarchy).number
     ++ sized_text (hmac_of Sha256 proof (creation_tag ++ name ++ hash))
 
--- what is answered about a creation behind the public area: the creation data, their hash, and the
+-- what is answered about a creation after the public area: the creation data, their hash, and the
 -- ticket
 unfoldable pub creation_rest : Record → (locality : ℕ) → Parent → Parameters → Public → List ℕ
 creation_rest r locality parent p public =

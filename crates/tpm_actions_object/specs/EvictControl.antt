@@ -1,7 +1,9 @@
 -- TPM2_EvictControl. TPM 2.0 Library, Part 3, section 28.5, and Part 2, section 7.5 (TPM_HC: the
 -- persistent handles of the platform begin with 81800000).
+use Rattle.tpm_types.specs.Limits.{persistent_limit}
+use Rattle.tpm_types.specs.declared.action_check.ActionCheck.TheVariants as action
 use Rattle.std.specs.Prelude.{◌≡◌, ◌==◌, nat_le, not, Bool, true, false, length, is_some, if◌then◌else◌, Result, Ok, Err}
-use Rattle.tpm_ascending.specs.Ascending.{Entries}
+use Rattle.tpm_sorted_map.specs.SortedMap.{Entries}
 use Rattle.tpm_bytes.specs.Reading.{◌>>=◌, refused_if}
 use Rattle.tpm_object.specs.declared.object.Object.{Object}
 use Rattle.tpm_types.specs.Handle.{is_persistent, platform_handle}
@@ -17,10 +19,10 @@ use Rattle.tpm_types_object.specs.ObjectAttributes.{has}
 use Rattle.tpm_types_object.specs.declared.object_attributes.ObjectAttribute.TheVariants as attribute
 use Rattle.tpm_record.specs.Persistent.{persistent_at, with_persistent, without_persistent}
 use Rattle.tpm_record.specs.Record.{Record}
-use Rattle.tpm_actions.specs.Answer.{nothing}
-use Rattle.tpm_actions.specs.Refusals.{action_refusal, memory_refusal, parameter_fault}
-use Rattle.tpm_actions.specs.Request.{Request, first_handle, second_handle}
-use Rattle.tpm_actions.specs.Rows.{Success, only}
+use Rattle.tpm_actions_base.specs.Answer.{nothing}
+use Rattle.tpm_actions_base.specs.Refusals.{action_refusal, memory_refusal, parameter_refusal}
+use Rattle.tpm_actions_base.specs.Request.{Request, first_handle, second_handle}
+use Rattle.tpm_actions_base.specs.Rows.{Success, only}
 use Rattle.tpm_actions_object.specs.Loaded.{loaded_at}
 
 -- whether an object of this hierarchy is the owner's, or the platform's, to make persistent: those
@@ -54,23 +56,24 @@ abbrev pub eviction_passes : (by_platform removes : Bool)
     → Object → Handle → Result (Unit {0}) Refused
 eviction_passes by_platform removes object wanted = do
   a1 ← refused_if (not (may_evict by_platform removes object.hierarchy))
-      (action_refusal 1 (at (place.Handle 2) (plain code.Hierarchy)))
+      (action_refusal action.First (at (place.Handle 2) (plain code.Hierarchy)))
   a2 ← refused_if (has object.public.attributes attribute.StClear)
-      (action_refusal 2 (at (place.Handle 2) (plain code.Attributes)))
-  refused_if (not (may_name by_platform removes wanted)) (parameter_fault 3 1 code.Range)
+      (action_refusal action.Second (at (place.Handle 2) (plain code.Attributes)))
+  refused_if (not (may_name by_platform removes wanted)) (parameter_refusal action.Third 1 code.Range)
 
 -- without the persistent object of a handle. A4: another handle is given
 abbrev pub removed : Entries Object → Handle → Handle → Result (Entries Object) Refused
 removed objects handle wanted = do
   a4 ← refused_if (not (wanted.number == handle.number))
-      (action_refusal 4 (at (place.Handle 2) (plain code.Handle)))
+      (action_refusal action.Fourth (at (place.Handle 2) (plain code.Handle)))
   Ok (without_persistent objects handle)
 
--- with a copy of a transient object under a handle. A5: it is taken; A6: there are sixteen
+-- with a copy of a transient object under a handle. A5: it is taken; A6: there is no
+-- room for one more
 abbrev pub copied : Entries Object → Object → Handle → Result (Entries Object) Refused
 copied objects object wanted = do
-  a5 ← refused_if (is_some (persistent_at objects wanted)) (action_refusal 5 (plain code.NvDefined))
-  a6 ← refused_if (nat_le 16 (length objects)) (action_refusal 6 (plain code.NvSpace))
+  a5 ← refused_if (is_some (persistent_at objects wanted)) (action_refusal action.Fifth (plain code.NvDefined))
+  a6 ← refused_if (nat_le persistent_limit (length objects)) (action_refusal action.Sixth (plain code.NvSpace))
   Ok (with_persistent objects wanted object)
 
 -- the persistent objects after an eviction: a persistent object is removed, a transient one copied

@@ -1,4 +1,6 @@
 -- TPM2_HMAC. TPM 2.0 Library, Part 3, section 15.5.
+use Rattle.tpm_types.specs.declared.action_check.ActionCheck.TheVariants as action
+use Rattle.tpm_types.specs.Limits.{data_limit}
 use Rattle.std.specs.Prelude.{ℕ, ◌==◌, List, Option, Some, None, if◌then◌else◌, not, Result, Ok, Err, ok_or}
 use Rattle.tpm_bytes.specs.Reading.{◌>>=◌, refused_if}
 use Rattle.tpm_mac.specs.declared.algorithm.HashAlg.{HashAlg}
@@ -16,16 +18,16 @@ use Rattle.tpm_types_object.specs.ObjectAttributes.{has}
 use Rattle.tpm_types.specs.Rc.{at, plain}
 use Rattle.tpm_record.specs.Record.{Record}
 use Rattle.tpm_types.specs.declared.refused.Refused.{Refused}
-use Rattle.tpm_actions.specs.Request.{Request, first_handle}
-use Rattle.tpm_actions.specs.Answer.{Sized, answer_of}
-use Rattle.tpm_actions.specs.Rows.{Success, all_read, parameter, unchanged}
-use Rattle.tpm_actions.specs.Refusals.{action_refusal}
+use Rattle.tpm_actions_base.specs.Request.{Request, first_handle}
+use Rattle.tpm_actions_base.specs.Answer.{Sized, answer_of}
+use Rattle.tpm_actions_base.specs.Rows.{Success, all_read, parameter, unchanged}
+use Rattle.tpm_actions_base.specs.Refusals.{action_refusal}
 use Rattle.tpm_actions_object.specs.Loaded.{loaded_at}
 
 -- the scheme of a KEYEDHASH, or A1: the object is none
 abbrev pub scheme_of : PublicParameters → Result KeyedHashScheme Refused
 scheme_of (KeyedHash scheme) = Ok scheme
-scheme_of SymCipher = Err (action_refusal 1 (at (place.Handle 1) (plain code.Type)))
+scheme_of SymCipher = Err (action_refusal action.First (at (place.Handle 1) (plain code.Type)))
 
 -- the hash of a key that has one in its scheme: that, which may be asked for by name or by NULL;
 -- there is none where another is asked for
@@ -46,7 +48,7 @@ pub record Parameters : Type 0 where
 
 unfoldable pub parameters_in : List ℕ → Result Parameters Refused
 parameters_in text = do
-  buffer ← parameter 1 (buffer_at 1024 text)
+  buffer ← parameter 1 (buffer_at data_limit text)
   hash ← parameter 2 (hash_or_null_at buffer.1)
   ended ← all_read hash.1
   Ok (record { buffer = buffer.0; hash = hash.0 })
@@ -60,9 +62,9 @@ hmac_row r q = do
   p ← parameters_in q.parameters
   scheme ← scheme_of object.public.parameters
   a2 ← refused_if (has object.public.attributes attribute.Restricted)
-      (action_refusal 2 (at (place.Handle 1) (plain code.Attributes)))
+      (action_refusal action.Second (at (place.Handle 1) (plain code.Attributes)))
   a3 ← refused_if (not (has object.public.attributes attribute.Sign))
-      (action_refusal 3 (at (place.Handle 1) (plain code.Key)))
+      (action_refusal action.Third (at (place.Handle 1) (plain code.Key)))
   hash ← ok_or (chosen_hash scheme p.hash)
-      (action_refusal 4 (at (place.Parameter 2) (plain code.Value)))
+      (action_refusal action.Fourth (at (place.Parameter 2) (plain code.Value)))
   Ok (unchanged r (answer_of (Sized (hmac_of hash object.sensitive p.buffer))))

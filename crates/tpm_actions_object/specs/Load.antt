@@ -1,4 +1,5 @@
 -- TPM2_Load. TPM 2.0 Library, Part 3, section 12.2.
+use Rattle.tpm_types.specs.declared.action_check.ActionCheck.TheVariants as action
 use Rattle.std.specs.Prelude.{ℕ, List, Some, Result, Ok}
 use Rattle.tpm_bytes.specs.Reading.{◌>>=◌, or_fault}
 use Rattle.tpm_types_object.specs.ObjectName.{object_name}
@@ -14,10 +15,10 @@ use Rattle.tpm_types_object.specs.Public.{public_at}
 use Rattle.tpm_record.specs.Objects.{object_handle, with_object}
 use Rattle.tpm_record.specs.Record.{Record}
 use Rattle.tpm_types.specs.declared.refused.Refused.{Refused}
-use Rattle.tpm_actions.specs.Request.{Request, first_handle}
-use Rattle.tpm_actions.specs.Answer.{AnswerParts, Sized}
-use Rattle.tpm_actions.specs.Rows.{Success, all_read, parameter}
-use Rattle.tpm_actions.specs.Refusals.{parameter_fault}
+use Rattle.tpm_actions_base.specs.Request.{Request, first_handle}
+use Rattle.tpm_actions_base.specs.Answer.{AnswerParts, Sized}
+use Rattle.tpm_actions_base.specs.Rows.{Success, all_read, parameter}
+use Rattle.tpm_actions_base.specs.Refusals.{parameter_refusal}
 use Rattle.tpm_actions_object.specs.Checks.{public_passes}
 use Rattle.tpm_actions_object.specs.Loaded.{is_fixed, parent_passes, loaded_at, place_for}
 
@@ -25,7 +26,7 @@ use Rattle.tpm_actions_object.specs.Loaded.{is_fixed, parent_passes, loaded_at, 
 -- area
 abbrev pub sensitive_of : Object → Public → List ℕ → Result Sensitive Refused
 sensitive_of parent public private =
-    or_fault (unwrapped parent public private) (parameter_fault 5 1 code.Integrity)
+    or_fault (unwrapped parent public private) (parameter_refusal action.Fifth 1 code.Integrity)
 
 -- the object below its parent, with the parent's hierarchy
 abbrev pub loaded_below : Object → Public → Sensitive → Object
@@ -62,7 +63,7 @@ load_row r q = do
   a1 ← parent_passes parent
   t ← public_passes 1 (is_fixed parent) p.public
   sensitive ← sensitive_of parent p.public p.private
-  place ← place_for 6 r
+  place ← place_for action.Sixth r
   let object : Object = loaded_below parent p.public sensitive
   Ok (record {
     answer = load_answer place object;

@@ -1,10 +1,12 @@
 -- The object that a command's handle names, and what is asked of a parent.
+use Rattle.tpm_types.specs.declared.action_check.ActionCheck.{ActionCheck}
+use Rattle.tpm_types.specs.declared.action_check.ActionCheck.TheVariants as action
 use Rattle.std.specs.Prelude.{◌≡◌, ℕ, not, Bool, true, Result, Ok, Err, ok_or}
 use Rattle.std.specs.Borrow.{Bor}
 use Rattle.tpm_bytes.specs.Reading.{refused_if}
 use Rattle.tpm_object.specs.declared.object.Object.{Object}
 use Rattle.tpm_object.specs.Object.{is_storage_parent}
-use Rattle.tpm_places.specs.Places.{lowest_free}
+use Rattle.tpm_slots.specs.Slots.{lowest_free}
 use Rattle.tpm_types.specs.declared.handle.Handle.{Handle}
 use Rattle.tpm_types_object.specs.declared.object_attributes.ObjectAttribute.TheVariants as attribute
 use Rattle.tpm_types.specs.declared.rc.Place.TheVariants as place
@@ -15,34 +17,29 @@ use Rattle.tpm_record.specs.Entity.{object_of}
 use Rattle.tpm_record.specs.Objects.{object_handle, with_object}
 use Rattle.tpm_record.specs.Record.{Record}
 use Rattle.tpm_types.specs.declared.refused.Refused.{Refused}
-use Rattle.tpm_actions.specs.Refusals.{action_refusal, handle_refusal, memory_refusal}
+use Rattle.tpm_actions_base.specs.Refusals.{action_refusal, handle_refusal, memory_refusal}
 
 -- the object of a handle, which the general checks have found
 abbrev pub loaded_at : Record → Handle → Result Object Refused
 loaded_at r handle = ok_or (object_of r handle) handle_refusal
 
--- The code's search for an object stands for the definition's.
-abbrev pub IsLoaded : Result Object Refused → Result (Bor Object) Refused → Type 0
-IsLoaded wanted (Ok object) = wanted ≡ Ok object.now
-IsLoaded wanted (Err e) = wanted ≡ Err e
-
 -- A1: the first handle names no storage parent
 abbrev pub parent_passes : Object → Result (Unit {0}) Refused
 parent_passes parent =
     refused_if (not (is_storage_parent parent.public))
-    (action_refusal 1 (at (place.Handle 1) (plain code.Type)))
+    (action_refusal action.First (at (place.Handle 1) (plain code.Type)))
 
 -- whether an object has fixedTPM: what is below it then has it as it has fixedParent
 abbrev pub is_fixed : Object → Bool
 is_fixed parent = has parent.public.attributes attribute.FixedTpm
 
--- the refusal by check n where all places are taken
-abbrev pub no_place : ℕ → Refused
-no_place n = action_refusal n (plain code.ObjectMemory)
+-- the refusal by a check where all places are taken
+abbrev pub no_place : ActionCheck → Refused
+no_place action = action_refusal action (plain code.ObjectMemory)
 
--- the place that a new object takes, or check n: there is none
-abbrev pub place_for : ℕ → Record → Result ℕ Refused
-place_for n r = ok_or (lowest_free r.objects) (no_place n)
+-- the place that a new object takes, or the refusal by this check: there is none
+abbrev pub place_for : ActionCheck → Record → Result ℕ Refused
+place_for action r = ok_or (lowest_free r.objects) (no_place action)
 
 -- The code loaded an object into the place that it takes, or was refused memory, where it can be;
 -- or there is no place. A refusal changes nothing.

@@ -1,4 +1,5 @@
 -- TPM2_Unseal. TPM 2.0 Library, Part 3, section 12.7.
+use Rattle.tpm_types.specs.declared.action_check.ActionCheck.TheVariants as action
 use Rattle.std.specs.Prelude.{Result, Ok, not}
 use Rattle.tpm_bytes.specs.Reading.{◌>>=◌, refused_if}
 use Rattle.tpm_object.specs.Object.{is_keyed_hash}
@@ -9,10 +10,10 @@ use Rattle.tpm_types_object.specs.ObjectAttributes.{has}
 use Rattle.tpm_types.specs.Rc.{at, plain}
 use Rattle.tpm_record.specs.Record.{Record}
 use Rattle.tpm_types.specs.declared.refused.Refused.{Refused}
-use Rattle.tpm_actions.specs.Request.{Request, first_handle}
-use Rattle.tpm_actions.specs.Answer.{Sized, answer_of}
-use Rattle.tpm_actions.specs.Rows.{Success, all_read, unchanged}
-use Rattle.tpm_actions.specs.Refusals.{action_refusal}
+use Rattle.tpm_actions_base.specs.Request.{Request, first_handle}
+use Rattle.tpm_actions_base.specs.Answer.{Sized, answer_of}
+use Rattle.tpm_actions_base.specs.Rows.{Success, all_read, unchanged}
+use Rattle.tpm_actions_base.specs.Refusals.{action_refusal}
 use Rattle.tpm_actions_object.specs.Loaded.{loaded_at}
 
 -- answered: the sealed data; no parameters. A1: the object is no KEYEDHASH; A2: it is a key that
@@ -23,7 +24,7 @@ unseal_row r q = do
   object ← loaded_at r handle
   ended ← all_read q.parameters
   a1 ← refused_if (not (is_keyed_hash object.public))
-      (action_refusal 1 (at (place.Handle 1) (plain code.Type)))
+      (action_refusal action.First (at (place.Handle 1) (plain code.Type)))
   a2 ← refused_if (has object.public.attributes attribute.Sign)
-      (action_refusal 2 (at (place.Handle 1) (plain code.Attributes)))
+      (action_refusal action.Second (at (place.Handle 1) (plain code.Attributes)))
   Ok (unchanged r (answer_of (Sized object.sensitive)))

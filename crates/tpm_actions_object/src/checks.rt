@@ -1,37 +1,64 @@
+//! The checks of a template and of what is given beside it, as refusals of the command that makes
+//! or loads an object.
+
 ghost use Rattle.std.specs.Prelude.{◌≡◌, ◌≤◌};
 ghost use Rattle.tpm_types_object.specs.SensitiveCreate.{sensitive_values_of};
 ghost use Rattle.tpm_actions_object.specs.Checks.{creation_refusal, given_passes, public_passes, template_refusal};
 
-use tpm_actions::refusals::parameter_fault;
+use tpm_actions_base::refusals::parameter_refusal;
 use tpm_object::{CreationFault, TemplateFault, check_creation, check_template};
-use tpm_types::{Refused, ResponseCode};
+use tpm_types::{ActionCheck, Refused, ResponseCode};
 use tpm_types_object::{Public, SensitiveCreate};
 
-/// The refusal of a template by its checks; so many of the command's checks come before them.
+/// The refusal of a template by its checks; this many of the command's checks come before them.
 fn template_refusal(before: u8, fault: TemplateFault) -> Refused
     requires { before ≤ 4 }
     ensures { result ≡ template_refusal before fault }
 {
     match fault {
-        TemplateFault::AuthPolicySize => parameter_fault(before + 1, 2, ResponseCode::Size),
-        TemplateFault::Attributes => parameter_fault(before + 2, 2, ResponseCode::Attributes),
-        TemplateFault::Scheme => parameter_fault(before + 3, 2, ResponseCode::Scheme),
+        TemplateFault::AuthPolicySize => parameter_refusal(
+            ActionCheck::named(before + 1),
+            2,
+            ResponseCode::Size,
+        ),
+        TemplateFault::Attributes => parameter_refusal(
+            ActionCheck::named(before + 2),
+            2,
+            ResponseCode::Attributes,
+        ),
+        TemplateFault::Scheme => parameter_refusal(
+            ActionCheck::named(before + 3),
+            2,
+            ResponseCode::Scheme,
+        ),
     }
 }
 
-/// And of what is given beside a template.
+/// The refusal of what is given beside a template; this many of the command's checks come before.
 fn creation_refusal(before: u8, fault: CreationFault) -> Refused
     requires { before ≤ 4 }
     ensures { result ≡ creation_refusal before fault }
 {
     match fault {
-        CreationFault::AuthValueSize => parameter_fault(before + 1, 1, ResponseCode::Size),
-        CreationFault::Attributes => parameter_fault(before + 2, 2, ResponseCode::Attributes),
-        CreationFault::DataSize => parameter_fault(before + 3, 1, ResponseCode::Size),
+        CreationFault::AuthValueSize => parameter_refusal(
+            ActionCheck::named(before + 1),
+            1,
+            ResponseCode::Size,
+        ),
+        CreationFault::Attributes => parameter_refusal(
+            ActionCheck::named(before + 2),
+            2,
+            ResponseCode::Attributes,
+        ),
+        CreationFault::DataSize => parameter_refusal(
+            ActionCheck::named(before + 3),
+            1,
+            ResponseCode::Size,
+        ),
     }
 }
 
-/// Checks a template, or a public area to be loaded, behind so many of the command's checks.
+/// Checks a template, or a public area to be loaded, after this many of the command's checks.
 pub fn public_passes(before: u8, public: &Public, parent_is_fixed: bool) -> Result<(), Refused>
     requires { before ≤ 4 }
     ensures { result ≡ public_passes before parent_is_fixed public.now }

@@ -1,17 +1,20 @@
+//! TPM2_Clear: removes what is the owner's and the endorsement hierarchy's, by its row in
+//! `specs/Clear`.
+
 ghost use Rattle.std.specs.Prelude.{◌≡◌};
-ghost use Rattle.tpm_actions.specs.Answer.{IsEmpty};
-ghost use Rattle.tpm_actions.specs.Request.{request_of};
-ghost use Rattle.tpm_actions.specs.Rows.{Acts};
+ghost use Rattle.tpm_actions_base.specs.Answer.{IsEmpty};
+ghost use Rattle.tpm_actions_base.specs.Request.{request_of};
+ghost use Rattle.tpm_actions_base.specs.Rows.{Acts};
 ghost use Rattle.tpm_actions_object.specs.Clear.{clear_row, cleared_fixed};
 
-use tpm_actions::answer::Answer;
-use tpm_actions::call::Call;
-use tpm_actions::reading::end;
-use tpm_actions::refusals::action_refusal;
+use tpm_actions_base::answer::Answer;
+use tpm_actions_base::call::Call;
+use tpm_actions_base::reading::end;
+use tpm_actions_base::refusals::action_refusal;
 use tpm_bytes::Cursor;
 use tpm_nv::Indices;
 use tpm_record::{Fixed, Keep, PersistentObjects};
-use tpm_types::{Refused, ResponseCode};
+use tpm_types::{ActionCheck, Refused, ResponseCode};
 
 /// How many random bytes it draws: the owner's seed and proof, and the endorsement hierarchy's
 /// proof.
@@ -39,10 +42,10 @@ pub fn clear<K: Keep>(keep: &mut K, call: &Call, answer: &mut Answer) -> Result<
 {
     end(&Cursor::new(call.parameters))?;
     if keep.fixed().disable_clear {
-        return Err(action_refusal(1, ResponseCode::Disabled.anywhere()));
+        return Err(action_refusal(ActionCheck::First, ResponseCode::Disabled.anywhere()));
     }
     let Ok(()) = keep.fixed_mut().banks.count_clear() else {
-        return Err(action_refusal(2, ResponseCode::Failure.anywhere()));
+        return Err(action_refusal(ActionCheck::Second, ResponseCode::Failure.anywhere()));
     };
     clear_fixed(keep.fixed_mut(), call.random);
     keep.objects_mut().clear_hierarchies();

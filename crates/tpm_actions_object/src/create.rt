@@ -1,14 +1,17 @@
+//! TPM2_Create: makes an object below a storage parent and answers its private area, by its row in
+//! `specs/Create`.
+
 ghost use Rattle.std.specs.Prelude.{◌≡◌, ◌≤◌, drop, take};
-ghost use Rattle.tpm_actions.specs.Answer.{IsEmpty};
-ghost use Rattle.tpm_actions.specs.Request.{request_of};
-ghost use Rattle.tpm_actions.specs.Rows.{Acts};
+ghost use Rattle.tpm_actions_base.specs.Answer.{IsEmpty};
+ghost use Rattle.tpm_actions_base.specs.Request.{request_of};
+ghost use Rattle.tpm_actions_base.specs.Rows.{Acts};
 ghost use Rattle.tpm_actions_object.specs.Create.{create_row};
 
 use crate::checks::{given_passes, public_passes};
-use crate::creation::{Parent, put_creation, read_asked};
+use crate::creation::{Parent, put_creation, read_parameters};
 use crate::loaded::{check_parent, is_fixed, loaded};
-use tpm_actions::answer::Answer;
-use tpm_actions::call::Call;
+use tpm_actions_base::answer::Answer;
+use tpm_actions_base::call::Call;
 use tpm_name::Name;
 use tpm_object::{create as create_areas, drawn_by, wrap_named};
 use tpm_record::Keep;
@@ -17,7 +20,7 @@ use tpm_types::Refused;
 /// How many random bytes the IV of a private area takes.
 const VECTOR_SIZE: usize = 16;
 
-/// The random bytes of a private area's IV, which stand behind those of the object.
+/// The random bytes of a private area's IV, which stand after those of the object.
 fn initial_vector(random: &[u8; 256], drawn: usize) -> [u8; 16]
     requires { drawn ≤ 64 }
     ensures { result ≡ take 16 (drop drawn random.now) }
@@ -35,7 +38,7 @@ pub fn create<K: Keep>(keep: &mut K, call: &Call, answer: &mut Answer) -> Result
         (K.record_of keep.old) result answer.new (K.record_of keep.new) }
 {
     let parent = loaded(keep, call.first_handle()?)?;
-    let asked = read_asked(call.parameters)?;
+    let asked = read_parameters(call.parameters)?;
     check_parent(parent)?;
     public_passes(1, &asked.template, is_fixed(parent))?;
     given_passes(4, &asked.given, &asked.template)?;

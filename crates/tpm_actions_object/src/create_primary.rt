@@ -1,18 +1,21 @@
+//! TPM2_CreatePrimary: derives an object from the seed of a hierarchy and loads it, by its row in
+//! `specs/CreatePrimary`.
+
 ghost use Rattle.std.specs.Prelude.{◌≡◌};
-ghost use Rattle.tpm_actions.specs.Answer.{IsEmpty};
-ghost use Rattle.tpm_actions.specs.Request.{request_of};
-ghost use Rattle.tpm_actions.specs.Rows.{ActsIfRoom};
+ghost use Rattle.tpm_actions_base.specs.Answer.{IsEmpty};
+ghost use Rattle.tpm_actions_base.specs.Request.{request_of};
+ghost use Rattle.tpm_actions_base.specs.Rows.{ActsIfRoom};
 ghost use Rattle.tpm_actions_object.specs.CreatePrimary.{create_primary_row, named_hierarchy};
 
 use crate::checks::{given_passes, public_passes};
-use crate::creation::{Parent, put_creation, read_asked};
+use crate::creation::{Parent, put_creation, read_parameters};
 use crate::loaded::load_object;
-use tpm_actions::answer::Answer;
-use tpm_actions::call::Call;
-use tpm_actions::refusals::handle_refusal;
+use tpm_actions_base::answer::Answer;
+use tpm_actions_base::call::Call;
+use tpm_actions_base::refusals::handle_refusal;
 use tpm_object::derive_primary;
 use tpm_record::Keep;
-use tpm_types::{Handle, HierarchyHandle, Refused};
+use tpm_types::{ActionCheck, Handle, HierarchyHandle, Refused};
 
 fn named_hierarchy(handle: Handle) -> Result<HierarchyHandle, Refused>
     ensures { result ≡ named_hierarchy handle }
@@ -36,7 +39,7 @@ pub fn create_primary<K: Keep>(
         (K.record_of keep.old) result answer.new (K.record_of keep.new) }
 {
     let hierarchy = named_hierarchy(call.first_handle()?)?;
-    let asked = read_asked(call.parameters)?;
+    let asked = read_parameters(call.parameters)?;
     public_passes(0, &asked.template, true)?;
     given_passes(3, &asked.given, &asked.template)?;
     let seed = keep.fixed().hierarchies.secrets(hierarchy).seed;
@@ -54,6 +57,6 @@ pub fn create_primary<K: Keep>(
         text,
     );
     let _ = answer.parameters.put_sized(name.as_slice());
-    answer.handle = Some(load_object(keep, object, 7)?);
+    answer.handle = Some(load_object(keep, object, ActionCheck::Seventh)?);
     Ok(())
 }

@@ -1,11 +1,15 @@
+//! What TPM2_Create and TPM2_CreatePrimary share: their parameters, and their answer with creation
+//! data and the ticket of the creation.
+
+ghost use Rattle.tpm_bytes.specs.Reading.{Gives};
 ghost use Rattle.std.specs.Prelude.{◌≡◌, ◌+◌, ◌≤◌, ◌++◌, length};
 ghost use Rattle.tpm_bytes.specs.Writing.{sized_text};
 ghost use Rattle.tpm_types_object.specs.ObjectName.{object_name};
 ghost use Rattle.tpm_types.specs.Locality.{locality_number};
-ghost use Rattle.tpm_actions_object.specs.Creation.{Asks, creation_data, creation_text, hierarchy_parent, object_parent, parameters_in, parameters_of, ticket_text};
+ghost use Rattle.tpm_actions_object.specs.Creation.{creation_data, creation_text, hierarchy_parent, object_parent, parameters_in, parameters_of, ticket_text};
 
-use tpm_actions::answer::Parameters;
-use tpm_actions::reading::{end, number, parameter};
+use tpm_actions_base::answer::Parameters;
+use tpm_actions_base::reading::{end, number, parameter};
 use tpm_bytes::{Cursor, Sink};
 use tpm_mac::{HashAlg, digest_parts, hmac_parts};
 use tpm_name::Name;
@@ -19,7 +23,7 @@ const CREATION_TAG: u16 = 0x8021;
 
 /// What TPM2_CreatePrimary and TPM2_Create ask for.
 #[derive(Drop)]
-pub struct Asked<'a> {
+pub struct CreationParameters<'a> {
     pub given: SensitiveCreate<'a>,
     pub template: Public,
     pub outside_info: Octets<34>,
@@ -64,8 +68,8 @@ impl Parent {
 
 /// Reads what is asked for.
 #[tactic(auto, unfolding(crate::specs::Creation::parameters_in))]
-pub fn read_asked(parameters: &[u8]) -> Result<Asked, Refused>
-    ensures read { Asks (parameters_in parameters.now) result }
+pub fn read_parameters(parameters: &[u8]) -> Result<CreationParameters, Refused>
+    ensures read { Gives parameters_of (parameters_in parameters.now) result }
 {
     let mut text = Cursor::new(parameters);
     let given = parameter(1, read_filled(&mut text))?;
@@ -73,7 +77,7 @@ pub fn read_asked(parameters: &[u8]) -> Result<Asked, Refused>
     let outside_info = parameter(3, Octets::read(&mut text))?;
     let selection = parameter(4, PcrSelection::read(&mut text))?;
     end(&text)?;
-    Ok(Asked {
+    Ok(CreationParameters {
         given,
         template,
         outside_info,
@@ -86,7 +90,7 @@ fn creation_data<K: Keep>(
     keep: &K,
     locality: Locality,
     parent: &Parent,
-    asked: Asked,
+    asked: CreationParameters,
     public: &Public,
 ) -> CreationData
     ensures { result ≡ creation_data (K.record_of keep.now) (locality_number locality) parent.now
@@ -105,7 +109,7 @@ fn creation_data<K: Keep>(
     }
 }
 
-/// The ticket by which the TPM recognizes that it created an object of this Name, with creation
+/// The ticket by which the device recognizes that it created an object of this Name, with creation
 /// data of this hash.
 #[tactic(auto, unfolding(crate::specs::Creation::ticket_text))]
 fn ticket(hierarchy: HierarchyHandle, proof: &[u8; 32], name: &Name, hash: &[u8]) -> Sink<40>
@@ -120,7 +124,7 @@ fn ticket(hierarchy: HierarchyHandle, proof: &[u8; 32], name: &Name, hash: &[u8]
     text
 }
 
-/// Writes a public area, creation data, their hash and a ticket behind what was written before.
+/// Writes a public area, creation data, their hash and a ticket after what was written before.
 fn write_creation(area: &[u8], creation: &[u8], hash: &[u8], ticket: &[u8], text: &mut Parameters)
     requires room { length text.old ≤ 256 }
     requires area { length area.now ≤ 82 }
@@ -144,7 +148,7 @@ pub fn put_creation<K: Keep>(
     keep: &K,
     locality: Locality,
     parent: &Parent,
-    asked: Asked,
+    asked: CreationParameters,
     public: &Public,
     name: &Name,
     text: &mut Parameters,

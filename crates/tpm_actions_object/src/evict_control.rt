@@ -1,22 +1,27 @@
+//! TPM2_EvictControl: makes a transient object persistent or removes a persistent one, by its row
+//! in `specs/EvictControl`.
+
 ghost use Rattle.std.specs.Prelude.{◌≡◌, IfOk, OnOk, false, true};
 ghost use Rattle.tpm_record.specs.Persistent.{can_persist};
 ghost use Rattle.tpm_types.specs.Handle.{is_persistent};
 ghost use Rattle.tpm_types.specs.PersistentHandle.{persistent_handle_at};
-ghost use Rattle.tpm_actions.specs.Answer.{IsEmpty};
-ghost use Rattle.tpm_actions.specs.Request.{request_of, second_handle};
-ghost use Rattle.tpm_actions.specs.Rows.{Acts, ActsIfRoom, only};
+ghost use Rattle.tpm_actions_base.specs.Answer.{IsEmpty};
+ghost use Rattle.tpm_actions_base.specs.Request.{request_of, second_handle};
+ghost use Rattle.tpm_actions_base.specs.Rows.{Acts, ActsIfRoom, only};
 ghost use Rattle.tpm_actions_object.specs.EvictControl.{Evicts, copied, evict_control_row, eviction_passes, is_of, is_of_platform, may_evict, may_name, removed};
 
 use crate::loaded::loaded;
-use tpm_actions::answer::Answer;
-use tpm_actions::call::Call;
-use tpm_actions::reading::{end, parameter};
-use tpm_actions::refusals::{action_refusal, memory_refusal, parameter_fault};
-use tpm_ascending::KeyFault;
+use tpm_actions_base::answer::Answer;
+use tpm_actions_base::call::Call;
+use tpm_actions_base::reading::{end, parameter};
+use tpm_actions_base::refusals::{action_refusal, memory_refusal, parameter_refusal};
 use tpm_bytes::Cursor;
 use tpm_object::Object;
 use tpm_record::{Keep, PersistentObjects};
-use tpm_types::{Handle, HierarchyHandle, Refused, ResponseCode, read_persistent_handle};
+use tpm_sorted_map::KeyFault;
+use tpm_types::{
+    ActionCheck, Handle, HierarchyHandle, Refused, ResponseCode, read_persistent_handle,
+};
 use tpm_types_object::ObjectAttribute;
 
 /// The lowest persistent handle of the platform.
@@ -78,13 +83,19 @@ fn check_eviction(
     ensures kept { OnOk result (removes ≡ false → can_persist object.now.hierarchy ≡ true) }
 {
     if !may_evict(by_platform, removes, object.hierarchy) {
-        return Err(action_refusal(1, ResponseCode::Hierarchy.anywhere().at_handle(2)));
+        return Err(action_refusal(
+            ActionCheck::First,
+            ResponseCode::Hierarchy.anywhere().at_handle(2),
+        ));
     }
     if object.public.attributes.has(ObjectAttribute::StClear) {
-        return Err(action_refusal(2, ResponseCode::Attributes.anywhere().at_handle(2)));
+        return Err(action_refusal(
+            ActionCheck::Second,
+            ResponseCode::Attributes.anywhere().at_handle(2),
+        ));
     }
     if !may_name(by_platform, removes, wanted) {
-        return Err(parameter_fault(3, 1, ResponseCode::Range));
+        return Err(parameter_refusal(ActionCheck::Third, 1, ResponseCode::Range));
     }
     Ok(())
 }
@@ -95,7 +106,10 @@ fn remove<K: Keep>(keep: &mut K, handle: Handle, wanted: Handle) -> Result<(), R
         (K.record_of keep.old) result (K.record_of keep.new) }
 {
     if wanted != handle {
-        return Err(action_refusal(4, ResponseCode::Handle.anywhere().at_handle(2)));
+        return Err(action_refusal(
+            ActionCheck::Fourth,
+            ResponseCode::Handle.anywhere().at_handle(2),
+        ));
     }
     keep.persistent_mut().remove(handle);
     Ok(())
@@ -110,8 +124,14 @@ fn put<K: Keep>(keep: &mut K, object: Object, wanted: Handle) -> Result<(), Refu
 {
     match keep.persistent_mut().add(wanted, object) {
         Ok(()) => Ok(()),
-        Err(KeyFault::Taken) => Err(action_refusal(5, ResponseCode::NvDefined.anywhere())),
-        Err(KeyFault::Full) => Err(action_refusal(6, ResponseCode::NvSpace.anywhere())),
+        Err(KeyFault::Taken) => Err(action_refusal(
+            ActionCheck::Fifth,
+            ResponseCode::NvDefined.anywhere(),
+        )),
+        Err(KeyFault::Full) => Err(action_refusal(
+            ActionCheck::Sixth,
+            ResponseCode::NvSpace.anywhere(),
+        )),
         Err(KeyFault::NoMemory) => Err(memory_refusal()),
     }
 }

@@ -1,22 +1,23 @@
+//! TPM2_HMAC: answers the HMAC of a buffer by a key, by its row in `specs/Hmac`.
+
 ghost use Rattle.std.specs.Prelude.{◌≡◌};
-ghost use Rattle.tpm_actions.specs.Answer.{IsEmpty};
-ghost use Rattle.tpm_actions.specs.Request.{request_of};
-ghost use Rattle.tpm_actions.specs.Rows.{Acts};
+ghost use Rattle.tpm_actions_base.specs.Answer.{IsEmpty};
+ghost use Rattle.tpm_actions_base.specs.Request.{request_of};
+ghost use Rattle.tpm_actions_base.specs.Rows.{Acts};
 ghost use Rattle.tpm_actions_object.specs.Hmac.{chosen_hash, hmac_row, own_hash, scheme_of};
 
 use crate::loaded::loaded;
-use tpm_actions::answer::Answer;
-use tpm_actions::call::Call;
-use tpm_actions::reading::{end, parameter};
-use tpm_actions::refusals::action_refusal;
+use tpm_actions_base::answer::Answer;
+use tpm_actions_base::call::Call;
+use tpm_actions_base::reading::{end, parameter};
+use tpm_actions_base::refusals::action_refusal;
 use tpm_bytes::Cursor;
 use tpm_mac::{HashAlg, hmac_parts};
 use tpm_record::Keep;
-use tpm_types::{Refused, ResponseCode, hash_number, read_buffer, read_hash_or_null};
+use tpm_types::{
+    ActionCheck, DATA_LIMIT, Refused, ResponseCode, hash_number, read_buffer, read_hash_or_null,
+};
 use tpm_types_object::{KeyedHashScheme, ObjectAttribute, PublicParameters};
-
-/// The most bytes of the buffer.
-const MOST_BYTES: usize = 1024;
 
 /// The scheme of a KEYEDHASH.
 fn scheme_of(parameters: PublicParameters) -> Result<KeyedHashScheme, Refused>
@@ -25,7 +26,10 @@ fn scheme_of(parameters: PublicParameters) -> Result<KeyedHashScheme, Refused>
     match parameters {
         PublicParameters::KeyedHash(scheme) => Ok(scheme),
         PublicParameters::SymCipher => {
-            Err(action_refusal(1, ResponseCode::Type.anywhere().at_handle(1)))
+            Err(action_refusal(
+                ActionCheck::First,
+                ResponseCode::Type.anywhere().at_handle(1),
+            ))
         }
     }
 }
@@ -59,18 +63,27 @@ pub fn hmac<K: Keep>(keep: &mut K, call: &Call, answer: &mut Answer) -> Result<(
 {
     let object = loaded(keep, call.first_handle()?)?;
     let mut text = Cursor::new(call.parameters);
-    let buffer = parameter(1, read_buffer(&mut text, MOST_BYTES))?;
+    let buffer = parameter(1, read_buffer(&mut text, DATA_LIMIT))?;
     let asked = parameter(2, read_hash_or_null(&mut text))?;
     end(&text)?;
     let scheme = scheme_of(object.public.parameters)?;
     if object.public.attributes.has(ObjectAttribute::Restricted) {
-        return Err(action_refusal(2, ResponseCode::Attributes.anywhere().at_handle(1)));
+        return Err(action_refusal(
+            ActionCheck::Second,
+            ResponseCode::Attributes.anywhere().at_handle(1),
+        ));
     }
     if !object.public.attributes.has(ObjectAttribute::Sign) {
-        return Err(action_refusal(3, ResponseCode::Key.anywhere().at_handle(1)));
+        return Err(action_refusal(
+            ActionCheck::Third,
+            ResponseCode::Key.anywhere().at_handle(1),
+        ));
     }
     let Some(hash) = chosen_hash(scheme, asked) else {
-        return Err(action_refusal(4, ResponseCode::Value.anywhere().at_parameter(2)));
+        return Err(action_refusal(
+            ActionCheck::Fourth,
+            ResponseCode::Value.anywhere().at_parameter(2),
+        ));
     };
     let mac = hmac_parts(hash, object.sensitive.as_slice(), &[buffer]);
     let _ = answer.parameters.put_sized(mac.as_slice());

@@ -1,25 +1,28 @@
+//! TPM2_Load: opens the private area of an object below its parent and loads it, by its row in
+//! `specs/Load`.
+
 ghost use Rattle.std.specs.Prelude.{◌≡◌};
-ghost use Rattle.tpm_actions.specs.Answer.{IsEmpty};
-ghost use Rattle.tpm_actions.specs.Request.{request_of};
-ghost use Rattle.tpm_actions.specs.Rows.{ActsIfRoom};
+ghost use Rattle.tpm_actions_base.specs.Answer.{IsEmpty};
+ghost use Rattle.tpm_actions_base.specs.Request.{request_of};
+ghost use Rattle.tpm_actions_base.specs.Rows.{ActsIfRoom};
 ghost use Rattle.tpm_types_object.specs.ObjectName.{object_name};
 ghost use Rattle.tpm_actions_object.specs.Load.{load_row, sensitive_of};
 
 use crate::checks::public_passes;
 use crate::loaded::{check_parent, is_fixed, load_object, loaded};
-use tpm_actions::answer::Answer;
-use tpm_actions::call::Call;
-use tpm_actions::reading::{end, parameter};
-use tpm_actions::refusals::parameter_fault;
+use tpm_actions_base::answer::Answer;
+use tpm_actions_base::call::Call;
+use tpm_actions_base::reading::{end, parameter};
+use tpm_actions_base::refusals::parameter_refusal;
 use tpm_bytes::Cursor;
 use tpm_name::Name;
 use tpm_object::{Object, unwrap_named};
 use tpm_record::Keep;
-use tpm_types::{Refused, ResponseCode, read_buffer};
+use tpm_types::{ActionCheck, Refused, ResponseCode, read_buffer};
 use tpm_types_object::{Public, Sensitive, read_filled};
 
 /// The most bytes of inPrivate.
-const MOST_BYTES: usize = 256;
+const PRIVATE_LIMIT: usize = 256;
 
 /// The sensitive area that a private area wraps for the object of this Name.
 fn sensitive_of(
@@ -33,7 +36,7 @@ fn sensitive_of(
 {
     match unwrap_named(parent, public, name, private) {
         Ok(sensitive) => Ok(sensitive),
-        Err(_) => Err(parameter_fault(5, 1, ResponseCode::Integrity)),
+        Err(_) => Err(parameter_refusal(ActionCheck::Fifth, 1, ResponseCode::Integrity)),
     }
 }
 
@@ -46,7 +49,7 @@ pub fn load<K: Keep>(keep: &mut K, call: &Call, answer: &mut Answer) -> Result<(
 {
     let parent = loaded(keep, call.first_handle()?)?;
     let mut text = Cursor::new(call.parameters);
-    let private = parameter(1, read_buffer(&mut text, MOST_BYTES))?;
+    let private = parameter(1, read_buffer(&mut text, PRIVATE_LIMIT))?;
     let public: Public = parameter(2, read_filled(&mut text))?;
     end(&text)?;
     check_parent(parent)?;
@@ -56,6 +59,6 @@ pub fn load<K: Keep>(keep: &mut K, call: &Call, answer: &mut Answer) -> Result<(
     let above = parent.qualified_name.as_slice();
     let object = Object::loaded_named(parent.hierarchy, public, &name, &sensitive, above);
     let _ = answer.parameters.put_sized(name.as_slice());
-    answer.handle = Some(load_object(keep, object, 6)?);
+    answer.handle = Some(load_object(keep, object, ActionCheck::Sixth)?);
     Ok(())
 }

@@ -1,16 +1,20 @@
-ghost use Rattle.std.specs.Prelude.{◌≡◌};
-ghost use Rattle.tpm_actions_object.specs.Loaded.{IsLoaded, Loads, is_fixed, loaded_at, no_place, parent_passes, place_for};
+//! What the commands on objects share: the object that a handle names, whether it can be a parent,
+//! and the loading of a new one.
 
-use tpm_actions::refusals::{action_refusal, handle_refusal, memory_refusal};
+ghost use Rattle.tpm_bytes.specs.Reading.{Gives};
+ghost use Rattle.std.specs.Prelude.{◌≡◌};
+ghost use Rattle.tpm_actions_object.specs.Loaded.{Loads, is_fixed, loaded_at, no_place, parent_passes, place_for};
+
+use tpm_actions_base::refusals::{action_refusal, handle_refusal, memory_refusal};
 use tpm_object::{Object, is_storage_parent};
-use tpm_places::PlaceFault;
 use tpm_record::{Keep, object_of};
-use tpm_types::{Handle, Refused, ResponseCode};
+use tpm_slots::SlotFault;
+use tpm_types::{ActionCheck, Handle, Refused, ResponseCode};
 use tpm_types_object::ObjectAttribute;
 
 /// The object of a handle, transient or persistent.
 pub fn loaded<K: Keep>(keep: &K, handle: Handle) -> Result<&Object, Refused>
-    ensures { IsLoaded (loaded_at (K.record_of keep.now) handle) result }
+    ensures { Gives (λ object. object.now) (loaded_at (K.record_of keep.now) handle) result }
 {
     match object_of(keep, handle) {
         Some(object) => Ok(object),
@@ -25,7 +29,10 @@ pub fn check_parent(parent: &Object) -> Result<(), Refused>
     if is_storage_parent(&parent.public) {
         Ok(())
     } else {
-        Err(action_refusal(1, ResponseCode::Type.anywhere().at_handle(1)))
+        Err(action_refusal(
+            ActionCheck::First,
+            ResponseCode::Type.anywhere().at_handle(1),
+        ))
     }
 }
 
@@ -36,21 +43,25 @@ pub fn is_fixed(parent: &Object) -> bool
     parent.public.attributes.has(ObjectAttribute::FixedTpm)
 }
 
-/// The refusal by a command's check of this number where eight objects are loaded.
-fn no_place(number: u8) -> Refused
-    ensures { result ≡ no_place number }
+/// The refusal by one of a command's own checks where all places are taken.
+fn no_place(check: ActionCheck) -> Refused
+    ensures { result ≡ no_place check }
 {
-    action_refusal(number, ResponseCode::ObjectMemory.anywhere())
+    action_refusal(check, ResponseCode::ObjectMemory.anywhere())
 }
 
-/// Loads a new object; the check of this number refuses it where eight are loaded.
-pub fn load_object<K: Keep>(keep: &mut K, object: Object, number: u8) -> Result<Handle, Refused>
-    ensures { Loads K.can_refuse (place_for number (K.record_of keep.old)) (K.record_of keep.old)
+/// Loads a new object; this check refuses it where all places are taken.
+pub fn load_object<K: Keep>(
+    keep: &mut K,
+    object: Object,
+    check: ActionCheck,
+) -> Result<Handle, Refused>
+    ensures { Loads K.can_refuse (place_for check (K.record_of keep.old)) (K.record_of keep.old)
         object result (K.record_of keep.new) }
 {
     match keep.objects_mut().add(object) {
         Ok(handle) => Ok(handle),
-        Err(PlaceFault::Full) => Err(no_place(number)),
-        Err(PlaceFault::NoMemory) => Err(memory_refusal()),
+        Err(SlotFault::Full) => Err(no_place(check)),
+        Err(SlotFault::NoMemory) => Err(memory_refusal()),
     }
 }

@@ -1,13 +1,16 @@
+//! TPM2_ReadPublic: answers the public area of an object and its two Names, by its row in
+//! `specs/ReadPublic`.
+
 ghost use Rattle.std.specs.Prelude.{◌≡◌};
-ghost use Rattle.tpm_actions.specs.Answer.{IsEmpty};
-ghost use Rattle.tpm_actions.specs.Request.{request_of};
-ghost use Rattle.tpm_actions.specs.Rows.{Acts};
+ghost use Rattle.tpm_actions_base.specs.Answer.{IsEmpty};
+ghost use Rattle.tpm_actions_base.specs.Request.{request_of};
+ghost use Rattle.tpm_actions_base.specs.Rows.{Acts};
 ghost use Rattle.tpm_actions_object.specs.ReadPublic.{read_public_row};
 
 use crate::loaded::loaded;
-use tpm_actions::answer::Answer;
-use tpm_actions::call::Call;
-use tpm_actions::reading::end;
+use tpm_actions_base::answer::Answer;
+use tpm_actions_base::call::Call;
+use tpm_actions_base::reading::end;
 use tpm_bytes::Cursor;
 use tpm_record::Keep;
 use tpm_types::Refused;

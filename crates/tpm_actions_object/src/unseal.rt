@@ -1,18 +1,20 @@
+//! TPM2_Unseal: answers the data that an object seals, by its row in `specs/Unseal`.
+
 ghost use Rattle.std.specs.Prelude.{◌≡◌};
-ghost use Rattle.tpm_actions.specs.Answer.{IsEmpty};
-ghost use Rattle.tpm_actions.specs.Request.{request_of};
-ghost use Rattle.tpm_actions.specs.Rows.{Acts};
+ghost use Rattle.tpm_actions_base.specs.Answer.{IsEmpty};
+ghost use Rattle.tpm_actions_base.specs.Request.{request_of};
+ghost use Rattle.tpm_actions_base.specs.Rows.{Acts};
 ghost use Rattle.tpm_actions_object.specs.Unseal.{unseal_row};
 
 use crate::loaded::loaded;
-use tpm_actions::answer::Answer;
-use tpm_actions::call::Call;
-use tpm_actions::reading::end;
-use tpm_actions::refusals::action_refusal;
+use tpm_actions_base::answer::Answer;
+use tpm_actions_base::call::Call;
+use tpm_actions_base::reading::end;
+use tpm_actions_base::refusals::action_refusal;
 use tpm_bytes::Cursor;
 use tpm_object::is_keyed_hash;
 use tpm_record::Keep;
-use tpm_types::{Refused, ResponseCode};
+use tpm_types::{ActionCheck, Refused, ResponseCode};
 use tpm_types_object::ObjectAttribute;
 
 /// TPM2_Unseal: the data that an object seals.
@@ -25,10 +27,16 @@ pub fn unseal<K: Keep>(keep: &mut K, call: &Call, answer: &mut Answer) -> Result
     let object = loaded(keep, call.first_handle()?)?;
     end(&Cursor::new(call.parameters))?;
     if !is_keyed_hash(&object.public) {
-        return Err(action_refusal(1, ResponseCode::Type.anywhere().at_handle(1)));
+        return Err(action_refusal(
+            ActionCheck::First,
+            ResponseCode::Type.anywhere().at_handle(1),
+        ));
     }
     if object.public.attributes.has(ObjectAttribute::Sign) {
-        return Err(action_refusal(2, ResponseCode::Attributes.anywhere().at_handle(1)));
+        return Err(action_refusal(
+            ActionCheck::Second,
+            ResponseCode::Attributes.anywhere().at_handle(1),
+        ));
     }
     let _ = answer.parameters.put_sized(object.sensitive.as_slice());
     Ok(())

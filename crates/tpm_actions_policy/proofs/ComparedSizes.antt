@@ -5,7 +5,7 @@ use Rattle.std.proofs.lemmas.Bool.{ltb-false}
 use Rattle.std.proofs.lemmas.List.{length-drop, length-take}
 use Rattle.tpm_bytes.proofs.Fields.{bind_ok, ok_is, ok_or_ok, or_fault_ok, passed}
 use Rattle.tpm_bytes.specs.Reading.{refused_if}
-use Rattle.tpm_ascending.specs.Ascending.{Entries, at_key}
+use Rattle.tpm_sorted_map.specs.SortedMap.{Entries, at_key}
 use Rattle.tpm_types.specs.declared.handle.Handle.{Handle}
 use Rattle.tpm_types_nv.specs.NvAttributes.{has}
 use Rattle.tpm_types_nv.specs.declared.nv_attributes.NvAttribute.TheVariants as attribute
@@ -15,9 +15,9 @@ use Rattle.tpm_nv.specs.IsContents.{AreIndices, IsContents, IsIndex}
 use Rattle.tpm_nv.specs.declared.fault.NvFault.{NvFault}
 use Rattle.tpm_nv.specs.declared.fault.NvFault.TheVariants as fault
 use Rattle.tpm_record.specs.Record.{Record}
-use Rattle.tpm_actions.specs.Target.{reading_passes}
-use Rattle.tpm_actions.specs.declared.target.Target.{Target}
-use Rattle.tpm_actions_policy.specs.PolicyNv.{Parameters, compared, or_reading_fault}
+use Rattle.tpm_actions_base.specs.Target.{reading_passes}
+use Rattle.tpm_actions_base.specs.declared.target.Target.{Target}
+use Rattle.tpm_actions_policy.specs.PolicyNv.{Parameters, compared}
 
 -- an index has as many bytes of data as it says where it is written
 abbrev HasItsSize : NvIndex → Type 0
@@ -77,6 +77,6 @@ ok_where P (Err e) h = tt
 pub compared_whole : (r : Record) (target : Target) (p : Parameters) → IsContents r.nv
     → IfOk (compared r target p) (λ bytes. length bytes ≡ length p.operand)
 compared_whole r target p is = ok_where _ (compared r target p) (λ bytes found.
-    let checked = bind_ok (or_reading_fault (reading_passes target)) _ bytes found in
+    let checked = bind_ok (reading_passes target) _ bytes found in
     read_whole r.nv target.handle p.offset (length p.operand) bytes is
     (or_fault_ok (read_at r.nv target.handle p.offset (length p.operand)) _ bytes checked.2))

@@ -3,7 +3,6 @@
 use Rattle.std.specs.Prelude.{◌≡◌, Bool, true, false, List, [], Option, Result, Ok, Err, ok_or}
 use Rattle.std.specs.Borrow.{Bor}
 use Rattle.tpm_bytes.specs.Reading.{◌>>=◌}
-use Rattle.tpm_policy.specs.declared.fault.PolicyFault.{PolicyFault}
 use Rattle.tpm_policy.specs.Assertion.{Assertion, asserted}
 use Rattle.tpm_policy.specs.State.{Policy}
 use Rattle.tpm_types.specs.SessionType.{is_trial}
@@ -13,13 +12,11 @@ use Rattle.tpm_types_command.specs.declared.command_code.CommandCode.{CommandCod
 use Rattle.tpm_types_command.specs.declared.command_code.CommandCode.TheVariants as command
 use Rattle.tpm_types.specs.declared.handle.Handle.{Handle}
 use Rattle.tpm_record.specs.Record.{Record}
-use Rattle.tpm_types.specs.declared.check.Check.TheVariants as check
 use Rattle.tpm_types.specs.declared.refused.Refused.{Refused}
-use Rattle.tpm_types.specs.Refused.{refusal}
-use Rattle.tpm_actions.specs.Answer.{Body, Plain, answer_of}
-use Rattle.tpm_actions.specs.Refusals.{handle_refusal}
-use Rattle.tpm_actions.specs.Request.{Request, first_handle, second_handle, third_handle}
-use Rattle.tpm_actions.specs.Rows.{Success}
+use Rattle.tpm_actions_base.specs.Answer.{Body, Plain, answer_of}
+use Rattle.tpm_actions_base.specs.Refusals.{fault_refusal, handle_refusal, or_refusal}
+use Rattle.tpm_actions_base.specs.Request.{Request, first_handle, second_handle, third_handle}
+use Rattle.tpm_actions_base.specs.Rows.{Success}
 use Rattle.tpm_actions_policy.specs.PolicyAuthValue.{auth_value_assertion}
 use Rattle.tpm_actions_policy.specs.PolicyCommandCode.{command_code_assertion}
 use Rattle.tpm_actions_policy.specs.PolicyLocality.{locality_assertion}
@@ -41,7 +38,7 @@ asserts command.PolicySecret = true
 asserts command.PolicyNv = true
 asserts _ = false
 
--- the handle of the session on which it does: behind those of the entity that it authorizes, and of
+-- the handle of the session on which it does: after those of the entity that it authorizes, and of
 -- the index that it compares
 abbrev pub session_handle : CommandCode → List Handle → Result Handle Refused
 session_handle command.PolicySecret handles = second_handle handles
@@ -70,15 +67,11 @@ body_of _ = Plain []
 abbrev pub policy_session : List (Option Session) → Handle → Result Session Refused
 policy_session sessions handle = ok_or (session_at sessions handle) handle_refusal
 
--- an assertion that is refused refuses its command, by the same check
-abbrev pub by_its_check : Result Policy PolicyFault → Result Policy Refused
-by_its_check (Ok policy) = Ok policy
-by_its_check (Err fault) = Err (refusal (check.Action fault.check) fault.rc)
-
--- what an assertion makes of the policy of a session
+-- what an assertion makes of the policy of a session; one that is refused refuses its command, by
+-- the same check
 abbrev pub policy_after : (Session → Assertion) → Session → Result Policy Refused
 policy_after assertion s =
-    by_its_check (asserted s.hash (is_trial s.kind) (assertion s) s.policy)
+    or_refusal fault_refusal (asserted s.hash (is_trial s.kind) (assertion s) s.policy)
 
 -- the session of a handle has what an assertion makes of its policy
 abbrev pub with_assertion : List (Option Session) → Handle → (Session → Assertion)
@@ -95,11 +88,6 @@ assertion_row code r q = do
   assertion ← assertion_in code r q
   sessions ← with_assertion r.sessions handle assertion
   Ok (record { answer = answer_of (body_of code); after = record r { sessions = sessions } })
-
--- The code's search for a session stands for the definition's.
-abbrev pub IsSession : Result Session Refused → Result (Bor Session) Refused → Type 0
-IsSession wanted (Ok session) = wanted ≡ Ok session.now
-IsSession wanted (Err e) = wanted ≡ Err e
 
 -- An assertion was made, and changed the sessions alone; or it was refused, and changed nothing.
 abbrev pub IsMade : Result (List (Option Session)) Refused

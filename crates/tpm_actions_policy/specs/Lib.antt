@@ -7,6 +7,6 @@ pub mod PolicyLocality
 pub mod PolicySecret
 pub mod PolicyNv
 pub mod Assertions
-pub mod Asked
+pub mod AssertionParameters
 pub mod PolicyRestart
 pub mod PolicyGetDigest

@@ -4,9 +4,10 @@ use Rattle.std.specs.Prelude.{ℕ, List, length, Result, Ok, Err}
 use Rattle.std.specs.Int.{w16}
 use Rattle.tpm_bytes.specs.Reading.{◌>>=◌, number_at, or_fault}
 use Rattle.tpm_nv.specs.Access.{read_at}
-use Rattle.tpm_policy.specs.Assertion.{Assertion, Nv, NvParts, fault_of}
-use Rattle.tpm_policy.specs.declared.fault.PolicyFault.{PolicyFault}
+use Rattle.tpm_policy.specs.Assertion.{Assertion, Nv, NvParts}
 use Rattle.tpm_session.specs.declared.session.Session.{Session}
+use Rattle.tpm_types.specs.ActionFault.{plain_fault}
+use Rattle.tpm_types.specs.declared.action_fault.ActionFault.{ActionFault}
 use Rattle.tpm_types.specs.Buffer.{buffer_at}
 use Rattle.tpm_types.specs.Operation.{operation_at}
 use Rattle.tpm_types.specs.Rc.{plain}
@@ -16,11 +17,10 @@ use Rattle.tpm_types.specs.declared.rc.ResponseCode.TheVariants as code
 use Rattle.tpm_types.specs.declared.refused.Refused.{Refused}
 use Rattle.tpm_record.specs.Entity.{name_of}
 use Rattle.tpm_record.specs.Record.{Record}
-use Rattle.tpm_actions.specs.Request.{Request}
-use Rattle.tpm_actions.specs.Rows.{all_read, parameter}
-use Rattle.tpm_actions.specs.Target.{reading_passes, target_of}
-use Rattle.tpm_actions.specs.declared.target.ReadingFault.{ReadingFault}
-use Rattle.tpm_actions.specs.declared.target.Target.{Target}
+use Rattle.tpm_actions_base.specs.Request.{Request}
+use Rattle.tpm_actions_base.specs.Rows.{all_read, parameter}
+use Rattle.tpm_actions_base.specs.Target.{reading_passes, target_of}
+use Rattle.tpm_actions_base.specs.declared.target.Target.{Target}
 
 -- operandB, at most 32 bytes; offset; operation
 pub record Parameters : Type 0 where
@@ -36,19 +36,14 @@ nv_parameters text = do
   ended ← all_read operation.1
   Ok (record { operand = operand.0; offset = offset.0; operation = operation.0 })
 
--- a fault of reading refuses the assertion, by the same check
-abbrev pub or_reading_fault : {X : Type 0} → Result X ReadingFault → Result X PolicyFault
-or_reading_fault (Ok x) = Ok x
-or_reading_fault (Err fault) = Err (fault_of fault.check fault.rc)
-
 -- what is compared with the operand: as many bytes of the index from the offset on. A1 to A3: those
--- of every command that reads; A4: past the data, which is all that then refuses it (reading_laws of
--- tpm_actions)
-abbrev pub compared : Record → Target → Parameters → Result (List ℕ) PolicyFault
+-- of every command that reads; A4: past the data, which is all that then refuses it (reading_laws
+-- of tpm_actions_base)
+abbrev pub compared : Record → Target → Parameters → Result (List ℕ) ActionFault
 compared r target p = do
-  readable ← or_reading_fault (reading_passes target)
+  readable ← reading_passes target
   or_fault (read_at r.nv target.handle p.offset (length p.operand))
-      (fault_of action.Fourth (plain code.NvRange))
+      (plain_fault action.Fourth code.NvRange)
 
 -- the index is asserted by its Name
 abbrev pub nv_parts_of : Record → Target → Parameters → NvParts

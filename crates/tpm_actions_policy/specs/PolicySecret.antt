@@ -12,9 +12,9 @@ use Rattle.tpm_types.specs.Rc.{plain}
 use Rattle.tpm_record.specs.Entity.{name_of}
 use Rattle.tpm_record.specs.Record.{Record}
 use Rattle.tpm_types.specs.declared.refused.Refused.{Refused}
-use Rattle.tpm_actions.specs.Answer.{Body, SizedFirst}
-use Rattle.tpm_actions.specs.Request.{Request, first_handle}
-use Rattle.tpm_actions.specs.Rows.{all_read, parameter}
+use Rattle.tpm_actions_base.specs.Answer.{Body, SizedFirst}
+use Rattle.tpm_actions_base.specs.Request.{Request, first_handle}
+use Rattle.tpm_actions_base.specs.Rows.{all_read, parameter}
 
 -- nonceTPM, cpHashA, policyRef, expiration
 pub record Parameters : Type 0 where

@@ -1,22 +1,26 @@
+//! What the assertion commands share: an assertion is made on a copy of the session's policy, which
+//! the session takes only where nothing refuses it.
+
+ghost use Rattle.tpm_bytes.specs.Reading.{Gives};
 ghost use Rattle.std.specs.Prelude.{◌≡◌, Err};
 ghost use Rattle.tpm_policy.specs.Assertion.{Asserts, asserted};
 ghost use Rattle.tpm_types.specs.SessionType.{is_trial};
-ghost use Rattle.tpm_actions_policy.specs.Asked.{assertion_of};
-ghost use Rattle.tpm_actions_policy.specs.Assertions.{IsMade, IsSession, by_its_check};
+ghost use Rattle.tpm_actions_policy.specs.AssertionParameters.{assertion_of};
+ghost use Rattle.tpm_actions_policy.specs.Assertions.{IsMade};
 ghost use Rattle.tpm_actions_policy.specs.Assertions.{policy_session, with_assertion};
 
 use crate::compared_index::ComparedIndex;
 use crate::policy_pcr::ComparedPcrs;
 use crate::policy_secret::ShownSecret;
-use tpm_actions::refusals::handle_refusal;
-use tpm_policy::{PolicyFault, PolicyState};
+use tpm_actions_base::refusals::{fault_refusal, handle_refusal};
+use tpm_policy::PolicyState;
 use tpm_record::Keep;
 use tpm_session::Session;
-use tpm_types::{Check, DigestList, Handle, Refused};
+use tpm_types::{ActionFault, DigestList, Handle, Refused};
 
 /// What a command asks to be asserted.
 #[derive(Clone, Copy)]
-pub enum Asked<'a> {
+pub enum AssertionParameters<'a> {
     Pcr(ComparedPcrs<'a>),
     Or(&'a DigestList),
     AuthValue,
@@ -27,14 +31,14 @@ pub enum Asked<'a> {
     Nv(ComparedIndex<'a>),
 }
 
-impl Asked<'_> {
+impl AssertionParameters<'_> {
     /// Asserts it on the policy of a session.
     fn assert_on<K: Keep>(
         &self,
         keep: &K,
         session: &Session,
         policy: &mut PolicyState,
-    ) -> Result<(), PolicyFault>
+    ) -> Result<(), ActionFault>
         ensures { Asserts
             (asserted session.now.hash (is_trial session.now.kind)
             (assertion_of (K.record_of keep.now) self.now session.now) policy.old)
@@ -42,27 +46,28 @@ impl Asked<'_> {
     {
         let hash = session.hash;
         match *self {
-            Asked::Pcr(pcrs) => pcrs.assert_on(keep, session, policy),
-            Asked::Or(digests) => policy.or(hash, session.kind.is_trial(), digests),
-            Asked::AuthValue => {
+            AssertionParameters::Pcr(pcrs) => pcrs.assert_on(keep, session, policy),
+            AssertionParameters::Or(digests) => policy.or(hash, session.kind.is_trial(), digests),
+            AssertionParameters::AuthValue => {
                 policy.auth_value(hash);
                 Ok(())
             }
-            Asked::Password => {
+            AssertionParameters::Password => {
                 policy.password(hash);
                 Ok(())
             }
-            Asked::CommandCode(number) => policy.command_code(hash, number),
-            Asked::Locality(localities) => policy.locality(hash, localities),
-            Asked::Secret(secret) => secret.assert_on(keep, session, policy),
-            Asked::Nv(index) => index.assert_on(keep, session, policy),
+            AssertionParameters::CommandCode(number) => policy.command_code(hash, number),
+            AssertionParameters::Locality(localities) => policy.locality(hash, localities),
+            AssertionParameters::Secret(secret) => secret.assert_on(keep, session, policy),
+            AssertionParameters::Nv(index) => index.assert_on(keep, session, policy),
         }
     }
 }
 
 /// The policy or trial session of a handle.
 pub fn policy_session<K: Keep>(keep: &K, handle: Handle) -> Result<&Session, Refused>
-    ensures { IsSession (policy_session (K.record_of keep.now).sessions handle) result }
+    ensures { Gives (λ session. session.now)
+        (policy_session (K.record_of keep.now).sessions handle) result }
 {
     match keep.sessions().get(handle) {
         Some(session) => Ok(session),
@@ -70,16 +75,13 @@ pub fn policy_session<K: Keep>(keep: &K, handle: Handle) -> Result<&Session, Ref
     }
 }
 
-/// The refusal of a command by the check of its assertion.
-fn by_its_check(fault: PolicyFault) -> Refused
-    ensures { Err result ≡ by_its_check (Err fault) }
-{
-    Refused::by(Check::Action(fault.check), fault.rc)
-}
-
 /// Asserts what is asked for on a copy of the policy of a handle's session, which the session
 /// takes if the assertion is not refused.
-pub fn make_assertion<K: Keep>(keep: &mut K, handle: Handle, asked: &Asked) -> Result<(), Refused>
+pub fn make_assertion<K: Keep>(
+    keep: &mut K,
+    handle: Handle,
+    asked: &AssertionParameters,
+) -> Result<(), Refused>
     ensures { IsMade
         (with_assertion (K.record_of keep.old).sessions handle
         (assertion_of (K.record_of keep.old) asked.now))
@@ -88,7 +90,7 @@ pub fn make_assertion<K: Keep>(keep: &mut K, handle: Handle, asked: &Asked) -> R
     let session = policy_session(keep, handle)?;
     let mut policy = session.policy.copy();
     let asserted = asked.assert_on(keep, session, &mut policy);
-    asserted.map_err(by_its_check)?;
+    asserted.map_err(fault_refusal)?;
     keep.sessions_mut().set_policy(handle, policy);
     Ok(())
 }

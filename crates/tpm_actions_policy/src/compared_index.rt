@@ -1,15 +1,18 @@
+//! The NV index that TPM2_PolicyNV compares: which bytes of it, or why they cannot be read, and the
+//! assertion of the comparison.
+
 ghost use Rattle.std.specs.Prelude.{◌≡◌, ◌≤◌, length};
 ghost use Rattle.tpm_policy.specs.Assertion as assertion;
-ghost use Rattle.tpm_policy.specs.Assertion.{Asserts, asserted, compared_bytes, fault_of};
+ghost use Rattle.tpm_policy.specs.Assertion.{Asserts, asserted, compared_bytes};
 ghost use Rattle.tpm_types.specs.SessionType.{is_trial};
 ghost use Rattle.tpm_actions_policy.specs.PolicyNv.{compared, nv_parts_of};
 
-use tpm_actions::target::{ReadingFault, Target};
+use tpm_actions_base::target::Target;
 use tpm_nv::Indices;
-use tpm_policy::{NvAssertion, PolicyFault, PolicyState};
+use tpm_policy::{NvAssertion, PolicyState};
 use tpm_record::{Keep, name_of};
 use tpm_session::Session;
-use tpm_types::{ActionCheck, Operation, ResponseCode};
+use tpm_types::{ActionCheck, ActionFault, Operation, ResponseCode};
 
 /// The index whose data are compared, with what, from which offset on, and how.
 #[derive(Clone, Copy)]
@@ -21,32 +24,19 @@ pub struct ComparedIndex<'a> {
     ghost few: { length operand.now ≤ 32 },
 }
 
-/// The fault of an assertion whose index may not be read.
-fn reading_fault(fault: ReadingFault) -> PolicyFault
-    ensures { result ≡ fault_of fault.check fault.rc }
-{
-    PolicyFault {
-        check: fault.check,
-        rc: fault.rc,
-    }
-}
-
 impl ComparedIndex<'_> {
-    ghost use Rattle.tpm_actions_policy.specs.Asked.{nv_asked};
+    ghost use Rattle.tpm_actions_policy.specs.AssertionParameters.{nv_asked};
 
     /// As many bytes of the index as the operand has, or why they cannot be read.
-    fn compared<'k, K: Keep>(&self, keep: &'k K) -> Result<&'k [u8], PolicyFault>
+    fn compared<'k, K: Keep>(&self, keep: &'k K) -> Result<&'k [u8], ActionFault>
         ensures { compared_bytes result
             ≡ compared (K.record_of keep.now) self.now.target (nv_asked self.now) }
     {
-        self.target.check_reading().map_err(reading_fault)?;
+        self.target.check_reading()?;
         let size = self.operand.len() as u16;
         match keep.nv().read(self.target.handle, self.offset, size) {
             Ok(bytes) => Ok(bytes),
-            Err(_) => Err(PolicyFault {
-                check: ActionCheck::Fourth,
-                rc: ResponseCode::NvRange.anywhere(),
-            }),
+            Err(_) => Err(ActionFault::plain(ActionCheck::Fourth, ResponseCode::NvRange)),
         }
     }
 
@@ -56,7 +46,7 @@ impl ComparedIndex<'_> {
         keep: &K,
         session: &Session,
         policy: &mut PolicyState,
-    ) -> Result<(), PolicyFault>
+    ) -> Result<(), ActionFault>
         ensures { Asserts
             (asserted session.now.hash (is_trial session.now.kind)
             (assertion.Nv (nv_parts_of (K.record_of keep.now) self.now.target (nv_asked self.now)))

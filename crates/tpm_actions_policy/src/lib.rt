@@ -1,11 +1,14 @@
 #![tactic(auto)]
 
-//! What each policy command does: a file a command, as in tpm_actions, on which it stands (TPM 2.0
-//! Library, Part 3, section 23).
+//! What each policy command does: a file a command (TPM 2.0 Library, Part 3, section 23).
 //!
 //! Eight commands assert something. Each reads what, and `assertions::make_assertion` asserts it on
 //! a copy of the session's policy, which the session takes where the assertion is not refused. What
-//! an assertion is stands in tpm_policy.
+//! an assertion is stands in `tpm_policy`.
+//!
+//! It stands on `tpm_actions_base` and on `tpm_policy`. `specs/` has a row for each command under
+//! the same name; each call is proved to be its row, for each way of keeping the record, and a
+//! refusal leaves the record.
 
 mod assertions;
 mod compared_index;

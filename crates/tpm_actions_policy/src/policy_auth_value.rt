@@ -1,14 +1,17 @@
+//! TPM2_PolicyAuthValue: demands an HMAC whose key has the entity's authorization value, by its row
+//! in `specs/PolicyAuthValue`.
+
 ghost use Rattle.std.specs.Prelude.{◌≡◌};
 ghost use Rattle.tpm_types_command.specs.declared.command_code.CommandCode.TheVariants as command;
-ghost use Rattle.tpm_actions.specs.Answer.{IsEmpty};
-ghost use Rattle.tpm_actions.specs.Request.{request_of};
-ghost use Rattle.tpm_actions.specs.Rows.{Acts};
+ghost use Rattle.tpm_actions_base.specs.Answer.{IsEmpty};
+ghost use Rattle.tpm_actions_base.specs.Request.{request_of};
+ghost use Rattle.tpm_actions_base.specs.Rows.{Acts};
 ghost use Rattle.tpm_actions_policy.specs.Assertions.{assertion_row};
 
-use crate::assertions::{Asked, make_assertion};
-use tpm_actions::answer::Answer;
-use tpm_actions::call::Call;
-use tpm_actions::reading::end;
+use crate::assertions::{AssertionParameters, make_assertion};
+use tpm_actions_base::answer::Answer;
+use tpm_actions_base::call::Call;
+use tpm_actions_base::reading::end;
 use tpm_bytes::Cursor;
 use tpm_record::Keep;
 use tpm_types::Refused;
@@ -27,5 +30,5 @@ pub fn policy_auth_value<K: Keep>(
 {
     let handle = call.first_handle()?;
     end(&Cursor::new(call.parameters))?;
-    make_assertion(keep, handle, &Asked::AuthValue)
+    make_assertion(keep, handle, &AssertionParameters::AuthValue)
 }

@@ -1,14 +1,16 @@
+//! TPM2_PolicyCommandCode: allows one command alone, by its row in `specs/PolicyCommandCode`.
+
 ghost use Rattle.std.specs.Prelude.{◌≡◌};
 ghost use Rattle.tpm_types_command.specs.declared.command_code.CommandCode.TheVariants as command;
-ghost use Rattle.tpm_actions.specs.Answer.{IsEmpty};
-ghost use Rattle.tpm_actions.specs.Request.{request_of};
-ghost use Rattle.tpm_actions.specs.Rows.{Acts};
+ghost use Rattle.tpm_actions_base.specs.Answer.{IsEmpty};
+ghost use Rattle.tpm_actions_base.specs.Request.{request_of};
+ghost use Rattle.tpm_actions_base.specs.Rows.{Acts};
 ghost use Rattle.tpm_actions_policy.specs.Assertions.{assertion_row};
 
-use crate::assertions::{Asked, make_assertion};
-use tpm_actions::answer::Answer;
-use tpm_actions::call::Call;
-use tpm_actions::reading::{end, number};
+use crate::assertions::{AssertionParameters, make_assertion};
+use tpm_actions_base::answer::Answer;
+use tpm_actions_base::call::Call;
+use tpm_actions_base::reading::{end, number};
 use tpm_bytes::Cursor;
 use tpm_record::Keep;
 use tpm_types::Refused;
@@ -29,5 +31,5 @@ pub fn policy_command_code<K: Keep>(
     let mut parameters = Cursor::new(call.parameters);
     let code = number(1, parameters.u32())?;
     end(&parameters)?;
-    make_assertion(keep, handle, &Asked::CommandCode(code))
+    make_assertion(keep, handle, &AssertionParameters::CommandCode(code))
 }

@@ -1,13 +1,16 @@
+//! TPM2_PolicyGetDigest: answers the policy digest of a session, by its row in
+//! `specs/PolicyGetDigest`.
+
 ghost use Rattle.std.specs.Prelude.{◌≡◌};
-ghost use Rattle.tpm_actions.specs.Answer.{IsEmpty};
-ghost use Rattle.tpm_actions.specs.Request.{request_of};
-ghost use Rattle.tpm_actions.specs.Rows.{Acts};
+ghost use Rattle.tpm_actions_base.specs.Answer.{IsEmpty};
+ghost use Rattle.tpm_actions_base.specs.Request.{request_of};
+ghost use Rattle.tpm_actions_base.specs.Rows.{Acts};
 ghost use Rattle.tpm_actions_policy.specs.PolicyGetDigest.{policy_get_digest_row};
 
 use crate::assertions::policy_session;
-use tpm_actions::answer::Answer;
-use tpm_actions::call::Call;
-use tpm_actions::reading::end;
+use tpm_actions_base::answer::Answer;
+use tpm_actions_base::call::Call;
+use tpm_actions_base::reading::end;
 use tpm_bytes::Cursor;
 use tpm_record::Keep;
 use tpm_types::Refused;

@@ -1,14 +1,17 @@
+//! TPM2_PolicyLocality: narrows the localities that a policy allows, by its row in
+//! `specs/PolicyLocality`.
+
 ghost use Rattle.std.specs.Prelude.{◌≡◌};
 ghost use Rattle.tpm_types_command.specs.declared.command_code.CommandCode.TheVariants as command;
-ghost use Rattle.tpm_actions.specs.Answer.{IsEmpty};
-ghost use Rattle.tpm_actions.specs.Request.{request_of};
-ghost use Rattle.tpm_actions.specs.Rows.{Acts};
+ghost use Rattle.tpm_actions_base.specs.Answer.{IsEmpty};
+ghost use Rattle.tpm_actions_base.specs.Request.{request_of};
+ghost use Rattle.tpm_actions_base.specs.Rows.{Acts};
 ghost use Rattle.tpm_actions_policy.specs.Assertions.{assertion_row};
 
-use crate::assertions::{Asked, make_assertion};
-use tpm_actions::answer::Answer;
-use tpm_actions::call::Call;
-use tpm_actions::reading::{end, number};
+use crate::assertions::{AssertionParameters, make_assertion};
+use tpm_actions_base::answer::Answer;
+use tpm_actions_base::call::Call;
+use tpm_actions_base::reading::{end, number};
 use tpm_bytes::Cursor;
 use tpm_record::Keep;
 use tpm_types::Refused;
@@ -29,5 +32,5 @@ pub fn policy_locality<K: Keep>(
     let mut parameters = Cursor::new(call.parameters);
     let localities = number(1, parameters.u8())?;
     end(&parameters)?;
-    make_assertion(keep, handle, &Asked::Locality(localities))
+    make_assertion(keep, handle, &AssertionParameters::Locality(localities))
 }

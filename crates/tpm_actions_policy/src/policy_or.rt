@@ -1,14 +1,16 @@
+//! TPM2_PolicyOR: goes on from any of several branches of a policy, by its row in `specs/PolicyOr`.
+
 ghost use Rattle.std.specs.Prelude.{◌≡◌};
 ghost use Rattle.tpm_types_command.specs.declared.command_code.CommandCode.TheVariants as command;
-ghost use Rattle.tpm_actions.specs.Answer.{IsEmpty};
-ghost use Rattle.tpm_actions.specs.Request.{request_of};
-ghost use Rattle.tpm_actions.specs.Rows.{Acts};
+ghost use Rattle.tpm_actions_base.specs.Answer.{IsEmpty};
+ghost use Rattle.tpm_actions_base.specs.Request.{request_of};
+ghost use Rattle.tpm_actions_base.specs.Rows.{Acts};
 ghost use Rattle.tpm_actions_policy.specs.Assertions.{assertion_row};
 
-use crate::assertions::{Asked, make_assertion};
-use tpm_actions::answer::Answer;
-use tpm_actions::call::Call;
-use tpm_actions::reading::{end, parameter};
+use crate::assertions::{AssertionParameters, make_assertion};
+use tpm_actions_base::answer::Answer;
+use tpm_actions_base::call::Call;
+use tpm_actions_base::reading::{end, parameter};
 use tpm_bytes::Cursor;
 use tpm_record::Keep;
 use tpm_types::{DigestList, Refused};
@@ -25,5 +27,5 @@ pub fn policy_or<K: Keep>(keep: &mut K, call: &Call, _answer: &mut Answer) -> Re
     let mut parameters = Cursor::new(call.parameters);
     let digests = parameter(1, DigestList::read(&mut parameters))?;
     end(&parameters)?;
-    make_assertion(keep, handle, &Asked::Or(&digests))
+    make_assertion(keep, handle, &AssertionParameters::Or(&digests))
 }

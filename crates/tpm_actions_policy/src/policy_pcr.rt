@@ -1,24 +1,27 @@
+//! TPM2_PolicyPCR: compares the values of PCRs, and allows no change of any after it, by its row in
+//! `specs/PolicyPcr`.
+
 ghost use Rattle.std.specs.Prelude.{◌≡◌};
 ghost use Rattle.tpm_types_command.specs.declared.command_code.CommandCode.TheVariants as command;
-ghost use Rattle.tpm_actions.specs.Answer.{IsEmpty};
-ghost use Rattle.tpm_actions.specs.Request.{request_of};
-ghost use Rattle.tpm_actions.specs.Rows.{Acts};
+ghost use Rattle.tpm_actions_base.specs.Answer.{IsEmpty};
+ghost use Rattle.tpm_actions_base.specs.Request.{request_of};
+ghost use Rattle.tpm_actions_base.specs.Rows.{Acts};
 ghost use Rattle.tpm_policy.specs.Assertion as assertion;
 ghost use Rattle.tpm_policy.specs.Assertion.{Asserts, asserted};
 ghost use Rattle.tpm_types.specs.SessionType.{is_trial};
-ghost use Rattle.tpm_actions_policy.specs.Asked.{pcrs_of};
+ghost use Rattle.tpm_actions_policy.specs.AssertionParameters.{pcrs_of};
 ghost use Rattle.tpm_actions_policy.specs.Assertions.{assertion_row};
 ghost use Rattle.tpm_actions_policy.specs.PolicyPcr.{pcr_parts_of};
 
-use crate::assertions::{Asked, make_assertion};
-use tpm_actions::answer::Answer;
-use tpm_actions::call::Call;
-use tpm_actions::reading::{end, parameter};
+use crate::assertions::{AssertionParameters, make_assertion};
+use tpm_actions_base::answer::Answer;
+use tpm_actions_base::call::Call;
+use tpm_actions_base::reading::{end, parameter};
 use tpm_bytes::Cursor;
-use tpm_policy::{PcrAssertion, PolicyFault, PolicyState};
+use tpm_policy::{PcrAssertion, PolicyState};
 use tpm_record::Keep;
 use tpm_session::Session;
-use tpm_types::{MOST_DIGEST, PcrSelection, Refused, read_buffer};
+use tpm_types::{ActionFault, DIGEST_LIMIT, PcrSelection, Refused, read_buffer};
 
 /// The PCRs that are to be compared, with the given digest of their values.
 #[derive(Clone, Copy)]
@@ -34,7 +37,7 @@ impl ComparedPcrs<'_> {
         keep: &K,
         session: &Session,
         policy: &mut PolicyState,
-    ) -> Result<(), PolicyFault>
+    ) -> Result<(), ActionFault>
         ensures { Asserts
             (asserted session.now.hash (is_trial session.now.kind)
             (assertion.Pcr (pcr_parts_of (K.record_of keep.now) (pcrs_of self.now) session.now))
@@ -53,7 +56,7 @@ impl ComparedPcrs<'_> {
     }
 }
 
-/// TPM2_PolicyPCR: compares the values of PCRs, and allows no change of any PCR behind it.
+/// TPM2_PolicyPCR: compares the values of PCRs, and allows no change of any PCR after it.
 #[tactic(auto, unfolding(crate::specs::Assertions::assertion_row))]
 pub fn policy_pcr<K: Keep>(keep: &mut K, call: &Call, _answer: &mut Answer) -> Result<(), Refused>
     requires { IsEmpty _answer.old }
@@ -63,12 +66,12 @@ pub fn policy_pcr<K: Keep>(keep: &mut K, call: &Call, _answer: &mut Answer) -> R
 {
     let handle = call.first_handle()?;
     let mut parameters = Cursor::new(call.parameters);
-    let given = parameter(1, read_buffer(&mut parameters, MOST_DIGEST))?;
+    let given = parameter(1, read_buffer(&mut parameters, DIGEST_LIMIT))?;
     let selection = parameter(2, PcrSelection::read(&mut parameters))?;
     end(&parameters)?;
     let pcrs = ComparedPcrs {
         given,
         selection: &selection,
     };
-    make_assertion(keep, handle, &Asked::Pcr(pcrs))
+    make_assertion(keep, handle, &AssertionParameters::Pcr(pcrs))
 }

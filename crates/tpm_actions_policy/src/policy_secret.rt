@@ -1,25 +1,28 @@
-ghost use Rattle.std.specs.Prelude.{◌≡◌};
+//! TPM2_PolicySecret: shows that an entity was authorized, by its row in `specs/PolicySecret`.
+
+ghost use Rattle.tpm_bytes.specs.Reading.{Gives};
+ghost use Rattle.std.specs.Prelude.{◌≡◌, IfOk};
 ghost use Rattle.tpm_types_command.specs.declared.command_code.CommandCode.TheVariants as command;
-ghost use Rattle.tpm_actions.specs.Answer.{IsEmpty};
-ghost use Rattle.tpm_actions.specs.Request.{request_of};
-ghost use Rattle.tpm_actions.specs.Rows.{Acts};
+ghost use Rattle.tpm_actions_base.specs.Answer.{IsEmpty};
+ghost use Rattle.tpm_actions_base.specs.Request.{request_of};
+ghost use Rattle.tpm_actions_base.specs.Rows.{Acts};
 ghost use Rattle.tpm_policy.specs.Assertion as assertion;
 ghost use Rattle.tpm_policy.specs.Assertion.{Asserts, asserted};
 ghost use Rattle.tpm_types.specs.SessionType.{is_trial};
 ghost use Rattle.tpm_record.specs.Entity.{name_of};
-ghost use Rattle.tpm_actions_policy.specs.Asked.{Asks, secret_asked};
+ghost use Rattle.tpm_actions_policy.specs.AssertionParameters.{secret_asked};
 ghost use Rattle.tpm_actions_policy.specs.Assertions.{assertion_row};
 ghost use Rattle.tpm_actions_policy.specs.PolicySecret.{secret_of, secret_parameters};
 
-use crate::assertions::{Asked, make_assertion};
-use tpm_actions::answer::Answer;
-use tpm_actions::call::Call;
-use tpm_actions::reading::{end, number, parameter};
+use crate::assertions::{AssertionParameters, make_assertion};
+use tpm_actions_base::answer::Answer;
+use tpm_actions_base::call::Call;
+use tpm_actions_base::reading::{end, number, parameter};
 use tpm_bytes::Cursor;
-use tpm_policy::{PolicyFault, PolicyState, SecretAssertion};
+use tpm_policy::{PolicyState, SecretAssertion};
 use tpm_record::{Keep, name_of};
 use tpm_session::Session;
-use tpm_types::{Handle, MOST_DIGEST, Refused, read_buffer};
+use tpm_types::{ActionFault, DIGEST_LIMIT, Handle, Refused, read_buffer};
 
 /// An empty timeout, and the null ticket: TPM_ST_AUTH_SECRET, TPM_RH_NULL, an empty digest.
 const NO_TICKET: [u8; 10] = [0, 0, 0x80, 0x23, 0x40, 0, 0, 7, 0, 0];
@@ -41,7 +44,7 @@ impl ShownSecret<'_> {
         keep: &K,
         session: &Session,
         policy: &mut PolicyState,
-    ) -> Result<(), PolicyFault>
+    ) -> Result<(), ActionFault>
         ensures { Asserts
             (asserted session.now.hash (is_trial session.now.kind)
             (assertion.Secret (secret_of (secret_asked self.now)
@@ -63,12 +66,13 @@ impl ShownSecret<'_> {
 
 #[tactic(auto, unfolding(crate::specs::PolicySecret::secret_parameters))]
 fn read_secret<'a>(entity: Handle, parameters: &'a [u8]) -> Result<ShownSecret<'a>, Refused>
-    ensures { Asks entity (secret_parameters parameters.now) result }
+    ensures read { Gives secret_asked (secret_parameters parameters.now) result }
+    ensures entity { IfOk result (λ secret. secret.entity ≡ entity) }
 {
     let mut text = Cursor::new(parameters);
-    let nonce = parameter(1, read_buffer(&mut text, MOST_DIGEST))?;
-    let cp_hash = parameter(2, read_buffer(&mut text, MOST_DIGEST))?;
-    let reference = parameter(3, read_buffer(&mut text, MOST_DIGEST))?;
+    let nonce = parameter(1, read_buffer(&mut text, DIGEST_LIMIT))?;
+    let cp_hash = parameter(2, read_buffer(&mut text, DIGEST_LIMIT))?;
+    let reference = parameter(3, read_buffer(&mut text, DIGEST_LIMIT))?;
     let expiration = number(4, text.u32())?;
     end(&text)?;
     Ok(ShownSecret {
@@ -90,7 +94,7 @@ pub fn policy_secret<K: Keep>(keep: &mut K, call: &Call, answer: &mut Answer) ->
 {
     let handle = call.second_handle()?;
     let secret = read_secret(call.first_handle()?, call.parameters)?;
-    make_assertion(keep, handle, &Asked::Secret(secret))?;
+    make_assertion(keep, handle, &AssertionParameters::Secret(secret))?;
     let _ = answer.parameters.put(&NO_TICKET);
     Ok(())
 }

@@ -13,7 +13,8 @@ use Rattle.tpm_types.specs.declared.rc.Rc.{Rc}
 use Rattle.tpm_types.specs.declared.rc.ResponseCode.TheVariants as code
 use Rattle.tpm_types.specs.Symmetric.{is_null}
 use Rattle.tpm_types_command.specs.AuthEntry.{Entry}
-use Rattle.tpm_types.specs.SessionAttributes.{has_bits}
+use Rattle.tpm_types.specs.SessionAttributes as of_session
+use Rattle.tpm_types.specs.SessionAttributes.{audits, has_reserved_bits, uses_cipher}
 use Rattle.tpm_types_command.specs.CommandCode.{authorized_handles, has_sized_parameter, shape_of}
 use Rattle.tpm_types.specs.Handle.{password_handle, session_kind}
 use Rattle.tpm_types.specs.Rc.{entry_fault, plain}
@@ -26,13 +27,12 @@ session_of r e = session_at r.sessions e.session
 abbrev pub is_password : Entry → Bool
 is_password e = e.session.number == password_handle.number
 
--- the attributes decrypt (bit 5) and encrypt (bit 6): the session decrypts the command's first
--- parameter, or encrypts the response's
+-- whether its session decrypts the command's first parameter, or encrypts the response's
 abbrev pub decrypts : Entry → Bool
-decrypts e = has_bits 0x20 e.attributes
+decrypts e = of_session.decrypts e.attributes
 
 abbrev pub encrypts : Entry → Bool
-encrypts e = has_bits 0x40 e.attributes
+encrypts e = of_session.encrypts e.attributes
 
 -- the code for a session that is not there, in entry n
 abbrev pub reference_of : ℕ → Rc
@@ -52,23 +52,23 @@ is_misplaced c n before e =
     if is_password e then nat_lt (authorized_handles c) n
     else list_any (λ earlier. earlier.session.number == e.session.number) before
 
--- auditExclusive (1), auditReset (2) or audit (7), since audit sessions are not served; or decrypt
--- or encrypt on a password, where an earlier entry has the same, or where the first parameter of
--- the command or of its answer is no sized buffer
+-- an audit session, which is not served; or decrypt or encrypt on a password, where an earlier
+-- entry has the same, or where the first parameter of the command or of its answer is no sized
+-- buffer
 abbrev pub has_wrong_attributes : CommandCode → List Entry → Entry → Bool
 has_wrong_attributes c before e =
-    has_bits 0x86 e.attributes
-    || is_password e && has_bits 0x60 e.attributes
+    audits e.attributes
+    || is_password e && uses_cipher e.attributes
     || decrypts e && (list_any decrypts before || not (has_sized_parameter c))
     || encrypts e && (list_any encrypts before || not (shape_of c).sized_answer)
 
 -- decrypt or encrypt by a session that has no symmetric algorithm
 abbrev pub lacks_cipher : Record → Entry → Bool
 lacks_cipher r e =
-    has_bits 0x60 e.attributes
+    uses_cipher e.attributes
     && option_map_or (λ (s : Session). is_null s.symmetric) (session_of r e) false
 
--- an entry behind these others of its command: the sizes of its nonce and HMAC, its session, the
+-- an entry after these others of its command: the sizes of its nonce and HMAC, its session, the
 -- reserved bits 3 and 4, the other attributes, the session's algorithm
 unfoldable pub entry_passes : Record → CommandCode → List Entry → Entry → Result (Unit {0}) Rc
 entry_passes r c before e = do
@@ -77,7 +77,7 @@ entry_passes r c before e = do
       (entry_fault n code.Size)
   kind ← kind_passes r n e (session_kind e.session)
   misplaced ← refused_if (is_misplaced c n before e) (entry_fault n code.Handle)
-  reserved ← refused_if (has_bits 0x18 e.attributes) (entry_fault n code.ReservedBits)
+  reserved ← refused_if (has_reserved_bits e.attributes) (entry_fault n code.ReservedBits)
   attributes ← refused_if (has_wrong_attributes c before e) (entry_fault n code.Attributes)
   refused_if (lacks_cipher r e) (entry_fault n code.Symmetric)
 

@@ -80,8 +80,8 @@ grant r c locality n used e = grant_by (session_kind e.session) r c locality n u
 abbrev pub authorized : Whole → List Handle
 authorized c = take (authorized_handles c.code) c.handles
 
--- each entry in order, behind what those before it authorize: the n-th is to authorize the n-th of
--- these handles, and an entry behind them nothing
+-- each entry in order, after what those before it authorize: the n-th is to authorize the n-th of
+-- these handles, and an entry after them nothing
 abbrev pub grants_pass : Record → Whole → (locality : ℕ)
     → (before : List (Option Grant)) → List Entry → Result (List (Option Grant)) Refused
 grants_pass r c locality before [] = Ok before
@@ -89,7 +89,7 @@ grants_pass r c locality before (e ∷ es) = do
   this ← grant r c locality (length before + 1) (slice_get (authorized c) (length before)) e
   grants_pass r c locality (before ++ this ∷ []) es
 
--- G8 behind the sizes of the area: each entry's own checks, then that there is an entry for each
+-- G8 after the sizes of the area: each entry's own checks, then that there is an entry for each
 -- handle that needs authorization; then G9, each of these handles, and G10, the other entries, and
 -- that what a session decrypts is there. Given is what each entry authorizes
 unfoldable pub authorize : Record → Whole → (locality : ℕ) → Result (List (Option Grant)) Refused
@@ -109,7 +109,6 @@ abbrev pub AreGranted : Result (List (Option Grant)) Refused
 AreGranted granted (Ok u) grants = granted ≡ Ok grants
 AreGranted granted (Err e) grants = granted ≡ Err e
 
--- And that of an authorization.
-abbrev pub IsGranted : Result (List (Option Grant)) Refused → Result Grants Refused → Type 0
-IsGranted authorized (Ok grants) = authorized ≡ Ok grants.entries.items
-IsGranted authorized (Err e) = authorized ≡ Err e
+-- what the code's grants are
+abbrev pub granted_by : Grants → List (Option Grant)
+granted_by grants = grants.grants.items

@@ -1,3 +1,6 @@
+//! Whether a password is right, and how an entry is refused whose comparison fails or that comes up
+//! against what is locked out (TPM 2.0 Library, Part 1, section 19.4).
+
 ghost use Rattle.std.specs.Prelude.{◌≡◌};
 ghost use Rattle.tpm_types.specs.Rc.{plain};
 ghost use Rattle.tpm_types.specs.Refused.{refusal};

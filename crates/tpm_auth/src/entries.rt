@@ -1,3 +1,6 @@
+//! The checks of each authorization entry for itself, before it is asked what the entry authorizes:
+//! session, attributes, sizes, cipher.
+
 ghost use Rattle.std.specs.Prelude.{◌≡◌, ◌+◌, ◌≤◌, ◌==◌, [], length, map};
 ghost use Rattle.std.specs.List.{list_any};
 ghost use Rattle.tpm_types_command.specs.AuthEntry.{entry_of};
@@ -5,33 +8,21 @@ ghost use Rattle.tpm_types.specs.Handle.{session_kind};
 ghost use Rattle.tpm_auth.specs.Entries.{decrypts, encrypts, entries_pass, entry_passes, has_wrong_attributes, is_misplaced, kind_passes, lacks_cipher, reference_of};
 
 use tpm_record::Keep;
-use tpm_types::{Handle, MOST_DIGEST, Rc, ResponseCode, SessionKind, SymmetricDefinition};
+use tpm_types::{DIGEST_LIMIT, Handle, Rc, ResponseCode, SessionKind, SymmetricDefinition};
 use tpm_types_command::{AuthEntry, CommandCode};
-
-/// The attribute by which a session decrypts the command's first parameter.
-const DECRYPT: u8 = 0x20;
-
-/// The attribute by which a session encrypts the response's first parameter.
-const ENCRYPT: u8 = 0x40;
-
-/// The reserved bits of the session attributes, 3 and 4.
-const RESERVED: u8 = 0x18;
-
-/// The attributes of audit sessions, which are not served: auditExclusive, auditReset and audit.
-const AUDIT: u8 = 0x86;
 
 /// Whether the entry's session decrypts the command's first parameter.
 pub fn decrypts(entry: &AuthEntry) -> bool
     ensures { result ≡ decrypts (entry_of entry.now) }
 {
-    entry.attributes.has_any(DECRYPT)
+    entry.attributes.decrypts()
 }
 
 /// Whether the entry's session encrypts the response's first parameter.
 pub fn encrypts(entry: &AuthEntry) -> bool
     ensures { result ≡ encrypts (entry_of entry.now) }
 {
-    entry.attributes.has_any(ENCRYPT)
+    entry.attributes.encrypts()
 }
 
 /// The code for an absent session in this entry.
@@ -60,13 +51,13 @@ fn check_kind<K: Keep>(keep: &K, number: u8, entry: &AuthEntry) -> Result<(), Rc
 }
 
 /// Whether one of these entries names the session.
-fn names_session(entries: &[AuthEntry], session: Handle) -> bool
+fn is_named_in(entries: &[AuthEntry], session: Handle) -> bool
     ensures { result ≡ list_any (λ earlier. earlier.session.number == session.number)
         (map entry_of entries.now) }
 {
     match entries {
         [first, others @ ..] => {
-            first.session.number == session.number || names_session(others, session)
+            first.session.number == session.number || is_named_in(others, session)
         }
         [] => false,
     }
@@ -97,7 +88,7 @@ fn is_misplaced(code: CommandCode, number: u8, before: &[AuthEntry], entry: &Aut
     if entry.session == Handle::PASSWORD {
         code.authorized_handles() < usize::from(number)
     } else {
-        names_session(before, entry.session)
+        is_named_in(before, entry.session)
     }
 }
 
@@ -105,8 +96,8 @@ fn has_wrong_attributes(code: CommandCode, before: &[AuthEntry], entry: &AuthEnt
     ensures { result ≡ has_wrong_attributes code (map entry_of before.now) (entry_of entry.now) }
 {
     let is_password = entry.session == Handle::PASSWORD;
-    entry.attributes.has_any(AUDIT)
-        || is_password && entry.attributes.has_any(DECRYPT | ENCRYPT)
+    entry.attributes.audits()
+        || is_password && entry.attributes.uses_cipher()
         || decrypts(entry) && (any_decrypts(before) || !code.has_sized_parameter())
         || encrypts(entry) && (any_encrypts(before) || !code.shape().sized_answer)
 }
@@ -114,7 +105,7 @@ fn has_wrong_attributes(code: CommandCode, before: &[AuthEntry], entry: &AuthEnt
 fn lacks_cipher<K: Keep>(keep: &K, entry: &AuthEntry) -> bool
     ensures { result ≡ lacks_cipher (K.record_of keep.now) (entry_of entry.now) }
 {
-    if !entry.attributes.has_any(DECRYPT | ENCRYPT) {
+    if !entry.attributes.uses_cipher() {
         return false;
     }
     match keep.sessions().get(entry.session) {
@@ -135,14 +126,14 @@ fn check_entry<K: Keep>(
         (entry_of entry.now) }
 {
     let number = before.len() as u8 + 1;
-    if entry.nonce.len() > MOST_DIGEST || entry.hmac.len() > MOST_DIGEST {
+    if entry.nonce.len() > DIGEST_LIMIT || entry.hmac.len() > DIGEST_LIMIT {
         return Err(ResponseCode::Size.anywhere().at_session(number));
     }
     check_kind(keep, number, entry)?;
     if is_misplaced(code, number, before, entry) {
         return Err(ResponseCode::Handle.anywhere().at_session(number));
     }
-    if entry.attributes.has_any(RESERVED) {
+    if entry.attributes.has_reserved_bits() {
         return Err(ResponseCode::ReservedBits.anywhere().at_session(number));
     }
     if has_wrong_attributes(code, before, entry) {

@@ -1,3 +1,7 @@
+//! The authorization of a whole command: its entries are checked in order, each for the handle of
+//! its place, and [`Grants`] says what each authorizes.
+
+ghost use Rattle.tpm_bytes.specs.Reading.{Gives};
 ghost use Rattle.std.specs.Prelude.{◌≡◌, ◌+◌, ◌≤◌, [], ◌∷◌, length, map, not};
 ghost use Rattle.tpm_session.specs.FirstBuffer.{has_first_buffer};
 ghost use Rattle.tpm_types_command.specs.AuthEntry.{entry_of};
@@ -6,7 +10,7 @@ ghost use Rattle.tpm_types.specs.Handle.{session_kind};
 ghost use Rattle.tpm_types.specs.Locality.{locality_number};
 ghost use Rattle.tpm_types.specs.declared.handle.SessionKind.TheVariants as kind;
 ghost use Rattle.tpm_record.specs.Entity.{name_of};
-ghost use Rattle.tpm_auth.specs.Grant.{AreGranted, IsGranted, authorize, authorized, grant, grants_pass, is_unavailable, password_grant};
+ghost use Rattle.tpm_auth.specs.Grant.{AreGranted, authorize, authorized, grant, granted_by, grants_pass, is_unavailable, password_grant};
 ghost use Rattle.tpm_auth.specs.SessionGrant.{hashed_command};
 
 use crate::comparison::{check_of, failure, is_locked_out, is_password_of, lockout_refusal};
@@ -23,7 +27,7 @@ use tpm_types_command::{AuthEntry, Command, CommandCode};
 /// What the entries of a command authorize, each a handle or nothing.
 #[derive(Drop)]
 pub struct Grants {
-    pub entries: ArrayVec<Option<Grant>, 3>,
+    pub grants: ArrayVec<Option<Grant>, 3>,
 }
 
 /// Whether what the entry of this number is to authorize cannot be authorized by its authorization
@@ -118,7 +122,7 @@ fn authorized<'a>(command: &'a Command) -> &'a [Handle]
     &command.handles.as_slice()[..command.code.authorized_handles()]
 }
 
-/// Checks these entries behind those so far, and adds what each authorizes; the first that fails is
+/// Checks these entries after those so far, and adds what each authorizes; the first that fails is
 /// answered.
 fn check_grants<K: Keep>(
     keep: &K,
@@ -166,7 +170,7 @@ fn names_of<K: Keep>(keep: &K, handles: &[Handle]) -> ArrayVec<Name, 3>
 /// Checks each handle by the entry of its place, and the other entries, and tells what each
 /// authorizes.
 fn check_sessions<K: Keep>(keep: &K, sent: Sent) -> Result<Grants, Refused>
-    ensures { IsGranted (grants_pass (K.record_of keep.now) (whole_of sent.entry.command.now)
+    ensures { Gives granted_by (grants_pass (K.record_of keep.now) (whole_of sent.entry.command.now)
         (locality_number sent.entry.locality) [] (whole_of sent.entry.command.now).entries) result }
 {
     let command = sent.command;
@@ -182,32 +186,32 @@ fn check_sessions<K: Keep>(keep: &K, sent: Sent) -> Result<Grants, Refused>
         command.entries.as_slice(),
         &mut entries,
     )?;
-    Ok(Grants { entries })
+    Ok(Grants { grants: entries })
 }
 
-/// The same of one entry that is a password.
+/// Checks a handle by the only entry, which is a password.
 #[tactic(auto, unfolding(crate::specs::Grant::grant))]
 fn check_one_password<K: Keep>(keep: &K, sent: Sent, entry: &AuthEntry) -> Result<Grants, Refused>
     requires { session_kind entry.now.session ≡ kind.Password }
-    ensures { IsGranted (grants_pass (K.record_of keep.now) (whole_of sent.entry.command.now)
+    ensures { Gives granted_by (grants_pass (K.record_of keep.now) (whole_of sent.entry.command.now)
         (locality_number sent.entry.locality) [] (entry_of entry.now ∷ [])) result }
 {
     let used = authorized(sent.command).first().copied();
     let grant = check_password(keep, sent.command.code, 1, used, entry)?;
     let mut entries = ArrayVec::new();
     entries.push(grant);
-    Ok(Grants { entries })
+    Ok(Grants { grants: entries })
 }
 
-/// The same of all entries. Nothing is hashed where there are none, or where there is a password
-/// alone.
+/// Checks all entries in order. Nothing is hashed where there are none, or where there is a
+/// password alone.
 fn check_all<K: Keep>(keep: &K, sent: Sent) -> Result<Grants, Refused>
-    ensures { IsGranted (grants_pass (K.record_of keep.now) (whole_of sent.entry.command.now)
+    ensures { Gives granted_by (grants_pass (K.record_of keep.now) (whole_of sent.entry.command.now)
         (locality_number sent.entry.locality) [] (whole_of sent.entry.command.now).entries) result }
 {
     match sent.command.entries.as_slice() {
         [] => Ok(Grants {
-            entries: ArrayVec::new(),
+            grants: ArrayVec::new(),
         }),
         [entry] if entry.session.session_kind() == SessionKind::Password => {
             check_one_password(keep, sent, entry)
@@ -225,7 +229,7 @@ pub fn authorize<K: Keep>(
     command: &Command,
     locality: Locality,
 ) -> Result<Grants, Refused>
-    ensures { IsGranted (authorize (K.record_of keep.now) (whole_of command.now)
+    ensures { Gives granted_by (authorize (K.record_of keep.now) (whole_of command.now)
         (locality_number locality)) result }
 {
     let entries = command.entries.as_slice();

@@ -1,3 +1,6 @@
+//! What the entry of a session authorizes, by its HMAC or by its policy: whether it may, what it
+//! comes up against, and whether its comparison holds.
+
 ghost use Rattle.std.specs.Prelude.{◌≡◌, ◌≤◌, length, map};
 ghost use Rattle.tpm_types_command.specs.AuthEntry.{entry_of};
 ghost use Rattle.tpm_types_command.specs.Command.{whole_of};
@@ -107,7 +110,7 @@ fn encrypting_nonce<'a, K: Keep>(keep: &'a K, entries: &[AuthEntry]) -> &'a [u8]
     }
 }
 
-/// The entries whose sessions' nonces stand in the text of this entry: those behind the first,
+/// The entries whose sessions' nonces stand in the text of this entry: those after the first,
 /// where that authorizes a handle.
 fn other_entries<'a, 'b>(command: &'a Command<'b>, number: u8) -> &'a [AuthEntry<'b>]
     ensures { map entry_of result.now ≡ other_entries (whole_of command.now) number }

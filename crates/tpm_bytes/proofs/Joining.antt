@@ -4,7 +4,7 @@ use Rattle.std.proofs.lemmas.List.{map-append}
 use Rattle.tpm_bytes.specs.Many.{many_at}
 use Rattle.tpm_bytes.specs.Reading.{◌>>=◌}
 
--- what is read, behind what was read before it
+-- what is read, after what was read before it
 abbrev pub behind : {A E : Type 0} → List A → Result (List A × List ℕ) E → Result (List A × List ℕ) E
 behind front read = do
   others ← read

@@ -1,3 +1,5 @@
+-- What writes to a text of fixed capacity leave there: what fits is written whole, one text after
+-- the other, as a loop writes them.
 use Rattle.std.proofs.lemmas.Bool.{false≢true}
 use Rattle.std.proofs.lemmas.List.{take_more, flat_map_more}
 use Rattle.std.proofs.lemmas.List.Folds.{length-flat_map-take}
@@ -19,7 +21,7 @@ pub put_grows : {E : Type 0} (capacity : ℕ) (text old : List ℕ) (result : Re
 put_grows capacity text old (Ok x) new puts = rw (puts.1, length-append old text) (le_refl _)
 put_grows capacity text old (Err e) new puts = rw puts.2 (omega arith)
 
--- two texts that fit are written one behind the other
+-- two texts that fit are written one after the other
 pub put_two : {E F : Type 0} (capacity : ℕ) (a b old mid new : List ℕ) (r : Result (Unit {0}) E) (q : Result (Unit {0}) F) → Puts capacity a old r mid → Puts capacity b mid q new → length old + (length a + length b) ≤ capacity → new ≡ old ++ (a ++ b)
 put_two capacity a b old mid new r q first second fits =
     let written : mid ≡ old ++ a = put_fits capacity a old r mid first (omega arith) in
@@ -36,7 +38,7 @@ put_three capacity a b c old one two new r q s first second third fits =
     ∙ ap (λ (l : List ℕ). l ++ c) both
     ∙ append_assoc old (a ++ b) c
 
--- ---- texts one behind the other, as a loop writes them
+-- ---- texts one after the other, as a loop writes them
 
 -- the next text, at the end of those before it
 pub written_more : {X : Type 0} (text : X → List ℕ) (xs : List X) (i : ℕ) (d x : X) (start so_far new : List ℕ) → i < length xs → x ≡ get_or xs i d → so_far ≡ start ++ flat_map text (take i xs) → new ≡ so_far ++ text x → new ≡ start ++ flat_map text (take (i + 1) xs)

@@ -3,3 +3,4 @@ pub mod Many
 pub mod Writing
 pub mod Lends
 pub mod Tap
+pub mod Numbers

@@ -3,7 +3,7 @@
 use Rattle.std.specs.Prelude.{ℕ, zero, suc, ◌+◌, List, [], ◌∷◌, Result, Ok}
 use Rattle.tpm_bytes.specs.Reading.{◌>>=◌}
 
--- so many things, each read where the one before it ended
+-- a number of things, each read where the one before it ended
 abbrev pub many_at : {A E : Type 0}
     → (List ℕ → Result (A × List ℕ) E)
     → ℕ → List ℕ → Result (List A × List ℕ) E

@@ -45,6 +45,11 @@ sized_at limit text = do
   size ← or_fault (number_at w16 text) fault.Short
   if nat_lt limit size.0 then Err fault.TooLong else or_fault (bytes_at size.0 size.1) fault.Short
 
+-- The code gave what the definition gives, as `view` sees it, or its fault.
+abbrev pub Gives : {X Y E : Type 0} → (X → Y) → Result Y E → Result X E → Type 0
+Gives view defined (Ok x) = defined ≡ Ok (view x)
+Gives view defined (Err e) = defined ≡ Err e
+
 -- A read of old gave result and left new: the value and the rest that the definition gives, or its
 -- fault and old.
 abbrev pub Reads : {X Y E : Type 0}

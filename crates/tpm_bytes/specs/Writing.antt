@@ -15,7 +15,7 @@ Puts capacity text old result new =
     × OnOk result (new ≡ old ++ text)
     × OnErr result (new ≡ old)
 
--- The same of bytes as a sized buffer, whose size has two bytes.
+-- A write of bytes as a sized buffer, whose size has two bytes: all of it exactly where it fits.
 abbrev pub PutsSized : {E : Type 0} → ℕ → List ℕ → List ℕ → Result (Unit {0}) E → List ℕ → Type 0
 PutsSized capacity bytes old result new =
     (IsOk result ↔ ((length bytes < 2 ^ 16) × (length old + (2 + length bytes) ≤ capacity)))

@@ -1,3 +1,6 @@
+//! Reading of bytes from the front of a text: fixed counts, big-endian numbers, and sized buffers
+//! (TPM2B). A refused read leaves the text as it was.
+
 ghost use Rattle.std.specs.Prelude.{◌≡◌, ℕ, ◌==◌, List, length};
 ghost use Rattle.std.specs.Int.{w8, w16, w32, w64};
 ghost use Rattle.tpm_bytes.specs.Reading.{Reads, bytes_at, number_at, sized_at};

@@ -1,3 +1,5 @@
+//! Comparison of two byte strings.
+
 ghost use Rattle.std.specs.Prelude.{◌≡◌};
 ghost use Rattle.std.specs.Str.{bytes_eq};
 

@@ -1,3 +1,6 @@
+//! Readers of several things that stand one after another: a given count of them, or one for each
+//! key of a list. A refused read leaves the text as it was.
+
 ghost use Rattle.std.specs.Prelude.{◌≡◌, ◌≤◌, ◌<◌, ℕ, List, Result, IfOk, length, map};
 ghost use Rattle.tpm_bytes.specs.Many.{each_at, many_at};
 ghost use Rattle.tpm_bytes.specs.Reading.{Reads};

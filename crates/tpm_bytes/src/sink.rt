@@ -1,3 +1,6 @@
+//! Writing of bytes to a text of fixed capacity: big-endian numbers, and sized buffers (TPM2B).
+//! What does not fit is refused, and nothing is written.
+
 ghost use Rattle.std.specs.Prelude.{◌≡◌, ℕ, ◌≤◌, List, [], length};
 ghost use Rattle.std.specs.Borrow.{sem};
 ghost use Rattle.std.specs.Int.{w8, w16, w32, w64, to_be_bytes};

@@ -1,3 +1,6 @@
+//! A reader or a writer together with marks of what it did, so that a caller can ask afterwards
+//! whether it failed or ended.
+
 ghost use Rattle.std.specs.Prelude.{◌≡◌, OnErr, OnOk, length, true};
 ghost use Rattle.std.specs.Io.{ReadsAtMost, WritesAtMost};
 ghost use Rattle.std.specs.Io.KnownBytes.{Appends, Keeps, ReadConsumes, WriteAppends};
@@ -6,12 +9,12 @@ ghost use Rattle.tpm_bytes.specs.Tap.{AppendsFront, after_read, after_write, dev
 use std::io;
 use std::io::{Read, Write};
 
-/// The device behind a tap failed, as the tap's marks say.
+/// The reader or the writer of a tap failed, as the tap's marks say.
 #[derive(Clone, Copy, Debug, PartialEq, Eq)]
 pub struct Failed;
 
-/// A reader or a writer, and what it did: whether it failed, whether it ended, how many of its reads
-/// gave bytes, and for how many bytes the last one had room.
+/// A reader or a writer, and what it did: whether it failed, whether it ended, how many of its
+/// reads gave bytes, and for how many bytes the last one had room.
 #[derive(Drop)]
 pub struct Tap<D> {
     device: D,

@@ -1,8 +1,11 @@
 #![tactic(auto)]
 
-//! Bytes in hex, of which a script's lines and its responses consist. What hex is are the words of
-//! the kit's `hex`; these loops have no branch for a single digit, so that the compiler can do
-//! sixteen digits at a time.
+//! Bytes in hex, of which a script's lines and its responses consist.
+//!
+//! It stands on the kit's `hex`, whose definitions say what hex is: each call is proved to be its
+//! definition there. A text that is no hex is refused, and then nothing is said of the room that it
+//! was read to. The loops have no branch for a single digit, so that the compiler can do sixteen
+//! digits at a time.
 
 ghost use Rattle.std.specs.Prelude.{◌≡◌, ◌*◌, ◌/◌, ◌<◌, length, slice_index, unwrap_or, IsErr, MatchResult};
 ghost use Rattle.hex.specs.Hex.{decode_of, encode_lower, hex_digit_value, lower_digits};

@@ -1,8 +1,9 @@
 -- The body of an image: what is read was spelled so, and what is spelled so is read; and how long it is at most.
+use Rattle.tpm_image.specs.Sizes.{body_size}
 use Rattle.std.proofs.Common.{◌≡◌, ℕ, ◌≤◌, true, List, [], ◌∷◌, ◌++◌, length, Result, Ok, refl, ap, subst, ◌∙◌, append-nil, arith, length-append}
 use Rattle.std.specs.Prelude.{◌==◌, ◌↔◌, not}
 use Rattle.std.proofs.lemmas.Bool.{eqb-true}
-use Rattle.tpm_ascending.specs.Ascending.{Entries}
+use Rattle.tpm_sorted_map.specs.SortedMap.{Entries}
 use Rattle.tpm_bytes.specs.Reading.{◌>>=◌, refused_if}
 use Rattle.tpm_bytes.proofs.Fields.{AreBytes, Takes-then, bind_ok, ok_is, passed}
 use Rattle.tpm_nv.specs.Index.{NvIndex}
@@ -66,7 +67,7 @@ body_is text kept fits = (body_taken text kept fits, λ is. ap body_of is.0 ∙ 
 
 -- ---- the text's length
 
-pub body_small : (kept : NonVolatile) → IsNonVolatile kept → length (body_text kept) ≤ 17433
+pub body_small : (kept : NonVolatile) → IsNonVolatile kept → length (body_text kept) ≤ body_size
 unfolding body_text
 body_small kept is =
     let state = state_text kept.state in

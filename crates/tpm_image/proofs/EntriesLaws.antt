@@ -2,7 +2,7 @@
 use Rattle.std.proofs.Common.{arith, ◌≡◌, ℕ, zero, suc, ◌+◌, ◌-◌, ◌<◌, ◌≤◌, Bool, true, false, List, [], ◌∷◌, ◌++◌, Result, Ok, Err, IfOk, refl, sym, ap, ◌∙◌, append-nil}
 use Rattle.std.specs.Prelude.{nat_le, not}
 use Rattle.std.proofs.lemmas.Bool.{le-leb, lt-leb}
-use Rattle.tpm_ascending.specs.Ascending.{Entries}
+use Rattle.tpm_sorted_map.specs.SortedMap.{Entries}
 use Rattle.tpm_bytes.specs.Many.{many_at}
 use Rattle.tpm_bytes.specs.Reading.{◌>>=◌, refused_if}
 use Rattle.tpm_bytes.proofs.Joining.{behind, moved}
@@ -22,7 +22,7 @@ abbrev pub passed_from : {X : Type 0} → ℕ → Entries X × List ℕ → Resu
 passed_from low o = refused_if (not (ascend_from low o.0)) malformed >>= λ passed. Ok o
 
 module _ {X : Type 0} (at : List ℕ → Result ((ℕ × X) × List ℕ) Malformed) where
-  -- so many entries, the first from this key on
+  -- a number of entries, the first from this key on
   unfoldable pub entries_from : (count low : ℕ) → List ℕ → Result (Entries X × List ℕ) Malformed
   entries_from zero low text = Ok ([], text)
   entries_from (suc count) low text =
@@ -53,7 +53,7 @@ module _ {X : Type 0} (at : List ℕ → Result ((ℕ × X) × List ℕ) Malform
           one_passes (nat_le low first.0.0) first.0 (many_at at count first.1) low refl
           ∙ ap (λ (r : Result (Entries X × List ℕ) Malformed). refused_if (not (nat_le low first.0.0)) malformed >>= λ in_order. r >>= before first.0) (are (first.0.0 + 1) first.1)
 
-  -- what is left to read, behind the entries so far
+  -- what is left to read, after the entries so far
   unfoldable pub entries_left : (count place low : ℕ) (so_far : Entries X) (text : List ℕ) → Result (Entries X × List ℕ) Malformed
   entries_left count place low so_far text = behind so_far (entries_from (count - place) low text)
 

@@ -38,7 +38,7 @@ same_reading same law = record {
   again = λ x rest is. same _ ∙ law.again x rest is;
 }
 
--- behind a test of what is known before
+-- after a test of what is known before
 pub behind_test : {A E : Type 0} {text : A → List ℕ} {Is Are : A → Type 0} {at : List ℕ → Result (A × List ℕ) E} (refuses : Bool) (fault : E) → ((x : A) → refuses ≡ false → Is x → Are x) → ((x : A) → Are x → (refuses ≡ false) × Is x) → Spelled text Is at → Spelled text Are (λ bytes. refused_if refuses fault >>= λ passed. at bytes)
 behind_test {A} {E} {text} {Is} {Are} {at} refuses fault to from law = record {
   taken = λ bytes x fits e.

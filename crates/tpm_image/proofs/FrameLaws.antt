@@ -80,7 +80,7 @@ length-framed_text body =
     let front = head_of body ++ body in
     omega (arith, length-append (head_of body) body, length-append front (hash_of Sha256 front), length-hash_of Sha256 front)
 
--- the head says its length, whatever is behind it
+-- the head says its length, whatever is after it
 length_said : (whole : ℕ) (rest : List ℕ) → whole < 2 ^ 32 → length_of (head_text 1 whole ++ rest) ≡ whole
 length_said whole rest small = wide32.again whole small
 

@@ -1,4 +1,5 @@
--- Images: what is read was spelled so, what is spelled so is read, and no shorter front of an image is one.
+-- Images: what is read was spelled so, what is spelled so is read, and no shorter front of an image
+-- is one.
 use Rattle.std.proofs.Common.{◌≡◌, ℕ, ◌+◌, ◌<◌, ◌≤◌, cond, List, length, take, Result, Ok, Err, refl, ap, ◌∙◌, arith, inl, inr}
 use Rattle.std.specs.Prelude.{◌↔◌, nat_lt}
 use Rattle.std.proofs.lemmas.Bool.{cases_lt, le-ltb, lt-ltb}
@@ -11,6 +12,7 @@ use Rattle.tpm_record.specs.Record.{Record}
 use Rattle.tpm_image.specs.Body.{body_of, body_text}
 use Rattle.tpm_image.specs.Frame.{digest_bytes, framed_body, framed_text, head_bytes}
 use Rattle.tpm_image.specs.Image.{image_of, image_text}
+use Rattle.tpm_image.specs.Sizes.{image_size}
 use Rattle.tpm_image.specs.NonVolatile.{IsNonVolatile, NonVolatile, kept_of, powered_on}
 use Rattle.tpm_image.specs.declared.fault.ImageFault.{ImageFault}
 use Rattle.tpm_image.specs.declared.fault.ImageFault.TheVariants as fault
@@ -47,7 +49,7 @@ pub length-image_text : (kept : NonVolatile) → length (image_text kept) ≡ he
 unfolding image_text
 length-image_text kept = length-framed_text (body_text kept)
 
-pub image_small : (kept : NonVolatile) → IsNonVolatile kept → length (image_text kept) ≤ 17475
+pub image_small : (kept : NonVolatile) → IsNonVolatile kept → length (image_text kept) ≤ image_size
 image_small kept is = omega (arith, length-image_text kept, body_small kept is)
 
 -- ---- a front of an image

@@ -1,4 +1,6 @@
 -- The NV indices of an image: what is read was spelled so, and what is spelled so is read.
+use Rattle.tpm_image.specs.Sizes.{indices_size}
+use Rattle.tpm_types.specs.Limits.{nv_data_limit, nv_index_limit, nv_space_limit}
 use Rattle.std.proofs.Common.{◌≡◌, ℕ, ◌+◌, ◌*◌, ◌≤◌, Bool, true, false, cond, List, [], ◌∷◌, ◌++◌, length, Option, Some, None, refl, sym, ap, arith, length-append}
 use Rattle.std.specs.Prelude.{◌==◌}
 use Rattle.std.specs.Int.{w16, to_be_bytes}
@@ -6,7 +8,7 @@ use Rattle.std.specs.List.{AllByRecursion, flat_map}
 use Rattle.std.proofs.lemmas.Bool.{eqb-true, le-leb, leb-true}
 use Rattle.std.proofs.lemmas.Bool.Decides.{Decides-eqb}
 use Rattle.std.proofs.lemmas.List.Sums.{sum_by-cons}
-use Rattle.tpm_ascending.specs.Ascending.{Ascends, Entries}
+use Rattle.tpm_sorted_map.specs.SortedMap.{Ascends, Entries}
 use Rattle.tpm_bytes.specs.Writing.{sized_text}
 use Rattle.tpm_mac.specs.Digest.{digest_size}
 use Rattle.tpm_mac.specs.declared.algorithm.HashAlg.{HashAlg}
@@ -25,16 +27,16 @@ use Rattle.tpm_types_nv.specs.declared.nv_type.NvType.{NvType}
 use Rattle.tpm_types_nv.specs.declared.nv_type.NvType.TheVariants as type
 use Rattle.tpm_types_nv.proofs.NvPublicLaws.{sized_nv_public_spelled}
 use Rattle.tpm_image.specs.Body.{ascend_from, bytes_of, data_size, fields_of_index_in, have_space, index_in, index_text, indices_in, indices_text, is_index}
-use Rattle.tpm_image.proofs.AscendingLaws.{are_both, ascends, ascends-again, both}
+use Rattle.tpm_image.proofs.SortedMapLaws.{are_both, ascends, ascends-again, both}
 use Rattle.tpm_image.proofs.FieldSpelling.{auth_value_spelled, buffer_in_spelled, counted_spelled, in_body_spelled, made_of, passing_spelled, three_texts}
 
 -- ---- the size of the data
 
-digest_small : (alg : HashAlg) → digest_size alg ≤ 2048
+digest_small : (alg : HashAlg) → digest_size alg ≤ nv_data_limit
 digest_small Sha1 = omega arith
 digest_small Sha256 = omega arith
 
-type_size_small : (p : NvPublic) (of : Option NvType) → is_type_size p of ≡ true → p.data_size ≤ 2048
+type_size_small : (p : NvPublic) (of : Option NvType) → is_type_size p of ≡ true → p.data_size ≤ nv_data_limit
 type_size_small p (Some type.Ordinary) is = leb-true _ _ is
 type_size_small p (Some type.Counter) is = omega (arith, eqb-true _ _ is)
 type_size_small p (Some type.Bits) is = omega (arith, eqb-true _ _ is)
@@ -66,7 +68,7 @@ keyed index = (index.public.nv_index.number, index)
 record HasFields (index : NvIndex) : Type 0 where
   public : IsNvPublic index.public
   auth_value : IsAuthValue index.auth_value
-  bytes : length index.bytes ≤ 2048
+  bytes : length index.bytes ≤ nv_data_limit
 
 abbrev text_of : NvIndex → List ℕ
 text_of index = index_text (keyed index)
@@ -74,7 +76,7 @@ text_of index = index_text (keyed index)
 fields_spelled : Spelled text_of HasFields fields_of_index_in
 unfolding index_text
 fields_spelled =
-    let bytes = buffer_in_spelled 2048 (omega arith) in
+    let bytes = buffer_in_spelled nv_data_limit (omega arith) in
     let fields = first (in_body_spelled sized_nv_public_spelled) (then auth_value_spelled (then bytes (all_read fields_of index_of (λ _. refl) (λ _. refl)))) in
     respelled fields
     (λ index. three_texts (sized_text (nv_public_text index.public)) (sized_text index.auth_value) (sized_text index.bytes))
@@ -93,7 +95,7 @@ index_spelled = made_of keyed (λ e. e.1) to from (passing_spelled is_index fiel
     from : (e : ℕ × NvIndex) → IsIndex e.0 e.1 → (keyed e.1 ≡ e) × (HasFields e.1 × (is_index e.1 ≡ true))
     from e is =
         let small = type_size_small e.1.public (index_type e.1.public.attributes) is.sized in
-        let few : length e.1.bytes ≤ 2048 = omega (arith, small, is.data_size, data_within e.1.public) in
+        let few : length e.1.bytes ≤ nv_data_limit = omega (arith, small, is.data_size, data_within e.1.public) in
         let tests = both (has_type_size e.1.public) (length e.1.bytes == data_size e.1.public) is.sized ((Decides-eqb _ _).1 is.data_size) in
         (ap (λ (key : ℕ). (key, e.1)) (sym is.named), (record { public = is.public; auth_value = is.auth_value; bytes = few }, tests))
 
@@ -102,8 +104,8 @@ index_spelled = made_of keyed (λ e. e.1) to from (passing_spelled is_index fiel
 -- what holds of the indices in contents
 pub record AreStored (indices : Entries NvIndex) : Type 0 where
   pub ascends : Ascends indices
-  pub few : length indices ≤ 32
-  pub small : bytes_of indices ≤ 8192
+  pub few : length indices ≤ nv_index_limit
+  pub small : bytes_of indices ≤ nv_space_limit
   pub each : AreIndices indices
 
 are_each : (es : Entries NvIndex) → AllByRecursion (λ e. IsIndex e.0 e.1) es → AreIndices es
@@ -117,7 +119,7 @@ are_each-again (e ∷ es) each = (each.0, are_each-again es each.1)
 pub indices_spelled : Spelled indices_text AreStored indices_in
 unfolding indices_in indices_text
 indices_spelled =
-    respelled (passing_spelled have_space (passing_spelled (ascend_from 0) (counted_spelled 32 (omega arith) index_spelled))) (λ _. refl)
+    respelled (passing_spelled have_space (passing_spelled (ascend_from 0) (counted_spelled nv_index_limit (omega arith) index_spelled))) (λ _. refl)
     (λ es is. record { ascends = ascends 0 es is.0.1; few = is.0.0.0; small = leb-true _ _ is.1; each = are_each es is.0.0.1 })
     (λ es are. (((are.few, are_each-again es are.each), ascends-again es are.ascends), le-leb _ _ are.small))
 
@@ -148,6 +150,6 @@ all_small : (es : Entries NvIndex) → AreIndices es → length (flat_map index_
 all_small [] each = omega arith
 all_small (e ∷ es) each = omega (arith, index_small e each.0, all_small es each.1, length-append (index_text e) (flat_map index_text es), sum_by-cons (λ (d : ℕ × NvIndex). d.1.public.data_size) e es)
 
-pub indices_small : (es : Entries NvIndex) → AreStored es → length (indices_text es) ≤ 10882
+pub indices_small : (es : Entries NvIndex) → AreStored es → length (indices_text es) ≤ indices_size
 unfolding indices_text
 indices_small es are = omega (arith, are.few, are.small, all_small es are.each, length-append (to_be_bytes w16 (length es)) (flat_map index_text es))

@@ -1,5 +1,5 @@
 pub mod Appending
-pub mod AscendingLaws
+pub mod SortedMapLaws
 pub mod BankLaws
 pub mod BodyLaws
 pub mod EntriesLaws

@@ -1,4 +1,5 @@
 -- The persistent objects of an image: what is read was spelled so, and what is spelled so is read.
+use Rattle.tpm_image.specs.Sizes.{objects_size}
 use Rattle.std.proofs.Common.{◌≡◌, ℕ, ◌*◌, ◌^◌, ◌<◌, ◌≤◌, true, List, [], ◌∷◌, ◌++◌, length, Some, None, Result, Ok, Err, refl, sym, ap, subst, ◌∙◌, append_assoc, arith, length-append}
 use Rattle.std.specs.Prelude.{◌==◌, not, ok_or}
 use Rattle.std.specs.Int.{w16, w32, to_be_bytes}
@@ -6,7 +7,7 @@ use Rattle.std.specs.List.{AllByRecursion, flat_map}
 use Rattle.std.proofs.lemmas.Bool.{eqb-true}
 use Rattle.std.proofs.lemmas.Bool.Decides.{Decides-eqb}
 use Rattle.std.proofs.lemmas.Slice.Eq.{bytes_eq-Decides}
-use Rattle.tpm_ascending.specs.Ascending.{Entries}
+use Rattle.tpm_sorted_map.specs.SortedMap.{Entries}
 use Rattle.tpm_bytes.specs.Reading.{◌>>=◌, refused_if}
 use Rattle.tpm_bytes.specs.Writing.{sized_text}
 use Rattle.tpm_bytes.proofs.Fields.{wide32}
@@ -33,7 +34,7 @@ use Rattle.tpm_types_object.proofs.SensitiveLaws.{sized_sensitive_spelled}
 use Rattle.tpm_image.specs.Body.{ascend_from, handle_in, is_sensitive_of, object_in, object_text, objects_in, objects_text, object_hierarchy_in, sensitive_in, sensitive_of}
 use Rattle.tpm_image.specs.Fields.{is_trimmed, malformed, number_in}
 use Rattle.tpm_image.specs.declared.fault.Malformed.{Malformed}
-use Rattle.tpm_image.proofs.AscendingLaws.{are_both, are_each, are_each-again, ascends, ascends-again, both}
+use Rattle.tpm_image.proofs.SortedMapLaws.{are_both, are_each, are_each-again, ascends, ascends-again, both}
 use Rattle.tpm_image.proofs.FieldSpelling.{buffer_in_spelled, counted_spelled, in_body_spelled, made_of, names_spelled, number_in_spelled, passing_spelled, same_reading, tested}
 
 -- ---- the handle and the hierarchy
@@ -68,7 +69,7 @@ owner_small hierarchy.Endorsement = omega arith
 owner_small hierarchy.Platform = omega arith
 owner_small hierarchy.Null = omega arith
 
--- a step behind two, or behind the second of them
+-- a step after two, or after the second of them
 steps : {A B C E : Type 0} (r : Result A E) (f : A → Result B E) (g : B → Result C E) → (r >>= λ x. f x >>= g) ≡ (r >>= f >>= g)
 steps (Ok x) f g = refl
 steps (Err fault) f g = refl
@@ -201,6 +202,6 @@ all_small : (es : Entries Object) → AllByRecursion (λ e. IsPersistent e.0 e.1
 all_small [] each = omega arith
 all_small (e ∷ es) each = omega (arith, object_small e each.0, all_small es each.1, length-append (object_text e) (flat_map object_text es))
 
-pub objects_small : (es : Entries Object) → ArePersistent es → length (objects_text es) ≤ 5282
+pub objects_small : (es : Entries Object) → ArePersistent es → length (objects_text es) ≤ objects_size
 unfolding objects_text
 objects_small es are = omega (arith, are.few, all_small es (are_each-again IsPersistent es are.each), length-append (to_be_bytes w16 (length es)) (flat_map object_text es))

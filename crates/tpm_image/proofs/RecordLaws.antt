@@ -4,6 +4,7 @@ use Rattle.tpm_bytes.proofs.Fields.{AreBytes, ok_is}
 use Rattle.tpm_record.specs.IsRecord.{IsRecord}
 use Rattle.tpm_record.specs.Record.{Record}
 use Rattle.tpm_image.specs.Image.{image_of, image_text}
+use Rattle.tpm_image.specs.Sizes.{image_size}
 use Rattle.tpm_image.specs.NonVolatile.{IsNonVolatile, NonVolatile, kept_of, powered_on}
 use Rattle.tpm_image.specs.Opening.{Opens, OpensAgain}
 use Rattle.tpm_image.specs.declared.fault.ImageFault.{ImageFault}
@@ -13,7 +14,7 @@ use Rattle.tpm_image.proofs.ImageLaws.{front_cut, image_again, image_small, imag
 pub record_again : (r : Record) → IsRecord r → image_of (image_text (kept_of r)) ≡ Ok (kept_of r)
 record_again r is = image_again (kept_of r) (kept_is r is)
 
-pub record_small : (r : Record) → IsRecord r → length (image_text (kept_of r)) ≤ 17475
+pub record_small : (r : Record) → IsRecord r → length (image_text (kept_of r)) ≤ image_size
 record_small r is = image_small (kept_of r) (kept_is r is)
 
 pub record_cut : (r : Record) (n : ℕ) → IsRecord r → 42 ≤ n → n < length (image_text (kept_of r)) → image_of (take n (image_text (kept_of r))) ≡ Err fault.Length

@@ -1,4 +1,5 @@
 -- What does not grow of what a device keeps, in an image: what is read was spelled so, and what is spelled so is read.
+use Rattle.tpm_image.specs.Sizes.{state_size}
 use Rattle.std.proofs.Common.{◌≡◌, ◌≢◌, ℕ, ◌^◌, ◌<◌, ◌≤◌, Bool, true, List, [], ◌∷◌, ◌++◌, length, Result, Ok, refl, sym, subst, append_assoc, append-nil, arith, length-append}
 use Rattle.std.specs.Prelude.{◌==◌, ◌*◌}
 use Rattle.std.specs.Int.{w8, w32, w64, to_be_bytes}
@@ -81,7 +82,7 @@ kind_number Nothing = 0
 kind_number Clear = 1
 kind_number (State values) = 2
 
--- what stands behind the byte
+-- what stands after the byte
 behind_kind : SavedState → List ℕ
 behind_kind Nothing = []
 behind_kind Clear = []
@@ -223,7 +224,7 @@ saved_small (State values) is =
       length-append (to_be_bytes w8 2) (values_text values),
     )
 
-pub state_small : (s : KeptState) → IsKeptState s → length (state_text s) ≤ 1269
+pub state_small : (s : KeptState) → IsKeptState s → length (state_text s) ≤ state_size
 unfolding state_text
 state_small s is =
     let two = hierarchies_text s.hierarchies ++ yes_no_text s.disable_clear in

@@ -1,4 +1,5 @@
 -- Things that are written one after another: what is written so far, and what is left to be written, are all.
+use Rattle.tpm_image.specs.Sizes.{text_size}
 use Rattle.std.proofs.Math.Nat.{mul-le-mul_left}
 use Rattle.std.proofs.Common.{arith, ◌*◌, ◌^◌, ◌≤◌, ◌≡◌, ℕ, ◌+◌, ◌<◌, List, ◌++◌, length, drop, get_or, sym, ap, ◌∙◌, append_assoc, refl}
 use Rattle.std.specs.List.{flat_map}
@@ -21,7 +22,7 @@ pub five_written : (t a b c d e p q r s u : List ℕ) → a ≡ t ++ p → b ≡
 five_written t a b c d e p q r s u first second third fourth fifth = rw (fifth, fourth, third, second, first) (simp append_assoc refl)
 
 -- one of sixteen things of a size fits where all of them do
-pub one_fits : (size i length start : ℕ) → size ≤ 32 → i < 16 → start + 16 * size ≤ 17465 → length ≡ start + i * size → (size * 1 < 2 ^ 63) × (length + size ≤ 17465)
+pub one_fits : (size i length start : ℕ) → size ≤ 32 → i < 16 → start + 16 * size ≤ text_size → length ≡ start + i * size → (size * 1 < 2 ^ 63) × (length + size ≤ text_size)
 one_fits size i length start few below room is =
     let up_to : size * (i + 1) ≤ size * 16 = mul-le-mul_left size (omega (arith, below)) in
     (omega (arith, few), omega (arith, up_to, room, is))

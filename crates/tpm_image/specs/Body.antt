@@ -1,11 +1,12 @@
 -- The body of an image: what a device keeps without power, part by part. The layout is this
 -- device's own; objects and indices stand in it by the standard's structures (TPM 2.0 Library, Part
 -- 2, sections 12.2.4, TPMT_PUBLIC, 12.3.2.4, TPMT_SENSITIVE, and 13.6, TPM2B_NV_PUBLIC).
+use Rattle.tpm_types.specs.Limits.{nv_data_limit, nv_index_limit, nv_space_limit, persistent_limit}
 use Rattle.std.specs.Prelude.{ℕ, ◌+◌, ◌==◌, ◌&&◌, nat_le, not, Bool, true, if◌then◌else◌}
 use Rattle.std.specs.Prelude.{List, [], ◌∷◌, ◌++◌, length, ok_or, Result, Ok, Err}
 use Rattle.std.specs.Int.{w8, w32, w64, to_be_bytes}
 use Rattle.std.specs.List.{flat_map, sum_by}
-use Rattle.tpm_ascending.specs.Ascending.{Entries}
+use Rattle.tpm_sorted_map.specs.SortedMap.{Entries}
 use Rattle.tpm_bytes.specs.Many.{many_at}
 use Rattle.tpm_bytes.specs.Reading.{◌>>=◌, refused_if}
 use Rattle.tpm_bytes.specs.Writing.{sized_text}
@@ -117,7 +118,7 @@ abbrev pub values_text : SavedValues → List ℕ
 values_text values =
     flat_map (λ value. value) values.sha1 ++ flat_map (λ value. value) values.sha256
 
--- the values of sixteen PCRs, of so many bytes each
+-- the values of sixteen PCRs, of this many bytes each
 unfoldable pub bank_in : ℕ → List ℕ → Result (List (List ℕ) × List ℕ) Malformed
 bank_in size text = many_at (bytes_in size) 16 text
 
@@ -138,7 +139,7 @@ saved_values_in text = do
   values ← values_in text
   Ok (State values.0, values.1)
 
--- what stands behind that byte
+-- what stands after that byte
 abbrev pub saved_by_kind : ℕ → List ℕ → Result (SavedState × List ℕ) Malformed
 saved_by_kind kind text =
     if kind == 0 then Ok (Nothing, text)
@@ -220,12 +221,12 @@ abbrev pub ascend_from : {X : Type 0} → ℕ → Entries X → Bool
 ascend_from low [] = true
 ascend_from low (e ∷ es) = nat_le low e.0 && ascend_from (e.0 + 1) es
 
--- at most sixteen, in ascending order of their handles
+-- in ascending order of their handles, within the limit on their number
 unfoldable pub objects_text : Entries Object → List ℕ
 objects_text objects = counted_text object_text objects
 
 unfoldable pub objects_in : List ℕ → Result (Entries Object × List ℕ) Malformed
-objects_in text = passing (ascend_from 0) (counted_in 16 object_in) text
+objects_in text = passing (ascend_from 0) (counted_in persistent_limit object_in) text
 
 -- ---- NV indices
 
@@ -239,7 +240,7 @@ index_text e =
 abbrev pub data_size : NvPublic → ℕ
 data_size p = if has p.attributes attribute.Written then p.data_size else 0
 
--- of the size of its type, and with so many bytes of data
+-- of the size of its type, and with this many bytes of data
 abbrev pub is_index : NvIndex → Bool
 is_index index =
     has_type_size index.public && length index.bytes == data_size index.public
@@ -248,7 +249,7 @@ abbrev pub fields_of_index_in : List ℕ → Result (NvIndex × List ℕ) Malfor
 fields_of_index_in text = do
   public ← in_body (filled_by nv_public_at) text
   auth_value ← auth_value_in public.1
-  bytes ← buffer_in 2048 auth_value.1
+  bytes ← buffer_in nv_data_limit auth_value.1
   Ok (
     record { public = public.0; auth_value = auth_value.0; bytes = bytes.0 },
     bytes.1,
@@ -264,14 +265,14 @@ abbrev pub bytes_of : Entries NvIndex → ℕ
 bytes_of indices = sum_by (λ e. e.1.public.data_size) indices
 
 abbrev pub have_space : Entries NvIndex → Bool
-have_space indices = nat_le (bytes_of indices) 8192
+have_space indices = nat_le (bytes_of indices) nv_space_limit
 
--- at most 32, in ascending order of their handles, with at most 8,192 bytes of data in all
+-- in ascending order of their handles, within the limits on their number and their data
 unfoldable pub indices_text : Entries NvIndex → List ℕ
 indices_text indices = counted_text index_text indices
 
 unfoldable pub indices_in : List ℕ → Result (Entries NvIndex × List ℕ) Malformed
-indices_in text = passing have_space (passing (ascend_from 0) (counted_in 32 index_in)) text
+indices_in text = passing have_space (passing (ascend_from 0) (counted_in nv_index_limit index_in)) text
 
 -- ---- the whole body
 

@@ -46,11 +46,11 @@ yes_no_text is_yes = to_be_bytes w8 (yes_no_number is_yes)
 abbrev pub yes_no_in : List ℕ → Result (Bool × List ℕ) Malformed
 yes_no_in text = in_body yes_no_at text
 
--- so many bytes
+-- a number of bytes
 abbrev pub bytes_in : ℕ → List ℕ → Result (List ℕ × List ℕ) Malformed
 bytes_in count text = in_body (bytes_at count) text
 
--- a sized buffer of at most so many
+-- a sized buffer of at most this many bytes
 abbrev pub buffer_in : ℕ → List ℕ → Result (List ℕ × List ℕ) Malformed
 buffer_in limit text = in_body (buffer_at limit) text
 
@@ -63,11 +63,11 @@ auth_value_in text = passing is_trimmed (buffer_in 32) text
 
 -- ---- things one after another
 
--- how many there are, and these
+-- how many there are, and each of them
 abbrev pub counted_text : {X : Type 0} → (X → List ℕ) → List X → List ℕ
 counted_text text_of things = to_be_bytes w16 (length things) ++ flat_map text_of things
 
--- the same, at most so many
+-- at most this many of them, as they are read
 abbrev pub counted_in : {X : Type 0}
     → (most : ℕ)
     → (List ℕ → Result (X × List ℕ) Malformed)

@@ -1,6 +1,6 @@
 -- What filling the state of a device with what a text spells answers and leaves.
 use Rattle.std.specs.Prelude.{◌≡◌, ℕ, ◌+◌, ◌<◌, ◌≤◌, Bool, true, List, [], ◌∷◌, ◌++◌, Result, Ok, Err, IfOk}
-use Rattle.tpm_ascending.specs.Ascending.{Entries}
+use Rattle.tpm_sorted_map.specs.SortedMap.{Entries}
 use Rattle.tpm_lockout.specs.Lockout.{restored}
 use Rattle.tpm_record.specs.Record.{Record}
 use Rattle.tpm_record.specs.declared.fixed.Fixed.{Fixed}
@@ -24,7 +24,7 @@ abbrev pub AllBelow : {X : Type 0} → ℕ → Entries X → Type 0
 AllBelow key [] = Unit {0}
 AllBelow key (e ∷ es) = (e.0 < key) × AllBelow key es
 
--- One entry was read and put behind the others, whose keys are below the lowest that it may have,
+-- One entry was read and put after the others, whose keys are below the lowest that it may have,
 -- and the next has to be above it; or what is read is malformed or misplaced, which is what Misfits
 -- says of it; or memory was refused.
 abbrev pub Appends : {X : Type 0}
@@ -66,7 +66,8 @@ PowersOn can read (Ok done) new = (kept : NonVolatile) × (read ≡ Ok kept) × 
 PowersOn can read (Err unfilled.Malformed) new = read ≡ Err malformed
 PowersOn can read (Err unfilled.NoMemory) new = can ≡ true
 
--- The same of a keep that is given, with its record.
+-- A new keep stands for the record of the device that kept what the text spells; or the text is
+-- malformed; or memory was refused.
 abbrev pub Filled : {K : Type 0} → (K → Record) → Bool → Result NonVolatile Malformed
     → Result K FillFault → Type 0
 Filled record_of can read (Ok keep) =

@@ -1,4 +1,4 @@
--- The frame of an image, version 1: a head before its body, and a digest behind both. The format is
+-- The frame of an image, version 1: a head before its body, and a digest after both. The format is
 -- this device's own.
 use Rattle.std.specs.Prelude.{◌≡◌, ℕ, ◌+◌, ◌-◌, ◌==◌, nat_lt, not, List, [], ◌∷◌, ◌++◌, length, take, drop}
 use Rattle.std.specs.Prelude.{Result, Ok, Err}
@@ -25,11 +25,11 @@ head_bytes = 10
 abbrev pub digest_bytes : ℕ
 digest_bytes = 32
 
--- a text with the digest of it behind it
+-- a text with the digest of it after it
 abbrev pub digested_text : List ℕ → List ℕ
 digested_text text = text ++ hash_of Sha256 text
 
--- a body in its frame: the head before it, and the digest of both behind it
+-- a body in its frame: the head before it, and the digest of both after it
 abbrev pub framed_text : (version : ℕ) → List ℕ → List ℕ
 framed_text version body =
     digested_text (head_text version (head_bytes + length body + digest_bytes) ++ body)
@@ -59,8 +59,3 @@ framed_body text = do
   digest ← refused_if
       (not (bytes_eq (hash_of Sha256 (before_digest text)) (digest_of text))) fault.Digest
   Ok (drop head_bytes (before_digest text))
-
--- a body is lent, or the fault is told
-abbrev pub Unframes : Result (List ℕ) ImageFault → Result (Bor (List ℕ)) ImageFault → Type 0
-Unframes framed (Ok body) = framed ≡ Ok body.now
-Unframes framed (Err fault) = framed ≡ Err fault

@@ -8,3 +8,4 @@ pub mod Opening
 pub use Rattle.tpm_record.specs.Record
 pub use Rattle.tpm_record.specs.Cycle
 pub use Rattle.tpm_record.specs.IsRecord
+pub mod Sizes

@@ -16,8 +16,8 @@ Opens record_of can text (Err NoMemory) =
     (can ≡ true) × ((kept : NonVolatile) × (image_of text ≡ Ok kept))
 Opens record_of can text (Err fault) = image_of text ≡ Err fault
 
--- The same of the image of a record: it is opened, and gives the record after a power cycle, unless
--- memory is refused.
+-- The image of a record was opened, and gave the record after a power cycle, unless memory was
+-- refused.
 abbrev pub OpensAgain : {M : Type 0} → (M → Record) → Bool → Record → Result M ImageFault → Type 0
 OpensAgain record_of can r (Ok machine) = record_of machine ≡ cycled r
 OpensAgain record_of can r (Err NoMemory) = can ≡ true

@@ -1,5 +1,6 @@
 //! The body of an image: what a device keeps without power.
 
+ghost use Rattle.tpm_image.specs.Sizes.{body_size, state_size, text_size};
 ghost use Rattle.std.specs.Prelude.{◌≡◌, ◌≤◌, ◌+◌, ◌++◌, [], length, replicate};
 ghost use Rattle.tpm_image.specs.Body.{body_of, body_text, state_in, state_text};
 ghost use Rattle.tpm_image.specs.Filling.{PowersOn, Restores};
@@ -53,12 +54,12 @@ pub(crate) fn read_body<K: Keep>(keep: &mut K, body: &[u8]) -> Result<(), FillFa
     Ok(())
 }
 
-/// Writes what does not grow: at most 1,269 bytes.
+/// Writes what does not grow.
 #[tactic(auto, unfolding(crate::specs::Body::state_text))]
 fn write_state<K: Keep>(keep: &K, text: &mut Text)
-    requires { length text.old + 1269 ≤ 17465 }
+    requires { length text.old + state_size ≤ text_size }
     ensures written { text.new ≡ text.old ++ state_text (kept_of (K.record_of keep.now)).state }
-    ensures small { length text.new ≤ length text.old + 1269 }
+    ensures small { length text.new ≤ length text.old + state_size }
 {
     let fixed = keep.fixed();
     write_hierarchies(&fixed.hierarchies, text);
@@ -71,12 +72,12 @@ fn write_state<K: Keep>(keep: &K, text: &mut Text)
     write_saved(&fixed.saved, text);
 }
 
-/// Writes a whole body: at most 17,433 bytes.
+/// Writes a whole body.
 #[tactic(auto, unfolding(crate::specs::Body::body_text))]
 pub(crate) fn write_body<K: Keep>(keep: &K, text: &mut Text)
     requires { text.old ≡ [] }
     ensures written { text.new ≡ body_text (kept_of (K.record_of keep.now)) }
-    ensures small { length text.new ≤ 17433 }
+    ensures small { length text.new ≤ body_size }
 {
     write_state(keep, text);
     write_objects(keep.persistent(), text);

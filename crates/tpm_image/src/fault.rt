@@ -1,3 +1,5 @@
+//! Why bytes are no image, and why an image is not saved.
+
 /// Why bytes are no image, in the order in which it is looked for.
 #[derive(Clone, Copy, Debug, PartialEq, Eq)]
 pub enum ImageFault {

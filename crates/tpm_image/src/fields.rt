@@ -1,5 +1,7 @@
 //! The fields of an image.
 
+ghost use Rattle.tpm_image.specs.Sizes.{text_size};
+ghost use Rattle.tpm_types.specs.Limits.{nv_space_limit};
 ghost use Rattle.std.specs.Prelude.{◌≡◌, ◌≤◌, ◌+◌, ◌++◌, IfOk, length, true};
 ghost use Rattle.tpm_types.specs.AuthValue.{trimmed};
 ghost use Rattle.std.specs.Int.{w8, w16, w32, w64, to_be_bytes};
@@ -10,14 +12,24 @@ ghost use Rattle.tpm_image.specs.Fields.{auth_value_in, buffer_in, bytes_in, in_
 
 use crate::fault::Malformed;
 use tpm_bytes::{Cursor, Readable, Sink};
-use tpm_types::{AuthValue, Rc, read_buffer, read_yes_no, trimmed};
+use tpm_types::{
+    AuthValue, NV_INDEX_LIMIT, NV_SPACE_LIMIT, PERSISTENT_LIMIT, Rc, read_buffer, read_yes_no,
+    trimmed,
+};
 use tpm_types_object::read_filled;
 
-/// The most bytes of a body, with the digest behind it.
-pub(crate) const MOST_BYTES: usize = 17_465;
+/// The most bytes of what does not grow, of the persistent objects, and of the NV indices.
+const STATE_SIZE: usize = 1_269;
+
+const OBJECTS_SIZE: usize = 2 + PERSISTENT_LIMIT * 330;
+
+const INDICES_SIZE: usize = 2 + NV_INDEX_LIMIT * 84 + NV_SPACE_LIMIT;
+
+/// The most bytes of a body, with the digest after it.
+pub(crate) const TEXT_LIMIT: usize = STATE_SIZE + OBJECTS_SIZE + INDICES_SIZE + 32;
 
 /// A body that is being written.
-pub(crate) type Text = Sink<MOST_BYTES>;
+pub(crate) type Text = Sink<TEXT_LIMIT>;
 
 pub(crate) fn read_u8(text: &mut Cursor) -> Result<u8, Malformed>
     ensures { Reads (λ number. number) (number_in w8 text.old) text.old result text.new }
@@ -74,7 +86,7 @@ pub(crate) fn read_bytes<'a>(text: &mut Cursor<'a>, count: usize) -> Result<&'a 
     }
 }
 
-/// Reads a digest or a secret of so many bytes.
+/// Reads a digest or a secret of this many bytes.
 pub(crate) fn read_array<const N: usize>(text: &mut Cursor) -> Result<[u8; N], Malformed>
     ensures { Reads (λ bytes. bytes) (bytes_in N text.old) text.old result text.new }
 {
@@ -84,7 +96,7 @@ pub(crate) fn read_array<const N: usize>(text: &mut Cursor) -> Result<[u8; N], M
     Ok(array)
 }
 
-/// Reads a sized buffer of at most so many bytes.
+/// Reads a sized buffer of at most this many bytes.
 pub(crate) fn read_sized<'a>(text: &mut Cursor<'a>, most: usize) -> Result<&'a [u8], Malformed>
     ensures exact { Reads (λ bytes. bytes.now) (buffer_in most text.old) text.old result text.new }
     ensures few { IfOk result (λ bytes. length bytes.now ≤ most) }
@@ -129,7 +141,7 @@ pub(crate) fn read_structure<'a, T: Readable<'a, Fault = Rc> + Drop>(
 }
 
 pub(crate) fn write_array<const N: usize>(bytes: &[u8; N], text: &mut Text)
-    requires { length text.old + N ≤ 17465 }
+    requires { length text.old + N ≤ text_size }
     ensures written { text.new ≡ text.old ++ bytes.now }
     ensures small { length text.new ≡ length text.old + N }
 {
@@ -137,7 +149,7 @@ pub(crate) fn write_array<const N: usize>(bytes: &[u8; N], text: &mut Text)
 }
 
 pub(crate) fn write_u16(number: u16, text: &mut Text)
-    requires { length text.old + 2 ≤ 17465 }
+    requires { length text.old + 2 ≤ text_size }
     ensures written { text.new ≡ text.old ++ to_be_bytes w16 number }
     ensures small { length text.new ≡ length text.old + 2 }
 {
@@ -145,7 +157,7 @@ pub(crate) fn write_u16(number: u16, text: &mut Text)
 }
 
 pub(crate) fn write_u32(number: u32, text: &mut Text)
-    requires { length text.old + 4 ≤ 17465 }
+    requires { length text.old + 4 ≤ text_size }
     ensures written { text.new ≡ text.old ++ to_be_bytes w32 number }
     ensures small { length text.new ≡ length text.old + 4 }
 {
@@ -153,7 +165,7 @@ pub(crate) fn write_u32(number: u32, text: &mut Text)
 }
 
 pub(crate) fn write_u64(number: u64, text: &mut Text)
-    requires { length text.old + 8 ≤ 17465 }
+    requires { length text.old + 8 ≤ text_size }
     ensures written { text.new ≡ text.old ++ to_be_bytes w64 number }
     ensures small { length text.new ≡ length text.old + 8 }
 {
@@ -161,18 +173,18 @@ pub(crate) fn write_u64(number: u64, text: &mut Text)
 }
 
 pub(crate) fn write_bool(is_yes: bool, text: &mut Text)
-    requires { length text.old + 1 ≤ 17465 }
+    requires { length text.old + 1 ≤ text_size }
     ensures written { text.new ≡ text.old ++ yes_no_text is_yes }
     ensures small { length text.new ≡ length text.old + 1 }
 {
     let _ = text.put_u8(u8::from(is_yes));
 }
 
-/// Writes a sized buffer of at most so many bytes.
+/// Writes a sized buffer of at most this many bytes.
 pub(crate) fn write_sized(bytes: &[u8], most: usize, text: &mut Text)
     requires few { length bytes.now ≤ most }
-    requires most { most ≤ 8192 }
-    requires room { length text.old + (2 + most) ≤ 17465 }
+    requires most { most ≤ nv_space_limit }
+    requires room { length text.old + (2 + most) ≤ text_size }
     ensures written { text.new ≡ text.old ++ sized_text bytes.now }
     ensures small { length text.new ≤ length text.old + (2 + most) }
 {

@@ -1,7 +1,9 @@
-//! The frame of an image: the head before its body, and the digest behind it.
+//! The frame of an image: the head before its body, and the digest after it.
 
+ghost use Rattle.tpm_image.specs.Sizes.{body_size};
+ghost use Rattle.tpm_bytes.specs.Reading.{Gives};
 ghost use Rattle.std.specs.Prelude.{◌≡◌, ◌≤◌, ◌+◌, ◌++◌, List, ℕ, Result, Ok, Err, length};
-ghost use Rattle.tpm_image.specs.Frame.{Unframes, framed_body, head_text};
+ghost use Rattle.tpm_image.specs.Frame.{framed_body, head_text};
 
 use crate::fault::ImageFault;
 use tpm_bytes::Sink;
@@ -18,9 +20,9 @@ const HEAD_BYTES: usize = 10;
 
 const DIGEST_BYTES: usize = 32;
 
-/// The head of an image with a body of so many bytes.
+/// The head of an image with a body of this many bytes.
 pub(crate) fn head(body_bytes: usize) -> Sink<10>
-    requires { body_bytes ≤ 17433 }
+    requires { body_bytes ≤ body_size }
     ensures { result ≡ head_text 1 (10 + body_bytes + 32) }
 {
     let mut head = Sink::new();
@@ -33,7 +35,7 @@ pub(crate) fn head(body_bytes: usize) -> Sink<10>
 /// The body of a text in its frame, or the first fault of the frame.
 #[tactic(auto, unfolding(crate::specs::Frame::framed_body))]
 pub(crate) fn framed_body(text: &[u8]) -> Result<&[u8], ImageFault>
-    ensures { Unframes (framed_body text.now) result }
+    ensures { Gives (λ body. body.now) (framed_body text.now) result }
 {
     if text.len() < HEAD_BYTES + DIGEST_BYTES {
         return Err(ImageFault::Short);

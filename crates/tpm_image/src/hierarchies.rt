@@ -1,5 +1,6 @@
 //! The hierarchies in an image.
 
+ghost use Rattle.tpm_image.specs.Sizes.{text_size};
 ghost use Rattle.std.specs.Prelude.{◌≡◌, ◌≤◌, ◌+◌, ◌++◌, length};
 ghost use Rattle.tpm_bytes.specs.Reading.{Reads};
 ghost use Rattle.tpm_image.specs.Body.{hierarchies_in, hierarchies_text, hierarchy_in, hierarchy_text, secrets_in, secrets_text};
@@ -35,7 +36,7 @@ fn read_hierarchy(text: &mut Cursor) -> Result<Hierarchy, Malformed>
     })
 }
 
-/// Reads the hierarchies, and lockoutAuth behind them.
+/// Reads the hierarchies, and lockoutAuth after them.
 #[tactic(auto, unfolding(crate::specs::Body::hierarchies_in))]
 pub(crate) fn read_hierarchies(text: &mut Cursor) -> Result<Hierarchies, Malformed>
     ensures { Reads (λ hierarchies. hierarchies) (hierarchies_in text.old) text.old
@@ -59,7 +60,7 @@ pub(crate) fn read_hierarchies(text: &mut Cursor) -> Result<Hierarchies, Malform
 }
 
 fn write_secrets(secrets: &Secrets, text: &mut Text)
-    requires { length text.old + 64 ≤ 17465 }
+    requires { length text.old + 64 ≤ text_size }
     ensures written { text.new ≡ text.old ++ secrets_text secrets.now }
     ensures small { length text.new ≤ length text.old + 64 }
 {
@@ -68,7 +69,7 @@ fn write_secrets(secrets: &Secrets, text: &mut Text)
 }
 
 fn write_hierarchy(hierarchy: &Hierarchy, text: &mut Text)
-    requires { length text.old + 98 ≤ 17465 }
+    requires { length text.old + 98 ≤ text_size }
     ensures written { text.new ≡ text.old ++ hierarchy_text hierarchy.now }
     ensures small { length text.new ≤ length text.old + 98 }
 {
@@ -76,10 +77,10 @@ fn write_hierarchy(hierarchy: &Hierarchy, text: &mut Text)
     write_secrets(&hierarchy.secrets, text);
 }
 
-/// Writes the hierarchies, and lockoutAuth behind them: at most 394 bytes.
+/// Writes the hierarchies, and lockoutAuth after them: at most 394 bytes.
 #[tactic(auto, unfolding(crate::specs::Body::hierarchies_text))]
 pub(crate) fn write_hierarchies(hierarchies: &Hierarchies, text: &mut Text)
-    requires { length text.old + 394 ≤ 17465 }
+    requires { length text.old + 394 ≤ text_size }
     ensures written { text.new ≡ text.old ++ hierarchies_text hierarchies.now }
     ensures small { length text.new ≤ length text.old + 394 }
 {

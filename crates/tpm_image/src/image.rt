@@ -45,7 +45,7 @@ pub fn save<K: Keep, D: Write>(machine: &Machine<K>, tap: &mut Tap<D>) -> Result
     send(tap, head.as_slice(), text.as_slice())
 }
 
-/// Writes the head of an image, and what stands behind it.
+/// Writes the head of an image, and what stands after it.
 fn send<D: Write>(tap: &mut Tap<D>, head: &[u8], text: &[u8]) -> Result<(), SaveFault>
     ensures written { OnOk result (Appends (D.contents (device_of tap.old))
         (D.contents (device_of tap.new)) (head.now ++ text.now)) }

@@ -1,5 +1,7 @@
 //! NV indices in an image.
 
+ghost use Rattle.tpm_image.specs.Sizes.{entries_size, index_size, indices_size, text_size};
+ghost use Rattle.tpm_types.specs.Limits.{nv_index_limit, nv_space_limit};
 ghost use Rattle.std.specs.Prelude.{◌≡◌, ◌≤◌, ◌<◌, ◌+◌, ◌*◌, ◌++◌, ◌⊎◌, [], IfOk, length, true};
 ghost use Rattle.std.specs.List.{flat_map};
 ghost use Rattle.tpm_bytes.specs.Many.{many_at};
@@ -17,11 +19,8 @@ use crate::fault::{FillFault, Malformed};
 use crate::fields::{Text, read_auth_value, read_sized, read_u16, write_sized, write_u16};
 use tpm_bytes::Cursor;
 use tpm_nv::{DefineFault, Head, Indices, has_type_size};
-use tpm_types::AuthValue;
+use tpm_types::{AuthValue, NV_DATA_LIMIT, NV_INDEX_LIMIT};
 use tpm_types_nv::{NvAttribute, NvPublic};
-
-/// The most NV indices that a device has.
-const MOST_INDICES: u16 = 32;
 
 /// What an image says of an index.
 #[derive(Drop)]
@@ -74,7 +73,7 @@ fn read_index<'a>(text: &mut Cursor<'a>) -> Result<Index<'a>, Malformed>
     let mut ahead = Cursor::new(text.rest());
     let public = read_public(&mut ahead)?;
     let auth_value = read_auth_value(&mut ahead)?;
-    let bytes = read_sized(&mut ahead, 2048)?;
+    let bytes = read_sized(&mut ahead, NV_DATA_LIMIT)?;
     if !has_type_size(&public) || bytes.len() != data_size(&public) {
         return Err(Malformed);
     }
@@ -86,14 +85,14 @@ fn read_index<'a>(text: &mut Cursor<'a>) -> Result<Index<'a>, Malformed>
     })
 }
 
-/// Reads an index and puts it behind those whose handles are below the lowest that it may have, if
-/// there is room for it. Gives the lowest handle that the next one may have.
+/// Reads an index and adds it to those that are there, if the NV memory has room for it. Handles
+/// ascend: its handle is `lowest` or more. Gives the lowest handle that the next index may have.
 #[tactic(auto, using(crate::proofs::Appending::appended, crate::proofs::IndicesLaws::no_space))]
 fn add_index<N: Indices>(indices: &mut N, lowest: u64, text: &mut Cursor) -> Result<u64, FillFault>
     requires below { AllBelow lowest (N.contents indices.old).indices }
-    requires room { length (N.contents indices.old).indices < 32 }
+    requires room { length (N.contents indices.old).indices < nv_index_limit }
     ensures added { Appends N.can_refuse (index_in text.old) lowest
-        (λ e. (e.0 < lowest) ⊎ (8192 < data_bytes (N.contents indices.old) + e.1.public.data_size))
+        (λ e. (e.0 < lowest) ⊎ (nv_space_limit < data_bytes (N.contents indices.old) + e.1.public.data_size))
         (N.contents indices.old).indices result (N.contents indices.new).indices text.new }
     ensures count { (N.contents indices.new).max_count ≡ (N.contents indices.old).max_count }
 {
@@ -111,10 +110,10 @@ fn add_index<N: Indices>(indices: &mut N, lowest: u64, text: &mut Cursor) -> Res
     }
 }
 
-/// Reads so many indices, each with a handle above those before it.
+/// Reads a number of indices, each with a handle above those before it.
 fn add_indices<N: Indices>(indices: &mut N, count: u16, text: &mut Cursor) -> Result<(), FillFault>
     requires none { (N.contents indices.old).indices ≡ [] }
-    requires few { count ≤ 32 }
+    requires few { count ≤ nv_index_limit }
     ensures filled { Fills N.can_refuse
         (passing have_space (passing (ascend_from 0) (many_at index_in count)) text.old)
         (N.contents indices.new).indices result text.new }
@@ -139,20 +138,20 @@ pub(crate) fn read_indices<N: Indices>(indices: &mut N, text: &mut Cursor) -> Re
     let Ok(count) = read_u16(text) else {
         return Err(FillFault::Malformed);
     };
-    if count > MOST_INDICES {
+    if usize::from(count) > NV_INDEX_LIMIT {
         return Err(FillFault::Malformed);
     }
     add_indices(indices, count, text)
 }
 
-/// Writes an index that has these bytes: at most 84 more than they are.
+/// Writes an index that has these bytes.
 #[tactic(auto, unfolding(crate::specs::Body::index_text))]
 fn write_index(entry: &(u32, Head), bytes: &[u8], text: &mut Text)
-    requires few { length bytes.now ≤ 8192 }
-    requires room { length text.old + (84 + length bytes.now) ≤ 17465 }
+    requires few { length bytes.now ≤ nv_space_limit }
+    requires room { length text.old + (index_size + length bytes.now) ≤ text_size }
     ensures written { text.new ≡ text.old
         ++ index_text (entry.now.0, index_with entry.now.1 bytes.now) }
-    ensures small { length text.new ≤ length text.old + (84 + length bytes.now) }
+    ensures small { length text.new ≤ length text.old + (index_size + length bytes.now) }
 {
     let head = &entry.1;
     write_sized(head.public.text().as_slice(), 46, text);
@@ -164,16 +163,16 @@ fn write_index(entry: &(u32, Head), bytes: &[u8], text: &mut Text)
     }
 }
 
-/// Writes the indices of these heads and of this row of their bytes, one after another.
-fn write_heads(heads: &[(u32, Head)], row: &[u8], text: &mut Text)
-    requires whole { length row.now ≡ total heads.now }
-    requires few { length heads.now ≤ 32 }
-    requires small { length row.now ≤ 8192 }
-    requires room { length text.old + 10880 ≤ 17465 }
-    ensures written { text.new ≡ text.old ++ flat_map index_text (indices_of heads.now row.now) }
-    ensures small { length text.new ≤ length text.old + 10880 }
+/// Writes the indices of these heads and of this area of their bytes, one after another.
+fn write_heads(heads: &[(u32, Head)], area: &[u8], text: &mut Text)
+    requires whole { length area.now ≡ total heads.now }
+    requires few { length heads.now ≤ nv_index_limit }
+    requires small { length area.now ≤ nv_space_limit }
+    requires room { length text.old + entries_size ≤ text_size }
+    ensures written { text.new ≡ text.old ++ flat_map index_text (indices_of heads.now area.now) }
+    ensures small { length text.new ≤ length text.old + entries_size }
 {
-    let mut left = row;
+    let mut left = area;
     for entry in heads {
         let (bytes, others) = left.split_at(usize::from(entry.1.public.data_size));
         write_index(entry, bytes, text);
@@ -181,12 +180,12 @@ fn write_heads(heads: &[(u32, Head)], row: &[u8], text: &mut Text)
     }
 }
 
-/// Writes the NV indices: at most 10,882 bytes.
+/// Writes the NV indices.
 #[tactic(auto, unfolding(crate::specs::Body::indices_text), using(crate::proofs::IndicesLaws::heads_long))]
 pub(crate) fn write_indices<N: Indices>(indices: &N, text: &mut Text)
-    requires { length text.old + 10882 ≤ 17465 }
+    requires { length text.old + indices_size ≤ text_size }
     ensures written { text.new ≡ text.old ++ indices_text (N.contents indices.now).indices }
-    ensures small { length text.new ≤ length text.old + 10882 }
+    ensures small { length text.new ≤ length text.old + indices_size }
 {
     indices.read_sizes();
     let heads = indices.heads();

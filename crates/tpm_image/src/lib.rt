@@ -6,6 +6,10 @@
 //! [`image::save`] writes it, and [`image::open`] reads it. Each part of what is kept has a file
 //! with its text and its reading; `specs/Body` and `specs/Image` define them. The crate stands on
 //! the machine, and on what the parts of its state are made of.
+//!
+//! The device that is opened from an image is the one that was saved, after a power cycle; what is
+//! opened was spelled so, and what is spelled so is opened. No proper prefix of an image is one
+//! ([`laws`]). A writer that fails was given a front of the image, and nothing else.
 
 mod body;
 pub mod fault;

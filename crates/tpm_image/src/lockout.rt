@@ -1,5 +1,6 @@
 //! The protection against dictionary attacks in an image.
 
+ghost use Rattle.tpm_image.specs.Sizes.{text_size};
 ghost use Rattle.std.specs.Prelude.{◌≡◌, ◌≤◌, ◌+◌, ◌++◌, length};
 ghost use Rattle.tpm_bytes.specs.Reading.{Reads};
 ghost use Rattle.tpm_image.specs.Body.{lockout_in, lockout_text};
@@ -32,7 +33,7 @@ pub(crate) fn read_lockout(text: &mut Cursor) -> Result<LockoutFields, Malformed
 /// Writes what outlasts a power cycle: 17 bytes.
 #[tactic(auto, unfolding(crate::specs::Body::lockout_text))]
 pub(crate) fn write_lockout(fields: LockoutFields, text: &mut Text)
-    requires { length text.old + 17 ≤ 17465 }
+    requires { length text.old + 17 ≤ text_size }
     ensures written { text.new ≡ text.old ++ lockout_text fields }
     ensures small { length text.new ≡ length text.old + 17 }
 {

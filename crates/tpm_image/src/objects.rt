@@ -1,5 +1,7 @@
 //! Persistent objects in an image.
 
+ghost use Rattle.tpm_types.specs.Limits.{persistent_limit};
+ghost use Rattle.tpm_image.specs.Sizes.{object_size, objects_size, text_size};
 ghost use Rattle.std.specs.Prelude.{◌≡◌, ◌≤◌, ◌<◌, ◌+◌, ◌*◌, ◌++◌, IfOk, length, true};
 ghost use Rattle.tpm_types.specs.AuthValue.{trimmed};
 ghost use Rattle.tpm_bytes.specs.Reading.{Reads};
@@ -16,16 +18,13 @@ use crate::fields::{
     Text, is_trimmed, read_sized, read_structure, read_u16, read_u32, write_sized, write_u16,
     write_u32,
 };
-use tpm_ascending::KeyFault;
 use tpm_bytes::Cursor;
 use tpm_name::Name;
 use tpm_object::Object;
 use tpm_record::PersistentObjects;
-use tpm_types::{AuthValue, Handle, HierarchyHandle, Octets};
+use tpm_sorted_map::KeyFault;
+use tpm_types::{AuthValue, Handle, HierarchyHandle, Octets, PERSISTENT_LIMIT};
 use tpm_types_object::{Public, Sensitive};
-
-/// The most persistent objects that a device has.
-const MOST_OBJECTS: u16 = 16;
 
 /// Whether objects of a hierarchy can be persistent.
 fn can_persist(hierarchy: HierarchyHandle) -> bool
@@ -126,8 +125,8 @@ fn read_object(text: &mut Cursor) -> Result<(Handle, Object), Malformed>
     Ok((handle, object))
 }
 
-/// Reads an object and puts it behind those whose handles are below the lowest that it may have.
-/// Gives the lowest that the next one may have.
+/// Reads an object and adds it to those that are there. Handles ascend: its handle is `lowest` or
+/// more. Gives the lowest handle that the next object may have.
 #[tactic(auto, using(crate::proofs::Appending::appended))]
 fn add_object<P: PersistentObjects>(
     objects: &mut P,
@@ -135,7 +134,7 @@ fn add_object<P: PersistentObjects>(
     text: &mut Cursor,
 ) -> Result<u64, FillFault>
     requires below { AllBelow lowest (P.entries objects.old) }
-    requires room { length (P.entries objects.old) < 16 }
+    requires room { length (P.entries objects.old) < persistent_limit }
     ensures { Appends P.can_refuse (object_in text.old) lowest (λ e. e.0 < lowest)
         (P.entries objects.old) result (P.entries objects.new) text.new }
 {
@@ -152,14 +151,14 @@ fn add_object<P: PersistentObjects>(
     }
 }
 
-/// Reads so many objects, each with a handle above those before it.
+/// Reads a number of objects, each with a handle above those before it.
 fn add_objects<P: PersistentObjects>(
     objects: &mut P,
     count: u16,
     text: &mut Cursor,
 ) -> Result<(), FillFault>
     requires none { P.entries objects.old ≡ no_persistent }
-    requires few { count ≤ 16 }
+    requires few { count ≤ persistent_limit }
     ensures { Fills P.can_refuse (passing (ascend_from 0) (many_at object_in count) text.old)
         (P.entries objects.new) result text.new }
 {
@@ -182,18 +181,18 @@ pub(crate) fn read_objects<P: PersistentObjects>(
     let Ok(count) = read_u16(text) else {
         return Err(FillFault::Malformed);
     };
-    if count > MOST_OBJECTS {
+    if usize::from(count) > PERSISTENT_LIMIT {
         return Err(FillFault::Malformed);
     }
     add_objects(objects, count, text)
 }
 
-/// Writes an object and its handle: at most 330 bytes.
+/// Writes an object and its handle.
 #[tactic(auto, unfolding(crate::specs::Body::object_text))]
 fn write_object(entry: &(u32, Object), text: &mut Text)
-    requires { length text.old + 330 ≤ 17465 }
+    requires { length text.old + object_size ≤ text_size }
     ensures written { text.new ≡ text.old ++ object_text entry.now }
-    ensures small { length text.new ≤ length text.old + 330 }
+    ensures small { length text.new ≤ length text.old + object_size }
 {
     let (number, object) = entry;
     let sensitive = Sensitive {
@@ -211,22 +210,22 @@ fn write_object(entry: &(u32, Object), text: &mut Text)
 
 /// Writes objects and their handles, one after another.
 fn write_entries(entries: &[(u32, Object)], text: &mut Text)
-    requires few { length entries.now ≤ 16 }
-    requires room { length text.old + 5280 ≤ 17465 }
+    requires few { length entries.now ≤ persistent_limit }
+    requires room { length text.old + persistent_limit * object_size ≤ text_size }
     ensures written { text.new ≡ text.old ++ flat_map object_text entries.now }
-    ensures small { length text.new ≤ length text.old + 330 * length entries.now }
+    ensures small { length text.new ≤ length text.old + object_size * length entries.now }
 {
     for entry in entries {
         write_object(entry, text);
     }
 }
 
-/// Writes the persistent objects: at most 5,282 bytes.
+/// Writes the persistent objects.
 #[tactic(auto, unfolding(crate::specs::Body::objects_text))]
 pub(crate) fn write_objects<P: PersistentObjects>(objects: &P, text: &mut Text)
-    requires { length text.old + 5282 ≤ 17465 }
+    requires { length text.old + objects_size ≤ text_size }
     ensures written { text.new ≡ text.old ++ objects_text (P.entries objects.now) }
-    ensures small { length text.new ≤ length text.old + 5282 }
+    ensures small { length text.new ≤ length text.old + objects_size }
 {
     objects.read_sizes();
     write_u16(objects.len() as u16, text);

@@ -1,5 +1,6 @@
 //! What the last TPM2_Shutdown saved, in an image.
 
+ghost use Rattle.tpm_image.specs.Sizes.{text_size};
 ghost use Rattle.std.specs.Prelude.{◌≡◌, ◌≤◌, ◌+◌, ◌*◌, ◌++◌, length};
 ghost use Rattle.std.specs.List.{flat_map};
 ghost use Rattle.tpm_bytes.specs.Reading.{Reads};
@@ -73,7 +74,7 @@ pub(crate) fn read_saved(text: &mut Cursor) -> Result<Saved, Malformed>
 /// Writes the values of a bank.
 fn write_bank<const N: usize>(values: &[[u8; N]; 16], text: &mut Text)
     requires few { N ≤ 32 }
-    requires room { length text.old + 16 * N ≤ 17465 }
+    requires room { length text.old + 16 * N ≤ text_size }
     ensures written { text.new ≡ text.old ++ flat_map (λ value. value) values.now }
     ensures small { length text.new ≡ length text.old + 16 * N }
 {
@@ -83,7 +84,7 @@ fn write_bank<const N: usize>(values: &[[u8; N]; 16], text: &mut Text)
 }
 
 fn write_values(values: &SavedPcrs, text: &mut Text)
-    requires { length text.old + 832 ≤ 17465 }
+    requires { length text.old + 832 ≤ text_size }
     ensures written { text.new ≡ text.old ++ values_text values.now }
     ensures small { length text.new ≡ length text.old + 832 }
 {
@@ -94,7 +95,7 @@ fn write_values(values: &SavedPcrs, text: &mut Text)
 /// Writes what is saved: at most 833 bytes.
 #[tactic(auto, unfolding(crate::specs::Body::saved_text))]
 pub(crate) fn write_saved(saved: &Saved, text: &mut Text)
-    requires { length text.old + 833 ≤ 17465 }
+    requires { length text.old + 833 ≤ text_size }
     ensures written { text.new ≡ text.old ++ saved_text saved.now }
     ensures small { length text.new ≤ length text.old + 833 }
 {

@@ -29,7 +29,7 @@ after_failure s =
 abbrev pub tries_left : LockoutFields → (time : ℕ) → ℕ
 tries_left f time = f.failed_tries - time / milliseconds f.recovery_time
 
--- at a time: what is left of that behind the tries that it forgave goes on, while there are tries
+-- at a time: what is left of that after the tries that it forgave goes on, while there are tries
 abbrev pub forgiven_at : (time : ℕ) → LockoutState → LockoutState
 forgiven_at time s =
     let left = tries_left s.fields time in

@@ -1,3 +1,6 @@
+//! The counts and parameters of the protection against dictionary attacks that outlast a power
+//! cycle, and so are saved in an image.
+
 /// What of the protection against dictionary attacks outlasts a power cycle.
 #[derive(Clone, Copy, Debug, PartialEq, Eq)]
 pub struct LockoutFields {
@@ -8,7 +11,7 @@ pub struct LockoutFields {
     /// Seconds after which one of them is forgiven (TPM_PT_LOCKOUT_INTERVAL); 0: tries are not
     /// counted, and lock nothing.
     pub recovery_time: u32,
-    /// Seconds for which a failed try closes lockoutAuth (TPM_PT_LOCKOUT_RECOVERY); 0: until a TPM
+    /// Seconds for which a wrong lockoutAuth closes it (TPM_PT_LOCKOUT_RECOVERY); 0: until a TPM
     /// Reset.
     pub lockout_recovery: u32,
     /// Whether lockoutAuth is closed.

@@ -1,3 +1,6 @@
+//! The protection against dictionary attacks as it runs: failed tries, their forgiveness as time
+//! goes by, and the closing of lockoutAuth (TPM 2.0 Library, Part 1, section 19.8).
+
 ghost use Rattle.std.specs.Prelude.{◌≡◌, ◌-◌, ◌<◌, ◌*◌, ◌^◌, false};
 ghost use Rattle.tpm_lockout.specs.Lockout.{milliseconds, new_lockout, restored, times_restarted};
 ghost use Rattle.tpm_lockout.specs.Lockout.{IsLockout, with_parameters};
@@ -8,8 +11,8 @@ ghost use Rattle.tpm_lockout.specs.Tries.{after_failure, forgiven_after, is_lock
 use crate::fields::LockoutFields;
 use std::marker::Model;
 
-/// The protection against dictionary attacks, with its two times. Contracts see it as its fields and
-/// these.
+/// The protection against dictionary attacks, with its two times. Contracts see it as its fields
+/// and these.
 #[derive(Drop)]
 pub struct Lockout {
     fields: LockoutFields,
@@ -40,7 +43,7 @@ fn milliseconds(seconds: u32) -> u64
     1000 * u64::from(seconds)
 }
 
-/// How many tries are left where so many are forgiven.
+/// How many tries are left after this many are forgiven.
 fn tries_left(tries: u32, forgiven: u64) -> u32
     ensures { result ≡ tries - forgiven }
 {
@@ -85,8 +88,8 @@ impl Lockout {
         self.fields
     }
 
-    /// Some milliseconds go by: each whole recoveryTime forgives a try, and lockoutAuth opens once it
-    /// was closed for lockoutRecovery.
+    /// Some milliseconds go by: each whole recoveryTime forgives a try, and lockoutAuth opens once
+    /// it was closed for lockoutRecovery.
     pub fn tick(&mut self, elapsed_ms: u32)
         ensures { self.new ≡ lockout_ticked elapsed_ms self.old }
     {

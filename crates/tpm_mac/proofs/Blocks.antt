@@ -35,7 +35,7 @@ length-pieces_to piece size each zero = omega arith
 length-pieces_to piece size each (suc n) =
     rw (pieces_to-suc piece n, length-append, each (1 + n), length-pieces_to piece size each n) (omega arith)
 
--- a list that has the first n blocks at its front, once block n + 1 is written behind them
+-- a list that has the first n blocks at its front, once block n + 1 is written after them
 pub take-piece_written : (piece : ℕ → List ℕ) (size : ℕ) → ((i : ℕ) → length (piece i) ≡ size)
     → (old new block : List ℕ) (n : ℕ) → n * size ≤ length old
     → take (n * size) old ≡ take (length old) (pieces_to piece n)
@@ -53,7 +53,7 @@ take-piece_written piece size each old new block n fits so_far same after =
     ∙ ap (λ (xs : List ℕ). before ++ xs) (ap piece (omega arith) ∙ sym same) in
     rw (seam, last, after, front, ← at) (take-block_written old before block (omega arith))
 
--- one more block of KDFa, written behind those that stand already
+-- one more block of KDFa, written after those that stand already
 pub kdfa_block_written : (alg : HashAlg) (key label context_u context_v old new block : List ℕ) (size n : ℕ)
     → size ≡ digest_size alg → n * size ≤ length old
     → take (n * size) old ≡ take (length old) (blocks_to alg key label context_u context_v (length old) n)

@@ -35,7 +35,7 @@ take-cut_block block rest room none =
       | inr fits ↦ rw (take_all room block fits) (take_at block rest (length block) refl)
     ]
 
--- the front of a list, once a block is written behind what stands there, as much as there is room for
+-- the front of a list, once a block is written after what stands there, as much as there is room for
 pub take-block_written : (old before block : List ℕ) → length before ≤ length old
     → take (length before + length block)
     (before ++ take (length old - length before) block ++ drop (length before + length block) old)

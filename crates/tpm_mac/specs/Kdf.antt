@@ -13,11 +13,11 @@ abbrev pub kdfa_text : (label context_u context_v : List ℕ) (bits i : ℕ) →
 kdfa_text label context_u context_v bits i =
     to_be_bytes w32 i ++ label ++ 0 ∷ [] ++ context_u ++ context_v ++ to_be_bytes w32 bits
 
--- how many digests hold so many bytes (SP 800-108, 5.1, step 1: L / h, rounded up)
+-- how many digests hold this many bytes (SP 800-108, 5.1, step 1: L / h, rounded up)
 abbrev pub block_count : HashAlg → ℕ → ℕ
 block_count alg size = size / digest_size alg + min 1 (size % digest_size alg)
 
--- the first so many bytes of all blocks in order, from block 1 on
+-- as many bytes from the front of all blocks in order, from block 1 on
 -- (TCG TPM 2.0 Library Part 1, 11.4.10.2)
 unfoldable pub kdfa_of : HashAlg → (key label context_u context_v : List ℕ) (size : ℕ) → List ℕ
 kdfa_of alg key label context_u context_v size =

@@ -17,7 +17,7 @@ MacHolds mac algorithm key text =
 unfoldable pub IsUnkeyed : Mac → HashAlg → Type 0
 IsUnkeyed mac algorithm = Holds mac.inner algorithm [] × Holds mac.outer algorithm []
 
--- the Mac has taken this text behind whatever it had taken before
+-- the Mac has taken this text after whatever it had taken before
 abbrev pub MacTakes : (old : Mac) → List ℕ → (new : Mac) → Type 0
 MacTakes old text new = (algorithm : HashAlg) (key taken : List ℕ)
     → MacHolds old algorithm key taken → MacHolds new algorithm key (taken ++ text)

@@ -1,6 +1,6 @@
 //! The hash algorithms of the device.
 
-ghost use Rattle.std.specs.Prelude.{◌≡◌};
+ghost use Rattle.std.specs.Prelude.{◌≡◌, replicate};
 
 /// A hash algorithm of FIPS 180-4.
 #[derive(Clone, Copy, Debug, PartialEq, Eq)]
@@ -21,6 +21,16 @@ impl HashAlg {
         match self {
             HashAlg::Sha1 => 20,
             HashAlg::Sha256 => 32,
+        }
+    }
+
+    /// As many zeros as a digest has bytes.
+    pub fn zeros(self) -> &'static [u8]
+        ensures { result.now ≡ replicate (digest_size self) 0 }
+    {
+        match self {
+            HashAlg::Sha1 => &[0; 20],
+            HashAlg::Sha256 => &[0; 32],
         }
     }
 }

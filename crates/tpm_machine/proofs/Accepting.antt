@@ -8,15 +8,16 @@ use Rattle.tpm_types_command.specs.CommandCode.{code_number, shape_of}
 use Rattle.tpm_record.specs.Record.{Record}
 use Rattle.tpm_auth.specs.Grant.{authorize}
 use Rattle.tpm_auth.specs.declared.session_grant.Grant.{Grant}
+use Rattle.tpm_types.specs.Limits.{answer_limit}
 use Rattle.tpm_types.specs.declared.refused.Refused.{Refused}
-use Rattle.tpm_actions.specs.Request.{Request}
-use Rattle.tpm_actions.specs.Rows.{ActsIfRoom, Success}
-use Rattle.tpm_actions.specs.declared.answer.Answer.{Answer}
+use Rattle.tpm_actions_base.specs.Request.{Request}
+use Rattle.tpm_actions_base.specs.Rows.{ActsIfRoom, Success}
+use Rattle.tpm_actions_base.specs.declared.answer.Answer.{Answer}
 use Rattle.tpm_machine_step.specs.Entries.{DrawsFew}
 use Rattle.tpm_machine_step.specs.Answer.{Written, answer_to, text_of, written_of}
 use Rattle.tpm_machine_step.specs.General.{general, in_command}
 use Rattle.tpm_machine_step.specs.Safe.{IsModest}
-use Rattle.tpm_machine_step.specs.Step.{Accepted, Accepts, Answers, RefusesOrStarves, Stepped, Succeeds, acceptance, accepted, refusal_step, request_in, settled}
+use Rattle.tpm_machine_step.specs.Step.{Accepted, Accepts, Answers, RefusesOrWantsMemory, Stepped, Succeeds, acceptance, accepted, refusal_step, request_in, settled}
 use Rattle.tpm_machine_step.specs.Table.{row_of}
 use Rattle.tpm_machine.proofs.Refusals.{answers_exactly, refused_answers}
 
@@ -58,11 +59,11 @@ accepted_answers can r random c grants (Ok a) answer effect response after (same
     answers_exactly can r random (Ok a) _ (λ i. record { response = (whole i).response; row = record { code = code_number (back i).code; check = 0 }; after = settled (back i).code (whole i).after })
 
 -- and that it is modest, as the answer has room for so much alone, and nonces are short
-pub accepted_modest : (random : List ℕ) (c : Whole) (grants : List (Option Grant)) (a : Result Accepted Refused) (answer : Answer) (effect : Record) → answer.drawn ≤ 96 → length answer.parameters ≤ 1026 → DrawsFew random effect c.entries answer.drawn → Succeeds a c grants answer effect → IfOk a (IsModest random)
+pub accepted_modest : (random : List ℕ) (c : Whole) (grants : List (Option Grant)) (a : Result Accepted Refused) (answer : Answer) (effect : Record) → answer.drawn ≤ 96 → length answer.parameters ≤ answer_limit → DrawsFew random effect c.entries answer.drawn → Succeeds a c grants answer effect → IfOk a (IsModest random)
 accepted_modest random c grants (Err e) answer effect few short drawn never = tt
 accepted_modest random c grants (Ok a) answer effect few short drawn (same, granted, written, left) = (
   subst (λ (n : ℕ). n ≤ 96) written.2 few,
-  subst (λ (l : List ℕ). length l ≤ 1026) written.1 short,
+  subst (λ (l : List ℕ). length l ≤ answer_limit) written.1 short,
   subst (λ (n : ℕ). DrawsFew random a.success.after a.command.entries n) written.2
       (subst (λ (x : Whole). DrawsFew random a.success.after x.entries answer.drawn) (sym same)
       (subst (λ (x : Record). DrawsFew random x c.entries answer.drawn) left drawn)),
@@ -72,16 +73,16 @@ accepted_modest random c grants (Ok a) answer effect few short drawn (same, gran
 pub ruleset acting = (accepted_answers, accepted_modest, refused_answers)
 
 -- a command that is not authorized is refused
-pub not_authorized : (can : Bool) (r : Record) (c : Whole) (locality : ℕ) (random : List ℕ) (e : Refused) → authorize r c locality ≡ Err e → RefusesOrStarves can c (acceptance r c locality random) e
+pub not_authorized : (can : Bool) (r : Record) (c : Whole) (locality : ℕ) (random : List ℕ) (e : Refused) → authorize r c locality ≡ Err e → RefusesOrWantsMemory can c (acceptance r c locality random) e
 unfolding acceptance
 not_authorized can r c locality random e refused = rw (refused) refl
 
 -- a command that is decoded, and then refused or refused memory
-pub command_refused : (can : Bool) (r : Record) (buffer : List ℕ) (locality : ℕ) (random : List ℕ) (c : Whole) (e : Refused) (x : Stepped) → general r buffer ≡ Ok c → RefusesOrStarves can c (acceptance r c locality random) e → x ≡ refusal_step r (record { code = code_number c.code; refused = e }) → Answers can r random (accepted r buffer locality random) x
+pub command_refused : (can : Bool) (r : Record) (buffer : List ℕ) (locality : ℕ) (random : List ℕ) (c : Whole) (e : Refused) (x : Stepped) → general r buffer ≡ Ok c → RefusesOrWantsMemory can c (acceptance r c locality random) e → x ≡ refusal_step r (record { code = code_number c.code; refused = e }) → Answers can r random (accepted r buffer locality random) x
 unfolding accepted
 command_refused can r buffer locality random c e x decoded is seen =
     rw (decoded, seen) (refused_answers can r random c (acceptance r c locality random) e is)
 
 -- an authorized command whose row refuses, or is refused memory
-pub row_refused : (can : Bool) (r : Record) (random : List ℕ) (c : Whole) (a : Result Accepted Refused) (e : Refused) (x : Stepped) → RefusesOrStarves can c a e → x ≡ refusal_step r (record { code = code_number c.code; refused = e }) → Answers can r random (in_command c.code a) x
+pub row_refused : (can : Bool) (r : Record) (random : List ℕ) (c : Whole) (a : Result Accepted Refused) (e : Refused) (x : Stepped) → RefusesOrWantsMemory can c a e → x ≡ refusal_step r (record { code = code_number c.code; refused = e }) → Answers can r random (in_command c.code a) x
 row_refused can r random c a e x is seen = rw seen (refused_answers can r random c a e is)

@@ -1,4 +1,4 @@
--- The header of a response that has nothing behind it, and the response to a command that has entries.
+-- The header of a response that has nothing after it, and the response to a command that has entries.
 use Rattle.std.proofs.Common.{arith, length-drop, ◌+◌, ◌≡◌, ◌≤◌, ℕ, List, [], ◌∷◌, ◌++◌, drop, length, Option, ap, append-nil, refl, sym, ◌∙◌}
 use Rattle.std.specs.Int.{w16, w32, to_be_bytes}
 use Rattle.tpm_types.specs.declared.handle.Handle.{Handle}
@@ -52,7 +52,7 @@ answered_with c grants a effect random mid after entries granted draws left para
     spelled
     (rw (← paired) ended)
 
--- three nonces are drawn behind the bytes of the row
+-- three nonces are drawn after the bytes of the row
 pub drawn_few : (r mid : Record) (entries sent : List Entry) (draws left random : List ℕ) (drawn : ℕ)
     → entries ≡ sent → draws ≡ drop drawn random → entries_rolled r entries draws ≡ record { after = mid; left = left } → length draws ≤ length left + 96 → drawn ≤ 96 → DrawsFew random r sent drawn
 drawn_few r mid entries sent draws left random drawn same behind rolled few row =

@@ -2,5 +2,5 @@ pub mod Running
 pub mod Refusals
 pub mod Modesty
 pub mod Answering
-pub mod Decoding
+pub mod DecodingLaws
 pub mod Accepting

@@ -5,10 +5,10 @@ use Rattle.tpm_record.specs.Tick.{ticked}
 use Rattle.tpm_types.specs.Check.{check_number}
 use Rattle.tpm_types.specs.declared.check.Check.{Check}
 use Rattle.tpm_types.specs.declared.check.Check.TheVariants as check
-use Rattle.tpm_machine_step.specs.Events.{Happening, Given, Cycled}
+use Rattle.tpm_machine_step.specs.Events.{PlainEvent, Given, Cycled}
 use Rattle.tpm_machine_step.specs.Safe.{AcceptsModestly, IsModest, IsModestIfAccepted}
 use Rattle.tpm_machine_step.specs.Step.{Accepted, Stepped, Steps, accepted, answer_where}
-use Rattle.tpm_machine_step.specs.declared.refusal.Refusal.{Refusal}
+use Rattle.tpm_machine_step.specs.declared.refused_command.RefusedCommand.{RefusedCommand}
 
 check_some : (c : Check) → check_number c ≡ 0 → ⊥
 check_some check.Length zero = absurd cc
@@ -25,12 +25,12 @@ check_some check.Parameters zero = absurd cc
 check_some (check.Action a) zero = omega (arith, zero)
 check_some check.Memory zero = absurd cc
 
-is_accepted : (refused : Bool) (t : Record) (random : List ℕ) (a : Result Accepted Refusal) → (answer_where refused t random a).row.check ≡ 0 → IfOk a (IsModest random) → (b : Accepted) × (a ≡ Ok b) × IsModest random b
+is_accepted : (refused : Bool) (t : Record) (random : List ℕ) (a : Result Accepted RefusedCommand) → (answer_where refused t random a).row.check ≡ 0 → IfOk a (IsModest random) → (b : Accepted) × (a ≡ Ok b) × IsModest random b
 is_accepted refused t random (Ok a) zero modest = (a, refl, modest)
 is_accepted false t random (Err e) zero modest = absurd (check_some e.refused.check zero)
 is_accepted true t random (Err e) zero modest = absurd (check_some e.refused.check zero)
 
-pub accepts_modestly : (can : Bool) (r : Record) (event : Happening) (x : Stepped) → Steps can r event x → x.row.check ≡ 0 → IsModestIfAccepted r event → AcceptsModestly r event
+pub accepts_modestly : (can : Bool) (r : Record) (event : PlainEvent) (x : Stepped) → Steps can r event x → x.row.check ≡ 0 → IsModestIfAccepted r event → AcceptsModestly r event
 accepts_modestly can r Cycled x steps zero modest = tt
 accepts_modestly can r (Given buffer locality elapsed random) x (refused, only, is) zero modest =
     let t = ticked r elapsed in

@@ -7,19 +7,19 @@ use Rattle.tpm_record.specs.Record.{Record}
 use Rattle.tpm_record.specs.Tick.{ticked}
 use Rattle.tpm_types.specs.declared.refused.Refused.{Refused}
 use Rattle.tpm_types.specs.Check.{check_number}
-use Rattle.tpm_actions.specs.Refusals.{memory_refusal}
+use Rattle.tpm_actions_base.specs.Refusals.{memory_refusal}
 use Rattle.tpm_machine_step.specs.Answer.{refusal_text}
-use Rattle.tpm_machine_step.specs.Events.{Happening, Given, Cycled}
+use Rattle.tpm_machine_step.specs.Events.{PlainEvent, Given, Cycled}
 use Rattle.tpm_machine_step.specs.General.{in_command}
 use Rattle.tpm_machine_step.specs.Safe.{IsHarmless}
-use Rattle.tpm_machine_step.specs.Step.{Accepted, Answers, RefusesOrStarves, Stepped, Steps, refusal_step, accepted, answer_of, counted_in, refusal_without_memory, answer_without_memory, step, step_where, success_step}
-use Rattle.tpm_machine_step.specs.declared.refusal.Refusal.{Refusal}
+use Rattle.tpm_machine_step.specs.Step.{Accepted, Answers, RefusesOrWantsMemory, Stepped, Steps, refusal_step, accepted, answer_of, counted_in, refusal_without_memory, answer_without_memory, step, step_where, success_step}
+use Rattle.tpm_machine_step.specs.declared.refused_command.RefusedCommand.{RefusedCommand}
 
 -- the same of a record whose time has passed
 abbrev LeavesRecord : Record → Stepped → Type 0
 LeavesRecord r x = x.row.check ≢ 0 → (length x.response ≡ 10) × (refused : Refused) × (x.response ≡ refusal_text refused) × (x.row.check ≡ check_number refused.check) × (x.after ≡ counted_in refused.counted r)
 
-answer_leaves : (r : Record) (random : List ℕ) (a : Result Accepted Refusal) → LeavesRecord r (answer_of r random a)
+answer_leaves : (r : Record) (random : List ℕ) (a : Result Accepted RefusedCommand) → LeavesRecord r (answer_of r random a)
 answer_leaves r random (Ok a) refused = absurd (refused refl)
 answer_leaves r random (Err e) refused = (refl, e.refused, refl, refl, refl)
 
@@ -28,11 +28,11 @@ success_without_memory_leaves : (grows : Bool) (r : Record) (random : List ℕ) 
 success_without_memory_leaves true r random a refused = (refl, memory_refusal, refl, refl, refl)
 success_without_memory_leaves false r random a refused = absurd (refused refl)
 
-answer_without_memory_leaves : (r : Record) (random : List ℕ) (a : Result Accepted Refusal) → LeavesRecord r (answer_without_memory r random a)
+answer_without_memory_leaves : (r : Record) (random : List ℕ) (a : Result Accepted RefusedCommand) → LeavesRecord r (answer_without_memory r random a)
 answer_without_memory_leaves r random (Ok a) refused = success_without_memory_leaves (shape_of a.command.code).grows r random a refused
 answer_without_memory_leaves r random (Err e) refused = (refl, e.refused, refl, refl, refl)
 
-step_harmless : (refused : Bool) (r : Record) (event : Happening) → IsHarmless r event (step_where refused r event)
+step_harmless : (refused : Bool) (r : Record) (event : PlainEvent) → IsHarmless r event (step_where refused r event)
 step_harmless false r (Given buffer locality elapsed random) =
     answer_leaves (ticked r elapsed) random (accepted (ticked r elapsed) buffer locality random)
 step_harmless false r Cycled = λ refused. absurd (refused refl)
@@ -40,15 +40,15 @@ step_harmless true r (Given buffer locality elapsed random) =
     answer_without_memory_leaves (ticked r elapsed) random (accepted (ticked r elapsed) buffer locality random)
 step_harmless true r Cycled = λ refused. absurd (refused refl)
 
-pub steps_harmless : (can : Bool) (r : Record) (event : Happening) (x : Stepped) → Steps can r event x → IsHarmless r event x
+pub steps_harmless : (can : Bool) (r : Record) (event : PlainEvent) (x : Stepped) → Steps can r event x → IsHarmless r event x
 steps_harmless can r event x (refused, only, is) = rw is (step_harmless refused r event)
 
 -- what is exactly the step is a step to which no memory was refused
-pub steps_exactly : (can : Bool) (r : Record) (event : Happening) (x : Stepped) → x ≡ step r event → Steps can r event x
+pub steps_exactly : (can : Bool) (r : Record) (event : PlainEvent) (x : Stepped) → x ≡ step r event → Steps can r event x
 steps_exactly can r event x e = (false, λ t. absurd (false≢true t), e)
 
 -- and an answer that is exactly the command's
-pub answers_exactly : (can : Bool) (r : Record) (random : List ℕ) (a : Result Accepted Refusal) (x : Stepped) → x ≡ answer_of r random a → Answers can r random a x
+pub answers_exactly : (can : Bool) (r : Record) (random : List ℕ) (a : Result Accepted RefusedCommand) (x : Stepped) → x ≡ answer_of r random a → Answers can r random a x
 answers_exactly can r random a x e = (false, λ t. absurd (false≢true t), e)
 
 grows_without_memory : (grows : Bool) (r : Record) (random : List ℕ) (a : Accepted) → grows ≡ true → refusal_without_memory r a.command ≡ cond grows (refusal_without_memory r a.command) (success_step a random)
@@ -56,7 +56,7 @@ grows_without_memory true r random a e = refl
 grows_without_memory false r random a e = absurd (false≢true e)
 
 -- a command that was refused, or was refused memory
-pub refused_answers : (can : Bool) (r : Record) (random : List ℕ) (c : Whole) (a : Result Accepted Refused) (e : Refused) → RefusesOrStarves can c a e → Answers can r random (in_command c.code a) (refusal_step r (record { code = code_number c.code; refused = e }))
+pub refused_answers : (can : Bool) (r : Record) (random : List ℕ) (c : Whole) (a : Result Accepted Refused) (e : Refused) → RefusesOrWantsMemory can c a e → Answers can r random (in_command c.code a) (refusal_step r (record { code = code_number c.code; refused = e }))
 refused_answers can r random c (Err refused) e is =
     (false, λ t. absurd (false≢true t), ap (λ (f : Refused). refusal_step r (record { code = code_number c.code; refused = f })) is)
 refused_answers can r random c (Ok a) e (may, same, grows, is) = (

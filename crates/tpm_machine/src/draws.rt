@@ -1,3 +1,5 @@
+//! The random bytes of an event, from the front of which new nonces are drawn.
+
 ghost use Rattle.std.specs.Prelude.{◌≡◌, ◌≤◌, ℕ, List, length, take, drop};
 
 use std::marker::Model;
@@ -22,7 +24,7 @@ impl<'a> Draws<'a> {
         Draws { left }
     }
 
-    /// A nonce of so many bytes, from the front.
+    /// A nonce of this many bytes, from the front.
     pub fn nonce(&mut self, size: usize) -> Nonce
         requires small { size ≤ 32 }
         requires enough { size ≤ length self.old }

@@ -1,3 +1,6 @@
+//! What a success does to the sessions of its entries: new nonces, an answer to each entry, and the
+//! end of those that do not continue.
+
 ghost use Rattle.std.specs.Prelude.{◌≡◌, ◌+◌, ◌*◌, ◌≤◌, ◌++◌, length, map};
 ghost use Rattle.std.specs.List.{zip};
 ghost use Rattle.tpm_types_command.specs.AuthEntry.{entry_of};
@@ -18,11 +21,8 @@ use tpm_types_command::AuthEntry;
 /// Library, Part 2, section 10.13.3).
 const PASSWORD_ANSWER: [u8; 5] = [0, 0, 1, 0, 0];
 
-/// The attribute by which a session stays after the command.
-const CONTINUE_SESSION: u8 = 0x01;
-
 /// The most bytes of the answers to the entries of a command, 69 each.
-pub const AREA_LIMIT: usize = 207;
+pub const ENTRY_ANSWERS_LIMIT: usize = 207;
 
 /// How many bytes the next nonce of an entry's session has.
 #[tactic(auto, unfolding(tpm_machine_step::specs::Entries::draw_of))]
@@ -97,9 +97,9 @@ fn answer_session<K: Keep>(
     grant: Option<Grant>,
     entry: &AuthEntry,
     session: &Session,
-    area: &mut Sink<AREA_LIMIT>,
+    area: &mut Sink<ENTRY_ANSWERS_LIMIT>,
 )
-    requires room { length area.old + 69 ≤ AREA_LIMIT }
+    requires room { length area.old + 69 ≤ ENTRY_ANSWERS_LIMIT }
     ensures text { area.new ≡ area.old ++ session_answer (K.record_of keep.now) hashes.old grant
         (entry_of entry.now) session.now }
     ensures grown { length area.new ≤ length area.old + 69 }
@@ -117,9 +117,9 @@ fn answer_entry<K: Keep>(
     hashes: &mut ParameterHashes,
     grant: Option<Grant>,
     entry: &AuthEntry,
-    area: &mut Sink<AREA_LIMIT>,
+    area: &mut Sink<ENTRY_ANSWERS_LIMIT>,
 )
-    requires room { length area.old + 69 ≤ AREA_LIMIT }
+    requires room { length area.old + 69 ≤ ENTRY_ANSWERS_LIMIT }
     ensures text { area.new ≡ area.old ++ entry_answer (K.record_of keep.now) hashes.old grant
         (entry_of entry.now) }
     ensures grown { length area.new ≤ length area.old + 69 }
@@ -139,9 +139,9 @@ pub fn answer_entries<K: Keep>(
     hashes: &mut ParameterHashes,
     entries: &[AuthEntry],
     grants: &[Option<Grant>],
-    area: &mut Sink<AREA_LIMIT>,
+    area: &mut Sink<ENTRY_ANSWERS_LIMIT>,
 )
-    requires room { length area.old + 69 * length entries.now ≤ AREA_LIMIT }
+    requires room { length area.old + 69 * length entries.now ≤ ENTRY_ANSWERS_LIMIT }
     ensures { area.new ≡ area.old ++ entries_answer (K.record_of keep.now) hashes.old
         (zip (map entry_of entries.now) grants.now) }
 {
@@ -172,7 +172,7 @@ fn end_entry<K: Keep>(keep: &mut K, entry: &AuthEntry, grant: Option<Grant>)
     ensures { K.record_of keep.new
         ≡ entry_ended (K.record_of keep.old) (entry_of entry.now) grant }
 {
-    if !entry.attributes.has_any(CONTINUE_SESSION) {
+    if !entry.attributes.continues_session() {
         keep.sessions_mut().flush(entry.session);
     } else if grant.is_some() {
         restart_entry(keep, entry);

@@ -1,22 +1,27 @@
+//! The device itself: it is manufactured, and executes one event or a run of them, by the step that
+//! tpm_machine_step defines.
+
+ghost use Rattle.tpm_types.specs.Limits.{buffer_limit, response_limit};
 ghost use Rattle.std.specs.Prelude.{◌≡◌, ◌≤◌, ◌<◌, ◌^◌, List, [], IfOk, OnErr, false, length, map, true};
 ghost use Rattle.tpm_record.specs.IsRecord.{IsRecord};
 ghost use Rattle.tpm_record.specs.Record.{manufactured};
-ghost use Rattle.tpm_machine_step.specs.Events.{IsEvent, happening};
+ghost use Rattle.tpm_machine_step.specs.Events.{IsEvent, plain_event};
 ghost use Rattle.tpm_machine_step.specs.Run.{Runs, after_all};
 ghost use Rattle.tpm_machine_step.specs.Execution.{Executes};
 ghost use Rattle.tpm_machine_step.specs.Safe.{IsModestIfAccepted};
 ghost use Rattle.tpm_machine.specs.State.{state_of};
 ghost use Rattle.tpm_machine_step.specs.Step.{Steps, outcome_step};
 
-use crate::general::decode;
+use crate::decoding::decode;
 use crate::response::{write_refusal, write_success};
 use crate::table::accept;
 use std::alloc::Global;
-use tpm_actions::answer::Answer;
+use tpm_actions_base::answer::Answer;
 use tpm_auth::{Grants, authorize};
-use tpm_machine_step::{Event, Outcome, Refusal, Response, Row};
+use tpm_bytes::NoMemory;
+use tpm_machine_step::{Event, Outcome, RefusedCommand, Response, Row};
 use tpm_record::tick::tick;
-use tpm_record::{Fixed, Keep, NoMemory, power_cycle, read_widths};
+use tpm_record::{Fixed, Keep, power_cycle, read_widths};
 use tpm_types::{Counted, Locality};
 use tpm_types_command::{Command, CommandCode};
 
@@ -68,7 +73,7 @@ impl<K: Keep> Machine<K> {
     /// in addition what holds of every outcome and of every record.
     pub fn execute(&mut self, event: &Event) -> Outcome
         ensures executes { Executes K.can_refuse (state_of K.record_of self.old)
-            (happening event.now) (outcome_step (state_of K.record_of self.new) result) }
+            (plain_event event.now) (outcome_step (state_of K.record_of self.new) result) }
     {
         let mut outcome = Outcome::empty();
         self.execute_into(event, &mut outcome);
@@ -79,7 +84,7 @@ impl<K: Keep> Machine<K> {
     /// response serves for a whole run.
     pub fn execute_into(&mut self, event: &Event, outcome: &mut Outcome)
         ensures executes { Executes K.can_refuse (state_of K.record_of self.old)
-            (happening event.now) (outcome_step (state_of K.record_of self.new) outcome.new) }
+            (plain_event event.now) (outcome_step (state_of K.record_of self.new) outcome.new) }
     {
         outcome.response.clear();
         outcome.row = self.advance(event, &mut outcome.response);
@@ -90,16 +95,16 @@ impl<K: Keep> Machine<K> {
     #[tactic(auto, using(crate::proofs::Refusals::steps_exactly))]
     fn advance(&mut self, event: &Event, text: &mut Response) -> Row
         requires { text.old.items ≡ [] }
-        ensures steps { Steps K.can_refuse (state_of K.record_of self.old) (happening event.now)
+        ensures steps { Steps K.can_refuse (state_of K.record_of self.old) (plain_event event.now)
             (record {
               response = text.new.items;
               row = result;
               after = state_of K.record_of self.new;
             }) }
         ensures modest { result.check ≡ 0
-            → IsModestIfAccepted (state_of K.record_of self.old) (happening event.now) }
-        ensures fits { length text.new.items ≤ 1251 }
-        ensures event { IsEvent (happening event.now) }
+            → IsModestIfAccepted (state_of K.record_of self.old) (plain_event event.now) }
+        ensures fits { length text.new.items ≤ response_limit }
+        ensures event { IsEvent (plain_event event.now) }
     {
         match event {
             Event::PowerCycle => {
@@ -124,11 +129,11 @@ impl<K: Keep> Machine<K> {
     pub fn run<F: FnMut(&Outcome)>(&mut self, events: &[Event], tell: &mut F)
         requires { F.IsAlwaysCallable tell.old }
         ensures runs { Runs F.FnMut K.can_refuse (state_of K.record_of self.old) tell.old
-            (map happening events.now) (state_of K.record_of self.new) tell.new }
+            (map plain_event events.now) (state_of K.record_of self.new) tell.new }
 
         // Where no memory can be refused, the events lead where their steps lead.
         ensures after { K.can_refuse ≡ false → state_of K.record_of self.new
-            ≡ after_all (state_of K.record_of self.old) (map happening events.now) }
+            ≡ after_all (state_of K.record_of self.old) (map plain_event events.now) }
     {
         self.execute_all(events, tell);
     }
@@ -136,7 +141,7 @@ impl<K: Keep> Machine<K> {
     fn execute_all<F: FnMut(&Outcome)>(&mut self, events: &[Event], tell: &mut F)
         requires { F.IsAlwaysCallable tell.old }
         ensures { Runs F.FnMut K.can_refuse (state_of K.record_of self.old) tell.old
-            (map happening events.now) (state_of K.record_of self.new) tell.new }
+            (map plain_event events.now) (state_of K.record_of self.new) tell.new }
     {
         let mut outcome = Outcome::empty();
         for event in events {
@@ -172,15 +177,19 @@ impl<K: Keep> Machine<K> {
             (accepted (state_of K.record_of self.old) buffer.now
             (locality_number locality) random.now)
             (IsModest random.now) }
-        ensures fits { length text.new.items ≤ 1251 }
+        ensures fits { length text.new.items ≤ response_limit }
     {
         let command = match decode(&self.keep, buffer) {
             Ok(command) => command,
             Err(refusal) => return refuse(&mut self.keep, refusal, text),
         };
         match authorize(&self.keep, &command, locality) {
-            Ok(grants) => self.act(&command, &grants, locality, random, text),
-            Err(refused) => refuse(&mut self.keep, Refusal::of(command.code, refused), text),
+            Ok(grants) => self.perform(&command, &grants, locality, random, text),
+            Err(refused) => refuse(
+                &mut self.keep,
+                RefusedCommand::of(command.code, refused),
+                text,
+            ),
         }
     }
 
@@ -193,7 +202,7 @@ impl<K: Keep> Machine<K> {
     /// Does what a command asks for that its entries authorize so.
     #[inline(always)]
     #[tactic(auto, using(crate::proofs::Accepting::acting))]
-    fn act(
+    fn perform(
         &mut self,
         command: &Command,
         grants: &Grants,
@@ -202,9 +211,9 @@ impl<K: Keep> Machine<K> {
         text: &mut Response,
     ) -> Row
         requires empty { text.old.items ≡ [] }
-        requires size { length command.now.parameters.now ≤ 4096 }
+        requires size { length command.now.parameters.now ≤ buffer_limit }
         requires granted { authorization (state_of K.record_of self.old) (whole_of command.now)
-            (locality_number locality) ≡ Ok grants.now.entries.items }
+            (locality_number locality) ≡ Ok grants.now.grants.items }
         ensures answer { Answers K.can_refuse (state_of K.record_of self.old) random.now
             (in_command command.now.code (acceptance (state_of K.record_of self.old)
             (whole_of command.now) (locality_number locality) random.now))
@@ -215,7 +224,7 @@ impl<K: Keep> Machine<K> {
             }) }
         ensures modest { result.check ≡ 0 → IfOk (acceptance (state_of K.record_of self.old)
             (whole_of command.now) (locality_number locality) random.now) (IsModest random.now) }
-        ensures fits { length text.new.items ≤ 1251 }
+        ensures fits { length text.new.items ≤ response_limit }
     {
         self.answer.clear();
         let (keep, answer) = (&mut self.keep, &mut self.answer);
@@ -228,7 +237,7 @@ impl<K: Keep> Machine<K> {
                     check: 0,
                 }
             }
-            Err(refused) => refuse(keep, Refusal::of(command.code, refused), text),
+            Err(refused) => refuse(keep, RefusedCommand::of(command.code, refused), text),
         }
     }
 }
@@ -270,7 +279,7 @@ fn count<K: Keep>(keep: &mut K, counted: Counted)
 }
 
 /// Counts what the refusal of a command counts, writes the response to it, and gives the row.
-fn refuse<K: Keep>(keep: &mut K, refusal: Refusal, text: &mut Response) -> Row
+fn refuse<K: Keep>(keep: &mut K, refusal: RefusedCommand, text: &mut Response) -> Row
     requires { text.old.items ≡ [] }
     ensures counted { K.record_of keep.new
         ≡ counted_in refusal.refused.counted (K.record_of keep.old) }

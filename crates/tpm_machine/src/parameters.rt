@@ -1,3 +1,6 @@
+//! The encryption of first parameters: those of a command are decrypted, those of its answer
+//! encrypted, by the session that asks for it.
+
 ghost use Rattle.std.specs.Prelude.{◌≡◌, ◌≤◌, length, map};
 ghost use Rattle.std.specs.List.{zip};
 ghost use Rattle.tpm_session.specs.Encryption.{encrypted_parameter, plain_parameter};

@@ -1,3 +1,6 @@
+//! The writing of responses: to a refusal, to a success, and to a success with sessions.
+
+ghost use Rattle.tpm_types.specs.Limits.{answer_limit, buffer_limit, response_limit};
 ghost use Rattle.std.specs.Prelude.{◌≡◌, ◌+◌, ◌≤◌, ◌++◌, [], length, map};
 ghost use Rattle.std.specs.Int.{w16, w32, to_be_bytes};
 ghost use Rattle.std.specs.List.{zip};
@@ -8,16 +11,16 @@ ghost use Rattle.tpm_machine_step.specs.Entries.{DrawsFew};
 ghost use Rattle.tpm_machine_step.specs.Parameters.{encrypted_answer};
 
 use crate::draws::Draws;
-use crate::entries::{AREA_LIMIT, answer_entries, end_entries, roll_entries};
+use crate::entries::{ENTRY_ANSWERS_LIMIT, answer_entries, end_entries, roll_entries};
 use crate::parameters::pass_parameters;
 use arrayvec::ArrayVec;
-use tpm_actions::answer::{ANSWER_LIMIT, Answer, Parameters};
+use tpm_actions_base::answer::{Answer, Parameters};
 use tpm_auth::{Grant, Grants};
 use tpm_bytes::Sink;
-use tpm_machine_step::{Direction, RESPONSE_LIMIT, Response};
+use tpm_machine_step::{Direction, Response};
 use tpm_record::Keep;
 use tpm_session::{HashedParameters, ParameterHashes};
-use tpm_types::{Check, Handle, Refused};
+use tpm_types::{ANSWER_LIMIT, Check, Handle, Refused};
 use tpm_types_command::{AuthEntry, Command, HEADER_SIZE, Tag};
 
 /// The tag of a response to a command whose tag is unknown (TPM_ST_RSP_COMMAND, TPM 2.0 Library,
@@ -26,14 +29,14 @@ const BAD_TAG_RESPONSE: u16 = 0x00c4;
 
 /// Appends bytes for which there is room.
 fn put(text: &mut Response, bytes: &[u8])
-    requires { length text.old.items + length bytes.now ≤ RESPONSE_LIMIT }
+    requires { length text.old.items + length bytes.now ≤ buffer_limit }
     ensures { text.new.items ≡ text.old.items ++ bytes.now }
 {
     let _ = text.try_extend_from_slice(bytes);
 }
 
 fn write_header(tag: u16, size: usize, code: u32, text: &mut Response)
-    requires size { size ≤ 4096 }
+    requires size { size ≤ buffer_limit }
     requires empty { text.old.items ≡ [] }
     ensures { text.new.items ≡ to_be_bytes w16 tag ++ to_be_bytes w32 size ++ to_be_bytes w32 code }
 {
@@ -90,7 +93,7 @@ fn write_plain(handle: Option<Handle>, parameters: &[u8], text: &mut Response)
     requires empty { text.old.items ≡ [] }
     requires parameters { length parameters.now ≤ ANSWER_LIMIT }
     ensures text { text.new.items ≡ framed 0x8001 0 (handle_answer handle ++ parameters.now) }
-    ensures fits { length text.new.items ≤ 1040 }
+    ensures fits { length text.new.items ≤ 10 + 4 + answer_limit }
 {
     let size = HEADER_SIZE + handle_size(handle) + parameters.len();
     write_header(Tag::NoSessions.number(), size, 0, text);
@@ -102,10 +105,10 @@ fn write_plain(handle: Option<Handle>, parameters: &[u8], text: &mut Response)
 fn write_with_area(handle: Option<Handle>, parameters: &[u8], area: &[u8], text: &mut Response)
     requires empty { text.old.items ≡ [] }
     requires parameters { length parameters.now ≤ ANSWER_LIMIT }
-    requires area { length area.now ≤ AREA_LIMIT }
+    requires area { length area.now ≤ ENTRY_ANSWERS_LIMIT }
     ensures text { text.new.items ≡ framed 0x8002 0 (handle_answer handle
         ++ to_be_bytes w32 (length parameters.now) ++ parameters.now ++ area.now) }
-    ensures fits { length text.new.items ≤ 1251 }
+    ensures fits { length text.new.items ≤ response_limit }
 {
     let size = HEADER_SIZE + handle_size(handle) + 4 + parameters.len() + area.len();
     write_header(Tag::Sessions.number(), size, 0, text);
@@ -143,14 +146,14 @@ fn write_with_sessions<K: Keep>(
     requires empty { text.old.items ≡ [] }
     requires some { 1 ≤ length (map entry_of command.now.entries.items) }
     ensures answer { record { response = text.new.items; after = K.record_of keep.new }
-        ≡ answer_to (whole_of command.now) grants.now.entries.items
+        ≡ answer_to (whole_of command.now) grants.now.grants.items
         (text_of answer.old) (K.record_of keep.old) random.now }
     ensures drawn { DrawsFew random.now (K.record_of keep.old) (whole_of command.now).entries
         answer.old.drawn }
-    ensures fits { length text.new.items ≤ 1251 }
+    ensures fits { length text.new.items ≤ response_limit }
 {
     let entries = command.entries.as_slice();
-    let grants = grants.entries.as_slice();
+    let grants = grants.grants.as_slice();
     let mut draws = Draws::new(&random[answer.drawn..]);
     roll_entries(keep, entries, &mut draws);
     encrypt_answer(keep, entries, grants, &mut answer.parameters);
@@ -175,13 +178,13 @@ pub fn write_success<K: Keep>(
 )
     requires empty { text.old.items ≡ [] }
     ensures answer { record { response = text.new.items; after = K.record_of keep.new }
-        ≡ answer_to (whole_of command.now) grants.now.entries.items
+        ≡ answer_to (whole_of command.now) grants.now.grants.items
         (text_of answer.old) (K.record_of keep.old) random.now }
     ensures drawn { DrawsFew random.now (K.record_of keep.old) (whole_of command.now).entries
         answer.old.drawn }
     // An answer has no room for more.
     ensures room { length answer.old.parameters ≤ ANSWER_LIMIT }
-    ensures fits { length text.new.items ≤ 1251 }
+    ensures fits { length text.new.items ≤ response_limit }
 {
     let _length = answer.parameters.len();
     if command.entries.is_empty() {

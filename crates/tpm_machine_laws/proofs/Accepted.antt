@@ -1,4 +1,4 @@
--- Behind a success the session of each entry is still there.
+-- After a success the session of each entry is still there.
 use Rattle.std.proofs.Common.{◌≡◌, ℕ, false, List, [], Result, Ok, Err, IfOk, ap, subst}
 use Rattle.tpm_bytes.proofs.Fields.{bind_ok, ok_is}
 use Rattle.tpm_types_command.specs.Command.{Whole}
@@ -11,7 +11,7 @@ use Rattle.tpm_types.specs.Refused.{checked}
 use Rattle.tpm_types.specs.declared.check.Check.{Check}
 use Rattle.tpm_types.specs.declared.check.Check.TheVariants as check
 use Rattle.tpm_types.specs.declared.refused.Refused.{Refused}
-use Rattle.tpm_actions.specs.Rows.{Success}
+use Rattle.tpm_actions_base.specs.Rows.{Success}
 use Rattle.tpm_machine_step.specs.Step.{Accepted, acceptance, request_in}
 use Rattle.tpm_machine_step.specs.Table.{row_of}
 use Rattle.tpm_machine_laws.specs.Sessions.{HaveSessions, SessionsStay}

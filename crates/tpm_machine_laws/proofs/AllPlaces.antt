@@ -2,8 +2,8 @@
 use Rattle.std.proofs.Common.{ℕ, zero, suc, Bool, true, false, cond, eqb, List, [], ◌∷◌, Option, Some, None, slice_set, is_some}
 use Rattle.std.specs.Prelude.{IfSome, option_and_then}
 use Rattle.std.specs.Option.{option_map_or}
-use Rattle.tpm_places.specs.Numbered.{at_number, changed_at, if_of_kind, kind_of, place_of, without_number}
-use Rattle.tpm_places.specs.Places.{AreAll, at_place, free}
+use Rattle.tpm_slots.specs.Numbered.{at_number, changed_at, if_of_kind, kind_of, place_of, without_number}
+use Rattle.tpm_slots.specs.Slots.{AreAll, at_place, free}
 
 module _ {X : Type 0} (Is : X → Type 0) where
   -- nothing is in a free place

@@ -31,7 +31,7 @@ pub ok_weaker : {A E : Type 0} (P Q : A → Type 0) (x : Result A E) → IfOk x 
 ok_weaker P Q (Ok a) k h = h a k
 ok_weaker P Q (Err e) k h = tt
 
--- what holds of each refusal of a step, and of each behind it
+-- what holds of each refusal of a step, and of each after it
 pub err_bind : {A B E : Type 0} (Q : E → Type 0) (x : Result A E) (f : A → Result B E) → IfErr x Q → ((a : A) → IfErr (f a) Q) → IfErr (x >>= f) Q
 err_bind Q (Ok a) f k h = h a
 err_bind Q (Err e) f k h = k
@@ -76,7 +76,7 @@ ok_in_command P c (Err e) h = tt
 pub asked : {E : Type 0} (b : Bool) (fault : E) (u : Unit {0}) → refused_if (not b) fault ≡ Ok u → b ≡ true
 asked b fault u is = not-false b (passed (not b) fault u is)
 
--- two steps and what stands behind them
+-- two steps and what stands after them
 pub bind_assoc : {A B C E : Type 0} (x : Result A E) (f : A → Result B E) (g : B → Result C E) → ((x >>= f) >>= g) ≡ (x >>= λ a. f a >>= g)
 bind_assoc (Ok a) f g = refl
 bind_assoc (Err e) f g = refl

@@ -13,7 +13,7 @@ use Rattle.tpm_types_command.specs.AuthArea.{area_at, entries_in}
 use Rattle.tpm_types_command.specs.AuthEntry.{entry_at}
 use Rattle.tpm_types_command.specs.Command.{sessions_at}
 use Rattle.tpm_types_command.specs.Header.{header_at}
-use Rattle.tpm_types_command.specs.declared.command.Header.{Header}
+use Rattle.tpm_types_command.specs.declared.header.Header.{Header}
 use Rattle.tpm_types_command.specs.declared.command_code.CommandCode.{CommandCode}
 use Rattle.tpm_types_command.specs.declared.command_code.CommandCode.TheVariants as command
 use Rattle.tpm_types_command.specs.declared.tag.Tag.{Tag}
@@ -24,24 +24,24 @@ use Rattle.tpm_types_object.specs.declared.public.Public.{Public}
 use Rattle.tpm_types_object.specs.declared.public.PublicParameters.{PublicParameters}
 use Rattle.tpm_types_object.specs.declared.public.PublicParameters.TheVariants as parameters_of
 use Rattle.tpm_record.specs.Record.{Record}
-use Rattle.tpm_actions.specs.Request.{Request, second_handle}
-use Rattle.tpm_actions.specs.Startup.{start_draws as startup_drawn, startup_row}
-use Rattle.tpm_actions.specs.declared.startup.Start.{Start}
-use Rattle.tpm_actions.specs.declared.startup.Start.TheVariants.{Reset, Restart, Resume}
-use Rattle.tpm_actions.specs.Shutdown.{shutdown_row}
-use Rattle.tpm_actions.specs.SelfTest.{self_test_row}
-use Rattle.tpm_actions.specs.ReadClock.{read_clock_row}
-use Rattle.tpm_actions.specs.ClearControl.{clear_control_row}
-use Rattle.tpm_actions.specs.GetRandom.{get_random_row}
-use Rattle.tpm_actions.specs.PcrRead.{pcr_read_row}
-use Rattle.tpm_actions.specs.PcrExtend.{pcr_extend_row}
-use Rattle.tpm_actions.specs.PcrEvent.{pcr_event_row}
-use Rattle.tpm_actions.specs.PcrReset.{pcr_reset_row}
-use Rattle.tpm_actions.specs.FlushContext.{flush_context_row}
-use Rattle.tpm_actions.specs.DictionaryAttackLockReset.{dictionary_attack_lock_reset_row}
-use Rattle.tpm_actions.specs.DictionaryAttackParameters.{dictionary_attack_parameters_row}
-use Rattle.tpm_actions.specs.HierarchyChangeAuth.{hierarchy_change_auth_row}
-use Rattle.tpm_actions.specs.StartAuthSession.{parameters_in, parameters_pass, session_place, start_auth_session_row}
+use Rattle.tpm_actions_base.specs.Request.{Request, second_handle}
+use Rattle.tpm_actions_device.specs.Startup.{start_draws as startup_drawn, startup_row}
+use Rattle.tpm_actions_device.specs.declared.startup.Start.{Start}
+use Rattle.tpm_actions_device.specs.declared.startup.Start.TheVariants.{Reset, Restart, Resume}
+use Rattle.tpm_actions_device.specs.Shutdown.{shutdown_row}
+use Rattle.tpm_actions_device.specs.SelfTest.{self_test_row}
+use Rattle.tpm_actions_device.specs.ReadClock.{read_clock_row}
+use Rattle.tpm_actions_device.specs.ClearControl.{clear_control_row}
+use Rattle.tpm_actions_device.specs.GetRandom.{get_random_row}
+use Rattle.tpm_actions_device.specs.PcrRead.{pcr_read_row}
+use Rattle.tpm_actions_device.specs.PcrExtend.{pcr_extend_row}
+use Rattle.tpm_actions_device.specs.PcrEvent.{pcr_event_row}
+use Rattle.tpm_actions_device.specs.PcrReset.{pcr_reset_row}
+use Rattle.tpm_actions_device.specs.FlushContext.{flush_context_row}
+use Rattle.tpm_actions_device.specs.DictionaryAttackLockReset.{dictionary_attack_lock_reset_row}
+use Rattle.tpm_actions_device.specs.DictionaryAttackParameters.{dictionary_attack_parameters_row}
+use Rattle.tpm_actions_device.specs.HierarchyChangeAuth.{hierarchy_change_auth_row}
+use Rattle.tpm_actions_device.specs.StartAuthSession.{parameters_in, parameters_pass, session_place, start_auth_session_row}
 use Rattle.tpm_actions_object.specs.Clear.{clear_row}
 use Rattle.tpm_actions_capability.specs.GetCapability.{get_capability_row}
 use Rattle.tpm_actions_object.specs.Create.{create_row}

@@ -1,6 +1,9 @@
 -- A success touches the part of its command.
-use Rattle.std.proofs.Common.{rules, ◌≡◌, ◌+◌, IfOk, ℕ, true, List, Option, Some, None, Result, Ok, Err, refl, ap, inl, inr}
+use Rattle.tpm_types.specs.Handle.{is_session}
+use Rattle.tpm_types.specs.declared.action_check.ActionCheck.TheVariants as action
+use Rattle.std.proofs.Common.{rules, ◌≡◌, ◌+◌, IfOk, ℕ, Bool, true, false, List, Option, Some, None, Result, Ok, Err, refl, ap, inl, inr}
 use Rattle.std.specs.Option.{option_map_or}
+use Rattle.tpm_types.specs.declared.handle.Handle.{Handle}
 use Rattle.tpm_types.specs.declared.handle.HierarchyAuth.{HierarchyAuth}
 use Rattle.tpm_types.specs.declared.handle.HierarchyAuth.TheVariants as auth
 use Rattle.tpm_types.specs.declared.handle.HierarchyHandle.TheVariants as hierarchy
@@ -9,12 +12,12 @@ use Rattle.tpm_types_command.specs.declared.command_code.CommandCode.TheVariants
 use Rattle.tpm_record.specs.Entity.{with_hierarchy_auth}
 use Rattle.tpm_record.specs.Record.{Record}
 use Rattle.tpm_record.specs.declared.hierarchy.Hierarchies.{Hierarchies}
-use Rattle.tpm_actions.specs.Request.{Request}
-use Rattle.tpm_actions.specs.Startup.{start_of, started_record, startup_row}
-use Rattle.tpm_actions.specs.declared.startup.Start.{Start}
-use Rattle.tpm_actions.specs.declared.startup.Start.TheVariants.{Reset, Restart, Resume}
-use Rattle.tpm_actions.specs.Refusals.{action_refusal, or_refusal}
-use Rattle.tpm_actions.specs.Rows.{all_read, only}
+use Rattle.tpm_actions_base.specs.Request.{Request}
+use Rattle.tpm_actions_device.specs.Startup.{start_of, started_record, startup_row}
+use Rattle.tpm_actions_device.specs.declared.startup.Start.{Start}
+use Rattle.tpm_actions_device.specs.declared.startup.Start.TheVariants.{Reset, Restart, Resume}
+use Rattle.tpm_actions_base.specs.Refusals.{action_refusal, or_refusal}
+use Rattle.tpm_actions_base.specs.Rows.{all_read, only}
 use Rattle.tpm_bytes.specs.Reading.{◌>>=◌, refused_if}
 use Rattle.tpm_nv.specs.Clear.{cleared}
 use Rattle.tpm_pcr.specs.Changes.{change_check, clear_counted}
@@ -27,20 +30,20 @@ use Rattle.tpm_types.specs.declared.rc.ResponseCode.TheVariants as code
 use Rattle.tpm_types.specs.declared.refused.Refused.{Refused}
 use Rattle.tpm_types.specs.StartupType.{startup_type_at}
 use Rattle.tpm_record.specs.Saved.{kind_of}
-use Rattle.tpm_actions.specs.Shutdown.{shutdown_row}
-use Rattle.tpm_actions.specs.SelfTest.{self_test_row}
-use Rattle.tpm_actions.specs.ReadClock.{read_clock_row}
-use Rattle.tpm_actions.specs.ClearControl.{clear_control_row}
-use Rattle.tpm_actions.specs.GetRandom.{get_random_row}
-use Rattle.tpm_actions.specs.PcrRead.{pcr_read_row}
-use Rattle.tpm_actions.specs.PcrExtend.{pcr_extend_row}
-use Rattle.tpm_actions.specs.PcrEvent.{pcr_event_row}
-use Rattle.tpm_actions.specs.PcrReset.{pcr_reset_row}
-use Rattle.tpm_actions.specs.FlushContext.{flush_context_row}
-use Rattle.tpm_actions.specs.DictionaryAttackLockReset.{dictionary_attack_lock_reset_row}
-use Rattle.tpm_actions.specs.DictionaryAttackParameters.{dictionary_attack_parameters_row}
-use Rattle.tpm_actions.specs.HierarchyChangeAuth.{hierarchy_change_auth_row}
-use Rattle.tpm_actions.specs.StartAuthSession.{start_auth_session_row}
+use Rattle.tpm_actions_device.specs.Shutdown.{shutdown_row}
+use Rattle.tpm_actions_device.specs.SelfTest.{self_test_row}
+use Rattle.tpm_actions_device.specs.ReadClock.{read_clock_row}
+use Rattle.tpm_actions_device.specs.ClearControl.{clear_control_row}
+use Rattle.tpm_actions_device.specs.GetRandom.{get_random_row}
+use Rattle.tpm_actions_device.specs.PcrRead.{pcr_read_row}
+use Rattle.tpm_actions_device.specs.PcrExtend.{pcr_extend_row}
+use Rattle.tpm_actions_device.specs.PcrEvent.{pcr_event_row}
+use Rattle.tpm_actions_device.specs.PcrReset.{pcr_reset_row}
+use Rattle.tpm_actions_device.specs.FlushContext.{flush_context_row, flushed_from, flushed_handle}
+use Rattle.tpm_actions_device.specs.DictionaryAttackLockReset.{dictionary_attack_lock_reset_row}
+use Rattle.tpm_actions_device.specs.DictionaryAttackParameters.{dictionary_attack_parameters_row}
+use Rattle.tpm_actions_device.specs.HierarchyChangeAuth.{hierarchy_change_auth_row}
+use Rattle.tpm_actions_device.specs.StartAuthSession.{start_auth_session_row}
 use Rattle.tpm_actions_object.specs.Clear.{clear_row, cleared_fixed}
 use Rattle.tpm_actions_capability.specs.GetCapability.{get_capability_row}
 use Rattle.tpm_actions_object.specs.Create.{create_row}
@@ -66,7 +69,7 @@ use Rattle.tpm_nvactions.specs.NvWrite.{nv_write_row}
 use Rattle.tpm_nvactions.specs.NvWriteLock.{nv_write_lock_row}
 use Rattle.tpm_machine_step.specs.Table.{row_of}
 use Rattle.tpm_machine_laws.proofs.Binding.{ok_bind, ok_then}
-use Rattle.tpm_machine_laws.specs.Footprint.{Beginning, Cleared, KeepsSecrets, Touches, part_of}
+use Rattle.tpm_machine_laws.specs.Footprint.{Beginning, Cleared, KeepsSecrets, SessionsAndObjects, Touches, part_of}
 
 -- another authorization value changes no seed and no proof
 with_auth_keeps : (h : Hierarchies) (auth : HierarchyAuth) (value : List ℕ) → KeepsSecrets h (with_hierarchy_auth h auth value)
@@ -104,14 +107,25 @@ clear_touches : (r : Record) (q : Request) → IfOk (clear_row r q) (λ s. Touch
 unfolding clear_row cleared_hierarchies
 clear_touches r q =
     ok_bind _ (all_read q.parameters) _ (λ ended.
-    ok_bind _ (refused_if r.fixed.disable_clear (action_refusal 1 (plain code.Disabled))) _ (λ a1.
-    ok_then _ _ (or_refusal (λ fault. action_refusal 2 (plain code.Failure)) (clear_counted r.fixed.banks)) _ (clear_counts _ r.fixed.banks) (λ banks is.
+    ok_bind _ (refused_if r.fixed.disable_clear (action_refusal action.First (plain code.Disabled))) _ (λ a1.
+    ok_then _ _ (or_refusal (λ fault. action_refusal action.Second (plain code.Failure)) (clear_counted r.fixed.banks)) _ (clear_counts _ r.fixed.banks) (λ banks is.
     let after : BankValues → Record = λ b. record r { fixed = cleared_fixed b q.random r.fixed; objects = cleared_objects r.objects; persistent = cleared_persistent r.persistent; nv = cleared r.nv } in
     ap after is)))
+
+flushed_touches : (r : Record) (handle : Handle) (is_session : Bool) → Touches SessionsAndObjects r (flushed_from r handle is_session)
+flushed_touches r handle true = refl
+flushed_touches r handle false = refl
+
+flush_touches : (r : Record) (q : Request) → IfOk (flush_context_row r q) (λ s. Touches SessionsAndObjects r s.after)
+unfolding flush_context_row
+flush_touches r q =
+    let touches = λ (handle : Handle). flushed_touches r handle (is_session handle) in
+    ok_bind _ (flushed_handle q.parameters) _ (λ handle. search (rules, ok_bind))
 
 pub row_touches : (r : Record) (c : CommandCode) (q : Request) → IfOk (row_of r c q) (λ s. Touches (part_of c) r s.after)
 unfolding row_of shutdown_row self_test_row read_clock_row clear_control_row get_capability_row get_random_row pcr_read_row pcr_extend_row pcr_event_row pcr_reset_row dictionary_attack_lock_reset_row dictionary_attack_parameters_row flush_context_row hierarchy_change_auth_row start_auth_session_row create_row create_primary_row evict_control_row hmac_row load_row read_public_row unseal_row assertion_row policy_get_digest_row policy_restart_row nv_change_auth_row nv_define_space_row nv_extend_row nv_increment_row nv_read_row nv_read_lock_row nv_read_public_row nv_set_bits_row nv_undefine_space_row nv_write_row nv_write_lock_row with_hierarchy_auth
 row_touches r command.Startup q = startup_touches r q
 row_touches r command.Clear q = clear_touches r q
+row_touches r command.FlushContext q = flush_touches r q
 row_touches r command.HierarchyChangeAuth q = search (rules, ok_bind, auth_keeps)
 row_touches r _ q = search (rules, ok_bind)

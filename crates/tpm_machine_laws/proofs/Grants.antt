@@ -136,7 +136,7 @@ follow_more handles before this follow is place within = place_by (cases_lt plac
         let last : place ≡ length before = omega (arith, length-append before (this ∷ []), within, past) in
         rw (last, get_last before this) is
 
--- the grants of the entries that are left, behind those before them
+-- the grants of the entries that are left, after those before them
 walk_grants : (r : Record) (c : Whole) (locality : ℕ) (before : List (Option Grant)) (es : List Entry) → Follow (authorized c) before → IfOk (grants_pass r c locality before es) (λ grants. (length grants ≡ length before + length es) × Follow (authorized c) grants)
 walk_grants r c locality before [] follow = (omega arith, follow)
 walk_grants r c locality before (e ∷ es) follow =
@@ -146,7 +146,7 @@ walk_grants r c locality before (e ∷ es) follow =
     (walk_grants r c locality (before ++ this ∷ []) es (follow_more (authorized c) before this follow is))
     (λ grants all. (omega (arith, all.0, length-append before (this ∷ [])), all.1)))
 
--- The handles that need authorization are no more than the entries, so behind the entries there is
+-- The handles that need authorization are no more than the entries, so after the entries there is
 -- neither a grant nor such a handle.
 all_fit : (c : Whole) (grants : List (Option Grant)) → authorized_handles c.code ≤ length c.entries → length grants ≡ length c.entries → Follow (authorized c) grants → GrantsFit c grants
 all_fit c grants enough long follow = record { entries = long; handles = λ place. place_by place (cases_lt place (length grants)) }

@@ -1,5 +1,8 @@
 -- A success takes one place more where its command grows, and else no more; that of
 -- TPM2_EvictControl one more or one less.
+use Rattle.tpm_types.specs.Handle.{is_session}
+use Rattle.tpm_types.specs.declared.action_check.ActionCheck.{ActionCheck}
+use Rattle.tpm_types.specs.declared.action_check.ActionCheck.TheVariants as action
 use Rattle.std.proofs.Common.{rules, arith, ◌≡◌, ◌≤◌, ◌+◌, ℕ, Bool, true, false, List, Option, Some, Ok, IfOk, slice_set, refl, ap, ◌∙◌, inl, inr}
 use Rattle.tpm_types_command.specs.declared.command_code.CommandCode.{CommandCode}
 use Rattle.tpm_types_command.specs.declared.command_code.CommandCode.TheVariants as command
@@ -13,10 +16,10 @@ use Rattle.tpm_policy.specs.State.{Policy, starting}
 use Rattle.tpm_session.specs.declared.session.Session.{Session}
 use Rattle.tpm_session.specs.Session.{with_policy}
 use Rattle.tpm_record.specs.Record.{Record}
-use Rattle.tpm_actions.specs.Request.{Request, first_handle, second_handle}
-use Rattle.tpm_actions.specs.Rows.{all_read, only}
-use Rattle.tpm_actions.specs.FlushContext.{flush_context_row, flushed_handle}
-use Rattle.tpm_actions.specs.StartAuthSession.{parameters_in, parameters_pass, session_place, start_auth_session_row}
+use Rattle.tpm_actions_base.specs.Request.{Request, first_handle, second_handle}
+use Rattle.tpm_actions_base.specs.Rows.{all_read, only}
+use Rattle.tpm_actions_device.specs.FlushContext.{flush_context_row, flushed_from, flushed_handle}
+use Rattle.tpm_actions_device.specs.StartAuthSession.{parameters_in, parameters_pass, session_place, start_auth_session_row}
 use Rattle.tpm_actions_object.specs.CreatePrimary.{create_primary_row, named_hierarchy}
 use Rattle.tpm_actions_object.specs.Creation.{parameters_in as creation_parameters}
 use Rattle.tpm_actions_object.specs.EvictControl.{copied, evict_control_row, evicted, eviction_passes, removed}
@@ -25,13 +28,13 @@ use Rattle.tpm_actions_object.specs.Checks.{given_passes, public_passes}
 use Rattle.tpm_actions_object.specs.Loaded.{is_fixed, loaded_at, parent_passes, place_for}
 use Rattle.tpm_actions_policy.specs.Assertions.{assertion_in, assertion_row, policy_after, policy_session, session_handle, with_assertion}
 use Rattle.tpm_actions_policy.specs.PolicyRestart.{policy_restart_row}
-use Rattle.tpm_ascending.proofs.AscendingLaws.{changed_length, kept_few, put_length, removed_few, removed_length}
+use Rattle.tpm_sorted_map.proofs.SortedMapLaws.{changed_length, kept_few, put_length, removed_few, removed_length}
 use Rattle.tpm_nv.specs.Access.{bits_set, extended, incremented, read_locked, with_auth_value, write_locked, written}
 use Rattle.tpm_nv.specs.Clear.{cleared, is_by_platform}
 use Rattle.tpm_nv.specs.Index.{NvContents, NvIndex, with_index, without_index}
 use Rattle.tpm_nv.specs.Startup.{started}
 use Rattle.tpm_nv.specs.declared.fault.NvFault.{NvFault}
-use Rattle.tpm_actions.specs.Refusals.{or_refusal}
+use Rattle.tpm_actions_base.specs.Refusals.{or_refusal}
 use Rattle.tpm_nvactions.specs.Access.{changed_nv}
 use Rattle.tpm_nvactions.specs.NvChangeAuth.{nv_change_auth_row}
 use Rattle.tpm_nvactions.specs.NvDefineSpace.{nv_define_space_row}
@@ -50,8 +53,8 @@ use Rattle.tpm_machine_step.specs.Table.{row_of}
 use Rattle.tpm_machine_laws.specs.Footprint.{Part, Nothing, Sessions, Objects, SessionsAndObjects, Persistent, Nv, AuthValues, Lockout, Banks, Beginning, Saved, DisableClear, Cleared, StartsNv, Touches, part_of}
 use Rattle.tpm_machine_laws.proofs.Binding.{ok_bind, ok_bind_is, ok_then, ok_weaker, some_is}
 use Rattle.tpm_machine_laws.proofs.Footprint.{row_touches}
-use Rattle.tpm_places.specs.Places.{taken_count}
-use Rattle.tpm_places.proofs.NumberedLaws.{changed_taken, put_taken, removed_taken}
+use Rattle.tpm_slots.specs.Slots.{taken_count}
+use Rattle.tpm_slots.proofs.NumberedLaws.{changed_taken, put_taken, removed_taken}
 use Rattle.tpm_session.specs.Sessions.{flushed, session_byte, with_session_policy}
 use Rattle.tpm_record.proofs.ClearLaws.{cleared_few}
 use Rattle.tpm_record.specs.Clear.{outlasts}
@@ -65,7 +68,7 @@ use Rattle.tpm_machine_laws.specs.Shapes.{Grows, GrowsAsShaped, taken_in}
 more_sessions : (r : Record) (place : ℕ) (s : Session) → session_place r.sessions ≡ Ok place → taken_in (record r { sessions = slice_set r.sessions place (Some s) }) ≡ taken_in r + 1
 more_sessions r place s is = let more = put_taken session_byte r.sessions place s (some_is _ _ place is) in omega (arith, more)
 
-more_objects : (r : Record) (n place : ℕ) (o : Object) → place_for n r ≡ Ok place → taken_in (record r { objects = with_object r.objects place o }) ≡ taken_in r + 1
+more_objects : (r : Record) (check : ActionCheck) (place : ℕ) (o : Object) → place_for check r ≡ Ok place → taken_in (record r { objects = with_object r.objects place o }) ≡ taken_in r + 1
 more_objects r n place o is = let more = put_taken transient_byte r.objects place o (some_is _ _ place is) in omega (arith, more)
 
 start_grows : (r : Record) (q : Request) → IfOk (start_auth_session_row r q) (λ s. Grows true r s.after)
@@ -84,7 +87,7 @@ create_primary_grows r q =
     ok_bind _ (creation_parameters q.parameters) _ (λ p.
     ok_bind _ (public_passes 0 true p.template) _ (λ t.
     ok_bind _ (given_passes 3 p.given p.template) _ (λ c.
-    ok_bind_is _ (place_for 7 r) _ (λ place is. more_objects r 7 place _ is))))))
+    ok_bind_is _ (place_for action.Seventh r) _ (λ place is. more_objects r action.Seventh place _ is))))))
 
 load_grows : (r : Record) (q : Request) → IfOk (load_row r q) (λ s. Grows true r s.after)
 unfolding load_row
@@ -95,7 +98,7 @@ load_grows r q =
     ok_bind _ (parent_passes parent) _ (λ a1.
     ok_bind _ (public_passes 1 (is_fixed parent) p.public) _ (λ t.
     ok_bind _ (sensitive_of parent p.public p.private) _ (λ sensitive.
-    ok_bind_is _ (place_for 6 r) _ (λ place is. more_objects r 6 place _ is)))))))
+    ok_bind_is _ (place_for action.Sixth r) _ (λ place is. more_objects r action.Sixth place _ is)))))))
 
 -- ---- a persistent object more, or one less
 
@@ -125,17 +128,15 @@ evict_grows r q =
 
 -- ---- no more places
 
-flushed_grows : (r : Record) (handle : Handle) → Grows false r (record r { sessions = flushed r.sessions handle; objects = without_object r.objects handle })
+flushed_grows : (r : Record) (handle : Handle) (is_session : Bool) → Grows false r (flushed_from r handle is_session)
 unfolding flushed without_object
-flushed_grows r handle =
-    let sessions = removed_taken session_byte r.sessions handle.number in
-    let objects = removed_taken transient_byte r.objects handle.number in
-    omega (arith, sessions, objects)
+flushed_grows r handle true = omega (arith, removed_taken session_byte r.sessions handle.number)
+flushed_grows r handle false = omega (arith, removed_taken transient_byte r.objects handle.number)
 
 flush_grows : (r : Record) (q : Request) → IfOk (flush_context_row r q) (λ s. Grows false r s.after)
 unfolding flush_context_row
 flush_grows r q =
-    let fewer = λ (handle : Handle). flushed_grows r handle in
+    let fewer = λ (handle : Handle). flushed_grows r handle (is_session handle) in
     ok_bind _ (flushed_handle q.parameters) _ (λ handle. search (rules, ok_bind))
 
 policy_same : (sessions : List (Option Session)) (handle : Handle) (policy : Policy) → taken_count (with_session_policy sessions handle policy) ≡ taken_count sessions

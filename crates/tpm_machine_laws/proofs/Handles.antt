@@ -1,4 +1,4 @@
--- Behind the general checks the handles of a command fit its shape, and none is refused any more.
+-- After the general checks the handles of a command fit its shape, and none is refused any more.
 use Rattle.std.proofs.Common.{arith, rules, ◌≡◌, ◌⊎◌, ◌+◌, ℕ, true, List, [], ◌∷◌, Ok, IfOk}
 use Rattle.std.proofs.lemmas.Result.{IfErr-weaker, IfOk-at_ok}
 use Rattle.std.specs.Prelude.{not}
@@ -8,7 +8,7 @@ use Rattle.tpm_bytes.specs.Reading.{number_at, or_fault, refused_if}
 use Rattle.tpm_types.specs.declared.check.Check.TheVariants as check
 use Rattle.tpm_types.specs.declared.refused.Refused.{Refused}
 use Rattle.tpm_types.specs.Refused.{checked}
-use Rattle.tpm_types_command.specs.declared.command.Header.{Header}
+use Rattle.tpm_types_command.specs.declared.header.Header.{Header}
 use Rattle.tpm_types_command.specs.declared.shape.HandleRule.{HandleRule}
 use Rattle.tpm_types_command.specs.Command.{Whole, sessions_at}
 use Rattle.tpm_types_command.specs.CommandCode.{shape_of}
@@ -66,7 +66,7 @@ general_fits r buffer =
     ok_bind _ (in_header (header_at buffer)) _ (λ header.
     ok_in_command _ header.0.code (body_of r header.0 header.1) (body_fits r header.0 header.1))
 
--- ---- what is refused behind them
+-- ---- what is refused after them
 
 -- an authorization refuses by checks of its own
 authorize_passes : (r : Record) (c : Whole) (locality : ℕ) → Passes check.Handles (authorize r c locality)

@@ -10,8 +10,8 @@ use Rattle.tpm_types.specs.declared.check.Check.{Check}
 use Rattle.tpm_types.specs.declared.check.Check.TheVariants as check
 use Rattle.tpm_types.specs.declared.rc.ResponseCode.TheVariants as code
 use Rattle.tpm_types.specs.declared.refused.Refused.{Refused}
-use Rattle.tpm_types_command.specs.declared.command.Header.{Header}
-use Rattle.tpm_types_command.specs.declared.command.HeaderFault.{HeaderFault}
+use Rattle.tpm_types_command.specs.declared.header.Header.{Header}
+use Rattle.tpm_types_command.specs.declared.header.HeaderFault.{HeaderFault}
 use Rattle.tpm_types_command.specs.declared.command_code.CommandCode.{CommandCode}
 use Rattle.tpm_types_command.specs.declared.tag.Tag.{Tag}
 use Rattle.tpm_types_command.specs.Command.{Whole, sessions_at}
@@ -20,12 +20,12 @@ use Rattle.tpm_record.specs.Record.{Record}
 use Rattle.tpm_record.specs.Tick.{ticked}
 use Rattle.tpm_auth.specs.Entries.{entries_pass}
 use Rattle.tpm_auth.specs.Grant.{authorize, grants_pass}
-use Rattle.tpm_machine_step.specs.Events.{Happening, Given, Cycled}
+use Rattle.tpm_machine_step.specs.Events.{PlainEvent, Given, Cycled}
 use Rattle.tpm_machine_step.specs.Execution.{Executes}
 use Rattle.tpm_machine_step.specs.General.{body_of, both_or_neither, general, in_command, in_header, is_startup, present_handles_at, sessions_pass}
 use Rattle.tpm_machine_step.specs.Step.{Accepted, Stepped, acceptance, accepted, answer_of, request_in, step}
 use Rattle.tpm_machine_step.specs.Table.{row_of}
-use Rattle.tpm_machine_step.specs.declared.refusal.Refusal.{Refusal}
+use Rattle.tpm_machine_step.specs.declared.refused_command.RefusedCommand.{RefusedCommand}
 use Rattle.tpm_machine_laws.specs.Refusals.{Passes}
 use Rattle.tpm_machine_laws.proofs.Accepted.{checked_ok}
 use Rattle.tpm_machine_laws.proofs.Binding.{err_bind, err_bind_is, err_checked, err_if}
@@ -34,7 +34,7 @@ use Rattle.tpm_machine_laws.proofs.Refusals.{row_wants}
 
 -- ---- the general checks
 
-abbrev WantsNone : {X : Type 0} → Result X Refusal → Type 0
+abbrev WantsNone : {X : Type 0} → Result X RefusedCommand → Type 0
 WantsNone x = IfErr x (λ e. e.refused.check ≢ check.Memory)
 
 command_wants : {X : Type 0} (c : CommandCode) (x : Result X Refused) → Passes check.Memory x → WantsNone (in_command c x)
@@ -65,7 +65,7 @@ general_wants r buffer =
     err_bind _ (in_header (header_at buffer)) _ (header_wants (header_at buffer)) (λ header.
     command_wants header.0.code (body_of r header.0 header.1) (body_wants r header.0 header.1))
 
--- ---- the authorization, and the row behind it
+-- ---- the authorization, and the row after it
 
 authorize_wants : (r : Record) (c : Whole) (locality : ℕ) → Passes check.Memory (authorize r c locality)
 unfolding authorize
@@ -116,15 +116,15 @@ below check.Memory other = absurd (other refl)
 other_number : (c : Check) → c ≢ check.Memory → check_number c ≢ check_number check.Memory
 other_number c other = λ same. absurd (omega (arith, below c other, same))
 
-answer_wants : (r : Record) (random : List ℕ) (a : Result Accepted Refusal) → WantsNone a → (answer_of r random a).row.check ≢ check_number check.Memory
+answer_wants : (r : Record) (random : List ℕ) (a : Result Accepted RefusedCommand) → WantsNone a → (answer_of r random a).row.check ≢ check_number check.Memory
 answer_wants r random (Ok a) none = λ same. absurd cc
 answer_wants r random (Err e) none = other_number e.refused.check none
 
-pub step_wants : (r : Record) (event : Happening) → (step r event).row.check ≢ check_number check.Memory
+pub step_wants : (r : Record) (event : PlainEvent) → (step r event).row.check ≢ check_number check.Memory
 step_wants r (Given buffer locality elapsed random) =
     let t = ticked r elapsed in
     answer_wants t random (accepted t buffer locality random) (accepted_wants t buffer locality random)
 step_wants r Cycled = λ same. absurd cc
 
-pub execution_wants : (old : Record) (event : Happening) (x : Stepped) → Executes false old event x → x.row.check ≢ check_number check.Memory
+pub execution_wants : (old : Record) (event : PlainEvent) (x : Stepped) → Executes false old event x → x.row.check ≢ check_number check.Memory
 execution_wants old event x executes = subst (λ (y : Stepped). y.row.check ≢ check_number check.Memory) (sym (executes.exactly refl)) (step_wants old event)

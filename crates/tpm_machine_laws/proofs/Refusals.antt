@@ -1,5 +1,6 @@
--- What each row refuses: a handle first, but not where the handles fit its command's shape; then the
--- parameters, which are of the kinds that the shape lists; then what its own checks do.
+-- What each row refuses: a handle first, but not where the handles fit its command's shape; then
+-- the parameters, which are of the kinds that the shape lists; then what its own checks do.
+use Rattle.tpm_types.specs.declared.action_check.ActionCheck.TheVariants as action
 use Rattle.std.proofs.Common.{arith, rules, ◌≡◌, ◌⊎◌, ℕ, ◌+◌, Bool, true, false, List, [], ◌∷◌, Option, Some, None, Result, Ok, Err, IfErr, is_some, refl, sym, subst, ap, ◌∙◌, inl, inr}
 use Rattle.std.proofs.lemmas.Bool.{false≢true}
 use Rattle.std.proofs.lemmas.Bool.Decides.{nat_tests}
@@ -7,7 +8,7 @@ use Rattle.std.proofs.lemmas.Result.{IfErr-at_err}
 use Rattle.std.specs.Option.{option_map_or}
 use Rattle.std.proofs.lemmas.Bool.{eqb-true}
 use Rattle.std.specs.Prelude.{length, nat_lt, ◌==◌, ◌||◌, if◌then◌else◌, not, ok_or, option_map, ◌/◌, ◌^◌}
-use Rattle.tpm_ascending.specs.Ascending.{Entries}
+use Rattle.tpm_sorted_map.specs.SortedMap.{Entries}
 use Rattle.tpm_bytes.specs.Reading.{◌>>=◌, refused_if}
 use Rattle.tpm_types_command.specs.declared.command_code.CommandCode.{CommandCode}
 use Rattle.tpm_types_command.specs.declared.command_code.CommandCode.TheVariants as command
@@ -28,8 +29,7 @@ use Rattle.tpm_types_command.specs.Shape.{admin, unauthorized, user}
 use Rattle.tpm_types.specs.Handle.{handle_type, hierarchy_of, is_persistent}
 use Rattle.tpm_object.specs.declared.creation.CreationFault.{CreationFault}
 use Rattle.tpm_object.specs.declared.template.TemplateFault.{TemplateFault}
-use Rattle.tpm_policy.specs.State.{Policy}
-use Rattle.tpm_policy.specs.declared.fault.PolicyFault.{PolicyFault}
+use Rattle.tpm_types.specs.declared.action_fault.ActionFault.{ActionFault}
 use Rattle.tpm_session.specs.Sessions.{session_at}
 use Rattle.tpm_object.specs.declared.object.Object.{Object}
 use Rattle.tpm_record.specs.Entity.{AnIndex, AnObject, Entity, Permanent, entity_at, index_of, is_kept, is_present, object_of}
@@ -37,28 +37,28 @@ use Rattle.tpm_record.specs.Record.{Record}
 use Rattle.tpm_types.specs.declared.check.Check.{Check}
 use Rattle.tpm_types.specs.declared.check.Check.TheVariants as check
 use Rattle.tpm_types.specs.declared.refused.Refused.{Refused}
-use Rattle.tpm_actions.specs.FlushContext.{flush_context_row}
-use Rattle.tpm_actions.specs.ClearControl.{clear_control_row}
-use Rattle.tpm_actions.specs.GetRandom.{get_random_row}
-use Rattle.tpm_actions.specs.DictionaryAttackLockReset.{dictionary_attack_lock_reset_row}
-use Rattle.tpm_actions.specs.DictionaryAttackParameters.{dictionary_attack_parameters_row, lockout_parameters}
-use Rattle.tpm_actions.specs.HierarchyChangeAuth.{hierarchy_change_auth_row}
-use Rattle.tpm_actions.specs.PcrEvent.{pcr_event_row}
-use Rattle.tpm_actions.specs.PcrExtend.{pcr_extend_row}
-use Rattle.tpm_actions.specs.PcrRead.{pcr_read_row}
-use Rattle.tpm_actions.specs.PcrReset.{pcr_reset_row}
-use Rattle.tpm_actions.specs.Refusals.{action_refusal, handle_refusal, or_refusal, parameter_fault as own_fault}
-use Rattle.tpm_actions.specs.Request.{Request, first_handle, second_handle, third_handle}
-use Rattle.tpm_actions.specs.Rows.{all_read, parameter}
-use Rattle.tpm_actions.specs.StartAuthSession.{parameters_in as start_parameters, parameters_pass, start_auth_session_row}
-use Rattle.tpm_actions.specs.Startup.{start_of, startup_row}
-use Rattle.tpm_actions.specs.Shutdown.{shutdown_row}
-use Rattle.tpm_actions.specs.SelfTest.{self_test_row}
-use Rattle.tpm_actions.specs.ReadClock.{read_clock_row}
+use Rattle.tpm_actions_device.specs.FlushContext.{flush_context_row}
+use Rattle.tpm_actions_device.specs.ClearControl.{clear_control_row}
+use Rattle.tpm_actions_device.specs.GetRandom.{get_random_row}
+use Rattle.tpm_actions_device.specs.DictionaryAttackLockReset.{dictionary_attack_lock_reset_row}
+use Rattle.tpm_actions_device.specs.DictionaryAttackParameters.{dictionary_attack_parameters_row, lockout_parameters}
+use Rattle.tpm_actions_device.specs.HierarchyChangeAuth.{hierarchy_change_auth_row}
+use Rattle.tpm_actions_device.specs.PcrEvent.{pcr_event_row}
+use Rattle.tpm_actions_device.specs.PcrExtend.{pcr_extend_row}
+use Rattle.tpm_actions_device.specs.PcrRead.{pcr_read_row}
+use Rattle.tpm_actions_device.specs.PcrReset.{pcr_reset_row}
+use Rattle.tpm_actions_base.specs.Refusals.{action_refusal, fault_refusal, handle_refusal, or_refusal, parameter_refusal}
+use Rattle.tpm_actions_base.specs.Request.{Request, first_handle, second_handle, third_handle}
+use Rattle.tpm_actions_base.specs.Rows.{all_read, parameter}
+use Rattle.tpm_actions_device.specs.StartAuthSession.{parameters_in as start_parameters, parameters_pass, start_auth_session_row}
+use Rattle.tpm_actions_device.specs.Startup.{start_of, startup_row}
+use Rattle.tpm_actions_device.specs.Shutdown.{shutdown_row}
+use Rattle.tpm_actions_device.specs.SelfTest.{self_test_row}
+use Rattle.tpm_actions_device.specs.ReadClock.{read_clock_row}
 use Rattle.tpm_actions_object.specs.Checks.{creation_refusal, template_refusal}
 use Rattle.tpm_actions_object.specs.Clear.{clear_row}
 use Rattle.tpm_actions_capability.specs.GetCapability.{capability_of, capability_parameters, get_capability_row, handle_elements, told_of}
-use Rattle.tpm_actions_capability.specs.declared.get_capability.Asked.{Asked}
+use Rattle.tpm_actions_capability.specs.declared.get_capability.CapabilityParameters.{CapabilityParameters}
 use Rattle.tpm_actions_capability.specs.declared.get_capability.Capability.{Capability}
 use Rattle.tpm_actions_capability.specs.declared.get_capability.Capability.TheVariants as capability
 use Rattle.tpm_actions_object.specs.Create.{create_row}
@@ -70,7 +70,7 @@ use Rattle.tpm_actions_object.specs.Load.{load_row, parameters_in as load_parame
 use Rattle.tpm_actions_object.specs.Loaded.{loaded_at}
 use Rattle.tpm_actions_object.specs.ReadPublic.{read_public_row}
 use Rattle.tpm_actions_object.specs.Unseal.{unseal_row}
-use Rattle.tpm_actions_policy.specs.Assertions.{assertion_row, by_its_check, policy_session}
+use Rattle.tpm_actions_policy.specs.Assertions.{assertion_row, policy_session}
 use Rattle.tpm_actions_policy.specs.PolicyGetDigest.{policy_get_digest_row}
 use Rattle.tpm_actions_policy.specs.PolicyRestart.{policy_restart_row}
 use Rattle.tpm_actions_policy.specs.PolicySecret.{secret_parameters}
@@ -85,10 +85,9 @@ use Rattle.tpm_nvactions.specs.NvSetBits.{nv_set_bits_row}
 use Rattle.tpm_nvactions.specs.NvUndefineSpace.{nv_undefine_space_row}
 use Rattle.tpm_nvactions.specs.NvWrite.{nv_write_row, parameters_in as nv_write_parameters}
 use Rattle.tpm_nvactions.specs.NvWriteLock.{nv_write_lock_row}
-use Rattle.tpm_nvactions.specs.Access.{lock_refusal, reading_refusal, write_refusal}
-use Rattle.tpm_actions.specs.Target.{attributes_of, index_or_refusal}
-use Rattle.tpm_actions.specs.declared.target.ReadingFault.{ReadingFault}
-use Rattle.tpm_actions.specs.declared.target.Target.{Target}
+use Rattle.tpm_nvactions.specs.Access.{lock_refusal, writing_refusal}
+use Rattle.tpm_actions_base.specs.Target.{attributes_of, index_or_refusal}
+use Rattle.tpm_actions_base.specs.declared.target.Target.{Target}
 use Rattle.tpm_actions_policy.specs.PolicyNv.{nv_parameters}
 use Rattle.tpm_nv.specs.Access.{bits_set, extended, incremented, index_or_fault, read_locked, with_auth_value, write_locked, written}
 use Rattle.tpm_nv.specs.Head.{head_of}
@@ -114,8 +113,8 @@ use Rattle.tpm_machine_laws.proofs.Readings.{all_read_outcome, only_read, outcom
 
 -- ---- the order of a row's refusals
 
--- A check behind a row's parameters: one of the command's own, or that of handles, but not where these
--- fit.
+-- A check after a row's parameters: one of the command's own, or that of handles, but not where
+-- these fit.
 abbrev IsLate : Type 0 → Check → Type 0
 IsLate Fit (check.Action own) = Unit {0}
 IsLate Fit check.Handles = Fit → ⊥
@@ -125,8 +124,8 @@ IsLate Fit _ = ⊥
 abbrev Late : {X : Type 0} → Type 0 → Result X Refused → Type 0
 Late Fit row = IfErr row (λ e. IsLate Fit e.check)
 
--- A row refuses a handle, but not where these fit; or else parameters with their first fault; or else
--- something by a late check.
+-- A row refuses a handle, but not where these fit; or else parameters with their first fault; or
+-- else something by a late check.
 abbrev InOrder : {X : Type 0} → Type 0 → Result (Unit {0}) Refused → Result X Refused → Type 0
 InOrder Fit s (Ok x) = s ≡ Ok tt
 InOrder Fit s (Err e) = ((e.check ≡ check.Handles) × (Fit → ⊥)) ⊎ ((s ≡ Err e) ⊎ ((s ≡ Ok tt) × IsLate Fit e.check))
@@ -159,14 +158,14 @@ in_order_wants Fit s (Err e) faults (inr (inr late)) = λ same. subst (IsLate Fi
 -- authHandle and nvIndex, as a row reads them
 abbrev target_at : Record → List Handle → Result Target Refused
 target_at r handles = do
-  authority ← first_handle handles
+  auth_handle ← first_handle handles
   handle ← second_handle handles
   attributes ← attributes_of r handle
-  Ok (record { authority = authority; handle = handle; attributes = attributes })
+  Ok (record { auth_handle = auth_handle; handle = handle; attributes = attributes })
 
--- The row of a command with these rules and parameters, or what of it stands behind some of its
--- steps, refuses in this order. A search finds the rules and the kinds in a record, and not in what it
--- says.
+-- The row of a command with these rules and parameters, or what of it stands after some of its
+-- steps, refuses in this order. A search finds the rules and the kinds in a record, and not in what
+-- it says.
 record Orders {X : Type 0} (r : Record) (rules : List HandleRule) (handles : List Handle) (kinds : List ParameterKind) (text : List ℕ) (row : Result X Refused) : Type 0 where
   order : InOrder (HandlesFit r rules handles) (spelled 1 kinds text) row
 
@@ -243,12 +242,12 @@ behind_target : {X : Type 0} (r : Record) (first : HandleRule) (others : List Ha
 behind_target r first others [] kinds text f more = record { order = inl (refl, λ fit. fit) }
 behind_target r first others (h ∷ []) kinds text f more = record { order = inl (refl, λ fit. fit.1) }
 behind_target r first others (h ∷ k ∷ hs) kinds text f more =
-    found (index_at r.nv k) (λ fit. index_there r None k fit.1.0) (λ a there. more (record { authority = h; handle = k; attributes = a }) there)
+    found (index_at r.nv k) (λ fit. index_there r None k fit.1.0) (λ a there. more (record { auth_handle = h; handle = k; attributes = a }) there)
   where
     Fit : Type 0
     Fit = HandlesFit r (first ∷ unauthorized handle_kind.NvIndex ∷ others) (h ∷ k ∷ hs)
 
-    found : (o : Option NvIndex) → (Fit → is_some o ≡ true) → ((a : NvAttributes) → (Fit → is_some o ≡ true) → Orders r (first ∷ unauthorized handle_kind.NvIndex ∷ others) (h ∷ k ∷ hs) kinds text (f (record { authority = h; handle = k; attributes = a }))) → Orders r (first ∷ unauthorized handle_kind.NvIndex ∷ others) (h ∷ k ∷ hs) kinds text (((ok_or o handle_refusal >>= λ index. Ok index.public.attributes) >>= λ attributes. Ok (record { authority = h; handle = k; attributes = attributes })) >>= f)
+    found : (o : Option NvIndex) → (Fit → is_some o ≡ true) → ((a : NvAttributes) → (Fit → is_some o ≡ true) → Orders r (first ∷ unauthorized handle_kind.NvIndex ∷ others) (h ∷ k ∷ hs) kinds text (f (record { auth_handle = h; handle = k; attributes = a }))) → Orders r (first ∷ unauthorized handle_kind.NvIndex ∷ others) (h ∷ k ∷ hs) kinds text (((ok_or o handle_refusal >>= λ index. Ok index.public.attributes) >>= λ attributes. Ok (record { auth_handle = h; handle = k; attributes = attributes })) >>= f)
     found (Some i) there next = next i.public.attributes there
     found None there next = record { order = inl (refl, λ fit. false≢true (there fit)) }
 
@@ -309,7 +308,7 @@ late_scheme Fit p = grind arith
 late_definition : (Fit : Type 0) (x : Result (Unit {0}) DefinitionFault) → Late Fit (or_refusal definition_refusal x)
 late_definition Fit x = grind arith
 
-late_counted : (Fit : Type 0) (x : Result BankValues ChangeFault) → Late Fit (or_refusal (λ fault. action_refusal 2 (plain code.Failure)) x)
+late_counted : (Fit : Type 0) (x : Result BankValues ChangeFault) → Late Fit (or_refusal (λ fault. action_refusal action.Second (plain code.Failure)) x)
 late_counted Fit x = grind arith
 
 late_start : (Fit : Type 0) (type : StartupType) (kind : SavedKind) → Late Fit (start_of type kind)
@@ -321,14 +320,16 @@ late_capability Fit number = grind arith
 late_handles : (Fit : Type 0) (r : Record) (kind : ℕ) → Late Fit (handle_elements r kind)
 late_handles Fit r kind = grind arith
 
-late_told : (Fit : Type 0) (r : Record) (asked : Asked) (c : Capability) → Late Fit (told_of r asked c)
+late_told : (Fit : Type 0) (r : Record) (asked : CapabilityParameters) (c : Capability) → Late Fit (told_of r asked c)
 late_told Fit r asked capability.Handles = err_bind _ (handle_elements r (asked.property / 2 ^ 24)) _ (late_handles Fit r (asked.property / 2 ^ 24)) (λ elements. tt)
 late_told Fit r asked capability.Commands = tt
 late_told Fit r asked capability.Pcrs = tt
 late_told Fit r asked capability.Properties = tt
 
-late_assertion : (Fit : Type 0) (x : Result Policy PolicyFault) → Late Fit (by_its_check x)
-late_assertion Fit x = grind arith
+-- what a check of the command's own found
+late_own_fault : {X : Type 0} (Fit : Type 0) (x : Result X ActionFault) → Late Fit (or_refusal fault_refusal x)
+late_own_fault Fit (Ok u) = tt
+late_own_fault Fit (Err fault) = tt
 
 -- a persistent object is removed, or a transient one copied
 late_evicted : (Fit : Type 0) (objects : Entries Object) (h : Handle) (o : Object) (wanted : Handle) → Late Fit (evicted objects h o wanted)
@@ -359,26 +360,21 @@ late_index Fit refusal nv h f is there more = by (index_at nv h) there
 
 ruleset changes = (rules, late_step, late_if, late_index)
 
-late_written : (Fit : Type 0) (nv : NvContents) (h : Handle) (offset : ℕ) (bytes : List ℕ) → (Fit → is_some (index_at nv h) ≡ true) → Late Fit (or_refusal write_refusal (written nv h offset bytes))
+late_written : (Fit : Type 0) (nv : NvContents) (h : Handle) (offset : ℕ) (bytes : List ℕ) → (Fit → is_some (index_at nv h) ≡ true) → Late Fit (or_refusal writing_refusal (written nv h offset bytes))
 unfolding written
 late_written Fit nv h offset bytes there = search changes
 
-late_incremented : (Fit : Type 0) (nv : NvContents) (h : Handle) → (Fit → is_some (index_at nv h) ≡ true) → Late Fit (or_refusal write_refusal (incremented nv h))
+late_incremented : (Fit : Type 0) (nv : NvContents) (h : Handle) → (Fit → is_some (index_at nv h) ≡ true) → Late Fit (or_refusal writing_refusal (incremented nv h))
 unfolding incremented
 late_incremented Fit nv h there = search changes
 
-late_bits : (Fit : Type 0) (nv : NvContents) (h : Handle) (bits : ℕ) → (Fit → is_some (index_at nv h) ≡ true) → Late Fit (or_refusal write_refusal (bits_set nv h bits))
+late_bits : (Fit : Type 0) (nv : NvContents) (h : Handle) (bits : ℕ) → (Fit → is_some (index_at nv h) ≡ true) → Late Fit (or_refusal writing_refusal (bits_set nv h bits))
 unfolding bits_set
 late_bits Fit nv h bits there = search changes
 
-late_extended : (Fit : Type 0) (nv : NvContents) (h : Handle) (bytes : List ℕ) → (Fit → is_some (index_at nv h) ≡ true) → Late Fit (or_refusal write_refusal (extended nv h bytes))
+late_extended : (Fit : Type 0) (nv : NvContents) (h : Handle) (bytes : List ℕ) → (Fit → is_some (index_at nv h) ≡ true) → Late Fit (or_refusal writing_refusal (extended nv h bytes))
 unfolding extended
 late_extended Fit nv h bytes there = search changes
-
--- what refuses a reading before it
-late_reading : (Fit : Type 0) (x : Result (Unit {0}) ReadingFault) → Late Fit (or_refusal reading_refusal x)
-late_reading Fit (Ok u) = tt
-late_reading Fit (Err fault) = tt
 
 late_write_locked : (Fit : Type 0) (nv : NvContents) (h : Handle) → (Fit → is_some (index_at nv h) ≡ true) → Late Fit (or_refusal lock_refusal (write_locked nv h))
 unfolding write_locked
@@ -395,10 +391,10 @@ late_auth_value Fit r role h value fits =
     let there = λ (fit : Fit). index_there r role h (fits fit) in
     search changes
 
-ruleset late_changes = (late_written, late_incremented, late_bits, late_extended, late_reading, late_write_locked, late_read_locked, late_auth_value, late_definition)
+ruleset late_changes = (late_written, late_incremented, late_bits, late_extended, late_write_locked, late_read_locked, late_auth_value, late_definition)
 
 -- and all others
-ruleset late_steps = (rules, err_bind, err_if, err_or, err_fault, late_capability, late_told, late_template, late_creation, late_scheme, late_assertion, late_session, late_evicted)
+ruleset late_steps = (rules, err_bind, err_if, err_or, err_fault, late_capability, late_told, late_template, late_creation, late_scheme, late_own_fault, late_session, late_evicted)
 
 -- ---- rows
 
@@ -422,7 +418,7 @@ change_auth_orders r q =
     behind_first r (admin handle_kind.NvIndex) [] q.handles _ q.parameters _ (λ h fits.
     behind_index r _ q.handles (Some role.Admin) h _ q.parameters _ fits (λ index.
     behind_reading r _ q.handles _ q.parameters _ _ (only_read (kind.Buffer 32) q.parameters (auth_value_at q.parameters) (trimmed_read q.parameters)) (λ value.
-    err_bind _ (refused_if (nat_lt (digest_size index.public.name_alg) (length value)) (own_fault 1 1 code.Size)) _ (err_if (λ (e : Refused). IsLate (HandlesFit r (admin handle_kind.NvIndex ∷ []) q.handles) e.check) (nat_lt (digest_size index.public.name_alg) (length value)) (own_fault 1 1 code.Size) tt) (λ a1.
+    err_bind _ (refused_if (nat_lt (digest_size index.public.name_alg) (length value)) (parameter_refusal action.First 1 code.Size)) _ (err_if (λ (e : Refused). IsLate (HandlesFit r (admin handle_kind.NvIndex ∷ []) q.handles) e.check) (nat_lt (digest_size index.public.name_alg) (length value)) (parameter_refusal action.First 1 code.Size) tt) (λ a1.
     err_bind _ (or_refusal lock_refusal (with_auth_value r.nv h value)) _ (late_auth_value _ r (Some role.Admin) h value fits) (λ nv. tt)))))
 
 nv_public_orders : (r : Record) (q : Request) → Orders r (unauthorized handle_kind.NvIndex ∷ []) q.handles [] q.parameters (nv_read_public_row r q)

@@ -1,4 +1,4 @@
--- Sessions in use are there behind a success.
+-- Sessions in use are there after a success.
 use Rattle.std.proofs.Common.{◌≡◌, ◌+◌, ℕ, Bool, true, false, List, [], ◌∷◌, ◌++◌, length, Option, Some, None, Ok, IfOk, slice_set, is_some, is_none, refl, sym, ap, ◌∙◌, inl, inr}
 use Rattle.std.specs.Prelude.{◌||◌, nat_lt, option_and_then}
 use Rattle.std.proofs.lemmas.Bool.{cases_eq, false≢true}
@@ -12,9 +12,9 @@ use Rattle.tpm_policy.specs.State.{Policy, starting}
 use Rattle.tpm_session.specs.declared.session.Session.{Session}
 use Rattle.tpm_session.specs.Session.{with_policy}
 use Rattle.tpm_record.specs.Record.{Record}
-use Rattle.tpm_actions.specs.Request.{Request, first_handle, second_handle}
-use Rattle.tpm_actions.specs.Rows.{all_read}
-use Rattle.tpm_actions.specs.StartAuthSession.{parameters_in, parameters_pass, session_place, start_auth_session_row}
+use Rattle.tpm_actions_base.specs.Request.{Request, first_handle, second_handle}
+use Rattle.tpm_actions_base.specs.Rows.{all_read}
+use Rattle.tpm_actions_device.specs.StartAuthSession.{parameters_in, parameters_pass, session_place, start_auth_session_row}
 use Rattle.tpm_actions_policy.specs.Assertions.{assertion_in, assertion_row, policy_after, policy_session, session_handle, with_assertion}
 use Rattle.tpm_actions_policy.specs.PolicyRestart.{policy_restart_row}
 use Rattle.tpm_machine_step.specs.Table.{row_of}
@@ -22,10 +22,10 @@ use Rattle.tpm_machine_laws.specs.Footprint.{Part, Nothing, Sessions, Objects, S
 use Rattle.tpm_machine_laws.proofs.Binding.{ok_bind, ok_bind_is, ok_then, ok_weaker, some_is}
 use Rattle.tpm_machine_laws.proofs.Footprint.{row_touches}
 use Rattle.tpm_bytes.proofs.Fields.{bind_ok, passed}
-use Rattle.tpm_places.specs.Numbered.{at_number, changed_at, if_of_kind, place_of}
-use Rattle.tpm_places.specs.Places.{at_place, lowest_free}
-use Rattle.tpm_places.proofs.NumberedLaws.{changed_found, changed_others}
-use Rattle.tpm_places.proofs.PlaceLaws.{at_set-other, lowest_free-free}
+use Rattle.tpm_slots.specs.Numbered.{at_number, changed_at, if_of_kind, place_of}
+use Rattle.tpm_slots.specs.Slots.{at_place, lowest_free}
+use Rattle.tpm_slots.proofs.NumberedLaws.{changed_found, changed_others}
+use Rattle.tpm_slots.proofs.SlotLaws.{at_set-other, lowest_free-free}
 use Rattle.tpm_session.specs.Sessions.{session_at, session_byte, with_session_policy}
 use Rattle.tpm_types.specs.declared.handle.SessionKind.{SessionKind}
 use Rattle.tpm_types.specs.declared.handle.SessionKind.TheVariants as kind
@@ -115,7 +115,7 @@ touched_same DisableClear old new leaves touches = ap (λ (r : Record). r.sessio
 touched_same Cleared old new leaves touches = ap (λ (r : Record). r.sessions) touches
 touched_same Saved old new leaves touches = ap (λ (r : Record). r.sessions) touches
 
--- behind a success that touches such a part the sessions are as they were
+-- after a success that touches such a part the sessions are as they were
 pub row_same : (r : Record) (c : CommandCode) (q : Request) → leaves_sessions (part_of c) ≡ true → IfOk (row_of r c q) (λ s. s.after.sessions ≡ r.sessions)
 row_same r c q leaves = ok_weaker (λ s. Touches (part_of c) r s.after) _ (row_of r c q) (row_touches r c q) (λ s touches. touched_same (part_of c) r s.after leaves touches)
 

@@ -1,14 +1,15 @@
 -- A success keeps the sizes of sessions.
-use Rattle.std.proofs.Common.{rules, ◌≡◌, ◌≤◌, ℕ, Bool, true, List, length, take, Option, Some, Result, Ok, Err, IfOk, sym, subst}
+use Rattle.tpm_types.specs.declared.action_check.ActionCheck.TheVariants as action
+use Rattle.std.proofs.Common.{rules, ◌≡◌, ◌≤◌, ℕ, Bool, true, false, List, length, take, Option, Some, Result, Ok, Err, IfOk, sym, subst}
 use Rattle.std.specs.Prelude.{IfSome, not}
 use Rattle.tpm_bytes.specs.Reading.{refused_if}
 use Rattle.tpm_bytes.proofs.Fields.{bind_ok}
 use Rattle.tpm_mac.specs.Digest.{digest_size}
 use Rattle.tpm_mac.specs.declared.algorithm.HashAlg.{HashAlg}
-use Rattle.tpm_places.specs.Places.{AreAll}
+use Rattle.tpm_slots.specs.Slots.{AreAll}
 use Rattle.tpm_policy.specs.Assertion.{Assertion, asserted}
 use Rattle.tpm_policy.specs.State.{Policy, starting}
-use Rattle.tpm_policy.specs.declared.fault.PolicyFault.{PolicyFault}
+use Rattle.tpm_types.specs.declared.action_fault.ActionFault.{ActionFault}
 use Rattle.tpm_session.specs.Key.{is_nonce_size}
 use Rattle.tpm_session.specs.Session.{with_policy}
 use Rattle.tpm_session.specs.Sessions.{flushed, session_at, session_byte, with_session_policy}
@@ -19,13 +20,14 @@ use Rattle.tpm_types.specs.declared.handle.Handle.{Handle}
 use Rattle.tpm_types.specs.declared.rc.ResponseCode.TheVariants as code
 use Rattle.tpm_types_command.specs.declared.command_code.CommandCode.{CommandCode}
 use Rattle.tpm_types_command.specs.declared.command_code.CommandCode.TheVariants as command
+use Rattle.tpm_types.specs.Handle.{is_session}
 use Rattle.tpm_record.specs.Record.{Record}
-use Rattle.tpm_actions.specs.Refusals.{parameter_fault}
-use Rattle.tpm_actions.specs.Request.{Request, first_handle, second_handle}
-use Rattle.tpm_actions.specs.Rows.{all_read}
-use Rattle.tpm_actions.specs.FlushContext.{flush_context_row, flushed_handle}
-use Rattle.tpm_actions.specs.StartAuthSession.{Parameters, parameters_in, parameters_pass, session_place, session_with, start_auth_session_row}
-use Rattle.tpm_actions_policy.specs.Assertions.{assertion_in, assertion_row, by_its_check, policy_after, policy_session, session_handle, with_assertion}
+use Rattle.tpm_actions_base.specs.Refusals.{fault_refusal, or_refusal, parameter_refusal}
+use Rattle.tpm_actions_base.specs.Request.{Request, first_handle, second_handle}
+use Rattle.tpm_actions_base.specs.Rows.{all_read}
+use Rattle.tpm_actions_device.specs.FlushContext.{flush_context_row, flushed_from, flushed_handle}
+use Rattle.tpm_actions_device.specs.StartAuthSession.{Parameters, parameters_in, parameters_pass, session_place, session_with, start_auth_session_row}
+use Rattle.tpm_actions_policy.specs.Assertions.{assertion_in, assertion_row, policy_after, policy_session, session_handle, with_assertion}
 use Rattle.tpm_actions_policy.specs.PolicyRestart.{policy_restart_row}
 use Rattle.tpm_machine_step.specs.Table.{row_of}
 use Rattle.tpm_machine_laws.specs.Footprint.{part_of}
@@ -41,7 +43,7 @@ use Rattle.tpm_machine_laws.proofs.SizedParts.{asserted_sized, key_sized, nonce_
 pub caller_sized : (p : Parameters) (x : Unit {0}) → parameters_pass p ≡ Ok x → is_nonce_size p.hash (length p.nonce_caller) ≡ true
 unfolding parameters_pass
 caller_sized p x is =
-    let a1 = bind_ok (refused_if (not (is_nonce_size p.hash (length p.nonce_caller))) (parameter_fault 1 1 code.Size)) _ x is in
+    let a1 = bind_ok (refused_if (not (is_nonce_size p.hash (length p.nonce_caller))) (parameter_refusal action.First 1 code.Size)) _ x is in
     asked (is_nonce_size p.hash (length p.nonce_caller)) _ a1.0 a1.1
 
 started_sized : (p : Parameters) (binding : Option Binding) (random : List ℕ) → 32 ≤ length random → is_nonce_size p.hash (length p.nonce_caller) ≡ true → IsSized (session_with p binding (take (length p.nonce_caller) random))
@@ -73,10 +75,10 @@ policy_all sessions handle s policy is digest are =
     all_changed IsSized session_byte (λ s. with_policy s policy) sessions handle.number
     (subst (λ (o : Option Session). IfSome o (λ s. IsSized (with_policy s policy))) (sym is) (policy_sized s policy digest found)) are
 
-checked_assertion : (hash : HashAlg) (trial : Bool) (assertion : Assertion) (policy : Policy) → IfOk (by_its_check (asserted hash trial assertion policy)) (λ new. length new.digest ≡ digest_size hash)
+checked_assertion : (hash : HashAlg) (trial : Bool) (assertion : Assertion) (policy : Policy) → IfOk (or_refusal fault_refusal (asserted hash trial assertion policy)) (λ new. length new.digest ≡ digest_size hash)
 checked_assertion hash trial assertion policy = by (asserted hash trial assertion policy) (asserted_sized hash trial assertion policy)
   where
-    by : (x : Result Policy PolicyFault) → IfOk x (λ (new : Policy). length new.digest ≡ digest_size hash) → IfOk (by_its_check x) (λ new. length new.digest ≡ digest_size hash)
+    by : (x : Result Policy ActionFault) → IfOk x (λ (new : Policy). length new.digest ≡ digest_size hash) → IfOk (or_refusal fault_refusal x) (λ new. length new.digest ≡ digest_size hash)
     by (Ok new) is = is
     by (Err fault) is = tt
 
@@ -105,10 +107,14 @@ pub flushed_all : (sessions : List (Option Session)) (handle : Handle) → AreAl
 unfolding flushed
 flushed_all sessions handle are = all_without IsSized session_byte sessions handle.number are
 
+flushed_sized : (r : Record) (handle : Handle) (is_session : Bool) → AreSized r → AreSized (flushed_from r handle is_session)
+flushed_sized r handle true sized = flushed_all r.sessions handle sized
+flushed_sized r handle false sized = sized
+
 flush_sized : (r : Record) (q : Request) → AreSized r → IfOk (flush_context_row r q) (λ s. AreSized s.after)
 unfolding flush_context_row
 flush_sized r q sized =
-    let fewer = λ (handle : Handle). flushed_all r.sessions handle sized in
+    let fewer = λ (handle : Handle). flushed_sized r handle (is_session handle) sized in
     ok_bind _ (flushed_handle q.parameters) _ (λ handle. search (rules, ok_bind))
 
 -- ---- all others

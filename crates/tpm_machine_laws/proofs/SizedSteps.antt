@@ -7,34 +7,33 @@ use Rattle.tpm_policy.specs.State.{starting}
 use Rattle.tpm_session.specs.Session.{with_nonce}
 use Rattle.tpm_session.specs.Sessions.{flushed, rolled, session_at, session_byte}
 use Rattle.tpm_session.specs.declared.session.Session.{Session}
-use Rattle.tpm_types.specs.SessionAttributes.{has_bits}
+use Rattle.tpm_types.specs.SessionAttributes.{continues_session}
 use Rattle.tpm_types.specs.declared.session_type.SessionType.{SessionType}
 use Rattle.tpm_types.specs.declared.session_type.SessionType.TheVariants as type
 use Rattle.tpm_types_command.specs.AuthEntry.{Entry}
 use Rattle.tpm_types_command.specs.Command.{Whole}
 use Rattle.tpm_types_command.specs.CommandCode.{shape_of}
 use Rattle.tpm_record.specs.Cycle.{cycled}
-use Rattle.tpm_record.specs.Record.{Record, manufactured}
+use Rattle.tpm_record.specs.Record.{Record, manufactured, with_saved}
 use Rattle.tpm_record.specs.Tick.{ticked}
 use Rattle.tpm_auth.specs.Entries.{session_of}
 use Rattle.tpm_auth.specs.Grant.{authorize}
 use Rattle.tpm_auth.specs.declared.session_grant.Grant.{Grant}
 use Rattle.tpm_machine_step.specs.Answer.{Written, answer_to, written_of}
 use Rattle.tpm_machine_step.specs.Entries.{draw_of, entries_ended, entries_rolled, entry_ended, entry_restarted, entry_rolled, restarted_by}
-use Rattle.tpm_machine_step.specs.Events.{Happening, Given, Cycled, IsEvent}
+use Rattle.tpm_machine_step.specs.Events.{PlainEvent, Given, Cycled, IsEvent}
 use Rattle.tpm_machine_step.specs.General.{general}
 use Rattle.tpm_machine_step.specs.Granted.{Granted, granted_entries}
 use Rattle.tpm_machine_step.specs.Run.{after_all, Runs}
 use Rattle.tpm_machine_step.specs.Step.{Accepted, acceptance, accepted, answer_where, request_in, refusal_without_memory, step, step_where, success_step, Stepped, Steps, outcome_step}
 use Rattle.tpm_machine_step.specs.Table.{row_of}
-use Rattle.tpm_machine_step.specs.declared.refusal.Refusal.{Refusal}
+use Rattle.tpm_machine_step.specs.declared.refused_command.RefusedCommand.{RefusedCommand}
 use Rattle.std.specs.List.{AllByRecursion}
 use Rattle.std.specs.Fn.{Mut}
 use Rattle.tpm_machine_step.specs.Execution.{Executes}
 use Rattle.tpm_machine_step.specs.declared.event.Outcome.{Outcome}
-use Rattle.tpm_actions.specs.Request.{Request}
-use Rattle.tpm_actions.specs.Rows.{Success}
-use Rattle.tpm_actions.specs.Shutdown.{with_saved}
+use Rattle.tpm_actions_base.specs.Request.{Request}
+use Rattle.tpm_actions_base.specs.Rows.{Success}
 use Rattle.tpm_record.specs.Saved.{Nothing}
 use Rattle.tpm_types_command.specs.declared.command_code.CommandCode.{CommandCode}
 use Rattle.tpm_machine_laws.proofs.Draws.{general_few, row_draws}
@@ -108,7 +107,7 @@ entry_restarted_sized r e sized = by (session_of r e) refl
 
 entry_ended_sized : (r : Record) (e : Entry) (grant : Option Grant) → AreSized r → AreSized (entry_ended r e grant)
 unfolding entry_ended
-entry_ended_sized r e grant sized = by (not (has_bits 0x01 e.attributes)) (is_some grant)
+entry_ended_sized r e grant sized = by (not (continues_session e.attributes)) (is_some grant)
   where
     by : (ends grants : Bool) → AreSized (cond ends (record r { sessions = flushed r.sessions e.session }) (cond grants (entry_restarted r e) r))
     by true grants = flushed_all r.sessions e.session sized
@@ -163,7 +162,7 @@ success_sized a random enough fits =
     settled_sized (shape_of a.command.code).keeps_shutdown _
     (answer_sized a.command a.grants (written_of a.success.answer) a.success.after random (omega (arith, enough, fits.1)) fits.0)
 
-answer_where_sized : (refused : Bool) (r : Record) (random : List ℕ) (a : Result Accepted Refusal) → 256 ≤ length random → AreSized r → IfOk a Fits → AreSized (answer_where refused r random a).after
+answer_where_sized : (refused : Bool) (r : Record) (random : List ℕ) (a : Result Accepted RefusedCommand) → 256 ≤ length random → AreSized r → IfOk a Fits → AreSized (answer_where refused r random a).after
 answer_where_sized false r random (Ok a) enough sized fits = success_sized a random enough fits
 answer_where_sized false r random (Err e) enough sized fits = sized
 answer_where_sized true r random (Err e) enough sized fits = sized
@@ -173,14 +172,14 @@ answer_where_sized true r random (Ok a) enough sized fits = by (shape_of a.comma
     by true = sized
     by false = success_sized a random enough fits
 
-pub step_sized : (refused : Bool) (r : Record) (event : Happening) → IsEvent event → AreSized r → AreSized (step_where refused r event).after
+pub step_sized : (refused : Bool) (r : Record) (event : PlainEvent) → IsEvent event → AreSized r → AreSized (step_where refused r event).after
 step_sized refused r (Given buffer locality elapsed random) happens sized =
     let t = ticked r elapsed in
     let enough : 256 ≤ length random = omega (arith, happens.2) in
     answer_where_sized refused t random (accepted t buffer locality random) enough sized (accepted_fits t buffer locality random (omega (arith, enough)) sized)
 step_sized refused r Cycled happens sized = cycled_sized r
 
-pub execution_sized : (can : Bool) (r : Record) (event : Happening) (x : Stepped) → Executes can r event x → AreSized r → AreSized x.after
+pub execution_sized : (can : Bool) (r : Record) (event : PlainEvent) (x : Stepped) → Executes can r event x → AreSized r → AreSized x.after
 execution_sized can r event x executes sized =
     by executes.steps
   where
@@ -189,15 +188,15 @@ execution_sized can r event x executes sized =
 
 -- ---- runs
 
-after_all_sized : (r : Record) (events : List Happening) → AllByRecursion IsEvent events → AreSized r → AreSized (after_all r events)
+after_all_sized : (r : Record) (events : List PlainEvent) → AllByRecursion IsEvent events → AreSized r → AreSized (after_all r events)
 after_all_sized r [] happen sized = sized
 after_all_sized r (event ∷ events) happen sized = after_all_sized (step r event).after events happen.1 (step_sized false r event happen.0 sized)
 
-pub histories_sized : (random : List ℕ) (events : List Happening) → AllByRecursion IsEvent events → AreSized (after_all (manufactured random) events)
+pub histories_sized : (random : List ℕ) (events : List PlainEvent) → AllByRecursion IsEvent events → AreSized (after_all (manufactured random) events)
 histories_sized random events happen = after_all_sized (manufactured random) events happen (manufactured_sized random)
 
 -- the same of events that ran, where memory can be refused
-pub run_sized : {F : Type 0} (g : Mut F (Bor Outcome × Unit {0}) (Unit {0})) (can : Bool) (old : Record) (p : F) (events : List Happening) (new : Record) (q : F) → Runs g can old p events new q → AreSized old → AreSized new
+pub run_sized : {F : Type 0} (g : Mut F (Bor Outcome × Unit {0}) (Unit {0})) (can : Bool) (old : Record) (p : F) (events : List PlainEvent) (new : Record) (q : F) → Runs g can old p events new q → AreSized old → AreSized new
 run_sized g can old p [] new q run sized = subst AreSized (sym run.0) sized
 run_sized g can old p (event ∷ events) new q run sized =
     run_sized g can run.1 run.2 events new q run.5 (execution_sized can old event (outcome_step run.1 run.0) run.3 sized)

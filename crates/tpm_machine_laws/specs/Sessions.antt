@@ -15,7 +15,7 @@ HasSession kind.Password r e = Unit {0}
 HasSession kind.Session r e = is_some (session_of r e) ≡ true
 HasSession kind.Other r e = ⊥
 
--- And each of these entries.
+-- Each of these entries is a password, or its session is there.
 abbrev pub HaveSessions : Record → List Entry → Type 0
 HaveSessions r [] = Unit {0}
 HaveSessions r (e ∷ es) = HasSession (session_kind e.session) r e × HaveSessions r es

@@ -2,7 +2,7 @@
 use Rattle.std.specs.Prelude.{◌≡◌, ◌≤◌, ◌⊎◌, ℕ, ◌+◌, Bool, true, false, List, [], ◌∷◌, length, is_some, Result, Ok, Err}
 use Rattle.std.specs.Int.{w8, w16, w32, w64}
 use Rattle.tpm_bytes.specs.Reading.{◌>>=◌, number_at, or_fault}
-use Rattle.tpm_places.specs.Places.{taken_count}
+use Rattle.tpm_slots.specs.Slots.{taken_count}
 use Rattle.tpm_types_command.specs.declared.command_code.CommandCode.{CommandCode}
 use Rattle.tpm_types_command.specs.declared.command_code.CommandCode.TheVariants as command
 use Rattle.tpm_types.specs.declared.rc.Rc.{Rc}
@@ -29,8 +29,8 @@ use Rattle.tpm_types.specs.YesNo.{yes_no_at}
 use Rattle.tpm_record.specs.Record.{Record}
 use Rattle.tpm_types.specs.declared.check.Check.TheVariants as check
 use Rattle.tpm_types.specs.declared.refused.Refused.{Refused}
-use Rattle.tpm_actions.specs.Answer.{begins_sized}
-use Rattle.tpm_actions.specs.Rows.{Success, all_read, parameter}
+use Rattle.tpm_actions_base.specs.Answer.{begins_sized}
+use Rattle.tpm_actions_base.specs.Rows.{Success, all_read, parameter}
 use Rattle.tpm_machine_laws.specs.Refusals.{Passes}
 
 -- A success has a handle, and a sized buffer as the first parameter of its answer, exactly where
@@ -56,12 +56,12 @@ abbrev pub GrowsAsShaped : CommandCode → Record → Record → Type 0
 GrowsAsShaped command.EvictControl old new = Grows true old new ⊎ Grows true new old
 GrowsAsShaped c old new = Grows (shape_of c).grows old new
 
--- what stands behind a parameter, or its fault
+-- what stands after a parameter, or its fault
 abbrev pub behind : {X : Type 0} → Result (X × List ℕ) Rc → Result (List ℕ) Rc
 behind (Ok p) = Ok p.1
 behind (Err rc) = Err rc
 
--- what stands behind a parameter of this kind
+-- what stands after a parameter of this kind
 abbrev pub behind_kind : ParameterKind → List ℕ → Result (List ℕ) Rc
 behind_kind kind.StartupType text = behind (startup_type_at text)
 behind_kind kind.SessionType text = behind (session_type_at text)
@@ -83,7 +83,7 @@ behind_kind kind.Operation text = behind (operation_at text)
 behind_kind kind.YesNo text = behind (yes_no_at text)
 behind_kind kind.PersistentHandle text = behind (persistent_handle_at text)
 
--- parameters of these kinds, the first of them of this number, and nothing behind them; or the
+-- parameters of these kinds, the first of them of this number, and nothing after them; or the
 -- first fault
 abbrev pub spelled : ℕ → List ParameterKind → List ℕ → Result (Unit {0}) Refused
 spelled n [] text = all_read text

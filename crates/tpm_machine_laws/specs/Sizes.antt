@@ -1,7 +1,7 @@
 -- Sizes that sessions have by how they are made, and that no type of the code says.
 use Rattle.std.specs.Prelude.{◌≡◌, ◌⊎◌, true, [], length}
 use Rattle.tpm_mac.specs.Digest.{digest_size}
-use Rattle.tpm_places.specs.Places.{AreAll}
+use Rattle.tpm_slots.specs.Slots.{AreAll}
 use Rattle.tpm_session.specs.Key.{is_nonce_size}
 use Rattle.tpm_session.specs.declared.session.Session.{Session}
 use Rattle.tpm_record.specs.Record.{Record}

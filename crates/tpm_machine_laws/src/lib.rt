@@ -2,7 +2,7 @@
 
 //! Laws over the rows of all commands, each on the contract of a function that does nothing: what
 //! of the record a row's success touches, what a command's shape says of it, that sessions in use
-//! stay, and what is never refused. Behind a row, sessions are rolled and end, which is the step's
+//! stay, and what is never refused. After a row, sessions are rolled and end, which is the step's
 //! and no row's; the sizes of sessions stay through all of a step.
 //!
 //! It stands on the definitions of tpm_machine_step. A row is opened here, so that theorems over
@@ -21,9 +21,9 @@ ghost use Rattle.tpm_record.specs.Record.{Record, manufactured};
 ghost use Rattle.tpm_auth.specs.Entries.{entries_pass};
 ghost use Rattle.tpm_auth.specs.Grant.{authorize, grants_pass};
 ghost use Rattle.tpm_auth.specs.declared.session_grant.Grant.{Grant};
-ghost use Rattle.tpm_actions.specs.Request.{Request};
+ghost use Rattle.tpm_actions_base.specs.Request.{Request};
 ghost use Rattle.tpm_machine_step.specs.Answer.{Written, answer_to};
-ghost use Rattle.tpm_machine_step.specs.Events.{Happening, IsEvent};
+ghost use Rattle.tpm_machine_step.specs.Events.{PlainEvent, IsEvent};
 ghost use Rattle.tpm_machine_step.specs.Execution.{Executes};
 ghost use Rattle.tpm_machine_step.specs.General.{general};
 ghost use Rattle.tpm_machine_step.specs.Run.{Runs, after_all};
@@ -42,7 +42,7 @@ use tpm_machine_step::event::Outcome;
 /// A success touches the part of its command, and nothing else.
 #[inline(always)]
 #[tactic(auto, using(crate::proofs::Footprint::row_touches))]
-pub fn rows_touch_their_parts()
+pub fn footprint_laws()
     ensures { (r : Record) (c : CommandCode) (q : Request)
         → IfOk (row_of r c q) (λ s. Touches (part_of c) r s.after) }
 {}
@@ -50,7 +50,7 @@ pub fn rows_touch_their_parts()
 /// A success answers a handle, and a sized buffer first, exactly where its command's shape says so.
 #[inline(always)]
 #[tactic(auto, using(crate::proofs::Answers::row_answers))]
-pub fn rows_answer_their_shapes()
+pub fn answer_shape_laws()
     ensures { (r : Record) (c : CommandCode) (q : Request)
         → IfOk (row_of r c q) (AnswersItsShape c) }
 {}
@@ -59,7 +59,7 @@ pub fn rows_answer_their_shapes()
 /// TPM2_EvictControl, by which an object may be removed too, one more or one less.
 #[inline(always)]
 #[tactic(auto, using(crate::proofs::Growth::row_grows))]
-pub fn rows_grow_by_their_shapes()
+pub fn growth_laws()
     ensures { (r : Record) (c : CommandCode) (q : Request)
         → IfOk (row_of r c q) (λ s. GrowsAsShaped c r s.after) }
 {}
@@ -68,7 +68,7 @@ pub fn rows_grow_by_their_shapes()
 /// command's shape lists, and then with their first fault.
 #[inline(always)]
 #[tactic(auto, using(crate::proofs::Refusals::row_reads))]
-pub fn rows_read_their_parameters()
+pub fn parameter_laws()
     ensures { (r : Record) (c : CommandCode) (q : Request)
         → ReadsParameters (spelled 1 (shape_of c).parameters q.parameters) (row_of r c q) }
 {}
@@ -76,16 +76,16 @@ pub fn rows_read_their_parameters()
 /// The row of a command that may have sessions leaves every session there.
 #[inline(always)]
 #[tactic(auto, using(crate::proofs::Sessions::row_stays))]
-pub fn rows_leave_sessions()
+pub fn row_session_laws()
     ensures { (r : Record) (c : CommandCode) (q : Request)
         → (shape_of c).forbids_sessions ≡ false
         → IfOk (row_of r c q) (λ s. SessionsStay r s.after) }
 {}
 
-/// Behind the row of a command that may have sessions, that of each entry is still there.
+/// After the row of a command that may have sessions, that of each entry is still there.
 #[inline(always)]
 #[tactic(auto, using(crate::proofs::Accepted::accepted_has))]
-pub fn sessions_in_use_stay()
+pub fn used_session_laws()
     ensures { (r : Record) (c : Whole) (locality : ℕ) (random : List ℕ) (a : Accepted)
         → (shape_of c.code).forbids_sessions ≡ false → acceptance r c locality random ≡ Ok a
         → HaveSessions a.success.after c.entries }
@@ -96,7 +96,7 @@ pub fn sessions_in_use_stay()
 /// request comes to it.
 #[inline(always)]
 #[tactic(auto, using(crate::proofs::Refusals::row_passes))]
-pub fn rows_refuse_no_handle()
+pub fn row_handle_laws()
     ensures { (r : Record) (c : CommandCode) (q : Request)
         → HandlesFit r (shape_of c).handles q.handles → Passes check.Handles (row_of r c q) }
 {}
@@ -104,7 +104,7 @@ pub fn rows_refuse_no_handle()
 /// The general checks let a command through only where its handles fit these rules.
 #[inline(always)]
 #[tactic(auto, using(crate::proofs::Handles::general_fits))]
-pub fn general_checks_fit_handles()
+pub fn handle_fit_laws()
     ensures { (r : Record) (buffer : List ℕ)
         → IfOk (general r buffer) (λ c. HandlesFit r (shape_of c.code).handles c.handles) }
 {}
@@ -113,7 +113,7 @@ pub fn general_checks_fit_handles()
 /// nor by the row.
 #[inline(always)]
 #[tactic(auto, using(crate::proofs::Handles::acceptance_passes))]
-pub fn no_handle_is_refused_later()
+pub fn later_handle_laws()
     ensures { (r : Record) (buffer : List ℕ) (c : Whole) (locality : ℕ) (random : List ℕ)
         → general r buffer ≡ Ok c → Passes check.Handles (acceptance r c locality random) }
 {}
@@ -121,17 +121,17 @@ pub fn no_handle_is_refused_later()
 /// No row refuses anything for want of memory.
 #[inline(always)]
 #[tactic(auto, using(crate::proofs::Refusals::row_wants))]
-pub fn rows_want_no_memory()
+pub fn row_memory_laws()
     ensures { (r : Record) (c : CommandCode) (q : Request) → Passes check.Memory (row_of r c q) }
 {}
 
 /// So no step to which memory is not refused reports M, and no execution where it cannot be.
 #[inline(always)]
 #[tactic(auto, using(crate::proofs::Memory::step_wants, crate::proofs::Memory::execution_wants))]
-pub fn steps_want_no_memory()
-    ensures step { (r : Record) (event : Happening)
+pub fn step_memory_laws()
+    ensures step { (r : Record) (event : PlainEvent)
         → (step r event).row.check ≢ check_number check.Memory }
-    ensures execution { (old : Record) (event : Happening) (x : Stepped)
+    ensures execution { (old : Record) (event : PlainEvent) (x : Stepped)
         → Executes false old event x → x.row.check ≢ check_number check.Memory }
 {}
 
@@ -139,7 +139,7 @@ pub fn steps_want_no_memory()
 /// no password: it refuses what is not authorized, and no entry for want of its session.
 #[inline(always)]
 #[tactic(auto, using(crate::proofs::Grants::grants_refuse))]
-pub fn grants_find_their_sessions()
+pub fn granted_session_laws()
     ensures { (r : Record) (c : Whole) (locality : ℕ)
         → entries_pass r c.code [] c.entries ≡ Ok tt
         → RefusesAuthorization (grants_pass r c locality [] c.entries) }
@@ -149,7 +149,7 @@ pub fn grants_find_their_sessions()
 /// authorization, in their order, and to the others no handle.
 #[inline(always)]
 #[tactic(auto, using(crate::proofs::Grants::grants_fit))]
-pub fn grants_fit_entries_and_handles()
+pub fn grant_laws()
     ensures { (r : Record) (c : Whole) (locality : ℕ)
         → IfOk (authorize r c locality) (GrantsFit c) }
 {}
@@ -158,7 +158,7 @@ pub fn grants_fit_entries_and_handles()
 /// after a power cycle.
 #[inline(always)]
 #[tactic(auto, using(crate::proofs::SizedSteps::manufactured_sized, crate::proofs::SizedSteps::cycled_sized))]
-pub fn devices_begin_sized()
+pub fn new_device_size_laws()
     ensures manufactured { (random : List ℕ) → AreSized (manufactured random) }
     ensures cycled { (r : Record) → AreSized (cycled r) }
 {}
@@ -166,7 +166,7 @@ pub fn devices_begin_sized()
 /// A success draws at most 96 of the event's 256 random bytes.
 #[inline(always)]
 #[tactic(auto, using(crate::proofs::Draws::row_draws))]
-pub fn rows_draw_few_bytes()
+pub fn draw_laws()
     ensures { (r : Record) (c : CommandCode) (q : Request)
         → IfOk (row_of r c q) (λ s. s.answer.drawn ≤ 96) }
 {}
@@ -174,7 +174,7 @@ pub fn rows_draw_few_bytes()
 /// A success leaves sessions of their sizes, where there are random bytes enough for a nonce.
 #[inline(always)]
 #[tactic(auto, using(crate::proofs::SizedRows::row_sized))]
-pub fn rows_keep_sizes()
+pub fn row_size_laws()
     ensures { (r : Record) (c : CommandCode) (q : Request)
         → 32 ≤ length q.random → AreSized r → IfOk (row_of r c q) (λ s. AreSized s.after) }
 {}
@@ -182,7 +182,7 @@ pub fn rows_keep_sizes()
 /// What follows it leaves them too, where there are random bytes enough for a nonce of each entry:
 /// sessions take new nonces, policies start over, sessions end.
 #[inline(always)]
-pub fn answers_keep_sizes()
+pub fn answer_size_laws()
     ensures { (c : Whole) (grants : List (Option Grant)) (a : Written) (effect : Record)
         (random : List ℕ) → a.drawn + 32 * length c.entries ≤ length random → AreSized effect
         → AreSized (answer_to c grants a effect random).after }
@@ -191,28 +191,28 @@ pub fn answers_keep_sizes()
 /// So every event leaves them, whether memory is refused or not: 256 random bytes are enough for
 /// each command.
 #[inline(always)]
-pub fn steps_keep_sizes()
-    ensures { (refused : Bool) (r : Record) (event : Happening)
+pub fn step_size_laws()
+    ensures { (refused : Bool) (r : Record) (event : PlainEvent)
         → IsEvent event → AreSized r → AreSized (step_where refused r event).after }
 {}
 
 /// Every execution of an event leaves them.
 #[inline(always)]
-pub fn executions_keep_sizes()
-    ensures { (can : Bool) (old : Record) (event : Happening) (x : Stepped)
+pub fn execution_size_laws()
+    ensures { (can : Bool) (old : Record) (event : PlainEvent) (x : Stepped)
         → Executes can old event x → AreSized old → AreSized x.after }
 {}
 
-/// And every run of events leaves them.
+/// Every run of events leaves them too.
 #[inline(always)]
-pub fn runs_keep_sizes<F: FnMut(&Outcome)>()
-    ensures { (can : Bool) (old : Record) (p : F) (events : List Happening) (new : Record) (q : F)
+pub fn run_size_laws<F: FnMut(&Outcome)>()
+    ensures { (can : Bool) (old : Record) (p : F) (events : List PlainEvent) (new : Record) (q : F)
         → Runs F.FnMut can old p events new q → AreSized old → AreSized new }
 {}
 
 /// Whatever happens to a device since it was manufactured, its sessions have their sizes.
 #[inline(always)]
-pub fn histories_keep_sizes()
-    ensures { (random : List ℕ) (events : List Happening)
+pub fn history_size_laws()
+    ensures { (random : List ℕ) (events : List PlainEvent)
         → AllByRecursion IsEvent events → AreSized (after_all (manufactured random) events) }
 {}

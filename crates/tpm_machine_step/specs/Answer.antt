@@ -8,8 +8,8 @@ use Rattle.tpm_types_command.specs.CommandCode.{code_number}
 use Rattle.tpm_types.specs.Rc.{rc_number}
 use Rattle.tpm_session.specs.ParameterHash.{OfResponse}
 use Rattle.tpm_record.specs.Record.{Record}
-use Rattle.tpm_actions.specs.Answer.{AnswerParts, body_text}
-use Rattle.tpm_actions.specs.declared.answer.Answer.{Answer}
+use Rattle.tpm_actions_base.specs.Answer.{AnswerParts, body_text}
+use Rattle.tpm_actions_base.specs.declared.answer.Answer.{Answer}
 use Rattle.tpm_machine_step.specs.Entries.{Drawn, entries_answer, entries_ended, entries_rolled}
 use Rattle.tpm_machine_step.specs.Granted.{Granted, granted_entries}
 use Rattle.tpm_machine_step.specs.Parameters.{encrypted_answer}
@@ -18,7 +18,7 @@ use Rattle.tpm_types.specs.declared.check.Check.{Check}
 use Rattle.tpm_types.specs.declared.check.Check.TheVariants as check
 use Rattle.tpm_types.specs.declared.refused.Refused.{Refused}
 
--- a response's tag, its size, its code, and what stands behind that header
+-- a response's tag, its size, its code, and what stands after that header
 abbrev pub framed : (tag code : ℕ) → List ℕ → List ℕ
 framed tag code body =
     to_be_bytes w16 tag ++ to_be_bytes w32 (10 + length body) ++ to_be_bytes w32 code ++ body
@@ -63,7 +63,7 @@ abbrev pub text_of : Answer → Written
 text_of a = record { handle = a.handle; parameters = a.parameters; drawn = a.drawn }
 
 -- what answers a command that had its effect, each of whose entries authorized this handle or none:
--- new nonces are drawn behind the command's own random bytes, then its parameters are encrypted
+-- new nonces are drawn after the command's own random bytes, then its parameters are encrypted
 -- where that is asked for, then each entry is answered, and then policies return to their start and
 -- sessions end
 unfoldable pub answer_to : Whole → List (Option Grant) → Written → Record → List ℕ → Answered

@@ -14,7 +14,7 @@ use Rattle.tpm_session.specs.Sessions.{flushed, rolled, with_session_policy}
 use Rattle.tpm_types.specs.declared.session_type.SessionType.{SessionType}
 use Rattle.tpm_types.specs.declared.session_type.SessionType.TheVariants as type
 use Rattle.tpm_types_command.specs.AuthEntry.{Entry}
-use Rattle.tpm_types.specs.SessionAttributes.{has_bits}
+use Rattle.tpm_types.specs.SessionAttributes.{continues_session}
 use Rattle.tpm_record.specs.Record.{Record}
 use Rattle.tpm_auth.specs.Entries.{session_of}
 use Rattle.tpm_auth.specs.declared.session_grant.Grant.{Grant}
@@ -44,7 +44,7 @@ entries_rolled r (e ∷ es) left =
     let first = entry_rolled r e left in
     entries_rolled first.after es first.left
 
--- A row that draws so many of 256 random bytes, and the nonces of the entries behind it, leave all
+-- A row that draws some of 256 random bytes, and the nonces of the entries after it, leave all
 -- but at most 192 of them.
 abbrev pub DrawsFew : List ℕ → Record → List Entry → (drawn : ℕ) → Type 0
 DrawsFew random r entries drawn =
@@ -92,7 +92,7 @@ entry_restarted r e =
 -- a session without continueSession (bit 0) ends
 unfoldable pub entry_ended : Record → Entry → Option Grant → Record
 entry_ended r e grant =
-    if not (has_bits 0x01 e.attributes) then record r { sessions = flushed r.sessions e.session }
+    if not (continues_session e.attributes) then record r { sessions = flushed r.sessions e.session }
     else (if is_some grant then entry_restarted r e else r)
 
 -- each in order

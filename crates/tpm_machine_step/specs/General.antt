@@ -5,9 +5,9 @@
 use Rattle.std.specs.Prelude.{◌≡◌, ℕ, ◌==◌, ◌&&◌, nat_lt, not, Bool, true, false, List, Result, Ok, Err}
 use Rattle.tpm_bytes.specs.Many.{each_at}
 use Rattle.tpm_bytes.specs.Reading.{◌>>=◌, refused_if}
-use Rattle.tpm_types_command.specs.declared.command.Header.{Header}
-use Rattle.tpm_types_command.specs.declared.command.HeaderFault.{HeaderFault}
-use Rattle.tpm_types_command.specs.declared.command.HeaderFault.TheVariants as fault
+use Rattle.tpm_types_command.specs.declared.header.Header.{Header}
+use Rattle.tpm_types_command.specs.declared.header.HeaderFault.{HeaderFault}
+use Rattle.tpm_types_command.specs.declared.header.HeaderFault.TheVariants as fault
 use Rattle.tpm_types_command.specs.declared.command_code.CommandCode.{CommandCode}
 use Rattle.tpm_types_command.specs.declared.command_code.CommandCode.TheVariants as command
 use Rattle.tpm_types.specs.declared.handle.Handle.{Handle}
@@ -16,7 +16,7 @@ use Rattle.tpm_types.specs.declared.rc.ResponseCode.TheVariants as code
 use Rattle.tpm_types_command.specs.declared.shape.HandleRule.{HandleRule}
 use Rattle.tpm_types_command.specs.declared.tag.Tag.{Tag}
 use Rattle.tpm_types_command.specs.declared.tag.Tag.TheVariants.{NoSessions, Sessions}
-use Rattle.tpm_types_command.specs.declared.whole_command.Command.{Command}
+use Rattle.tpm_types_command.specs.declared.command.Command.{Command}
 use Rattle.tpm_types_command.specs.Command.{Whole, sessions_at, whole_of}
 use Rattle.tpm_types_command.specs.CommandCode.{code_number}
 use Rattle.tpm_types_command.specs.HandleArea.{allowed_handle_at}
@@ -29,10 +29,10 @@ use Rattle.tpm_types.specs.Refused.{checked, refusal}
 use Rattle.tpm_types.specs.declared.check.Check.{Check}
 use Rattle.tpm_types.specs.declared.check.Check.TheVariants as check
 use Rattle.tpm_types.specs.declared.refused.Refused.{Refused}
-use Rattle.tpm_machine_step.specs.declared.refusal.Refusal.{Refusal}
+use Rattle.tpm_machine_step.specs.declared.refused_command.RefusedCommand.{RefusedCommand}
 
 -- a refusal with the code of the command that is refused, for the row that reports it
-abbrev pub in_command : {X : Type 0} → CommandCode → Result X Refused → Result X Refusal
+abbrev pub in_command : {X : Type 0} → CommandCode → Result X Refused → Result X RefusedCommand
 in_command c (Ok x) = Ok x
 in_command c (Err e) = Err (record { code = code_number c; refused = e })
 
@@ -43,10 +43,10 @@ header_check fault.Tag = check.Tag
 header_check fault.Size = check.Size
 header_check fault.Code = check.Code
 
-abbrev pub header_refusal : HeaderFault → Refusal
+abbrev pub header_refusal : HeaderFault → RefusedCommand
 header_refusal f = record { code = 0; refused = refusal (header_check f) (header_fault_rc f) }
 
-abbrev pub in_header : Result (Header × List ℕ) HeaderFault → Result (Header × List ℕ) Refusal
+abbrev pub in_header : Result (Header × List ℕ) HeaderFault → Result (Header × List ℕ) RefusedCommand
 in_header (Ok h) = Ok h
 in_header (Err f) = Err (header_refusal f)
 
@@ -82,7 +82,7 @@ present_handle_at r n rule text = do
 abbrev pub present_handles_at : Record → CommandCode → List ℕ → Result (List Handle × List ℕ) Rc
 present_handles_at r code text = each_at (present_handle_at r) 1 (shape_of code).handles text
 
--- G5 to the sizes of the area in G8: what stands behind the header
+-- G5 to the sizes of the area in G8: what stands after the header
 unfoldable pub body_of : Record → Header → List ℕ → Result Whole Refused
 body_of r header text = do
   g5 ← refused_if (both_or_neither r.fixed.started (is_startup header.code))
@@ -98,12 +98,7 @@ body_of r header text = do
   })
 
 -- the first general check that refuses a buffer, or the command that it spells
-unfoldable pub general : Record → List ℕ → Result Whole Refusal
+unfoldable pub general : Record → List ℕ → Result Whole RefusedCommand
 general r buffer = do
   header ← in_header (header_at buffer)
   in_command header.0.code (body_of r header.0 header.1)
-
--- The code's result of a decoding stands for the definition's.
-abbrev pub Decodes : {E : Type 0} → Result Whole E → Result Command E → Type 0
-Decodes g (Ok command) = g ≡ Ok (whole_of command)
-Decodes g (Err e) = g ≡ Err e

@@ -6,7 +6,7 @@ use Rattle.tpm_types_command.specs.Command.{Whole}
 use Rattle.tpm_types_command.specs.CommandCode.{code_number}
 use Rattle.tpm_types_command.specs.CommandCode.{shape_of}
 use Rattle.tpm_record.specs.Cycle.{cycled}
-use Rattle.tpm_record.specs.Record.{Record}
+use Rattle.tpm_record.specs.Record.{Record, with_lockout, with_saved}
 use Rattle.tpm_record.specs.Tick.{ticked}
 use Rattle.tpm_types.specs.Check.{check_number}
 use Rattle.tpm_auth.specs.Grant.{authorize}
@@ -16,25 +16,23 @@ use Rattle.tpm_lockout.specs.Recovery.{closed_by_failure}
 use Rattle.tpm_lockout.specs.Tries.{after_failure}
 use Rattle.tpm_types.specs.declared.refused.Counted.{Counted}
 use Rattle.tpm_types.specs.declared.refused.Counted.TheVariants as counted
-use Rattle.tpm_actions.specs.DictionaryAttackLockReset.{with_lockout}
 use Rattle.tpm_types.specs.declared.refused.Refused.{Refused}
-use Rattle.tpm_actions.specs.Answer.{IsAnswer}
-use Rattle.tpm_actions.specs.Request.{Request}
-use Rattle.tpm_actions.specs.declared.answer.Answer.{Answer}
-use Rattle.tpm_actions.specs.Refusals.{memory_refusal}
-use Rattle.tpm_actions.specs.Rows.{Success}
-use Rattle.tpm_actions.specs.Shutdown.{with_saved}
+use Rattle.tpm_actions_base.specs.Answer.{IsAnswer}
+use Rattle.tpm_actions_base.specs.Request.{Request}
+use Rattle.tpm_actions_base.specs.declared.answer.Answer.{Answer}
+use Rattle.tpm_actions_base.specs.Refusals.{memory_refusal}
+use Rattle.tpm_actions_base.specs.Rows.{Success}
 use Rattle.tpm_record.specs.Saved.{Nothing}
 use Rattle.tpm_types_command.specs.declared.command_code.CommandCode.{CommandCode}
 use Rattle.tpm_machine_step.specs.Answer.{Answered, answer_to, refusal_text, written_of}
-use Rattle.tpm_machine_step.specs.Events.{Happening, Given, Cycled}
+use Rattle.tpm_machine_step.specs.Events.{PlainEvent, Given, Cycled}
 use Rattle.tpm_machine_step.specs.General.{general, in_command}
 use Rattle.tpm_machine_step.specs.Granted.{granted_entries}
 use Rattle.tpm_machine_step.specs.Parameters.{plain_parameters}
 use Rattle.tpm_machine_step.specs.Table.{row_of}
 use Rattle.tpm_machine_step.specs.declared.event.Outcome.{Outcome}
 use Rattle.tpm_machine_step.specs.declared.event.Row.{Row}
-use Rattle.tpm_machine_step.specs.declared.refusal.Refusal.{Refusal}
+use Rattle.tpm_machine_step.specs.declared.refused_command.RefusedCommand.{RefusedCommand}
 
 -- what an event answers, the row that is reported, and the record after it
 pub record Stepped : Type 0 where
@@ -69,9 +67,9 @@ acceptance r c locality random = do
 
 -- The refusal is that of the acceptance; or memory was refused, where it can be, in place of a
 -- success of a command that grows something.
-abbrev pub RefusesOrStarves : Bool → Whole → Result Accepted Refused → Refused → Type 0
-RefusesOrStarves can c (Err refused) e = e ≡ refused
-RefusesOrStarves can c (Ok a) e =
+abbrev pub RefusesOrWantsMemory : Bool → Whole → Result Accepted Refused → Refused → Type 0
+RefusesOrWantsMemory can c (Err refused) e = e ≡ refused
+RefusesOrWantsMemory can c (Ok a) e =
     (can ≡ true) × (a.command ≡ c) × ((shape_of c.code).grows ≡ true) × (e ≡ memory_refusal)
 
 -- A success of a command with these grants has this answer, and leaves this record.
@@ -87,10 +85,10 @@ Succeeds (Err refused) c grants answer new = ⊥
 abbrev pub Accepts : Bool → Result Accepted Refused → Whole → List (Option Grant)
     → Record → Result (Unit {0}) Refused → Answer → Record → Type 0
 Accepts can a c grants old (Ok done) answer new = Succeeds a c grants answer new
-Accepts can a c grants old (Err e) answer new = (new ≡ old) × RefusesOrStarves can c a e
+Accepts can a c grants old (Err e) answer new = (new ≡ old) × RefusesOrWantsMemory can c a e
 
 -- a command's buffer, accepted by a record whose time has passed, or its first refusal
-unfoldable pub accepted : Record → List ℕ → ℕ → List ℕ → Result Accepted Refusal
+unfoldable pub accepted : Record → List ℕ → ℕ → List ℕ → Result Accepted RefusedCommand
 accepted r buffer locality random = do
   command ← general r buffer
   in_command command.code (acceptance r command locality random)
@@ -106,7 +104,7 @@ abbrev pub counted_in : Counted → Record → Record
 counted_in counted r = with_lockout r (lockout_counted counted r.fixed.lockout)
 
 -- a refusal leaves the record, but for what it counts
-abbrev pub refusal_step : Record → Refusal → Stepped
+abbrev pub refusal_step : Record → RefusedCommand → Stepped
 refusal_step r e = record {
   response = refusal_text e.refused;
   row = record { code = e.code; check = check_number e.refused.check };
@@ -128,7 +126,7 @@ success_step a random =
       after = settled a.command.code x.after;
     }
 
-abbrev pub answer_of : Record → List ℕ → Result Accepted Refusal → Stepped
+abbrev pub answer_of : Record → List ℕ → Result Accepted RefusedCommand → Stepped
 answer_of r random (Ok a) = success_step a random
 answer_of r random (Err e) = refusal_step r e
 
@@ -148,32 +146,32 @@ success_without_memory r random a =
     else success_step a random
 
 -- the answer where memory is refused; a command that is refused anyway wants none
-abbrev pub answer_without_memory : Record → List ℕ → Result Accepted Refusal → Stepped
+abbrev pub answer_without_memory : Record → List ℕ → Result Accepted RefusedCommand → Stepped
 answer_without_memory r random (Ok a) = success_without_memory r random a
 answer_without_memory r random (Err e) = refusal_step r e
 
 -- the answer to a command, to which memory is refused (true) or is not (false)
-abbrev pub answer_where : Bool → Record → List ℕ → Result Accepted Refusal → Stepped
+abbrev pub answer_where : Bool → Record → List ℕ → Result Accepted RefusedCommand → Stepped
 answer_where false r random a = answer_of r random a
 answer_where true r random a = answer_without_memory r random a
 
 -- the step of an event, to which memory is refused or is not: for a command first its time passes
-abbrev pub step_where : Bool → Record → Happening → Stepped
+abbrev pub step_where : Bool → Record → PlainEvent → Stepped
 step_where refused r (Given buffer locality elapsed random) =
     let t = ticked r elapsed in answer_where refused t random (accepted t buffer locality random)
 step_where refused r Cycled =
     record { response = []; row = record { code = 0; check = 0 }; after = cycled r }
 
 -- the step of an event, to which no memory is refused
-abbrev pub step : Record → Happening → Stepped
+abbrev pub step : Record → PlainEvent → Stepped
 step r event = step_where false r event
 
 -- An answer to which memory is refused only where the keep can be refused it.
-abbrev pub Answers : Bool → Record → List ℕ → Result Accepted Refusal → Stepped → Type 0
+abbrev pub Answers : Bool → Record → List ℕ → Result Accepted RefusedCommand → Stepped → Type 0
 Answers can r random a x =
     (refused : Bool) × (refused ≡ true → can ≡ true) × (x ≡ answer_where refused r random a)
 
--- And such a step.
-abbrev pub Steps : Bool → Record → Happening → Stepped → Type 0
+-- A step in which memory is refused only where the keep can be refused it.
+abbrev pub Steps : Bool → Record → PlainEvent → Stepped → Type 0
 Steps can r event x =
     (refused : Bool) × (refused ≡ true → can ≡ true) × (x ≡ step_where refused r event)

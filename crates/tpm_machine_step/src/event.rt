@@ -1,13 +1,13 @@
+//! An event, a command or a power cycle, and its outcome: the response, and the row that is
+//! reported.
+
 ghost use Rattle.std.specs.Prelude.{◌≡◌};
 
 use arrayvec::ArrayVec;
-use tpm_types::Locality;
-
-/// The most bytes of a response, as of a command.
-pub const RESPONSE_LIMIT: usize = 4_096;
+use tpm_types::{BUFFER_LIMIT, Locality};
 
 /// The whole bytes of a response.
-pub type Response = ArrayVec<u8, RESPONSE_LIMIT>;
+pub type Response = ArrayVec<u8, BUFFER_LIMIT>;
 
 /// One atomic step of the device.
 #[derive(Drop)]
@@ -25,7 +25,7 @@ pub enum Event<'a> {
 }
 
 impl<'a> Event<'a> {
-    ghost use Rattle.tpm_machine_step.specs.Events.{IsEvent, happening};
+    ghost use Rattle.tpm_machine_step.specs.Events.{IsEvent, plain_event};
     ghost use Rattle.tpm_machine_step.specs.declared.event.Event.TheVariants.{Command};
 
     /// The event of a command.
@@ -38,7 +38,7 @@ impl<'a> Event<'a> {
         ensures value { result ≡ Command buffer.entry locality elapsed_ms random }
 
         // What happens comes from locality 0 to 4, with a time of 32 bits and 256 random bytes.
-        ensures event { IsEvent (happening result) }
+        ensures event { IsEvent (plain_event result) }
     {
         Event::Command {
             buffer,

@@ -1,16 +1,19 @@
 #![tactic(auto)]
 
-//! What an event is, and what its step is: the definitions of the general checks, the table of all
-//! rows, the answer, the step of an event and runs of events stand in `specs/`. The code that
-//! computes them is tpm_machine's; laws and theorems over histories stand on this crate alone.
+//! What an event of the device is, and what its step is: the definitions of the general checks, of
+//! the table of all rows, of the answer, of the step of an event and of runs of events stand in
+//! `specs/`. Its own code is an [`event::Event`], its [`event::Outcome`], a
+//! [`refused_command::RefusedCommand`], and the [`direction::Direction`] in which a session passes
+//! a parameter.
 //!
-//! Its own code is an [`event::Event`], its [`event::Outcome`], a [`refusal::Refusal`], and the
-//! [`direction::Direction`] in which a session passes a parameter.
+//! It stands on the definitions of the rows in tpm_actions_base and the crates of the commands, and
+//! on those of tpm_auth. tpm_machine computes the step, and is proved to; laws and theorems over
+//! histories stand on this crate alone, and so on no code.
 
 pub mod direction;
 pub mod event;
-pub mod refusal;
+pub mod refused_command;
 
 pub use direction::Direction;
-pub use event::{Event, Outcome, RESPONSE_LIMIT, Response, Row};
-pub use refusal::Refusal;
+pub use event::{Event, Outcome, Response, Row};
+pub use refused_command::RefusedCommand;

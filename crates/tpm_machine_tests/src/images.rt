@@ -1,14 +1,16 @@
-//! The image of a device: what it begins with, its digest as it was computed outside, and the device
-//! that is opened from it. Each test is run over both keeps.
+//! The image of a device: what it begins with, its digest as it was computed outside, and the
+//! device that is opened from it. Each test is run over both keeps.
 
 use super::commands::{
     CLEAR, NO_SESSIONS, OWNER, PASSWORD, SESSIONS, STARTUP, command_of, event_of,
 };
 use std::alloc::Global;
+use std::io;
+use std::io::{ErrorKind, Write};
 use std::process::Abort;
 use std::test::Fail;
 use tpm_bytes::Tap;
-use tpm_image::{open, save};
+use tpm_image::{SaveFault, open, save};
 use tpm_machine::Machine;
 use tpm_machine_step::Event;
 use tpm_record::{Keep, ListKeep, SlotKeep};
@@ -141,10 +143,15 @@ fn new_devices(rt: HostRuntime) -> Result<(), Fail> {
     check_new::<SlotKeep, HostRuntime>(&rt, rt.alloc())
 }
 
+fn busy_image<K: Keep, R: Abort>(rt: &R, alloc: Global) -> Result<Vec<u8>, Fail> {
+    let machine: Machine<K> = busy(rt, alloc)?;
+    image_of(alloc, &machine)
+}
+
 #[test]
 fn both_keeps_have_one_image(rt: HostRuntime) -> Result<(), Fail> {
-    let list = image_of(rt.alloc(), &busy::<ListKeep, HostRuntime>(&rt, rt.alloc())?)?;
-    let slots = image_of(rt.alloc(), &busy::<SlotKeep, HostRuntime>(&rt, rt.alloc())?)?;
+    let list = busy_image::<ListKeep, HostRuntime>(&rt, rt.alloc())?;
+    let slots = busy_image::<SlotKeep, HostRuntime>(&rt, rt.alloc())?;
     assert!(rt; list.as_slice() == slots.as_slice());
     Ok(())
 }
@@ -153,4 +160,64 @@ fn both_keeps_have_one_image(rt: HostRuntime) -> Result<(), Fail> {
 fn busy_devices(rt: HostRuntime) -> Result<(), Fail> {
     check_busy::<ListKeep, HostRuntime>(&rt, rt.alloc())?;
     check_busy::<SlotKeep, HostRuntime>(&rt, rt.alloc())
+}
+
+/// Takes at most 64 bytes a write, while writes are left, and then fails.
+#[derive(Drop)]
+struct Narrow {
+    taken: Vec<u8>,
+    writes: usize,
+}
+
+impl Write for Narrow {
+    fn write(&mut self, piece: &[u8]) -> io::Result<usize> {
+        let Some(writes) = self.writes.checked_sub(1) else {
+            return Err(ErrorKind::StorageFull.into());
+        };
+        let count = piece.len().min(64);
+        self.taken.extend_from_slice(&piece[..count])?;
+        self.writes = writes;
+        Ok(count)
+    }
+
+    fn flush(&mut self) -> io::Result<()> {
+        Ok(())
+    }
+}
+
+/// Saves a device to a writer that takes this many writes and fails at the next, and tells what was
+/// written.
+fn save_to_narrow<K: Keep>(
+    alloc: Global,
+    machine: &Machine<K>,
+    writes: usize,
+) -> Result<(Result<(), SaveFault>, Vec<u8>), Fail> {
+    let mut tap = Tap::new(Narrow {
+        taken: Vec::new(alloc),
+        writes,
+    });
+    let ended = save(machine, &mut tap);
+    Ok((ended, tap.into_inner().taken))
+}
+
+fn check_each_write<K: Keep, R: Abort>(rt: &R, alloc: Global) -> Result<(), Fail> {
+    let machine: Machine<K> = busy(rt, alloc)?;
+    let image = image_of(alloc, &machine)?;
+    let image = image.as_slice();
+    for writes in 0..image.len() {
+        let (ended, written) = save_to_narrow(alloc, &machine, writes)?;
+        assert!(rt; image.starts_with(written.as_slice()));
+        if ended == Ok(()) {
+            assert_eq!(rt; written.len(), image.len());
+            return Ok(());
+        }
+        assert!(rt; ended == Err(SaveFault::Write) && written.len() < image.len());
+    }
+    Err(Fail::new("no save succeeds"))
+}
+
+#[test]
+fn each_write_of_a_save_fails(rt: HostRuntime) -> Result<(), Fail> {
+    check_each_write::<ListKeep, HostRuntime>(&rt, rt.alloc())?;
+    check_each_write::<SlotKeep, HostRuntime>(&rt, rt.alloc())
 }

@@ -5,9 +5,9 @@ ghost use Rattle.tpm_record.specs.Persistent.{can_persist};
 ghost use Rattle.tpm_types.specs.Handle.{is_persistent};
 
 use std::process::Abort;
-use tpm_ascending::KeyFault;
 use tpm_object::Object;
 use tpm_record::persistent::{ListObjects, PersistentObjects, SlotObjects};
+use tpm_sorted_map::KeyFault;
 use tpm_types::{Handle, HierarchyHandle};
 
 /// An object that can be persistent.
@@ -19,7 +19,7 @@ fn object() -> Object
     object
 }
 
-/// The handle of this place behind the first.
+/// The persistent handle 81000000 plus this number.
 fn handle(place: u32) -> Handle
     requires { place < 256 }
     ensures { is_persistent result ≡ true }

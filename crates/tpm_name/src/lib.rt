@@ -6,6 +6,6 @@
 //! It stands on `tpm_types` for handles and on `tpm_mac` for digests; the Name of an object is a
 //! call of its public area, in `tpm_types_object`. No call here takes memory or refuses.
 
-mod entity;
+mod name;
 
-pub use entity::Name;
+pub use name::Name;

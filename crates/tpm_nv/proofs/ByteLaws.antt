@@ -12,6 +12,11 @@ opened_by_moving start size bytes inside =
     let many : length (drop start bytes ++ zeros) - size ≡ length (drop start bytes) = omega (arith, length-append (drop start bytes) zeros, length-replicate {A = ℕ} size 0) in
     rw (take-append-le start bytes zeros inside, behind, many, drop_at (drop start bytes) zeros (length (drop start bytes)) refl, take_at (drop start bytes) zeros (length (drop start bytes)) refl) refl
 
+pub opened_length : (start size : ℕ) (bytes : List ℕ) → start ≤ length bytes → length (opened start size bytes) ≡ length (bytes ++ replicate size 0)
+opened_length start size bytes inside =
+    let zeros = replicate {A = ℕ} size 0 in
+    omega (arith, length-append (take start bytes) (zeros ++ drop start bytes), length-append zeros (drop start bytes), length-append bytes zeros, length-take-le start bytes inside, length-drop start bytes)
+
 pub closed_by_moving : (start size : ℕ) (bytes : List ℕ) → start + size ≤ length bytes → take (length bytes - size) (moved_to_end start size bytes) ≡ closed_up start size bytes
 closed_by_moving start size bytes inside =
     let front = take start bytes in

@@ -1,4 +1,4 @@
--- Heads and the row of their bytes: that a change of the one and of the other is a change of the indices.
+-- Heads and the area of their bytes: that a change of the one and of the other is a change of the indices.
 use Rattle.std.proofs.Common.{◌≡◌, ◌≢◌, ℕ, ◌+◌, ◌-◌, ◌<◌, ◌≤◌, cond, eqb, leb, zero, suc, List, [], ◌∷◌, ◌++◌, length, get_or, take, drop, replicate, Option, Some, None, refl, sym, ap, subst, ◌∙◌, arith, inl, inr, append_assoc, length-append, length-drop}
 use Rattle.std.proofs.Math.Seq.{drop-append-add, take-append-add}
 use Rattle.std.specs.List.{sum_by}
@@ -6,23 +6,23 @@ use Rattle.std.specs.Prelude.{map}
 use Rattle.std.proofs.lemmas.Bool.{cases_eq, cases_lt, cond_both, cond-true, cond-false, eq-eqb, ne_eqb, le-leb, lt-leb}
 use Rattle.std.proofs.lemmas.List.{append-nil, drop-drop, drop-append-le, drop-take, drop-replicate, drop_all, drop_at, length-replicate, length-take-le, take-append-drop, take-append-le, take-take, take_at}
 use Rattle.std.proofs.lemmas.List.Sums.{sum_by-cons}
-use Rattle.tpm_ascending.specs.Ascending.{AllAbove, Ascends, Entries, at_key, changed_key, key_from, with_key, without_key}
+use Rattle.tpm_sorted_map.specs.SortedMap.{AllAbove, Ascends, Entries, at_key, changed_key, key_from, with_key, without_key}
 use Rattle.tpm_nv.specs.Bytes.{closed_up, opened, piece_of, put_over}
 use Rattle.tpm_nv.specs.Head.{AreHeads, IsHead, head_of, index_with, indices_of, size_of, start_of, total}
 use Rattle.tpm_nv.specs.Index.{NvIndex}
 use Rattle.tpm_nv.specs.declared.head.Head.{Head}
 
--- ---- a row in two parts
+-- ---- an area in two parts
 
-take_front : (n s : ℕ) (row rest : List ℕ) → n + s ≤ length row → take n (take (n + s) row ++ rest) ≡ take n row
-take_front n s row rest fits =
-    take-append-le n (take (n + s) row) rest (omega (arith, length-take-le (n + s) row fits))
-    ∙ take-take n (n + s) row (omega arith)
+take_front : (n s : ℕ) (area rest : List ℕ) → n + s ≤ length area → take n (take (n + s) area ++ rest) ≡ take n area
+take_front n s area rest fits =
+    take-append-le n (take (n + s) area) rest (omega (arith, length-take-le (n + s) area fits))
+    ∙ take-take n (n + s) area (omega arith)
 
-drop_front : (n s : ℕ) (row rest : List ℕ) → n + s ≤ length row → drop n (take (n + s) row ++ rest) ≡ take s (drop n row) ++ rest
-drop_front n s row rest fits =
-    drop-append-le n (take (n + s) row) rest (omega (arith, length-take-le (n + s) row fits))
-    ∙ ap (λ (l : List ℕ). l ++ rest) (drop-take n s row)
+drop_front : (n s : ℕ) (area rest : List ℕ) → n + s ≤ length area → drop n (take (n + s) area ++ rest) ≡ take s (drop n area) ++ rest
+drop_front n s area rest fits =
+    drop-append-le n (take (n + s) area) rest (omega (arith, length-take-le (n + s) area fits))
+    ∙ ap (λ (l : List ℕ). l ++ rest) (drop-take n s area)
 
 -- ---- a key that is there
 
@@ -56,7 +56,7 @@ none_below [] key low above under = refl
 none_below (e ∷ es) key low above under =
     rw (ne_eqb e.0 key (λ same. omega (arith, same, above.0, under))) (none_below es key low above.1 under)
 
--- nor behind keys below it where the next is above it
+-- nor after keys below it where the next is above it
 pub none_from : (es : Entries Head) (i key : ℕ) (d : ℕ × Head) → i < length es → Ascends (drop i es) → key ≤ (get_or es i d).0 → key ≢ (get_or es i d).0 → at_key (drop i es) key ≡ None
 none_from [] i key d in_es up under apart = absurd (omega (arith, in_es))
 none_from (e ∷ es) zero key d in_es up under apart =
@@ -80,129 +80,129 @@ piece_fits (e ∷ es) key h up there =
       | behind apart lower found ↦ rw (lt-leb key e.0 lower) (omega (arith, piece_fits es key h up.1 found))
     ]
 
-rest_fits : (e : ℕ × Head) (es : Entries Head) (row : List ℕ) → total (e ∷ es) ≤ length row → total es ≤ length (drop (size_of e.1) row)
-rest_fits e es row fits = omega (arith, fits, length-drop (size_of e.1) row)
+rest_fits : (e : ℕ × Head) (es : Entries Head) (area : List ℕ) → total (e ∷ es) ≤ length area → total es ≤ length (drop (size_of e.1) area)
+rest_fits e es area fits = omega (arith, fits, length-drop (size_of e.1) area)
 
 -- ---- what is found
 
-pub found_among : (es : Entries Head) (row : List ℕ) (key : ℕ) (h : Head) → Ascends es → at_key es key ≡ Some h → at_key (indices_of es row) key ≡ Some (index_with h (piece_of (start_of es key) (size_of h) row))
-found_among [] row key h up there = absurd cc
-found_among (e ∷ es) row key h up there =
+pub found_among : (es : Entries Head) (area : List ℕ) (key : ℕ) (h : Head) → Ascends es → at_key es key ≡ Some h → at_key (indices_of es area) key ≡ Some (index_with h (piece_of (start_of es key) (size_of h) area))
+found_among [] area key h up there = absurd cc
+found_among (e ∷ es) area key h up there =
     elim (place e es key h up there) [
       | here same is ↦ rw (eq-eqb e.0 key same, le-leb key e.0 (omega arith), ← is) refl
       | behind apart lower found ↦
           let s = start_of es key in
           rw (ne_eqb e.0 key apart, lt-leb key e.0 lower) (
-          found_among es (drop (size_of e.1) row) key h up.1 found
-          ∙ ap (λ (l : List ℕ). Some (index_with h (take (size_of h) l))) (drop-drop s (size_of e.1) row)
+          found_among es (drop (size_of e.1) area) key h up.1 found
+          ∙ ap (λ (l : List ℕ). Some (index_with h (take (size_of h) l))) (drop-drop s (size_of e.1) area)
           )
     ]
 
-pub none_among : (es : Entries Head) (row : List ℕ) (key : ℕ) → at_key es key ≡ None → at_key (indices_of es row) key ≡ None
-none_among [] row key none = refl
-none_among (e ∷ es) row key none =
+pub none_among : (es : Entries Head) (area : List ℕ) (key : ℕ) → at_key es key ≡ None → at_key (indices_of es area) key ≡ None
+none_among [] area key none = refl
+none_among (e ∷ es) area key none =
     elim (cases_eq e.0 key) [
       | inl same ↦ let some : Some e.1 ≡ None = sym (cond-true _ _ _ (eq-eqb e.0 key same)) ∙ none in absurd cc
-      | inr apart ↦ rw (ne_eqb e.0 key apart) (none_among es (drop (size_of e.1) row) key (sym (cond-false _ _ _ (ne_eqb e.0 key apart)) ∙ none))
+      | inr apart ↦ rw (ne_eqb e.0 key apart) (none_among es (drop (size_of e.1) area) key (sym (cond-false _ _ _ (ne_eqb e.0 key apart)) ∙ none))
     ]
 
-pub next_among : (es : Entries Head) (row : List ℕ) (key : ℕ) → key_from (indices_of es row) key ≡ key_from es key
-next_among [] row key = refl
-next_among (e ∷ es) row key =
-    ap (λ (o : Option ℕ). cond (leb key e.0) (Some e.0) o) (next_among es (drop (size_of e.1) row) key)
+pub next_among : (es : Entries Head) (area : List ℕ) (key : ℕ) → key_from (indices_of es area) key ≡ key_from es key
+next_among [] area key = refl
+next_among (e ∷ es) area key =
+    ap (λ (o : Option ℕ). cond (leb key e.0) (Some e.0) o) (next_among es (drop (size_of e.1) area) key)
 
-pub heads_among : (es : Entries Head) (row : List ℕ) → es ≡ map (λ (e : ℕ × NvIndex). (e.0, head_of e.1)) (indices_of es row)
-heads_among [] row = refl
-heads_among (e ∷ es) row = ap (λ (l : Entries Head). e ∷ l) (heads_among es (drop (size_of e.1) row))
+pub heads_among : (es : Entries Head) (area : List ℕ) → es ≡ map (λ (e : ℕ × NvIndex). (e.0, head_of e.1)) (indices_of es area)
+heads_among [] area = refl
+heads_among (e ∷ es) area = ap (λ (l : Entries Head). e ∷ l) (heads_among es (drop (size_of e.1) area))
 
-pub length_among : (es : Entries Head) (row : List ℕ) → length (indices_of es row) ≡ length es
-length_among [] row = refl
-length_among (e ∷ es) row = omega (arith, length_among es (drop (size_of e.1) row))
+pub length_among : (es : Entries Head) (area : List ℕ) → length (indices_of es area) ≡ length es
+length_among [] area = refl
+length_among (e ∷ es) area = omega (arith, length_among es (drop (size_of e.1) area))
 
-pub bytes_among : (es : Entries Head) (row : List ℕ) → sum_by (λ (e : ℕ × NvIndex). e.1.public.data_size) (indices_of es row) ≡ total es
-bytes_among [] row = refl
-bytes_among (e ∷ es) row =
-    let rest = drop (size_of e.1) row in
-    sum_by-cons (λ (e : ℕ × NvIndex). e.1.public.data_size) (e.0, index_with e.1 (take (size_of e.1) row)) (indices_of es rest)
+pub bytes_among : (es : Entries Head) (area : List ℕ) → sum_by (λ (e : ℕ × NvIndex). e.1.public.data_size) (indices_of es area) ≡ total es
+bytes_among [] area = refl
+bytes_among (e ∷ es) area =
+    let rest = drop (size_of e.1) area in
+    sum_by-cons (λ (e : ℕ × NvIndex). e.1.public.data_size) (e.0, index_with e.1 (take (size_of e.1) area)) (indices_of es rest)
     ∙ ap (λ (s : ℕ). size_of e.1 + s) (bytes_among es rest)
 
-above_among : (low : ℕ) (es : Entries Head) (row : List ℕ) → AllAbove low es → AllAbove low (indices_of es row)
-above_among low [] row above = tt
-above_among low (e ∷ es) row above = (above.0, above_among low es (drop (size_of e.1) row) above.1)
+above_among : (low : ℕ) (es : Entries Head) (area : List ℕ) → AllAbove low es → AllAbove low (indices_of es area)
+above_among low [] area above = tt
+above_among low (e ∷ es) area above = (above.0, above_among low es (drop (size_of e.1) area) above.1)
 
-pub ascends_among : (es : Entries Head) (row : List ℕ) → Ascends es → Ascends (indices_of es row)
-ascends_among [] row up = tt
-ascends_among (e ∷ es) row up =
-    let rest = drop (size_of e.1) row in
+pub ascends_among : (es : Entries Head) (area : List ℕ) → Ascends es → Ascends (indices_of es area)
+ascends_among [] area up = tt
+ascends_among (e ∷ es) area up =
+    let rest = drop (size_of e.1) area in
     (above_among e.0 es rest up.0, ascends_among es rest up.1)
 
 -- ---- one more
 
-pub put_among : (es : Entries Head) (row piece : List ℕ) (key : ℕ) (h : Head) → total es ≤ length row → length piece ≡ size_of h → with_key (indices_of es row) key (index_with h piece) ≡ indices_of (with_key es key h) (take (start_of es key) row ++ (piece ++ drop (start_of es key) row))
-put_among [] row piece key h fits size = rw (take_at piece row (size_of h) size) refl
-put_among (e ∷ es) row piece key h fits size =
+pub put_among : (es : Entries Head) (area piece : List ℕ) (key : ℕ) (h : Head) → total es ≤ length area → length piece ≡ size_of h → with_key (indices_of es area) key (index_with h piece) ≡ indices_of (with_key es key h) (take (start_of es key) area ++ (piece ++ drop (start_of es key) area))
+put_among [] area piece key h fits size = rw (take_at piece area (size_of h) size) refl
+put_among (e ∷ es) area piece key h fits size =
     elim (cases_lt e.0 key) [
       | inl lower ↦
           let n = size_of e.1 in
           let s = start_of es key in
-          let within : n + s ≤ length row = omega (arith, fits, start_fits es key) in
-          let rest = piece ++ drop (n + s) row in
-          rw (lt-leb key e.0 lower, take_front n s row rest within, drop_front n s row rest within) (
-          ap (λ (l : Entries NvIndex). (e.0, index_with e.1 (take n row)) ∷ l) (
-          put_among es (drop n row) piece key h (rest_fits e es row fits) size
-          ∙ ap (λ (l : List ℕ). indices_of (with_key es key h) (take s (drop n row) ++ (piece ++ l))) (drop-drop s n row)
+          let within : n + s ≤ length area = omega (arith, fits, start_fits es key) in
+          let rest = piece ++ drop (n + s) area in
+          rw (lt-leb key e.0 lower, take_front n s area rest within, drop_front n s area rest within) (
+          ap (λ (l : Entries NvIndex). (e.0, index_with e.1 (take n area)) ∷ l) (
+          put_among es (drop n area) piece key h (rest_fits e es area fits) size
+          ∙ ap (λ (l : List ℕ). indices_of (with_key es key h) (take s (drop n area) ++ (piece ++ l))) (drop-drop s n area)
           )
           )
-      | inr from ↦ rw (le-leb key e.0 from, take_at piece row (size_of h) size, drop_at piece row (size_of h) size) refl
+      | inr from ↦ rw (le-leb key e.0 from, take_at piece area (size_of h) size, drop_at piece area (size_of h) size) refl
     ]
 
 -- ---- one less
 
-pub removed_among : (es : Entries Head) (row : List ℕ) (key : ℕ) (h : Head) → Ascends es → total es ≤ length row → at_key es key ≡ Some h → without_key (indices_of es row) key ≡ indices_of (without_key es key) (closed_up (start_of es key) (size_of h) row)
-removed_among [] row key h up fits there = absurd cc
-removed_among (e ∷ es) row key h up fits there =
+pub removed_among : (es : Entries Head) (area : List ℕ) (key : ℕ) (h : Head) → Ascends es → total es ≤ length area → at_key es key ≡ Some h → without_key (indices_of es area) key ≡ indices_of (without_key es key) (closed_up (start_of es key) (size_of h) area)
+removed_among [] area key h up fits there = absurd cc
+removed_among (e ∷ es) area key h up fits there =
     elim (place e es key h up there) [
       | here same is ↦
           let none : size_of e.1 ≡ 0 + size_of h = omega (arith, ap size_of is) in
-          rw (eq-eqb e.0 key same, le-leb key e.0 (omega arith)) (ap (λ (k : ℕ). indices_of es (drop k row)) none)
+          rw (eq-eqb e.0 key same, le-leb key e.0 (omega arith)) (ap (λ (k : ℕ). indices_of es (drop k area)) none)
       | behind apart lower found ↦
           let n = size_of e.1 in
           let s = start_of es key in
           let m = size_of h in
-          let within : n + s ≤ length row = omega (arith, fits, start_fits es key) in
-          let rest = drop (n + s + m) row in
+          let within : n + s ≤ length area = omega (arith, fits, start_fits es key) in
+          let rest = drop (n + s + m) area in
           let sum : n + (s + m) ≡ n + s + m = omega arith in
-          rw (ne_eqb e.0 key apart, lt-leb key e.0 lower, take_front n s row rest within, drop_front n s row rest within) (
-          ap (λ (l : Entries NvIndex). (e.0, index_with e.1 (take n row)) ∷ l) (
-          removed_among es (drop n row) key h up.1 (rest_fits e es row fits) found
-          ∙ ap (λ (l : List ℕ). indices_of (without_key es key) (take s (drop n row) ++ l)) (drop-drop (s + m) n row ∙ ap (λ (k : ℕ). drop k row) sum)
+          rw (ne_eqb e.0 key apart, lt-leb key e.0 lower, take_front n s area rest within, drop_front n s area rest within) (
+          ap (λ (l : Entries NvIndex). (e.0, index_with e.1 (take n area)) ∷ l) (
+          removed_among es (drop n area) key h up.1 (rest_fits e es area fits) found
+          ∙ ap (λ (l : List ℕ). indices_of (without_key es key) (take s (drop n area) ++ l)) (drop-drop (s + m) n area ∙ ap (λ (k : ℕ). drop k area) sum)
           )
           )
     ]
 
 -- ---- one changed
 
-pub changed_among : (es : Entries Head) (row piece : List ℕ) (key : ℕ) (h g : Head) → Ascends es → total es ≤ length row → at_key es key ≡ Some h → size_of g ≡ size_of h → length piece ≡ size_of h → changed_key (indices_of es row) key (index_with g piece) ≡ indices_of (changed_key es key g) (put_over (start_of es key) piece row)
-changed_among [] row piece key h g up fits there same_size size = absurd cc
-changed_among (e ∷ es) row piece key h g up fits there same_size size =
+pub changed_among : (es : Entries Head) (area piece : List ℕ) (key : ℕ) (h g : Head) → Ascends es → total es ≤ length area → at_key es key ≡ Some h → size_of g ≡ size_of h → length piece ≡ size_of h → changed_key (indices_of es area) key (index_with g piece) ≡ indices_of (changed_key es key g) (put_over (start_of es key) piece area)
+changed_among [] area piece key h g up fits there same_size size = absurd cc
+changed_among (e ∷ es) area piece key h g up fits there same_size size =
     elim (place e es key h up there) [
       | here same is ↦
           let whole : length piece ≡ size_of g = omega arith in
           let front : 0 + length piece ≡ size_of e.1 = omega (arith, ap size_of is) in
-          let rest = drop (0 + length piece) row in
+          let rest = drop (0 + length piece) area in
           rw (eq-eqb e.0 key same, le-leb key e.0 (omega arith), take_at piece rest (size_of g) whole, drop_at piece rest (size_of g) whole)
-          (ap (λ (k : ℕ). (e.0, index_with g piece) ∷ indices_of es (drop k row)) (sym front))
+          (ap (λ (k : ℕ). (e.0, index_with g piece) ∷ indices_of es (drop k area)) (sym front))
       | behind apart lower found ↦
           let n = size_of e.1 in
           let s = start_of es key in
           let m = length piece in
-          let within : n + s ≤ length row = omega (arith, fits, start_fits es key) in
-          let rest = piece ++ drop (n + s + m) row in
+          let within : n + s ≤ length area = omega (arith, fits, start_fits es key) in
+          let rest = piece ++ drop (n + s + m) area in
           let sum : n + (s + m) ≡ n + s + m = omega arith in
-          rw (ne_eqb e.0 key apart, lt-leb key e.0 lower, take_front n s row rest within, drop_front n s row rest within) (
-          ap (λ (l : Entries NvIndex). (e.0, index_with e.1 (take n row)) ∷ l) (
-          changed_among es (drop n row) piece key h g up.1 (rest_fits e es row fits) found same_size size
-          ∙ ap (λ (l : List ℕ). indices_of (changed_key es key g) (take s (drop n row) ++ (piece ++ l))) (drop-drop (s + m) n row ∙ ap (λ (k : ℕ). drop k row) sum)
+          rw (ne_eqb e.0 key apart, lt-leb key e.0 lower, take_front n s area rest within, drop_front n s area rest within) (
+          ap (λ (l : Entries NvIndex). (e.0, index_with e.1 (take n area)) ∷ l) (
+          changed_among es (drop n area) piece key h g up.1 (rest_fits e es area fits) found same_size size
+          ∙ ap (λ (l : List ℕ). indices_of (changed_key es key g) (take s (drop n area) ++ (piece ++ l))) (drop-drop (s + m) n area ∙ ap (λ (k : ℕ). drop k area) sum)
           )
           )
     ]
@@ -272,19 +272,19 @@ length_put offset piece bytes fits =
     omega (arith, fits, length-append (take offset bytes) (piece ++ back), length-append piece back, length-take-le offset bytes (omega arith), length-drop (offset + length piece) bytes)
 
 -- a piece that is put where it is changes nothing
-pub put_back : (start size : ℕ) (row : List ℕ) → start + size ≤ length row → put_over start (piece_of start size row) row ≡ row
-put_back start size row fits =
-    let behind = drop start row in
-    let many : length (take size behind) ≡ size = length-take-le size behind (omega (arith, fits, length-drop start row)) in
-    rw (many, ← drop-drop size start row, take-append-drop size behind, take-append-drop start row) refl
+pub put_back : (start size : ℕ) (area : List ℕ) → start + size ≤ length area → put_over start (piece_of start size area) area ≡ area
+put_back start size area fits =
+    let behind = drop start area in
+    let many : length (take size behind) ≡ size = length-take-le size behind (omega (arith, fits, length-drop start area)) in
+    rw (many, ← drop-drop size start area, take-append-drop size behind, take-append-drop start area) refl
 
 -- bytes that are put within a piece that is put are put within the piece
-put_inside : (start offset : ℕ) (inner piece row : List ℕ) → start + length piece ≤ length row → offset + length inner ≤ length piece → put_over (start + offset) inner (put_over start piece row) ≡ put_over start (put_over offset inner piece) row
-put_inside start offset inner piece row fits within =
-    let front = take start row in
-    let back = drop (start + length piece) row in
+put_inside : (start offset : ℕ) (inner piece area : List ℕ) → start + length piece ≤ length area → offset + length inner ≤ length piece → put_over (start + offset) inner (put_over start piece area) ≡ put_over start (put_over offset inner piece) area
+put_inside start offset inner piece area fits within =
+    let front = take start area in
+    let back = drop (start + length piece) area in
     let rest = drop (offset + length inner) piece in
-    let many : length front ≡ start = length-take-le start row (omega arith) in
+    let many : length front ≡ start = length-take-le start area (omega arith) in
     let first : take (start + offset) (front ++ (piece ++ back)) ≡ front ++ take offset piece =
     ap (λ (k : ℕ). take (k + offset) (front ++ (piece ++ back))) (sym many)
     ∙ take-append-add front (piece ++ back) offset
@@ -297,14 +297,14 @@ put_inside start offset inner piece row fits within =
     rw (first, last, length_put offset inner piece within) (simp append_assoc refl)
 
 -- and where the piece is there, within what is there
-pub put_within : (start size offset : ℕ) (inner row : List ℕ) → start + size ≤ length row → offset + length inner ≤ size → put_over (start + offset) inner row ≡ put_over start (put_over offset inner (piece_of start size row)) row
-put_within start size offset inner row fits within =
-    let piece = piece_of start size row in
-    let many : length piece ≡ size = length-take-le size (drop start row) (omega (arith, fits, length-drop start row)) in
-    ap (λ (l : List ℕ). put_over (start + offset) inner l) (sym (put_back start size row fits))
-    ∙ put_inside start offset inner piece row (omega arith) (omega arith)
+pub put_within : (start size offset : ℕ) (inner area : List ℕ) → start + size ≤ length area → offset + length inner ≤ size → put_over (start + offset) inner area ≡ put_over start (put_over offset inner (piece_of start size area)) area
+put_within start size offset inner area fits within =
+    let piece = piece_of start size area in
+    let many : length piece ≡ size = length-take-le size (drop start area) (omega (arith, fits, length-drop start area)) in
+    ap (λ (l : List ℕ). put_over (start + offset) inner l) (sym (put_back start size area fits))
+    ∙ put_inside start offset inner piece area (omega arith) (omega arith)
 
-pub put_anew : (start offset : ℕ) (inner piece row : List ℕ) → start + length piece ≤ length row → offset + length inner ≤ length piece → put_over (start + offset) inner (put_over start piece row) ≡ put_over start (put_over offset inner piece) row
+pub put_anew : (start offset : ℕ) (inner piece area : List ℕ) → start + length piece ≤ length area → offset + length inner ≤ length piece → put_over (start + offset) inner (put_over start piece area) ≡ put_over start (put_over offset inner piece) area
 put_anew = put_inside
 
 -- bytes that are put over all others are all there is
@@ -314,23 +314,23 @@ put_all piece bytes same =
     rw none (append-nil piece)
 
 -- bytes put into a place that was opened for them are closed up again
-pub closed_again : (start size : ℕ) (piece row : List ℕ) → start ≤ length row → length piece ≡ size → closed_up start size (take start row ++ (piece ++ drop start row)) ≡ row
-closed_again start size piece row inside same =
-    let front = take start row in
-    let many : length front ≡ start = length-take-le start row inside in
-    let behind : drop (start + size) (front ++ (piece ++ drop start row)) ≡ drop start row =
-    ap (λ (k : ℕ). drop k (front ++ (piece ++ drop start row))) (let sum : start + size ≡ length front + size = omega arith in sum)
-    ∙ drop-append-add front (piece ++ drop start row) size
-    ∙ drop_at piece (drop start row) size same in
-    rw (take_at front (piece ++ drop start row) start many, behind) (take-append-drop start row)
+pub closed_again : (start size : ℕ) (piece area : List ℕ) → start ≤ length area → length piece ≡ size → closed_up start size (take start area ++ (piece ++ drop start area)) ≡ area
+closed_again start size piece area inside same =
+    let front = take start area in
+    let many : length front ≡ start = length-take-le start area inside in
+    let behind : drop (start + size) (front ++ (piece ++ drop start area)) ≡ drop start area =
+    ap (λ (k : ℕ). drop k (front ++ (piece ++ drop start area))) (let sum : start + size ≡ length front + size = omega arith in sum)
+    ∙ drop-append-add front (piece ++ drop start area) size
+    ∙ drop_at piece (drop start area) size same in
+    rw (take_at front (piece ++ drop start area) start many, behind) (take-append-drop start area)
 
 -- bytes put into a place that was opened, and zeros where there are none
-pub put_opened : (start size : ℕ) (piece row : List ℕ) → start ≤ length row → length piece ≤ size → put_over start piece (opened start size row) ≡ take start row ++ ((piece ++ replicate (size - length piece) 0) ++ drop start row)
-put_opened start size piece row inside within =
-    let front = take start row in
-    let back = drop start row in
+pub put_opened : (start size : ℕ) (piece area : List ℕ) → start ≤ length area → length piece ≤ size → put_over start piece (opened start size area) ≡ take start area ++ ((piece ++ replicate (size - length piece) 0) ++ drop start area)
+put_opened start size piece area inside within =
+    let front = take start area in
+    let back = drop start area in
     let zeros = replicate {A = ℕ} size 0 in
-    let many : length front ≡ start = length-take-le start row inside in
+    let many : length front ≡ start = length-take-le start area inside in
     let far : start + length piece ≡ length front + length piece = omega arith in
     let last : drop (start + length piece) (front ++ (zeros ++ back)) ≡ replicate (size - length piece) 0 ++ back =
     ap (λ (k : ℕ). drop k (front ++ (zeros ++ back))) far

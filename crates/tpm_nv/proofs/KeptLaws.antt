@@ -1,5 +1,6 @@
 -- What is kept, head by head and byte by byte, after a change of one index: that it is still as it has to be, and
 -- which indices it shows.
+use Rattle.tpm_types.specs.Limits.{nv_index_limit, nv_space_limit}
 use Rattle.std.proofs.Common.{◌≡◌, ◌≢◌, ℕ, ◌+◌, ◌-◌, ◌<◌, ◌≤◌, ◌^◌, Bool, true, false, cond, List, [], ◌∷◌, ◌++◌, length, take, drop, replicate, Option, Some, None, refl, sym, ap, subst, ◌∙◌, arith, length-append, length-drop}
 use Rattle.std.specs.Prelude.{◌&&◌, not, nat_lt, nat_le, Ok, IfNone, IfSome, IsSomeAnd, option_copied, option_map}
 use Rattle.std.specs.Borrow.{Bor}
@@ -7,8 +8,8 @@ use Rattle.std.proofs.lemmas.Bool.{eqb-true, leb-true, ltb-true}
 use Rattle.std.proofs.lemmas.List.{append-nil, length-replicate, length-take-le, nil_from_length}
 use Rattle.tpm_bytes.specs.Reading.{refused_if}
 use Rattle.tpm_bytes.proofs.Fields.{bind_ok, passed}
-use Rattle.tpm_ascending.specs.Ascending.{Ascends, Entries, at_key, changed_key, with_key, without_key}
-use Rattle.tpm_ascending.proofs.AscendingLaws.{changed_ascends, changed_length, put_ascends, put_length, removed_ascends, removed_few}
+use Rattle.tpm_sorted_map.specs.SortedMap.{Ascends, Entries, at_key, changed_key, with_key, without_key}
+use Rattle.tpm_sorted_map.proofs.SortedMapLaws.{changed_ascends, changed_length, put_ascends, put_length, removed_ascends, removed_few}
 use Rattle.tpm_types.specs.AuthValue.{IsAuthValue}
 use Rattle.tpm_types.specs.declared.handle.Handle.{Handle}
 use Rattle.tpm_types_nv.specs.NvAttributes.{IsNvAttributes, attribute_bit, has, index_type, is_of, type_number, with_attribute}
@@ -35,22 +36,22 @@ use Rattle.tpm_nv.proofs.Cuts.{ascends_among, bytes_among, changed_among, found_
 
 -- ---- what a lookup of a head says of the index
 
-pub absent_is : (es : Entries Head) (row : List ℕ) (key : ℕ) (found : Option (Bor Head)) → option_copied found ≡ at_key es key → IfNone found (at_key (indices_of es row) key ≡ None)
-absent_is es row key None is = none_among es row key (sym is)
-absent_is es row key (Some h) is = tt
+pub absent_is : (es : Entries Head) (area : List ℕ) (key : ℕ) (found : Option (Bor Head)) → option_copied found ≡ at_key es key → IfNone found (at_key (indices_of es area) key ≡ None)
+absent_is es area key None is = none_among es area key (sym is)
+absent_is es area key (Some h) is = tt
 
-pub there_is : (es : Entries Head) (row : List ℕ) (count : ℕ) (handle : Handle) (found : Option (Bor Head)) → AreKept es row → option_copied found ≡ at_key es handle.number → IfSome found (λ h. (bytes : List ℕ) × IsIndexOf (record { indices = indices_of es row; max_count = count }) handle h.now bytes)
-there_is es row count handle None kept is = tt
-there_is es row count handle (Some h) kept is =
+pub there_is : (es : Entries Head) (area : List ℕ) (count : ℕ) (handle : Handle) (found : Option (Bor Head)) → AreKept es area → option_copied found ≡ at_key es handle.number → IfSome found (λ h. (bytes : List ℕ) × IsIndexOf (record { indices = indices_of es area; max_count = count }) handle h.now bytes)
+there_is es area count handle None kept is = tt
+there_is es area count handle (Some h) kept is =
     let key = handle.number in
     let s = start_of es key in
     let n = size_of h.now in
-    let fits : s + n ≤ length row = omega (arith, kept.whole, piece_fits es key h.now kept.ascends (sym is)) in (
-      piece_of s n row,
+    let fits : s + n ≤ length area = omega (arith, kept.whole, piece_fits es key h.now kept.ascends (sym is)) in (
+      piece_of s n area,
       record {
-        long = length-take-le n (drop s row) (omega (arith, fits, length-drop s row));
+        long = length-take-le n (drop s area) (omega (arith, fits, length-drop s area));
         sized = (head_at es key h.now kept.ascends kept.each (sym is)).sized;
-        found = found_among es row key h.now kept.ascends (sym is);
+        found = found_among es area key h.now kept.ascends (sym is);
       },
     )
 
@@ -60,12 +61,12 @@ known_of P None x is known = absurd cc
 known_of P (Some y) x is known = let same : y ≡ x = cc in subst P same known
 
 -- where the one index changes so, the contents do
-pub contents_changed : (es new : Entries Head) (row after : List ℕ) (count : ℕ) (handle : Handle) (shown : NvContents) (x : NvIndex) (f : NvIndex → NvIndex) → (let view : NvContents = record { indices = indices_of es row; max_count = count } in view ≡ shown) → at_key (indices_of es row) handle.number ≡ Some x → indices_of new after ≡ changed_key (indices_of es row) handle.number (f x) → (index : NvIndex) → index_at shown handle ≡ Some index → (let view : NvContents = record { indices = indices_of new after; max_count = count } in view ≡ changed_index shown handle (f index))
-contents_changed es new row after count handle shown x f view found seen index is =
-    let there : at_key (indices_of es row) handle.number ≡ Some index = ap (λ (s : NvContents). index_at s handle) view ∙ is in
+pub contents_changed : (es new : Entries Head) (area after : List ℕ) (count : ℕ) (handle : Handle) (shown : NvContents) (x : NvIndex) (f : NvIndex → NvIndex) → (let view : NvContents = record { indices = indices_of es area; max_count = count } in view ≡ shown) → at_key (indices_of es area) handle.number ≡ Some x → indices_of new after ≡ changed_key (indices_of es area) handle.number (f x) → (index : NvIndex) → index_at shown handle ≡ Some index → (let view : NvContents = record { indices = indices_of new after; max_count = count } in view ≡ changed_index shown handle (f index))
+contents_changed es new area after count handle shown x f view found seen index is =
+    let there : at_key (indices_of es area) handle.number ≡ Some index = ap (λ (s : NvContents). index_at s handle) view ∙ is in
     let same : x ≡ index = cc in
-    let whole : NvContents = record { indices = indices_of es row; max_count = count } in
-    let changed : indices_of new after ≡ changed_key (indices_of es row) handle.number (f index) = seen ∙ ap (λ (i : NvIndex). changed_key (indices_of es row) handle.number (f i)) same in
+    let whole : NvContents = record { indices = indices_of es area; max_count = count } in
+    let changed : indices_of new after ≡ changed_key (indices_of es area) handle.number (f index) = seen ∙ ap (λ (i : NvIndex). changed_key (indices_of es area) handle.number (f i)) same in
     let made : List (ℕ × NvIndex) → NvContents = λ l. record { indices = l; max_count = count } in
     ap made changed ∙ ap (λ (s : NvContents). changed_index s handle (f index)) view
 
@@ -94,8 +95,8 @@ is_head_authorized key h value is fits = record { named = is.named; public = is.
 
 -- ---- a head changed
 
-pub kept_changed : (es : Entries Head) (row after : List ℕ) (key : ℕ) (h g : Head) → AreKept es row → at_key es key ≡ Some h → IsHead key g → size_of g ≡ size_of h → length after ≡ length row → AreKept (changed_key es key g) after
-kept_changed es row after key h g kept there is same_size same_length =
+pub kept_changed : (es : Entries Head) (area after : List ℕ) (key : ℕ) (h g : Head) → AreKept es area → at_key es key ≡ Some h → IsHead key g → size_of g ≡ size_of h → length after ≡ length area → AreKept (changed_key es key g) after
+kept_changed es area after key h g kept there is same_size same_length =
     let many = changed_length es key g in
     let sum = total_changed es key h g kept.ascends there same_size in
     record {
@@ -107,14 +108,14 @@ kept_changed es row after key h g kept there is same_size same_length =
     }
 
 -- where its bytes stay
-pub seen_changed : (es : Entries Head) (row : List ℕ) (key : ℕ) (h g : Head) → AreKept es row → at_key es key ≡ Some h → size_of g ≡ size_of h → indices_of (changed_key es key g) row ≡ changed_key (indices_of es row) key (index_with g (piece_of (start_of es key) (size_of h) row))
-seen_changed es row key h g kept there same_size =
+pub seen_changed : (es : Entries Head) (area : List ℕ) (key : ℕ) (h g : Head) → AreKept es area → at_key es key ≡ Some h → size_of g ≡ size_of h → indices_of (changed_key es key g) area ≡ changed_key (indices_of es area) key (index_with g (piece_of (start_of es key) (size_of h) area))
+seen_changed es area key h g kept there same_size =
     let s = start_of es key in
     let n = size_of h in
-    let fits : s + n ≤ length row = omega (arith, kept.whole, piece_fits es key h kept.ascends there) in
-    let many : length (piece_of s n row) ≡ n = length-take-le n (drop s row) (omega (arith, fits, length-drop s row)) in
-    ap (λ (l : List ℕ). indices_of (changed_key es key g) l) (sym (put_back s n row fits))
-    ∙ sym (changed_among es row (piece_of s n row) key h g kept.ascends (omega (arith, kept.whole)) there same_size many)
+    let fits : s + n ≤ length area = omega (arith, kept.whole, piece_fits es key h kept.ascends there) in
+    let many : length (piece_of s n area) ≡ n = length-take-le n (drop s area) (omega (arith, fits, length-drop s area)) in
+    ap (λ (l : List ℕ). indices_of (changed_key es key g) l) (sym (put_back s n area fits))
+    ∙ sym (changed_among es area (piece_of s n area) key h g kept.ascends (omega (arith, kept.whole)) there same_size many)
 
 -- ---- an attribute set
 
@@ -131,17 +132,17 @@ is_head_marked key h one is =
 
 -- ---- data put
 
-pub length_filled : (is_written : Bool) (start size byte : ℕ) (row : List ℕ) → start + size ≤ length row → length (filled is_written start size byte row) ≡ length row
-length_filled true start size byte row fits = refl
-length_filled false start size byte row fits =
-    length_put start (replicate size byte) row (omega (arith, fits, length-replicate {A = ℕ} size byte))
+pub length_filled : (is_written : Bool) (start size byte : ℕ) (area : List ℕ) → start + size ≤ length area → length (filled is_written start size byte area) ≡ length area
+length_filled true start size byte area fits = refl
+length_filled false start size byte area fits =
+    length_put start (replicate size byte) area (omega (arith, fits, length-replicate {A = ℕ} size byte))
 
 -- what then is put is put over the piece that was there or that was filled
-filled_put : (is_written : Bool) (start size offset byte : ℕ) (bytes row : List ℕ) → start + size ≤ length row → offset + length bytes ≤ size → put_over (start + offset) bytes (filled is_written start size byte row) ≡ put_over start (put_over offset bytes (cond is_written (piece_of start size row) (replicate size byte))) row
-filled_put true start size offset byte bytes row fits within = put_within start size offset bytes row fits within
-filled_put false start size offset byte bytes row fits within =
+filled_put : (is_written : Bool) (start size offset byte : ℕ) (bytes area : List ℕ) → start + size ≤ length area → offset + length bytes ≤ size → put_over (start + offset) bytes (filled is_written start size byte area) ≡ put_over start (put_over offset bytes (cond is_written (piece_of start size area) (replicate size byte))) area
+filled_put true start size offset byte bytes area fits within = put_within start size offset bytes area fits within
+filled_put false start size offset byte bytes area fits within =
     let many = length-replicate {A = ℕ} size byte in
-    put_anew start offset bytes (replicate size byte) row (omega (arith, many, fits)) (omega (arith, many, within))
+    put_anew start offset bytes (replicate size byte) area (omega (arith, many, fits)) (omega (arith, many, within))
 
 abbrev pub written_head : Head → Head
 written_head h = with_attributes h (with_attribute h.public.attributes attribute.Written)
@@ -154,98 +155,98 @@ data_is h bytes byte = by (has h.public.attributes attribute.Written)
     by true = refl
     by false = refl
 
-pub seen_put : (es : Entries Head) (row bytes : List ℕ) (key offset byte : ℕ) (h : Head) → AreKept es row → at_key es key ≡ Some h → offset + length bytes ≤ size_of h → indices_of (changed_key es key (written_head h)) (put_over (start_of es key + offset) bytes (filled (has h.public.attributes attribute.Written) (start_of es key) (size_of h) byte row)) ≡ changed_key (indices_of es row) key (with_data (index_with h (piece_of (start_of es key) (size_of h) row)) (put_over offset bytes (data_or byte (index_with h (piece_of (start_of es key) (size_of h) row)))))
-seen_put es row bytes key offset byte h kept there within =
+pub seen_put : (es : Entries Head) (area bytes : List ℕ) (key offset byte : ℕ) (h : Head) → AreKept es area → at_key es key ≡ Some h → offset + length bytes ≤ size_of h → indices_of (changed_key es key (written_head h)) (put_over (start_of es key + offset) bytes (filled (has h.public.attributes attribute.Written) (start_of es key) (size_of h) byte area)) ≡ changed_key (indices_of es area) key (with_data (index_with h (piece_of (start_of es key) (size_of h) area)) (put_over offset bytes (data_or byte (index_with h (piece_of (start_of es key) (size_of h) area)))))
+seen_put es area bytes key offset byte h kept there within =
     let s = start_of es key in
     let n = size_of h in
     let b = has h.public.attributes attribute.Written in
-    let fits : s + n ≤ length row = omega (arith, kept.whole, piece_fits es key h kept.ascends there) in
-    let old = piece_of s n row in
+    let fits : s + n ≤ length area = omega (arith, kept.whole, piece_fits es key h kept.ascends there) in
+    let old = piece_of s n area in
     let under = cond b old (replicate n byte) in
-    let many : length old ≡ n = length-take-le n (drop s row) (omega (arith, fits, length-drop s row)) in
+    let many : length old ≡ n = length-take-le n (drop s area) (omega (arith, fits, length-drop s area)) in
     let long : length under ≡ n = each b old (replicate n byte) n many (length-replicate {A = ℕ} n byte) in
     let piece = put_over offset bytes under in
     let size : length piece ≡ n = length_put offset bytes under (omega (arith, long, within)) ∙ long in
-    let seen = changed_among es row piece key h (written_head h) kept.ascends (omega (arith, kept.whole)) there refl size in
-    ap (λ (l : List ℕ). indices_of (changed_key es key (written_head h)) l) (filled_put b s n offset byte bytes row fits within)
+    let seen = changed_among es area piece key h (written_head h) kept.ascends (omega (arith, kept.whole)) there refl size in
+    ap (λ (l : List ℕ). indices_of (changed_key es key (written_head h)) l) (filled_put b s n offset byte bytes area fits within)
     ∙ sym seen
-    ∙ ap (λ (i : NvIndex). changed_key (indices_of es row) key i) (now_written piece ∙ ap (λ (l : List ℕ). with_data (index_with h old) (put_over offset bytes l)) (sym (data_is h old byte)))
+    ∙ ap (λ (i : NvIndex). changed_key (indices_of es area) key i) (now_written piece ∙ ap (λ (l : List ℕ). with_data (index_with h old) (put_over offset bytes l)) (sym (data_is h old byte)))
   where
     each : (b : Bool) (xs ys : List ℕ) (n : ℕ) → length xs ≡ n → length ys ≡ n → length (cond b xs ys) ≡ n
     each true xs ys n x y = x
     each false xs ys n x y = y
 
-    now_written : (piece : List ℕ) → index_with (written_head h) piece ≡ with_data (index_with h (piece_of (start_of es key) (size_of h) row)) piece
+    now_written : (piece : List ℕ) → index_with (written_head h) piece ≡ with_data (index_with h (piece_of (start_of es key) (size_of h) area)) piece
     now_written piece = rw (are_attributes.set_there h.public.attributes attribute.Written) refl
 
-pub length_put_filled : (es : Entries Head) (row bytes : List ℕ) (key offset byte : ℕ) (h : Head) → AreKept es row → at_key es key ≡ Some h → offset + length bytes ≤ size_of h → length (put_over (start_of es key + offset) bytes (filled (has h.public.attributes attribute.Written) (start_of es key) (size_of h) byte row)) ≡ length row
-length_put_filled es row bytes key offset byte h kept there within =
+pub length_put_filled : (es : Entries Head) (area bytes : List ℕ) (key offset byte : ℕ) (h : Head) → AreKept es area → at_key es key ≡ Some h → offset + length bytes ≤ size_of h → length (put_over (start_of es key + offset) bytes (filled (has h.public.attributes attribute.Written) (start_of es key) (size_of h) byte area)) ≡ length area
+length_put_filled es area bytes key offset byte h kept there within =
     let s = start_of es key in
     let n = size_of h in
     let b = has h.public.attributes attribute.Written in
-    let fits : s + n ≤ length row = omega (arith, kept.whole, piece_fits es key h kept.ascends there) in
-    let long = length_filled b s n byte row fits in
-    length_put (s + offset) bytes (filled b s n byte row) (omega (arith, long, fits, within)) ∙ long
+    let fits : s + n ≤ length area = omega (arith, kept.whole, piece_fits es key h kept.ascends there) in
+    let long = length_filled b s n byte area fits in
+    length_put (s + offset) bytes (filled b s n byte area) (omega (arith, long, fits, within)) ∙ long
 
-pub kept_put : (es : Entries Head) (row bytes : List ℕ) (key offset byte : ℕ) (h : Head) → AreKept es row → at_key es key ≡ Some h → offset + length bytes ≤ size_of h → AreKept (changed_key es key (written_head h)) (put_over (start_of es key + offset) bytes (filled (has h.public.attributes attribute.Written) (start_of es key) (size_of h) byte row))
-kept_put es row bytes key offset byte h kept there within =
-    kept_changed es row _ key h (written_head h) kept there
+pub kept_put : (es : Entries Head) (area bytes : List ℕ) (key offset byte : ℕ) (h : Head) → AreKept es area → at_key es key ≡ Some h → offset + length bytes ≤ size_of h → AreKept (changed_key es key (written_head h)) (put_over (start_of es key + offset) bytes (filled (has h.public.attributes attribute.Written) (start_of es key) (size_of h) byte area))
+kept_put es area bytes key offset byte h kept there within =
+    kept_changed es area _ key h (written_head h) kept there
     (is_head_marked key h attribute.Written (head_at es key h kept.ascends kept.each there))
     refl
-    (length_put_filled es row bytes key offset byte h kept there within)
+    (length_put_filled es area bytes key offset byte h kept there within)
 
 -- a piece that is known by other names
-pub put_is : (after bytes row : List ℕ) (is_written : Bool) (start size offset byte from many : ℕ) (b : Bool) → after ≡ put_over (from + offset) bytes (filled b from many byte row) → b ≡ is_written → from ≡ start → many ≡ size → after ≡ put_over (start + offset) bytes (filled is_written start size byte row)
-put_is after bytes row is_written start size offset byte from many b is written from_is size_is =
+pub put_is : (after bytes area : List ℕ) (is_written : Bool) (start size offset byte from many : ℕ) (b : Bool) → after ≡ put_over (from + offset) bytes (filled b from many byte area) → b ≡ is_written → from ≡ start → many ≡ size → after ≡ put_over (start + offset) bytes (filled is_written start size byte area)
+put_is after bytes area is_written start size offset byte from many b is written from_is size_is =
     is
-    ∙ ap (λ (c : Bool). put_over (from + offset) bytes (filled c from many byte row)) written
-    ∙ ap (λ (s : ℕ). put_over (s + offset) bytes (filled is_written s many byte row)) from_is
-    ∙ ap (λ (n : ℕ). put_over (start + offset) bytes (filled is_written start n byte row)) size_is
+    ∙ ap (λ (c : Bool). put_over (from + offset) bytes (filled c from many byte area)) written
+    ∙ ap (λ (s : ℕ). put_over (s + offset) bytes (filled is_written s many byte area)) from_is
+    ∙ ap (λ (n : ℕ). put_over (start + offset) bytes (filled is_written start n byte area)) size_is
 
 -- ---- lookups
 
-pub none_at : (es : Entries Head) (row : List ℕ) (count : ℕ) (handle : Handle) (shown : NvContents) → (let view : NvContents = record { indices = indices_of es row; max_count = count } in view ≡ shown) → at_key es handle.number ≡ None → index_at shown handle ≡ None
-none_at es row count handle shown view none = rw (← view) (none_among es row handle.number none)
+pub none_at : (es : Entries Head) (area : List ℕ) (count : ℕ) (handle : Handle) (shown : NvContents) → (let view : NvContents = record { indices = indices_of es area; max_count = count } in view ≡ shown) → at_key es handle.number ≡ None → index_at shown handle ≡ None
+none_at es area count handle shown view none = rw (← view) (none_among es area handle.number none)
 
-pub some_at : (es : Entries Head) (row : List ℕ) (count : ℕ) (handle : Handle) (shown : NvContents) (h : Head) → (let view : NvContents = record { indices = indices_of es row; max_count = count } in view ≡ shown) → AreKept es row → at_key es handle.number ≡ Some h → index_at shown handle ≡ Some (index_with h (piece_of (start_of es handle.number) (size_of h) row))
-some_at es row count handle shown h view kept there = rw (← view) (found_among es row handle.number h kept.ascends there)
+pub some_at : (es : Entries Head) (area : List ℕ) (count : ℕ) (handle : Handle) (shown : NvContents) (h : Head) → (let view : NvContents = record { indices = indices_of es area; max_count = count } in view ≡ shown) → AreKept es area → at_key es handle.number ≡ Some h → index_at shown handle ≡ Some (index_with h (piece_of (start_of es handle.number) (size_of h) area))
+some_at es area count handle shown h view kept there = rw (← view) (found_among es area handle.number h kept.ascends there)
 
-pub piece_inside : (es : Entries Head) (row : List ℕ) (key : ℕ) (h : Head) → AreKept es row → at_key es key ≡ Some h → start_of es key + size_of h ≤ length row
-piece_inside es row key h kept there = omega (arith, kept.whole, piece_fits es key h kept.ascends there)
+pub piece_inside : (es : Entries Head) (area : List ℕ) (key : ℕ) (h : Head) → AreKept es area → at_key es key ≡ Some h → start_of es key + size_of h ≤ length area
+piece_inside es area key h kept there = omega (arith, kept.whole, piece_fits es key h kept.ascends there)
 
-pub seen_head : (es : Entries Head) (row : List ℕ) (key : ℕ) (found : Option (Bor Head)) → Ascends es → option_copied found ≡ at_key es key → option_copied found ≡ option_map head_of (at_key (indices_of es row) key)
-seen_head es row key None up is = rw (none_among es row key (sym is)) refl
-seen_head es row key (Some h) up is = rw (found_among es row key h.now up (sym is)) refl
+pub seen_head : (es : Entries Head) (area : List ℕ) (key : ℕ) (found : Option (Bor Head)) → Ascends es → option_copied found ≡ at_key es key → option_copied found ≡ option_map head_of (at_key (indices_of es area) key)
+seen_head es area key None up is = rw (none_among es area key (sym is)) refl
+seen_head es area key (Some h) up is = rw (found_among es area key h.now up (sym is)) refl
 
 -- the head of an index that is there, and what is known of the index
-pub head_of_index : (P : NvIndex → Type 0) (es : Entries Head) (row : List ℕ) (count : ℕ) (handle : Handle) (shown : NvContents) → (let view : NvContents = record { indices = indices_of es row; max_count = count } in view ≡ shown) → AreKept es row → IsSomeAnd (index_at shown handle) P → (h : Head) × (at_key es handle.number ≡ Some h) × P (index_with h (piece_of (start_of es handle.number) (size_of h) row))
-head_of_index P es row count handle shown view kept known = by (at_key es handle.number) refl
+pub head_of_index : (P : NvIndex → Type 0) (es : Entries Head) (area : List ℕ) (count : ℕ) (handle : Handle) (shown : NvContents) → (let view : NvContents = record { indices = indices_of es area; max_count = count } in view ≡ shown) → AreKept es area → IsSomeAnd (index_at shown handle) P → (h : Head) × (at_key es handle.number ≡ Some h) × P (index_with h (piece_of (start_of es handle.number) (size_of h) area))
+head_of_index P es area count handle shown view kept known = by (at_key es handle.number) refl
   where
-    by : (found : Option Head) → at_key es handle.number ≡ found → (h : Head) × (at_key es handle.number ≡ Some h) × P (index_with h (piece_of (start_of es handle.number) (size_of h) row))
-    by (Some h) is = (h, is, known_of P (index_at shown handle) (index_with h (piece_of (start_of es handle.number) (size_of h) row)) (some_at es row count handle shown h view kept is) known)
+    by : (found : Option Head) → at_key es handle.number ≡ found → (h : Head) × (at_key es handle.number ≡ Some h) × P (index_with h (piece_of (start_of es handle.number) (size_of h) area))
+    by (Some h) is = (h, is, known_of P (index_at shown handle) (index_with h (piece_of (start_of es handle.number) (size_of h) area)) (some_at es area count handle shown h view kept is) known)
     by None is =
-        let never : ⊥ = subst (λ (o : Option NvIndex). IsSomeAnd o P) (none_at es row count handle shown view is) known in
+        let never : ⊥ = subst (λ (o : Option NvIndex). IsSomeAnd o P) (none_at es area count handle shown view is) known in
         absurd never
 
 -- where its bytes begin, as the indices show it
-pub start_is : (es : Entries Head) (row : List ℕ) (count : ℕ) (handle : Handle) (shown : NvContents) → (let view : NvContents = record { indices = indices_of es row; max_count = count } in view ≡ shown) → start_in shown handle ≡ start_of es handle.number
-start_is es row count handle shown view =
-    ap (λ (s : NvContents). start_in s handle) (sym view) ∙ ap (λ (l : Entries Head). start_of l handle.number) (sym (heads_among es row))
+pub start_is : (es : Entries Head) (area : List ℕ) (count : ℕ) (handle : Handle) (shown : NvContents) → (let view : NvContents = record { indices = indices_of es area; max_count = count } in view ≡ shown) → start_in shown handle ≡ start_of es handle.number
+start_is es area count handle shown view =
+    ap (λ (s : NvContents). start_in s handle) (sym view) ∙ ap (λ (l : Entries Head). start_of l handle.number) (sym (heads_among es area))
 
 pub known_some : (P : NvIndex → Type 0) (found : Option NvIndex) (x : NvIndex) → found ≡ Some x → P x → IsSomeAnd found P
 known_some P found x is known = subst (λ (o : Option NvIndex). IsSomeAnd o P) (sym is) known
 
 -- what a walk over the heads found
-module _ (es : Entries Head) (row : List ℕ) (count : ℕ) (handle : Handle) (shown : NvContents) (view : (let kept : NvContents = record { indices = indices_of es row; max_count = count } in kept ≡ shown)) where
+module _ (es : Entries Head) (area : List ℕ) (count : ℕ) (handle : Handle) (shown : NvContents) (view : (let kept : NvContents = record { indices = indices_of es area; max_count = count } in kept ≡ shown)) where
   pub found_none : (found : Option Found) → IfNone found (at_key es handle.number ≡ None) → IfNone found (index_at shown handle ≡ None)
-  found_none None none = none_at es row count handle shown view none
+  found_none None none = none_at es area count handle shown view none
   found_none (Some f) none = tt
 
-  pub found_some : (found : Option Found) → AreKept es row → IfSome found (λ f. (at_key es handle.number ≡ Some f.head.now) × (f.start ≡ start_of es handle.number)) → IfSome found (λ f. (old : List ℕ) × IsIndexOf shown handle f.head.now old × (f.start ≡ start_in shown handle))
+  pub found_some : (found : Option Found) → AreKept es area → IfSome found (λ f. (at_key es handle.number ≡ Some f.head.now) × (f.start ≡ start_of es handle.number)) → IfSome found (λ f. (old : List ℕ) × IsIndexOf shown handle f.head.now old × (f.start ≡ start_in shown handle))
   found_some None kept some = tt
   found_some (Some f) kept some =
-      let t = subst (λ (s : NvContents). (old : List ℕ) × IsIndexOf s handle f.head.now old) view (there_is es row count handle (Some f.head) kept (sym some.0)) in
-      (t.0, t.1, some.1 ∙ sym (start_is es row count handle shown view))
+      let t = subst (λ (s : NvContents). (old : List ℕ) × IsIndexOf s handle f.head.now old) view (there_is es area count handle (Some f.head) kept (sym some.0)) in
+      (t.0, t.1, some.1 ∙ sym (start_is es area count handle shown view))
 
 -- the place of an index that was found
 pub is_place : (contents : NvContents) (handle : Handle) (h : Head) (old : List ℕ) (start : ℕ) (place : Place) → place ≡ place_of h start → IsIndexOf contents handle h old → start ≡ start_in contents handle → IsPlaceOf contents handle place
@@ -267,69 +268,69 @@ data_many : (b : Bool) (bytes : List ℕ) (n : ℕ) → length bytes ≡ n → l
 data_many true bytes n is = is
 data_many false bytes n is = refl
 
-indices_are : (es : Entries Head) (row : List ℕ) → total es ≤ length row → AreHeads es → AreIndices (indices_of es row)
-indices_are [] row fits are = tt
-indices_are (e ∷ es) row fits are =
+indices_are : (es : Entries Head) (area : List ℕ) → total es ≤ length area → AreHeads es → AreIndices (indices_of es area)
+indices_are [] area fits are = tt
+indices_are (e ∷ es) area fits are =
     let n = size_of e.1 in (
       record {
         named = are.0.named;
         public = are.0.public;
         sized = are.0.sized;
         auth_value = are.0.auth_value;
-        data_size = data_many (has e.1.public.attributes attribute.Written) (take n row) n (length-take-le n row (omega (arith, fits)));
+        data_size = data_many (has e.1.public.attributes attribute.Written) (take n area) n (length-take-le n area (omega (arith, fits)));
       },
-      indices_are es (drop n row) (omega (arith, fits, length-drop n row)) are.1,
+      indices_are es (drop n area) (omega (arith, fits, length-drop n area)) are.1,
     )
 
-pub contents_are : (es : Entries Head) (row : List ℕ) (count : ℕ) → AreKept es row → count < 2 ^ 64 → IsContents (record { indices = indices_of es row; max_count = count })
-contents_are es row count kept small = record {
-  ascends = ascends_among es row kept.ascends;
-  few = omega (arith, length_among es row, kept.few);
-  small = omega (arith, bytes_among es row, kept.small);
-  indices = indices_are es row (omega (arith, kept.whole)) kept.each;
+pub contents_are : (es : Entries Head) (area : List ℕ) (count : ℕ) → AreKept es area → count < 2 ^ 64 → IsContents (record { indices = indices_of es area; max_count = count })
+contents_are es area count kept small = record {
+  ascends = ascends_among es area kept.ascends;
+  few = omega (arith, length_among es area, kept.few);
+  small = omega (arith, bytes_among es area, kept.small);
+  indices = indices_are es area (omega (arith, kept.whole)) kept.each;
   max_count = small;
 }
 
 -- ---- an index removed
 
-pub kept_removed : (es : Entries Head) (row : List ℕ) (key : ℕ) (h : Head) → AreKept es row → at_key es key ≡ Some h → AreKept (without_key es key) (closed_up (start_of es key) (size_of h) row)
-kept_removed es row key h kept there =
+pub kept_removed : (es : Entries Head) (area : List ℕ) (key : ℕ) (h : Head) → AreKept es area → at_key es key ≡ Some h → AreKept (without_key es key) (closed_up (start_of es key) (size_of h) area)
+kept_removed es area key h kept there =
     let s = start_of es key in
     let n = size_of h in
-    let fits = piece_inside es row key h kept there in
+    let fits = piece_inside es area key h kept there in
     let sum = total_removed es key h kept.ascends there in
     let many = removed_few es key in
     record {
       ascends = removed_ascends es key kept.ascends;
       few = omega (arith, many, kept.few);
-      whole = omega (arith, sum, kept.whole, fits, length-append (take s row) (drop (s + n) row), length-take-le s row (omega (arith, fits)), length-drop (s + n) row);
+      whole = omega (arith, sum, kept.whole, fits, length-append (take s area) (drop (s + n) area), length-take-le s area (omega (arith, fits)), length-drop (s + n) area);
       small = omega (arith, sum, kept.small);
       each = heads_removed es key kept.each;
     }
 
 -- ---- room, and an index more
 
-pub room_is : (es : Entries Head) (row : List ℕ) (count size : ℕ) → AreKept es row → has_room (record { indices = indices_of es row; max_count = count }) size ≡ (nat_lt (length es) 32 && nat_le (length row + size) 8192)
-room_is es row count size kept = rw (length_among es row, bytes_among es row, kept.whole) refl
+pub room_is : (es : Entries Head) (area : List ℕ) (count size : ℕ) → AreKept es area → has_room (record { indices = indices_of es area; max_count = count }) size ≡ (nat_lt (length es) nv_index_limit && nat_le (length area + size) nv_space_limit)
+room_is es area count size kept = rw (length_among es area, bytes_among es area, kept.whole) refl
 
 and_both : (a b : Bool) → (a && b) ≡ true → (a ≡ true) × (b ≡ true)
 and_both true b is = (refl, is)
 and_both false b is = absurd cc
 
-pub room_gives : (es : Entries Head) (row : List ℕ) (count size : ℕ) (shown : NvContents) → (let view : NvContents = record { indices = indices_of es row; max_count = count } in view ≡ shown) → AreKept es row → has_room shown size ≡ true → (length es < 32) × (length row + size ≤ 8192)
-room_gives es row count size shown view kept is =
-    let here : (nat_lt (length es) 32 && nat_le (length row + size) 8192) ≡ true = sym (room_is es row count size kept) ∙ ap (λ (s : NvContents). has_room s size) view ∙ is in
-    let both = and_both (nat_lt (length es) 32) (nat_le (length row + size) 8192) here in
-    (ltb-true (length es) 32 both.0, leb-true (length row + size) 8192 both.1)
+pub room_gives : (es : Entries Head) (area : List ℕ) (count size : ℕ) (shown : NvContents) → (let view : NvContents = record { indices = indices_of es area; max_count = count } in view ≡ shown) → AreKept es area → has_room shown size ≡ true → (length es < nv_index_limit) × (length area + size ≤ nv_space_limit)
+room_gives es area count size shown view kept is =
+    let here : (nat_lt (length es) nv_index_limit && nat_le (length area + size) nv_space_limit) ≡ true = sym (room_is es area count size kept) ∙ ap (λ (s : NvContents). has_room s size) view ∙ is in
+    let both = and_both (nat_lt (length es) nv_index_limit) (nat_le (length area + size) nv_space_limit) here in
+    (ltb-true (length es) nv_index_limit both.0, leb-true (length area + size) nv_space_limit both.1)
 
-pub absent_gives : (es : Entries Head) (row : List ℕ) (count : ℕ) (handle : Handle) (shown : NvContents) → (let view : NvContents = record { indices = indices_of es row; max_count = count } in view ≡ shown) → Ascends es → index_at shown handle ≡ None → at_key es handle.number ≡ None
-absent_gives es row count handle shown view up none = by (at_key es handle.number) refl
+pub absent_gives : (es : Entries Head) (area : List ℕ) (count : ℕ) (handle : Handle) (shown : NvContents) → (let view : NvContents = record { indices = indices_of es area; max_count = count } in view ≡ shown) → Ascends es → index_at shown handle ≡ None → at_key es handle.number ≡ None
+absent_gives es area count handle shown view up none = by (at_key es handle.number) refl
   where
     by : (found : Option Head) → at_key es handle.number ≡ found → found ≡ None
     by None is = refl
     by (Some h) is =
-        let there = found_among es row handle.number h up is in
-        let gone : at_key (indices_of es row) handle.number ≡ None = ap (λ (s : NvContents). index_at s handle) view ∙ none in
+        let there = found_among es area handle.number h up is in
+        let gone : at_key (indices_of es area) handle.number ≡ None = ap (λ (s : NvContents). index_at s handle) view ∙ none in
         absurd cc
 
 -- the bytes of a new index: its data, or zeros
@@ -358,8 +359,8 @@ index_padded h bytes is =
     let made : List ℕ → NvIndex = λ l. record { public = h.public; auth_value = h.auth_value; bytes = l } in
     ap made (data_padded (has h.public.attributes attribute.Written) (size_of h) bytes is)
 
-pub kept_more : (es : Entries Head) (row piece : List ℕ) (key : ℕ) (h : Head) → AreKept es row → at_key es key ≡ None → length es < 32 → length row + size_of h ≤ 8192 → length piece ≡ size_of h → IsHead key h → AreKept (with_key es key h) (take (start_of es key) row ++ (piece ++ drop (start_of es key) row))
-kept_more es row piece key h kept none few fits size is =
+pub kept_more : (es : Entries Head) (area piece : List ℕ) (key : ℕ) (h : Head) → AreKept es area → at_key es key ≡ None → length es < nv_index_limit → length area + size_of h ≤ nv_space_limit → length piece ≡ size_of h → IsHead key h → AreKept (with_key es key h) (take (start_of es key) area ++ (piece ++ drop (start_of es key) area))
+kept_more es area piece key h kept none few fits size is =
     let s = start_of es key in
     let inside = start_fits es key in
     let many = put_length es key h in
@@ -367,7 +368,7 @@ kept_more es row piece key h kept none few fits size is =
     record {
       ascends = put_ascends es key h kept.ascends none;
       few = omega (arith, many, few);
-      whole = omega (arith, sum, kept.whole, size, inside, length-append (take s row) (piece ++ drop s row), length-append piece (drop s row), length-take-le s row (omega (arith, kept.whole, inside)), length-drop s row);
+      whole = omega (arith, sum, kept.whole, size, inside, length-append (take s area) (piece ++ drop s area), length-append piece (drop s area), length-take-le s area (omega (arith, kept.whole, inside)), length-drop s area);
       small = omega (arith, sum, kept.whole, fits);
       each = heads_put es key h kept.each is;
     }

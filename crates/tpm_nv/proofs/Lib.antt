@@ -3,5 +3,5 @@ pub mod ClearLaws
 pub mod DefinitionLaws
 pub mod Cuts
 pub mod KeptLaws
-pub mod RowLaws
+pub mod AreaLaws
 pub mod StartupLaws

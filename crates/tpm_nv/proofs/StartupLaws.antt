@@ -3,7 +3,7 @@ use Rattle.std.proofs.Common.{◌≡◌, ◌≢◌, ℕ, zero, suc, ◌+◌, ◌
 use Rattle.std.specs.Prelude.{◌&&◌, map}
 use Rattle.std.proofs.lemmas.Bool.{cond_both, cond-true, cond-false, eq-eqb, ne_eqb}
 use Rattle.std.proofs.lemmas.List.{length-map}
-use Rattle.tpm_ascending.specs.Ascending.{AllAbove, Ascends, Entries, at_key, changed_key}
+use Rattle.tpm_sorted_map.specs.SortedMap.{AllAbove, Ascends, Entries, at_key, changed_key}
 use Rattle.tpm_types_nv.specs.NvAttributes.{IsNvAttributes, has, index_type, without_attribute}
 use Rattle.tpm_types_nv.specs.declared.nv_attributes.NvAttribute.{NvAttribute}
 use Rattle.tpm_types_nv.specs.declared.nv_attributes.NvAttribute.TheVariants as attribute
@@ -18,7 +18,7 @@ use Rattle.tpm_nv.proofs.KeptLaws.{is_head_with}
 abbrev started_entry : ℕ × Head → ℕ × Head
 started_entry e = (e.0, started_head e.1)
 
--- the first so many have started
+-- the first ones have started
 abbrev pub started_up_to : ℕ → Entries Head → Entries Head
 started_up_to count es = map started_entry (take count es) ++ drop count es
 
@@ -98,14 +98,14 @@ index_started h bytes =
     let made : List ℕ → NvIndex = λ l. record { public = (started_head h).public; auth_value = h.auth_value; bytes = l } in
     ap made (ap (λ (b : Bool). cond b bytes []) (unlocked_written (kept_written a)) ∙ kept_bytes a bytes)
 
-pub started_among : (es : Entries Head) (row : List ℕ) → indices_of (map started_entry es) row ≡ map (λ (e : ℕ × NvIndex). (e.0, started_index e.1)) (indices_of es row)
-started_among [] row = refl
-started_among (e ∷ es) row =
+pub started_among : (es : Entries Head) (area : List ℕ) → indices_of (map started_entry es) area ≡ map (λ (e : ℕ × NvIndex). (e.0, started_index e.1)) (indices_of es area)
+started_among [] area = refl
+started_among (e ∷ es) area =
     let n = size_of e.1 in
-    let first = index_started e.1 (take n row) in
-    let rest = started_among es (drop n row) in
-    ap (λ (i : NvIndex). (e.0, i) ∷ indices_of (map started_entry es) (drop n row)) first
-    ∙ ap (λ (l : List (ℕ × NvIndex)). (e.0, started_index (index_with e.1 (take n row))) ∷ l) rest
+    let first = index_started e.1 (take n area) in
+    let rest = started_among es (drop n area) in
+    ap (λ (i : NvIndex). (e.0, i) ∷ indices_of (map started_entry es) (drop n area)) first
+    ∙ ap (λ (l : List (ℕ × NvIndex)). (e.0, started_index (index_with e.1 (take n area))) ∷ l) rest
 
 -- ---- what is kept
 
@@ -149,8 +149,8 @@ heads_started (e ∷ es) are =
     let a = e.1.public.attributes in
     (is_head_with e.0 e.1 (started_attributes a) are.0 (named_started a are.0.public.attributes) (type_started a), heads_started es are.1)
 
-pub kept_started : (es : Entries Head) (row : List ℕ) → AreKept es row → AreKept (map started_entry es) row
-kept_started es row kept =
+pub kept_started : (es : Entries Head) (area : List ℕ) → AreKept es area → AreKept (map started_entry es) area
+kept_started es area kept =
     let many = length-map es started_entry in
     let sum = total_started es in
     record {

@@ -116,7 +116,8 @@ extended contents handle bytes = do
 
 -- ---- reading
 
--- whether an index may be read: it is not locked against reading, and it is written
+-- whether an index may be read: it is not locked against reading, and it is written. A command
+-- that reads asks this of its handles, before its parameters
 abbrev pub readable : NvIndex → Result (Unit {0}) NvFault
 readable index = do
   unlocked ← refused_if (index_has index attribute.ReadLocked) Locked
@@ -127,18 +128,13 @@ check_readable contents handle = do
   index ← index_or_fault contents handle
   readable index
 
--- so many bytes of the data, from an offset on
+-- a number of bytes of the data, from an offset on
 unfoldable pub read_at : NvContents → Handle → (offset size : ℕ) → Result (List ℕ) NvFault
 read_at contents handle offset size = do
   index ← index_or_fault contents handle
   initialized ← readable index
   inside ← refused_if (nat_lt index.public.data_size (offset + size)) Range
   Ok (piece_of offset size index.bytes)
-
--- a read showed these bytes, or its fault
-abbrev pub Shows : Result (List ℕ) NvFault → Result (Bor (List ℕ)) NvFault → Type 0
-Shows read (Ok bytes) = read ≡ Ok bytes.now
-Shows read (Err fault) = read ≡ Err fault
 
 -- ---- locks, and the authorization value
 

@@ -1,7 +1,7 @@
--- Edits of a row of bytes.
+-- Edits of an area of bytes.
 use Rattle.std.specs.Prelude.{ℕ, ◌+◌, ◌-◌, List, ◌++◌, length, take, drop, replicate, Bool, if◌then◌else◌}
 
--- so many bytes from a place on
+-- a number of bytes from a place on
 abbrev pub piece_of : (start size : ℕ) → List ℕ → List ℕ
 piece_of start size bytes = take size (drop start bytes)
 
@@ -14,15 +14,15 @@ abbrev pub filled : (is_written : Bool) → (start size byte : ℕ) → List ℕ
 filled is_written start size byte bytes =
     if is_written then bytes else put_over start (replicate size byte) bytes
 
--- zeros put between the bytes, so many at a place
+-- a number of zeros put between the bytes at a place
 abbrev pub opened : (start size : ℕ) → List ℕ → List ℕ
 opened start size bytes = take start bytes ++ (replicate size 0 ++ drop start bytes)
 
--- without so many bytes from a place on
+-- without a number of bytes from a place on
 abbrev pub closed_up : (start size : ℕ) → List ℕ → List ℕ
 closed_up start size bytes = take start bytes ++ drop (start + size) bytes
 
--- so many bytes moved from the end to a place, and from a place to the end
+-- a number of bytes moved from the end to a place, and from a place to the end
 unfoldable pub moved_from_end : (start size : ℕ) → List ℕ → List ℕ
 moved_from_end start size bytes =
     let behind : List ℕ = drop start bytes in
@@ -32,7 +32,7 @@ abbrev pub moved_to_end : (start size : ℕ) → List ℕ → List ℕ
 moved_to_end start size bytes =
     take start bytes ++ (drop (start + size) bytes ++ piece_of start size bytes)
 
--- so many bytes from a place on, put over those from a lower place on
+-- a number of bytes from a place on, put over those from a lower place on
 abbrev pub moved_down : (start size place : ℕ) → List ℕ → List ℕ
 moved_down start size place bytes =
     take place bytes ++ (piece_of start size bytes ++ drop (place + size) bytes)

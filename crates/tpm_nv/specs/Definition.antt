@@ -1,8 +1,10 @@
 -- What may be defined as an NV index, and what a definition does. TPM 2.0 Library, Part 3, section
 -- 31.3 (TPM2_NV_DefineSpace), and Part 2, section 13.4 (TPMA_NV). The order of the checks and the
--- limits are this device's own: at most 2,048 bytes of data, and no attribute that it does not
--- serve.
-use Rattle.std.specs.Prelude.{◌≡◌, ℕ, ◌==◌, ◌&&◌, ◌||◌, nat_lt, nat_le, not, Bool, true, false}
+-- limits are this device's own: no more data than `nv_data_limit`, and no attribute that it does
+-- not serve.
+use Rattle.tpm_types.specs.Algorithm.{is_policy_size}
+use Rattle.tpm_types.specs.Limits.{nv_data_limit}
+use Rattle.std.specs.Prelude.{◌≡◌, ℕ, ◌==◌, ◌&&◌, nat_lt, nat_le, not, Bool, true, false}
 use Rattle.std.specs.Prelude.{List, [], ◌∷◌, length, Option, Some, None, Result, Ok, Err, is_some}
 use Rattle.std.specs.Bool.{beq}
 use Rattle.std.specs.List.{list_any}
@@ -22,10 +24,6 @@ use Rattle.tpm_nv.specs.declared.definition.DefinitionFault.{DefinitionFault}
 use Rattle.tpm_nv.specs.declared.definition.DefinitionFault.TheVariants as fault
 
 -- ---- the checks
-
--- no policy, or one as long as a digest of nameAlg
-abbrev pub is_policy_size : NvPublic → Bool
-is_policy_size p = length p.auth_policy == 0 || length p.auth_policy == digest_size p.name_alg
 
 -- one of these
 abbrev pub has_one : NvAttributes → List NvAttribute → Bool
@@ -48,8 +46,8 @@ undefinable_attributes =
     ∷ attribute.PolicyDelete ∷ attribute.GlobalLock ∷ attribute.Orderly ∷ []
 
 -- each of these is wrong: a type that is not served; an attribute that no index has as it is
--- defined; an index that nobody may write, or that nobody may read; a counter that a startup clears;
--- PLATFORMCREATE where the owner defines the index, or none where the platform does
+-- defined; an index that nobody may write, or that nobody may read; a counter that a startup
+-- clears; PLATFORMCREATE where the owner defines the index, or none where the platform does
 abbrev pub attribute_conflicts : (by_platform : Bool) → NvAttributes → List Bool
 attribute_conflicts by_platform a =
     not (is_some (index_type a))
@@ -61,7 +59,7 @@ attribute_conflicts by_platform a =
 
 -- the size that an index of its type has
 abbrev pub is_type_size : NvPublic → Option NvType → Bool
-is_type_size p (Some type.Ordinary) = nat_le p.data_size 2048
+is_type_size p (Some type.Ordinary) = nat_le p.data_size nv_data_limit
 is_type_size p (Some type.Counter) = p.data_size == 8
 is_type_size p (Some type.Bits) = p.data_size == 8
 is_type_size p (Some type.Extend) = p.data_size == digest_size p.name_alg
@@ -79,7 +77,7 @@ unfoldable pub definition_passes : (by_platform : Bool)
     → Result (Unit {0}) DefinitionFault
 definition_passes by_platform p auth_size = do
   value ← refused_if (nat_lt (digest_size p.name_alg) auth_size) fault.AuthValueSize
-  policy ← refused_if (not (is_policy_size p)) fault.AuthPolicySize
+  policy ← refused_if (not (is_policy_size p.name_alg (length p.auth_policy))) fault.AuthPolicySize
   attributes ← refused_if
       (list_any (λ wrong. wrong) (attribute_conflicts by_platform p.attributes)) fault.Attributes
   refused_if (not (has_type_size p)) fault.DataSize

@@ -1,8 +1,9 @@
--- How NV indices are kept, which no rule of the standard says: their heads by their handles, and the
--- bytes of all in one row, in the order of the handles, as many of each as its head says, whether it
--- is written or not.
+-- How NV indices are kept, which no rule of the standard says: their heads by their handles, and
+-- the bytes of all in one area, in the order of the handles, as many of each as its head says,
+-- whether it is written or not.
+use Rattle.tpm_types.specs.Limits.{nv_index_limit, nv_space_limit}
 use Rattle.std.specs.Prelude.{◌≡◌, ℕ, ◌+◌, ◌≤◌, nat_le, Bool, true, List, [], ◌∷◌, ◌++◌, length, take, drop, Some, if◌then◌else◌, map}
-use Rattle.tpm_ascending.specs.Ascending.{Ascends, Entries}
+use Rattle.tpm_sorted_map.specs.SortedMap.{Ascends, Entries}
 use Rattle.tpm_types.specs.AuthValue.{IsAuthValue}
 use Rattle.tpm_types.specs.declared.handle.Handle.{Handle}
 use Rattle.tpm_types_nv.specs.NvAttributes.{has}
@@ -35,11 +36,11 @@ index_with head bytes = record {
 abbrev pub size_of : Head → ℕ
 size_of head = head.public.data_size
 
--- the indices of these heads and this row
+-- the indices of these heads and this area
 abbrev pub indices_of : Entries Head → List ℕ → Entries NvIndex
-indices_of [] row = []
-indices_of (e ∷ es) row =
-    (e.0, index_with e.1 (take (size_of e.1) row)) ∷ indices_of es (drop (size_of e.1) row)
+indices_of [] area = []
+indices_of (e ∷ es) area =
+    (e.0, index_with e.1 (take (size_of e.1) area)) ∷ indices_of es (drop (size_of e.1) area)
 
 -- how many bytes all have, and how many those have whose keys are below this one
 abbrev pub total : Entries Head → ℕ
@@ -50,7 +51,7 @@ abbrev pub start_of : Entries Head → ℕ → ℕ
 start_of [] key = 0
 start_of (e ∷ es) key = if nat_le key e.0 then 0 else size_of e.1 + start_of es key
 
--- where the bytes of a handle begin in the row of all
+-- where the bytes of a handle begin in the area of all
 abbrev pub start_in : NvContents → Handle → ℕ
 start_in contents handle = start_of (heads_of contents) handle.number
 
@@ -65,12 +66,12 @@ abbrev pub AreHeads : Entries Head → Type 0
 AreHeads [] = Unit {0}
 AreHeads (e ∷ es) = IsHead e.0 e.1 × AreHeads es
 
--- heads and the row of their bytes, which is as long as they say
-pub record AreKept (heads : Entries Head) (row : List ℕ) : Type 0 where
+-- heads and the area of their bytes, which is as long as they say
+pub record AreKept (heads : Entries Head) (area : List ℕ) : Type 0 where
   pub ascends : Ascends heads
-  pub few : length heads ≤ 32
-  pub whole : length row ≡ total heads
-  pub small : total heads ≤ 8192
+  pub few : length heads ≤ nv_index_limit
+  pub whole : length area ≡ total heads
+  pub small : total heads ≤ nv_space_limit
   pub each : AreHeads heads
 
 -- with other attributes
@@ -99,6 +100,6 @@ abbrev pub kept_piece : Head → List ℕ → List ℕ
 kept_piece head bytes = if stays head then bytes else []
 
 abbrev pub kept_bytes : Entries Head → List ℕ → List ℕ
-kept_bytes [] row = []
-kept_bytes (e ∷ es) row =
-    kept_piece e.1 (take (size_of e.1) row) ++ kept_bytes es (drop (size_of e.1) row)
+kept_bytes [] area = []
+kept_bytes (e ∷ es) area =
+    kept_piece e.1 (take (size_of e.1) area) ++ kept_bytes es (drop (size_of e.1) area)

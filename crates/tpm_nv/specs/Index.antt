@@ -1,9 +1,10 @@
 -- The NV indices of a device: a map from handles, in ascending order of these, and the largest
 -- value that a counter ever had. TPM 2.0 Library, Part 1, section 37 (non-volatile memory), and
 -- Part 3, section 31 (non-volatile storage).
+use Rattle.tpm_types.specs.Limits.{nv_index_limit, nv_space_limit}
 use Rattle.std.specs.Prelude.{ℕ, ◌+◌, ◌&&◌, nat_lt, nat_le, Bool, List, [], length, Option}
 use Rattle.std.specs.List.{sum_by}
-use Rattle.tpm_ascending.specs.Ascending.{Entries, at_key, changed_key, key_from, with_key, without_key}
+use Rattle.tpm_sorted_map.specs.SortedMap.{Entries, at_key, changed_key, key_from, with_key, without_key}
 use Rattle.tpm_types.specs.declared.handle.Handle.{Handle}
 use Rattle.tpm_types_nv.specs.declared.nv_public.NvPublic.{NvPublic}
 
@@ -47,7 +48,7 @@ next_index contents number = key_from contents.indices number
 abbrev pub data_bytes : NvContents → ℕ
 data_bytes contents = sum_by (λ e. e.1.public.data_size) contents.indices
 
--- whether there is room for an index of so many bytes: at most 32 indices, and 8,192 bytes in all
+-- whether there is room for one more index, of this many bytes
 abbrev pub has_room : NvContents → ℕ → Bool
 has_room contents size =
-    nat_lt (length contents.indices) 32 && nat_le (data_bytes contents + size) 8192
+    nat_lt (length contents.indices) nv_index_limit && nat_le (data_bytes contents + size) nv_space_limit

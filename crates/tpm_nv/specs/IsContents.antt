@@ -1,6 +1,7 @@
 -- What holds of the NV indices of a device, whatever came before.
+use Rattle.tpm_types.specs.Limits.{nv_index_limit, nv_space_limit}
 use Rattle.std.specs.Prelude.{◌≡◌, ℕ, ◌<◌, ◌≤◌, ◌^◌, true, [], ◌∷◌, length, if◌then◌else◌}
-use Rattle.tpm_ascending.specs.Ascending.{Ascends, Entries}
+use Rattle.tpm_sorted_map.specs.SortedMap.{Ascends, Entries}
 use Rattle.tpm_types.specs.AuthValue.{IsAuthValue}
 use Rattle.tpm_types_nv.specs.NvAttributes.{has}
 use Rattle.tpm_types_nv.specs.NvPublic.{IsNvPublic}
@@ -24,7 +25,7 @@ AreIndices (e ∷ es) = IsIndex e.0 e.1 × AreIndices es
 
 pub record IsContents (contents : NvContents) : Type 0 where
   pub ascends : Ascends contents.indices
-  pub few : length contents.indices ≤ 32
-  pub small : data_bytes contents ≤ 8192
+  pub few : length contents.indices ≤ nv_index_limit
+  pub small : data_bytes contents ≤ nv_space_limit
   pub indices : AreIndices contents.indices
   pub max_count : contents.max_count < 2 ^ 64

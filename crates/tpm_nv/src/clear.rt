@@ -1,12 +1,13 @@
-//! What a Clear keeps of the heads and of the row of bytes.
+//! What a Clear keeps of the heads and of the area of bytes.
 
+ghost use Rattle.tpm_types.specs.Limits.{nv_space_limit};
 ghost use Rattle.std.specs.Prelude.{◌≡◌, ◌≤◌, ◌+◌, ◌++◌, drop, length, take, if◌then◌else◌};
 ghost use Rattle.tpm_nv.specs.Bytes.{piece_of};
 ghost use Rattle.tpm_nv.specs.Head.{kept_bytes, kept_piece, size_of, stays, total};
 
+use crate::area::Area;
 use crate::head::Head;
-use crate::row::Row;
-use tpm_ascending::Choice;
+use tpm_sorted_map::Choice;
 use tpm_types_nv::NvAttribute;
 
 /// The indices that the platform defined.
@@ -22,38 +23,38 @@ impl Choice<Head> for PlatformIndices {
     }
 }
 
-/// Moves the bytes of an index behind those kept so far, if it stays, and tells how many are kept
-/// then.
-fn keep_piece<R: Row>(row: &mut R, head: &Head, start: usize, kept: usize) -> usize
-    requires few { length (R.bytes row.old) ≤ 8192 }
-    requires inside { start + size_of head.now ≤ length (R.bytes row.old) }
+/// Moves the bytes of an index down to the end of those that are kept so far, if the index stays,
+/// and tells how many are kept then.
+fn keep_piece<R: Area>(area: &mut R, head: &Head, start: usize, kept: usize) -> usize
+    requires few { length (R.bytes area.old) ≤ nv_space_limit }
+    requires inside { start + size_of head.now ≤ length (R.bytes area.old) }
     requires lower { kept ≤ start }
     ensures few { result ≤ start + size_of head.now }
-    ensures len { length (R.bytes row.new) ≡ length (R.bytes row.old) }
-    ensures kept { take result (R.bytes row.new) ≡ take kept (R.bytes row.old)
-        ++ kept_piece head.now (piece_of start (size_of head.now) (R.bytes row.old)) }
-    ensures left { drop (start + size_of head.now) (R.bytes row.new)
-        ≡ drop (start + size_of head.now) (R.bytes row.old) }
+    ensures len { length (R.bytes area.new) ≡ length (R.bytes area.old) }
+    ensures kept { take result (R.bytes area.new) ≡ take kept (R.bytes area.old)
+        ++ kept_piece head.now (piece_of start (size_of head.now) (R.bytes area.old)) }
+    ensures left { drop (start + size_of head.now) (R.bytes area.new)
+        ≡ drop (start + size_of head.now) (R.bytes area.old) }
 {
     if !PlatformIndices::stays(head) {
         return kept;
     }
     let size = usize::from(head.public.data_size);
-    row.move_down(start, size, kept);
+    area.move_down(start, size, kept);
     kept + size
 }
 
 /// Keeps the bytes of the indices that stay.
-pub(crate) fn keep_bytes<R: Row>(row: &mut R, heads: &[(u32, Head)])
-    requires whole { length (R.bytes row.old) ≡ total heads.now }
-    requires few { total heads.now ≤ 8192 }
-    ensures { R.bytes row.new ≡ kept_bytes heads.now (R.bytes row.old) }
+pub(crate) fn keep_bytes<R: Area>(area: &mut R, heads: &[(u32, Head)])
+    requires whole { length (R.bytes area.old) ≡ total heads.now }
+    requires few { total heads.now ≤ nv_space_limit }
+    ensures { R.bytes area.new ≡ kept_bytes heads.now (R.bytes area.old) }
 {
     let mut kept = 0;
     let mut start = 0;
     for (_, head) in heads {
-        kept = keep_piece(row, head, start, kept);
+        kept = keep_piece(area, head, start, kept);
         start += usize::from(head.public.data_size);
     }
-    row.truncate(kept);
+    area.truncate(kept);
 }

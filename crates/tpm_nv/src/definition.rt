@@ -1,9 +1,13 @@
+//! The check of a public area and an authorization value, before an NV index is defined by them
+//! (TPM 2.0 Library, Part 3, section 31.3).
+
 ghost use Rattle.std.specs.Prelude.{◌≡◌, OnOk, false, true};
 ghost use Rattle.std.specs.List.{list_any};
-ghost use Rattle.tpm_nv.specs.Definition.{attribute_conflicts, definition_passes, has_one, has_type_size, is_policy_size, read_attributes, undefinable_attributes, write_attributes};
+ghost use Rattle.tpm_nv.specs.Definition.{attribute_conflicts, definition_passes, has_one, has_type_size, read_attributes, undefinable_attributes, write_attributes};
 ghost use Rattle.tpm_types_nv.specs.NvAttributes.{has};
 ghost use Rattle.tpm_types_nv.specs.declared.nv_attributes.NvAttribute.TheVariants as attribute;
 
+use tpm_types::{NV_DATA_LIMIT, is_policy_size};
 use tpm_types_nv::{NvAttribute, NvAttributes, NvPublic, NvType};
 
 /// Why an index is not to be defined with a public area.
@@ -17,13 +21,6 @@ pub enum DefinitionFault {
     Attributes,
     /// Not a size that an index of its type has.
     DataSize,
-}
-
-fn is_policy_size(public: &NvPublic) -> bool
-    ensures { result ≡ is_policy_size public.now }
-{
-    let size = public.auth_policy.len();
-    size == 0 || size == public.name_alg.size()
 }
 
 /// Whether it has a state, or what is not served.
@@ -75,7 +72,7 @@ pub fn has_type_size(public: &NvPublic) -> bool
 {
     let size = usize::from(public.data_size);
     match public.attributes.index_type() {
-        Some(NvType::Ordinary) => size <= 2048,
+        Some(NvType::Ordinary) => size <= NV_DATA_LIMIT,
         Some(NvType::Counter | NvType::Bits) => size == 8,
         Some(NvType::Extend) => size == public.name_alg.size(),
         None => false,
@@ -99,7 +96,7 @@ pub fn check_definition(
     if auth_size > public.name_alg.size() {
         return Err(DefinitionFault::AuthValueSize);
     }
-    if !is_policy_size(public) {
+    if !is_policy_size(public.name_alg, public.auth_policy.len()) {
         return Err(DefinitionFault::AuthPolicySize);
     }
     if has_attribute_conflict(by_platform, public.attributes) {

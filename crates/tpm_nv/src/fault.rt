@@ -1,3 +1,5 @@
+//! Why a call on an NV index, or the definition of one, is refused.
+
 /// Why a call on an index was refused.
 #[derive(Clone, Copy, Debug, PartialEq, Eq)]
 pub enum NvFault {
@@ -18,7 +20,7 @@ pub enum NvFault {
 pub enum DefineFault {
     /// The handle has an index.
     Defined,
-    /// There are 32 indices, or not as many bytes are left of 8,192.
+    /// There are as many indices as there may be, or too few bytes are left.
     Space,
     /// Memory was refused.
     NoMemory,

@@ -1,3 +1,5 @@
+//! An NV index without its data: its public area and its authorization value.
+
 ghost use Rattle.std.specs.Prelude.{◌≡◌};
 
 use tpm_mac::HashAlg;

@@ -1,22 +1,23 @@
 //! What is done to the heads alone.
 
+ghost use Rattle.tpm_types.specs.Limits.{nv_index_limit, nv_space_limit};
 ghost use Rattle.std.specs.Prelude.{◌≡◌, ◌<◌, ◌≤◌, ℕ, IfNone, IfSome, None, OnErr, OnOk, Some, length};
 ghost use Rattle.std.specs.Prelude.{true};
-ghost use Rattle.tpm_ascending.specs.Ascending.{Ascends, at_key, changed_key, with_key};
+ghost use Rattle.tpm_sorted_map.specs.SortedMap.{Ascends, at_key, changed_key, with_key};
 ghost use Rattle.tpm_nv.specs.Head.{start_of, total, with_attributes};
 ghost use Rattle.tpm_nv.specs.declared.head.Head.{Head};
 ghost use Rattle.tpm_types.specs.AuthValue.{IsAuthValue};
 
 use crate::head::Head;
 use crate::place::Found;
-use crate::row::NoMemory;
-use tpm_ascending::{Ascending, KeyFault};
-use tpm_types::AuthValue;
+use tpm_bytes::NoMemory;
+use tpm_sorted_map::{KeyFault, SortedMap};
+use tpm_types::{AuthValue, NV_INDEX_LIMIT};
 use tpm_types_nv::NvAttributes;
 
-/// Where the bytes of a key begin in the row of all.
+/// Where the bytes of a key begin in the area of all.
 pub(crate) fn start_of(heads: &[(u32, Head)], key: u32) -> usize
-    requires { total heads.now ≤ 8192 }
+    requires { total heads.now ≤ nv_space_limit }
     ensures { result ≡ start_of heads.now key }
 {
     let mut start = 0;
@@ -29,10 +30,10 @@ pub(crate) fn start_of(heads: &[(u32, Head)], key: u32) -> usize
     start
 }
 
-/// The head of a key, and where its bytes begin in the row of all, found in one walk.
+/// The head of a key, and where its bytes begin in the area of all, found in one walk.
 pub(crate) fn found_at(heads: &[(u32, Head)], key: u32) -> Option<Found<'_>>
     requires ascends { Ascends heads.now }
-    requires small { total heads.now ≤ 8192 }
+    requires small { total heads.now ≤ nv_space_limit }
     ensures absent { IfNone result (at_key heads.now key ≡ None) }
     ensures there { IfSome result (λ found. (at_key heads.now key ≡ Some found.head.now)
         × (found.start ≡ start_of heads.now key)) }
@@ -52,7 +53,7 @@ pub(crate) fn found_at(heads: &[(u32, Head)], key: u32) -> Option<Found<'_>>
 }
 
 /// Gives the index of a key other attributes.
-pub(crate) fn set_attributes<H: Ascending<Head, 32>>(
+pub(crate) fn set_attributes<H: SortedMap<Head, NV_INDEX_LIMIT>>(
     heads: &mut H,
     key: u32,
     attributes: NvAttributes,
@@ -67,7 +68,11 @@ pub(crate) fn set_attributes<H: Ascending<Head, 32>>(
 }
 
 /// Gives the index of a key another authorization value.
-pub(crate) fn set_auth_value<H: Ascending<Head, 32>>(heads: &mut H, key: u32, value: AuthValue)
+pub(crate) fn set_auth_value<H: SortedMap<Head, NV_INDEX_LIMIT>>(
+    heads: &mut H,
+    key: u32,
+    value: AuthValue,
+)
     ensures { (head : Head) → at_key (H.entries heads.old) key ≡ Some head
         → H.entries heads.new
         ≡ changed_key (H.entries heads.old) key (record head { auth_value = value }) }
@@ -85,13 +90,13 @@ pub(crate) fn auth_value_fits(value: &AuthValue)
 }
 
 /// Puts a head under a free key.
-pub(crate) fn put_head<H: Ascending<Head, 32>>(
+pub(crate) fn put_head<H: SortedMap<Head, NV_INDEX_LIMIT>>(
     heads: &mut H,
     key: u32,
     head: Head,
 ) -> Result<(), NoMemory>
     requires free { at_key (H.entries heads.old) key ≡ None }
-    requires room { length (H.entries heads.old) < 32 }
+    requires room { length (H.entries heads.old) < nv_index_limit }
     ensures put { OnOk result (H.entries heads.new ≡ with_key (H.entries heads.old) key head) }
     ensures unchanged { OnErr result (H.entries heads.new ≡ H.entries heads.old) }
     ensures refused { OnErr result (H.can_refuse ≡ true) }

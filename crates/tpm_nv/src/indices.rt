@@ -1,6 +1,10 @@
+//! The trait of a device's NV indices: every call that defines, changes, reads or removes one, each
+//! by one equation (TPM 2.0 Library, Part 3, section 31).
+
+ghost use Rattle.tpm_bytes.specs.Reading.{Gives};
 ghost use Rattle.std.specs.Prelude.{◌≡◌, ◌<◌, ◌≤◌, ◌^◌, ℕ, [], Bool, false, true, is_some, if◌then◌else◌};
 ghost use Rattle.std.specs.Prelude.{length, option_copied, option_map, OnOk};
-ghost use Rattle.tpm_nv.specs.Access.{Changes, Shows, bits_set, check_readable, extended, incremented, read_at, read_locked, with_auth_value, write_locked, written};
+ghost use Rattle.tpm_nv.specs.Access.{Changes, bits_set, check_readable, extended, incremented, read_at, read_locked, with_auth_value, write_locked, written};
 ghost use Rattle.tpm_nv.specs.Clear.{cleared};
 ghost use Rattle.tpm_nv.specs.Definition.{Defines, defined_index, has_type_size};
 ghost use Rattle.tpm_nv.specs.Head.{head_of, heads_of, indices_of};
@@ -17,8 +21,8 @@ use std::alloc::Global;
 use tpm_types::{AuthValue, Handle};
 use tpm_types_nv::NvPublic;
 
-/// The NV indices of a device by their handles: at most 32, with at most 8,192 bytes of data in
-/// all. A refused call changes nothing. Who may read or write is no matter of these calls.
+/// The NV indices of a device by their handles, within the limits on their number and their data. A
+/// refused call changes nothing. Who may read or write is no matter of these calls.
 pub trait Indices: Drop + Sized {
     /// The indices, and the largest value that a counter ever had.
     ghost contents: { Self → NvContents };
@@ -103,9 +107,10 @@ pub trait Indices: Drop + Sized {
     fn check_readable(&self, handle: Handle) -> Result<(), NvFault>
         ensures { result ≡ check_readable (contents self.now) handle };
 
-    /// So many bytes of the data from an offset on (Part 3, section 31.13).
+    /// A number of bytes of the data from an offset on (Part 3, section 31.13).
     fn read(&self, handle: Handle, offset: u16, size: u16) -> Result<&[u8], NvFault>
-        ensures { Shows (read_at (contents self.now) handle offset size) result };
+        ensures { Gives (λ bytes. bytes.now)
+            (read_at (contents self.now) handle offset size) result };
 
     /// Locks an index against writing (Part 3, section 31.11).
     fn lock_write(&mut self, handle: Handle) -> Result<(), NvFault>
@@ -126,8 +131,8 @@ pub trait Indices: Drop + Sized {
     fn startup(&mut self)
         ensures { contents self.new ≡ started (contents self.old) };
 
-    /// Removes the indices that the platform did not define, as a Clear does (Part 3, section 24.6);
-    /// the bytes of those that stay are moved at most once.
+    /// Removes the indices that the platform did not define, as a Clear does (Part 3, section
+    /// 24.6); the bytes of those that stay are moved at most once.
     fn clear(&mut self)
         ensures { contents self.new ≡ cleared (contents self.old) };
 

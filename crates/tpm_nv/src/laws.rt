@@ -1,5 +1,8 @@
+//! The laws that make NV indices a map from handles, and that no memory is refused where they stand
+//! in fixed places.
+
 ghost use Rattle.std.specs.Prelude.{◌≡◌, false};
-ghost use Rattle.tpm_ascending.specs.IsAscendingMap.{IsAscendingMap};
+ghost use Rattle.tpm_sorted_map.specs.IsSortedMap.{IsSortedMap};
 ghost use Rattle.tpm_nv.specs.Index.{NvIndex};
 
 use crate::indices::Indices;
@@ -9,8 +12,8 @@ use crate::stored_indices::SlotIndices;
 /// the handles still ascend, how many there are, and which comes next; and no memory is refused
 /// where they stand in fixed places. It does nothing.
 #[inline(always)]
-#[tactic(auto, using(tpm_ascending::proofs::AscendingLaws::is_map))]
+#[tactic(auto, using(tpm_sorted_map::proofs::SortedMapLaws::is_map))]
 pub fn index_laws()
-    ensures map { IsAscendingMap NvIndex }
+    ensures map { IsSortedMap NvIndex }
     ensures never_refused { ⟦<SlotIndices as Indices>⟧.can_refuse ≡ false }
 {}

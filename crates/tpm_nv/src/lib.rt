@@ -4,37 +4,37 @@
 //! power cycle, each under a handle, that are written, counted up, whose bits are set, or that are
 //! extended.
 //!
-//! It stands on `tpm_types_nv` for their public areas, on `tpm_ascending` for the map of their
+//! It stands on `tpm_types_nv` for their public areas, on `tpm_sorted_map` for the map of their
 //! handles, on `tpm_mac` for the digest that extends one, and on `tpm_bytes` for the number that a
 //! counter is. [`indices::Indices`] is what a device does with them: contracts see a finite map
 //! from handles to public area, authorization value and data, with the largest value that a counter
 //! ever had, and each call is one equation on it. [`stored_indices::StoredIndices`] keeps them, in
-//! lists that grow or in fixed places: the heads in an ascending map, the bytes of all in one row.
+//! lists that grow or in fixed places: the heads in an ascending map, the bytes of all in one area.
 //! A definition alone may take memory; a refused call changes nothing. [`check_definition`] is what
 //! may be defined. Who may read or write an index is no matter of this crate.
 
+pub mod area;
 mod clear;
 pub mod definition;
 pub mod fault;
-pub mod fixed_row;
 pub mod head;
 mod heads;
 pub mod indices;
+pub mod item_area;
 pub mod laws;
-pub mod list_row;
+pub mod lookup;
 mod pieces;
 mod place;
-pub mod row;
 mod startup;
 pub mod stored_indices;
 mod values;
 
+pub use area::Area;
 pub use definition::{DefinitionFault, check_definition, has_type_size};
 pub use fault::{DefineFault, NvFault};
-pub use fixed_row::FixedRow;
 pub use head::Head;
 pub use indices::Indices;
+pub use item_area::{ByteItems, ItemArea, ListArea, SlotArea};
 pub use laws::index_laws;
-pub use list_row::ListRow;
-pub use row::{NoMemory, Row};
+pub use lookup::{auth, public};
 pub use stored_indices::{ListIndices, SlotIndices, StoredIndices};

@@ -7,7 +7,7 @@ use crate::head::Head;
 use crate::pieces::Piece;
 use tpm_types_nv::{NvAttribute, NvAttributes};
 
-/// An index that was found: its head, and where its bytes begin in the row of all.
+/// An index that was found: its head, and where its bytes begin in the area of all.
 #[derive(Clone, Copy)]
 pub(crate) struct Found<'a> {
     pub(crate) head: &'a Head,

@@ -1,12 +1,16 @@
+//! What a TPM2_Startup with CLEAR does to the attributes of all NV indices (TPM 2.0 Library, Part
+//! 3, section 9.3).
+
 ghost use Rattle.std.specs.Prelude.{◌≡◌, ◌<◌, ℕ, Some, length, map, slice_index_or};
-ghost use Rattle.tpm_ascending.specs.Ascending.{Ascends, at_key, changed_key};
+ghost use Rattle.tpm_sorted_map.specs.SortedMap.{Ascends, at_key, changed_key};
 ghost use Rattle.tpm_nv.specs.Head.{started_head, with_attributes};
 ghost use Rattle.tpm_nv.specs.Startup.{kept_written, started_attributes, unlocked};
 ghost use Rattle.tpm_nv.specs.declared.head.Head.{Head};
 
 use crate::head::Head;
 use crate::heads::set_attributes;
-use tpm_ascending::Ascending;
+use tpm_sorted_map::SortedMap;
+use tpm_types::NV_INDEX_LIMIT;
 use tpm_types_nv::{NvAttribute, NvAttributes};
 
 /// Without WRITTEN where the index has CLEAR_STCLEAR.
@@ -50,7 +54,7 @@ fn entry_at(entries: &[(u32, Head)], place: usize) -> (u32, NvAttributes)
 }
 
 /// What a startup with CLEAR does to all heads.
-pub(crate) fn start_heads<H: Ascending<Head, 32>>(heads: &mut H)
+pub(crate) fn start_heads<H: SortedMap<Head, NV_INDEX_LIMIT>>(heads: &mut H)
     requires { Ascends (H.entries heads.old) }
     ensures { H.entries heads.new ≡ map (λ e. (e.0, started_head e.1)) (H.entries heads.old) }
 {

@@ -1,3 +1,6 @@
+//! NV indices as they are kept: their heads in a map by handles, and the data of all in one area.
+//! Both kinds, in lists and in fixed places, are made of it.
+
 ghost use Rattle.std.specs.Prelude.{◌≡◌, ◌≢◌, ◌<◌, ◌≤◌, ◌+◌, ◌||◌, ℕ, List, ◌++◌, None, Some, Ok, Err};
 ghost use Rattle.std.specs.Prelude.{IfErr, IfNone, IfOk, IfSome, IsSomeAnd, OnErr, OnOk};
 ghost use Rattle.std.specs.Prelude.{is_some, length, true, if◌then◌else◌};
@@ -12,56 +15,56 @@ ghost use Rattle.tpm_types_nv.specs.NvAttributes.{attribute_bit, has};
 ghost use Rattle.tpm_types_nv.specs.NvPublic.{IsNvPublic};
 ghost use Rattle.tpm_types_nv.specs.declared.nv_attributes.NvAttribute.TheVariants as attributes;
 
+use crate::area::Area;
 use crate::clear::{PlatformIndices, keep_bytes};
 use crate::fault::{DefineFault, NvFault};
-use crate::fixed_row::FixedRow;
 use crate::head::Head;
 use crate::heads::{auth_value_fits, found_at, put_head, set_attributes, set_auth_value, start_of};
 use crate::indices::Indices;
-use crate::list_row::ListRow;
+use crate::item_area::{ListArea, SlotArea};
 use crate::pieces::{piece_at, put_between, put_bytes};
 use crate::place::{Found, Place};
-use crate::row::{NoMemory, Row};
 use crate::startup::start_heads;
-use crate::values::{count_fits, digest_of, is_part, is_room, is_write_lockable, number_of, zeros};
+use crate::values::{count_fits, digest_of, is_part, is_room, is_write_lockable, number_of};
 use std::alloc::Global;
 use std::marker::Model;
-use tpm_ascending::{Ascending, FixedAscending, ListAscending};
+use tpm_bytes::NoMemory;
 use tpm_mac::Digest;
-use tpm_types::{AuthValue, Handle};
+use tpm_sorted_map::{ListMap, SlotMap, SortedMap};
+use tpm_types::{AuthValue, Handle, NV_INDEX_LIMIT};
 use tpm_types_nv::{NvAttribute, NvAttributes, NvPublic, NvType};
 
-/// NV indices: their heads in a map by handles, and the bytes of all in one row, in the order of
+/// NV indices: their heads in a map by handles, and the bytes of all in one area, in the order of
 /// the handles. Each has its bytes from its definition on, so that no write takes memory.
 #[derive(Drop)]
-pub struct StoredIndices<H: Ascending<Head, 32>, R: Row> {
+pub struct StoredIndices<H: SortedMap<Head, NV_INDEX_LIMIT>, R: Area> {
     heads: H,
-    row: R,
+    area: R,
     max_count: u64,
 }
 
 /// NV indices in lists that grow. Memory can be refused where an index is defined.
-pub type ListIndices = StoredIndices<ListAscending<Head, 32>, ListRow>;
+pub type ListIndices = StoredIndices<ListMap<Head, NV_INDEX_LIMIT>, ListArea>;
 
 /// NV indices in as many places as there can be. No memory is ever taken, so none can be refused.
 /// They are some twelve thousand bytes long: they are made once, and lent.
-pub type SlotIndices = StoredIndices<FixedAscending<Head, 32>, FixedRow>;
+pub type SlotIndices = StoredIndices<SlotMap<Head, NV_INDEX_LIMIT>, SlotArea>;
 
-impl<H: Ascending<Head, 32>, R: Row> Model for StoredIndices<H, R> {
+impl<H: SortedMap<Head, NV_INDEX_LIMIT>, R: Area> Model for StoredIndices<H, R> {
     ghost use Rattle.tpm_nv.specs.Head.{AreKept, indices_of};
     ghost use Rattle.tpm_nv.specs.Index.{NvContents};
 
     ghost Value = { NvContents };
 
     ghost view = { λ stored. record {
-      indices = indices_of (H.entries stored.heads) (R.bytes stored.row);
+      indices = indices_of (H.entries stored.heads) (R.bytes stored.area);
       max_count = stored.max_count;
     } };
 
-    ghost invariant = { λ stored. AreKept (H.entries stored.heads) (R.bytes stored.row) };
+    ghost invariant = { λ stored. AreKept (H.entries stored.heads) (R.bytes stored.area) };
 }
 
-impl<H: Ascending<Head, 32>, R: Row> StoredIndices<H, R> {
+impl<H: SortedMap<Head, NV_INDEX_LIMIT>, R: Area> StoredIndices<H, R> {
     /// The head of an index.
     fn head(&self, handle: Handle) -> Option<&Head>
         ensures absent { IfNone result (index_at self.now handle ≡ None) }
@@ -101,8 +104,8 @@ impl<H: Ascending<Head, 32>, R: Row> StoredIndices<H, R> {
         Ok(found)
     }
 
-    /// Puts bytes over the data of an index from an offset on, or until it is written over so many
-    /// of the first byte; it is written then.
+    /// Writes bytes over the data of an index from an offset on. Data of an index that was never
+    /// written count as bytes `first`. The index is written afterwards.
     fn put_data(&mut self, handle: Handle, place: Place, offset: usize, first: u8, bytes: &[u8])
         requires there { IsPlaceOf self.old handle place }
         requires within { offset + length bytes.now ≤ place.size }
@@ -110,7 +113,7 @@ impl<H: Ascending<Head, 32>, R: Row> StoredIndices<H, R> {
             → self.new ≡ changed_index self.old handle
             (with_data index (put_over offset bytes.now (data_or first index))) }
     {
-        put_bytes(&mut self.row, place.piece(), first, offset, bytes);
+        put_bytes(&mut self.area, place.piece(), first, offset, bytes);
         let written = place.attributes.with(NvAttribute::Written);
         set_attributes(&mut self.heads, handle.number, written);
     }
@@ -148,12 +151,12 @@ impl<H: Ascending<Head, 32>, R: Row> StoredIndices<H, R> {
         set_auth_value(&mut self.heads, handle.number, value);
     }
 
-    /// Whether there is room for an index of so many bytes.
+    /// Whether there is room for an index of this many bytes.
     fn has_room(&self, size: usize) -> bool
         requires { size < 65536 }
         ensures { result ≡ has_room self.now size }
     {
-        is_room(self.heads.len(), self.row.as_slice().len(), size)
+        is_room(self.heads.len(), self.area.as_slice().len(), size)
     }
 
     /// Whether an index may be put under its handle.
@@ -186,11 +189,11 @@ impl<H: Ascending<Head, 32>, R: Row> StoredIndices<H, R> {
         let size = usize::from(public.data_size);
         let start = start_of(self.heads.as_slice(), key);
         auth_value_fits(&auth_value);
-        put_between(&mut self.row, start, size, bytes)?;
+        put_between(&mut self.area, start, size, bytes)?;
         match put_head(&mut self.heads, key, Head { public, auth_value }) {
             Ok(()) => Ok(()),
             Err(NoMemory) => {
-                self.row.close_up(start, size);
+                self.area.close_up(start, size);
                 Err(NoMemory)
             }
         }
@@ -204,7 +207,7 @@ impl<H: Ascending<Head, 32>, R: Row> StoredIndices<H, R> {
             → has head.public.attributes attributes.Written ≡ true → result.now ≡ old }
     {
         let size = usize::from(found.head.public.data_size);
-        piece_at(self.row.as_slice(), found.start, size)
+        piece_at(self.area.as_slice(), found.start, size)
     }
 
     /// The number that the data of an index are, or until it is written this one.
@@ -234,11 +237,11 @@ impl<H: Ascending<Head, 32>, R: Row> StoredIndices<H, R> {
         if found.head.public.attributes.has(NvAttribute::Written) {
             return digest_of(name_alg, self.data(found), bytes);
         }
-        digest_of(name_alg, zeros(name_alg), bytes)
+        digest_of(name_alg, name_alg.zeros(), bytes)
     }
 }
 
-impl<H: Ascending<Head, 32>, R: Row> Indices for StoredIndices<H, R> {
+impl<H: SortedMap<Head, NV_INDEX_LIMIT>, R: Area> Indices for StoredIndices<H, R> {
     ghost use Rattle.std.specs.Prelude.{◌||◌};
 
     ghost contents = { λ stored. stored };
@@ -248,7 +251,7 @@ impl<H: Ascending<Head, 32>, R: Row> Indices for StoredIndices<H, R> {
     fn new(alloc: Global) -> StoredIndices<H, R> {
         StoredIndices {
             heads: H::new(alloc),
-            row: R::new(alloc),
+            area: R::new(alloc),
             max_count: 0,
         }
     }
@@ -263,7 +266,7 @@ impl<H: Ascending<Head, 32>, R: Row> Indices for StoredIndices<H, R> {
     }
 
     fn bytes(&self) -> &[u8] {
-        self.row.as_slice()
+        self.area.as_slice()
     }
 
     fn next(&self, handle: Handle) -> Option<u32> {
@@ -293,7 +296,7 @@ impl<H: Ascending<Head, 32>, R: Row> Indices for StoredIndices<H, R> {
         };
         let size = usize::from(head.public.data_size);
         let start = start_of(self.heads.as_slice(), handle.number);
-        self.row.close_up(start, size);
+        self.area.close_up(start, size);
         let _ = self.heads.remove(handle.number);
         true
     }
@@ -420,7 +423,7 @@ impl<H: Ascending<Head, 32>, R: Row> Indices for StoredIndices<H, R> {
 
     #[tactic(auto, unfolding(crate::specs::Clear::cleared))]
     fn clear(&mut self) {
-        keep_bytes(&mut self.row, self.heads.as_slice());
+        keep_bytes(&mut self.area, self.heads.as_slice());
         self.heads.retain::<PlatformIndices>();
     }
 

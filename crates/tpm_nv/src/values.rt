@@ -1,15 +1,16 @@
 //! What is computed and asked of an index's attributes, sizes and data.
 
+ghost use Rattle.tpm_types.specs.Limits.{nv_index_limit, nv_space_limit};
 ghost use Rattle.std.specs.Prelude.{◌≡◌, ◌==◌, ◌<◌, ◌≤◌, ◌+◌, ◌^◌, ◌||◌, ◌&&◌, not, nat_lt, nat_le};
-ghost use Rattle.std.specs.Prelude.{◌++◌, length, replicate};
+ghost use Rattle.std.specs.Prelude.{◌++◌, length};
 ghost use Rattle.std.specs.Int.{from_be_bytes, w64};
 ghost use Rattle.tpm_mac.specs.Digest.{digest_size, hash_of};
 ghost use Rattle.tpm_types_nv.specs.NvAttributes.{has};
 ghost use Rattle.tpm_types_nv.specs.declared.nv_attributes.NvAttribute.TheVariants as attributes;
 
-use crate::row::MOST_BYTES;
 use tpm_bytes::Cursor;
 use tpm_mac::{Digest, HashAlg, digest_parts};
+use tpm_types::{NV_INDEX_LIMIT, NV_SPACE_LIMIT};
 use tpm_types_nv::{NvAttribute, NvAttributes};
 
 /// Whether an index of these attributes may be locked against writing.
@@ -19,20 +20,20 @@ pub(crate) fn is_write_lockable(of: NvAttributes) -> bool
     of.has(NvAttribute::WriteDefine) || of.has(NvAttribute::WriteStClear)
 }
 
-/// Whether a write of so many bytes leaves some that are to be written with it.
+/// Whether a write of this many bytes leaves some that are to be written with it.
 pub(crate) fn is_part(of: NvAttributes, count: usize, size: usize) -> bool
     ensures { result ≡ (has of attributes.WriteAll && not (count == size)) }
 {
     of.has(NvAttribute::WriteAll) && count != size
 }
 
-/// Whether there is room for an index of so many bytes besides so many.
+/// Whether an index of this size can be added, where `count` indices have `bytes` bytes of data.
 pub(crate) fn is_room(count: usize, bytes: usize, size: usize) -> bool
-    requires few { bytes ≤ 8192 }
+    requires few { bytes ≤ nv_space_limit }
     requires small { size < 65536 }
-    ensures { result ≡ (nat_lt count 32 && nat_le (bytes + size) 8192) }
+    ensures { result ≡ (nat_lt count nv_index_limit && nat_le (bytes + size) nv_space_limit) }
 {
-    count < 32 && bytes + size <= MOST_BYTES
+    count < NV_INDEX_LIMIT && bytes + size <= NV_SPACE_LIMIT
 }
 
 /// Says of a count what its type says.
@@ -49,16 +50,6 @@ pub(crate) fn number_of(bytes: &[u8]) -> u64
     match Cursor::new(bytes).u64() {
         Ok(number) => number,
         Err(_) => 0,
-    }
-}
-
-/// As many zeros as a digest has bytes.
-pub(crate) fn zeros(name_alg: HashAlg) -> &'static [u8]
-    ensures { result.now ≡ replicate (digest_size name_alg) 0 }
-{
-    match name_alg {
-        HashAlg::Sha1 => &[0; 20],
-        HashAlg::Sha256 => &[0; 32],
     }
 }
 

@@ -1,4 +1,5 @@
 -- TPM2_NV_ChangeAuth. TPM 2.0 Library, Part 3, section 31.15.
+use Rattle.tpm_types.specs.declared.action_check.ActionCheck.TheVariants as action
 use Rattle.std.specs.Prelude.{nat_lt, length, Result, Ok}
 use Rattle.tpm_bytes.specs.Reading.{◌>>=◌, refused_if}
 use Rattle.tpm_mac.specs.Digest.{digest_size}
@@ -7,13 +8,13 @@ use Rattle.tpm_types.specs.declared.rc.ResponseCode.TheVariants as code
 use Rattle.tpm_types.specs.declared.refused.Refused.{Refused}
 use Rattle.tpm_nv.specs.Access.{with_auth_value}
 use Rattle.tpm_record.specs.Record.{Record}
-use Rattle.tpm_actions.specs.Refusals.{or_refusal, parameter_fault}
-use Rattle.tpm_actions.specs.Request.{Request, first_handle}
-use Rattle.tpm_actions.specs.Rows.{Success, only}
-use Rattle.tpm_actions.specs.Target.{index_or_refusal}
+use Rattle.tpm_actions_base.specs.Refusals.{or_refusal, parameter_refusal}
+use Rattle.tpm_actions_base.specs.Request.{Request, first_handle}
+use Rattle.tpm_actions_base.specs.Rows.{Success, only}
+use Rattle.tpm_actions_base.specs.Target.{index_or_refusal}
 use Rattle.tpm_nvactions.specs.Access.{changed_nv, lock_refusal}
 
--- nvIndex, authorized in the role of the administrator; newAuth, at most 32 bytes, whose trailing
+-- nvIndex, authorized in the role ADMIN; newAuth, at most 32 bytes, whose trailing
 -- zeros do not count. A1: it has more bytes than a digest of nameAlg
 unfoldable pub nv_change_auth_row : Record → Request → Result Success Refused
 nv_change_auth_row r q = do
@@ -21,6 +22,6 @@ nv_change_auth_row r q = do
   index ← index_or_refusal r handle
   value ← only (auth_value_at q.parameters)
   a1 ← refused_if (nat_lt (digest_size index.public.name_alg) (length value))
-      (parameter_fault 1 1 code.Size)
+      (parameter_refusal action.First 1 code.Size)
   nv ← or_refusal lock_refusal (with_auth_value r.nv handle value)
   Ok (changed_nv r nv)

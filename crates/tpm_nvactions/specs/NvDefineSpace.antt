@@ -1,4 +1,5 @@
 -- TPM2_NV_DefineSpace. TPM 2.0 Library, Part 3, section 31.3.
+use Rattle.tpm_types.specs.declared.action_check.ActionCheck.TheVariants as action
 use Rattle.std.specs.Prelude.{◌≡◌, ℕ, ◌==◌, not, List, length, is_some, Result, Ok, Err}
 use Rattle.tpm_bytes.specs.Reading.{◌>>=◌, refused_if}
 use Rattle.tpm_types.specs.AuthValue.{auth_value_at}
@@ -14,10 +15,10 @@ use Rattle.tpm_nv.specs.Index.{has_room, index_at, with_index}
 use Rattle.tpm_nv.specs.declared.definition.DefinitionFault.{DefinitionFault}
 use Rattle.tpm_nv.specs.declared.definition.DefinitionFault.TheVariants as fault
 use Rattle.tpm_record.specs.Record.{Record}
-use Rattle.tpm_actions.specs.Refusals.{action_refusal, or_refusal, parameter_fault}
-use Rattle.tpm_actions.specs.Request.{Request, first_handle}
-use Rattle.tpm_actions.specs.Rows.{Success, all_read, parameter}
-use Rattle.tpm_nvactions.specs.declared.nv_define_space.Asked.{Asked}
+use Rattle.tpm_actions_base.specs.Refusals.{action_refusal, or_refusal, parameter_refusal}
+use Rattle.tpm_actions_base.specs.Request.{Request, first_handle}
+use Rattle.tpm_actions_base.specs.Rows.{Success, all_read, parameter}
+use Rattle.tpm_nvactions.specs.declared.nv_define_space.DefinitionParameters.{DefinitionParameters}
 use Rattle.tpm_nvactions.specs.Access.{changed_nv}
 
 -- auth, at most 32 bytes, whose trailing zeros do not count; publicInfo
@@ -32,31 +33,26 @@ parameters_in text = do
   ended ← all_read public.1
   Ok (record { auth_value = auth_value.0; public = public.0 })
 
-abbrev pub parameters_of : Asked → Parameters
+abbrev pub parameters_of : DefinitionParameters → Parameters
 parameters_of asked = record { auth_value = asked.auth_value; public = asked.public }
-
--- The code's reading of the parameters stands for the definition's.
-abbrev pub Asks : Result Parameters Refused → Result Asked Refused → Type 0
-Asks read (Ok asked) = read ≡ Ok (parameters_of asked)
-Asks read (Err e) = read ≡ Err e
 
 -- A1 to A4
 abbrev pub definition_refusal : DefinitionFault → Refused
-definition_refusal fault.AuthValueSize = parameter_fault 1 1 code.Size
-definition_refusal fault.AuthPolicySize = parameter_fault 2 2 code.Size
-definition_refusal fault.Attributes = parameter_fault 3 2 code.Attributes
-definition_refusal fault.DataSize = parameter_fault 4 2 code.Size
+definition_refusal fault.AuthValueSize = parameter_refusal action.First 1 code.Size
+definition_refusal fault.AuthPolicySize = parameter_refusal action.Second 2 code.Size
+definition_refusal fault.Attributes = parameter_refusal action.Third 2 code.Attributes
+definition_refusal fault.DataSize = parameter_refusal action.Fourth 2 code.Size
 
 -- authHandle, the owner or the platform. A1: auth is longer than a digest of nameAlg; A2: the
 -- policy is no digest; A3: the attributes; A4: the size; A5: there is such an index; A6: there is
 -- no room
 unfoldable pub nv_define_space_row : Record → Request → Result Success Refused
 nv_define_space_row r q = do
-  authority ← first_handle q.handles
+  auth_handle ← first_handle q.handles
   p ← parameters_in q.parameters
   passed ← or_refusal definition_refusal (definition_passes
-      (authority.number == platform_handle.number) p.public (length p.auth_value))
+      (auth_handle.number == platform_handle.number) p.public (length p.auth_value))
   a5 ← refused_if (is_some (index_at r.nv p.public.nv_index))
-      (action_refusal 5 (plain code.NvDefined))
-  a6 ← refused_if (not (has_room r.nv p.public.data_size)) (action_refusal 6 (plain code.NvSpace))
+      (action_refusal action.Fifth (plain code.NvDefined))
+  a6 ← refused_if (not (has_room r.nv p.public.data_size)) (action_refusal action.Sixth (plain code.NvSpace))
   Ok (changed_nv r (with_index r.nv p.public.nv_index (defined_index p.public p.auth_value)))

@@ -3,8 +3,8 @@ use Rattle.std.specs.Prelude.{Result}
 use Rattle.tpm_types.specs.declared.refused.Refused.{Refused}
 use Rattle.tpm_nv.specs.Access.{incremented}
 use Rattle.tpm_record.specs.Record.{Record}
-use Rattle.tpm_actions.specs.Request.{Request}
-use Rattle.tpm_actions.specs.Rows.{Success, all_read}
+use Rattle.tpm_actions_base.specs.Request.{Request}
+use Rattle.tpm_actions_base.specs.Rows.{Success, all_read}
 use Rattle.tpm_nvactions.specs.Access.{write_row}
 
 -- authHandle, nvIndex. A1: it may not write; A2: locked; A3: no counter; A4: it would pass

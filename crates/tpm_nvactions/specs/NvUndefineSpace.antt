@@ -1,4 +1,5 @@
 -- TPM2_NV_UndefineSpace. TPM 2.0 Library, Part 3, section 31.4.
+use Rattle.tpm_types.specs.declared.action_check.ActionCheck.TheVariants as action
 use Rattle.std.specs.Prelude.{◌==◌, ◌&&◌, Bool, Result, Ok}
 use Rattle.tpm_bytes.specs.Reading.{◌>>=◌, refused_if}
 use Rattle.tpm_types.specs.Handle.{owner_handle}
@@ -9,22 +10,22 @@ use Rattle.tpm_types_nv.specs.NvAttributes.{has}
 use Rattle.tpm_types_nv.specs.declared.nv_attributes.NvAttribute.TheVariants as attribute
 use Rattle.tpm_nv.specs.Index.{without_index}
 use Rattle.tpm_record.specs.Record.{Record}
-use Rattle.tpm_actions.specs.Refusals.{action_refusal}
-use Rattle.tpm_actions.specs.Request.{Request}
-use Rattle.tpm_actions.specs.Rows.{Success, all_read}
-use Rattle.tpm_actions.specs.declared.target.Target.{Target}
-use Rattle.tpm_actions.specs.Target.{target_of}
+use Rattle.tpm_actions_base.specs.Refusals.{action_refusal}
+use Rattle.tpm_actions_base.specs.Request.{Request}
+use Rattle.tpm_actions_base.specs.Rows.{Success, all_read}
+use Rattle.tpm_actions_base.specs.declared.target.Target.{Target}
+use Rattle.tpm_actions_base.specs.Target.{target_of}
 use Rattle.tpm_nvactions.specs.Access.{changed_nv}
 
 -- whether the owner would remove what the platform defined
 abbrev pub is_kept_from : Target → Bool
 is_kept_from target =
-    target.authority.number == owner_handle.number && has target.attributes attribute.PlatformCreate
+    target.auth_handle.number == owner_handle.number && has target.attributes attribute.PlatformCreate
 
 -- authHandle, the owner or the platform; nvIndex. A1: the owner, of an index of the platform's
 unfoldable pub nv_undefine_space_row : Record → Request → Result Success Refused
 nv_undefine_space_row r q = do
   target ← target_of r q
   ended ← all_read q.parameters
-  a1 ← refused_if (is_kept_from target) (action_refusal 1 (plain code.NvAuthorization))
+  a1 ← refused_if (is_kept_from target) (action_refusal action.First (plain code.NvAuthorization))
   Ok (changed_nv r (without_index r.nv target.handle))

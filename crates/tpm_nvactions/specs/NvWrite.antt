@@ -1,4 +1,5 @@
 -- TPM2_NV_Write. TPM 2.0 Library, Part 3, section 31.7.
+use Rattle.tpm_types.specs.Limits.{data_limit}
 use Rattle.std.specs.Prelude.{◌≡◌, ℕ, List, Result, Ok, Err}
 use Rattle.std.specs.Int.{w16}
 use Rattle.tpm_bytes.specs.Reading.{◌>>=◌, number_at, or_fault}
@@ -8,30 +9,25 @@ use Rattle.tpm_types.specs.declared.rc.ResponseCode.TheVariants as code
 use Rattle.tpm_types.specs.declared.refused.Refused.{Refused}
 use Rattle.tpm_nv.specs.Access.{written}
 use Rattle.tpm_record.specs.Record.{Record}
-use Rattle.tpm_actions.specs.Request.{Request}
-use Rattle.tpm_actions.specs.Rows.{Success, all_read, parameter}
-use Rattle.tpm_nvactions.specs.declared.nv_write.Asked.{Asked}
+use Rattle.tpm_actions_base.specs.Request.{Request}
+use Rattle.tpm_actions_base.specs.Rows.{Success, all_read, parameter}
+use Rattle.tpm_nvactions.specs.declared.nv_write.WriteParameters.{WriteParameters}
 use Rattle.tpm_nvactions.specs.Access.{write_row}
 
--- data, at most 1,024 bytes; offset
+-- data, within the limit of data; offset
 pub record Parameters : Type 0 where
   pub bytes : List ℕ
   pub offset : ℕ
 
 unfoldable pub parameters_in : List ℕ → Result Parameters Refused
 parameters_in text = do
-  bytes ← parameter 1 (buffer_at 1024 text)
+  bytes ← parameter 1 (buffer_at data_limit text)
   offset ← parameter 2 (or_fault (number_at w16 bytes.1) (plain code.Insufficient))
   ended ← all_read offset.1
   Ok (record { bytes = bytes.0; offset = offset.0 })
 
-abbrev pub parameters_of : Asked → Parameters
+abbrev pub parameters_of : WriteParameters → Parameters
 parameters_of asked = record { bytes = asked.bytes.now; offset = asked.offset }
-
--- The code's reading of the parameters stands for the definition's.
-abbrev pub Asks : Result Parameters Refused → Result Asked Refused → Type 0
-Asks read (Ok asked) = read ≡ Ok (parameters_of asked)
-Asks read (Err e) = read ≡ Err e
 
 -- authHandle, nvIndex. A1: it may not write; A2: locked; A3: no ordinary index; A4: past the data,
 -- or not all of them where WRITEALL is set

@@ -1,18 +1,21 @@
+//! TPM2_NV_ChangeAuth: sets the authorization value of an index, by its row in
+//! `specs/NvChangeAuth`.
+
 ghost use Rattle.std.specs.Prelude.{◌≡◌};
-ghost use Rattle.tpm_actions.specs.Answer.{IsEmpty};
-ghost use Rattle.tpm_actions.specs.Request.{request_of};
-ghost use Rattle.tpm_actions.specs.Rows.{Acts};
+ghost use Rattle.tpm_actions_base.specs.Answer.{IsEmpty};
+ghost use Rattle.tpm_actions_base.specs.Request.{request_of};
+ghost use Rattle.tpm_actions_base.specs.Rows.{Acts};
 ghost use Rattle.tpm_nvactions.specs.NvChangeAuth.{nv_change_auth_row};
 
 use crate::access::lock_refusal;
-use tpm_actions::answer::Answer;
-use tpm_actions::call::Call;
-use tpm_actions::reading::{end, parameter};
-use tpm_actions::refusals::{handle_refusal, parameter_fault};
+use tpm_actions_base::answer::Answer;
+use tpm_actions_base::call::Call;
+use tpm_actions_base::reading::{end, parameter};
+use tpm_actions_base::refusals::{handle_refusal, parameter_refusal};
 use tpm_bytes::Cursor;
 use tpm_nv::Indices;
 use tpm_record::Keep;
-use tpm_types::{AuthValue, Refused, ResponseCode};
+use tpm_types::{ActionCheck, AuthValue, Refused, ResponseCode};
 
 /// TPM2_NV_ChangeAuth: sets the authorization value of an index.
 #[tactic(auto, unfolding(crate::specs::NvChangeAuth::nv_change_auth_row))]
@@ -34,7 +37,7 @@ pub fn nv_change_auth<K: Keep>(
     let value = parameter(1, AuthValue::read(&mut parameters))?;
     end(&parameters)?;
     if most < value.as_slice().len() {
-        return Err(parameter_fault(1, 1, ResponseCode::Size));
+        return Err(parameter_refusal(ActionCheck::First, 1, ResponseCode::Size));
     }
     match keep.nv_mut().change_auth(handle, value) {
         Ok(()) => Ok(()),

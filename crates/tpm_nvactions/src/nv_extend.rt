@@ -1,21 +1,20 @@
+//! TPM2_NV_Extend: extends the digest of an index, by its row in `specs/NvExtend`.
+
 ghost use Rattle.std.specs.Prelude.{◌≡◌};
-ghost use Rattle.tpm_actions.specs.Answer.{IsEmpty};
-ghost use Rattle.tpm_actions.specs.Request.{request_of};
-ghost use Rattle.tpm_actions.specs.Rows.{Acts};
+ghost use Rattle.tpm_actions_base.specs.Answer.{IsEmpty};
+ghost use Rattle.tpm_actions_base.specs.Request.{request_of};
+ghost use Rattle.tpm_actions_base.specs.Rows.{Acts};
 ghost use Rattle.tpm_nvactions.specs.NvExtend.{nv_extend_row};
 
-use crate::access::{check_writer, write_refusal};
-use tpm_actions::answer::Answer;
-use tpm_actions::call::Call;
-use tpm_actions::reading::{end, parameter};
-use tpm_actions::target::target_of;
+use crate::access::{check_writer, writing_refusal};
+use tpm_actions_base::answer::Answer;
+use tpm_actions_base::call::Call;
+use tpm_actions_base::reading::{end, parameter};
+use tpm_actions_base::target::target_of;
 use tpm_bytes::Cursor;
 use tpm_nv::Indices;
 use tpm_record::Keep;
-use tpm_types::{Refused, read_buffer};
-
-/// The most bytes of data.
-const MOST_BYTES: usize = 1024;
+use tpm_types::{DATA_LIMIT, Refused, read_buffer};
 
 /// TPM2_NV_Extend: extends the digest of an index.
 #[tactic(auto, unfolding(crate::specs::NvExtend::nv_extend_row))]
@@ -26,11 +25,11 @@ pub fn nv_extend<K: Keep>(keep: &mut K, call: &Call, _answer: &mut Answer) -> Re
 {
     let target = target_of(keep, call)?;
     let mut parameters = Cursor::new(call.parameters);
-    let bytes = parameter(1, read_buffer(&mut parameters, MOST_BYTES))?;
+    let bytes = parameter(1, read_buffer(&mut parameters, DATA_LIMIT))?;
     end(&parameters)?;
     check_writer(&target)?;
     match keep.nv_mut().extend(target.handle, bytes) {
         Ok(()) => Ok(()),
-        Err(fault) => Err(write_refusal(fault)),
+        Err(fault) => Err(writing_refusal(fault)),
     }
 }

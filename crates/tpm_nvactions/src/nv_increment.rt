@@ -1,14 +1,16 @@
+//! TPM2_NV_Increment: raises a counter, by its row in `specs/NvIncrement`.
+
 ghost use Rattle.std.specs.Prelude.{◌≡◌};
-ghost use Rattle.tpm_actions.specs.Answer.{IsEmpty};
-ghost use Rattle.tpm_actions.specs.Request.{request_of};
-ghost use Rattle.tpm_actions.specs.Rows.{Acts};
+ghost use Rattle.tpm_actions_base.specs.Answer.{IsEmpty};
+ghost use Rattle.tpm_actions_base.specs.Request.{request_of};
+ghost use Rattle.tpm_actions_base.specs.Rows.{Acts};
 ghost use Rattle.tpm_nvactions.specs.NvIncrement.{nv_increment_row};
 
-use crate::access::{check_writer, write_refusal};
-use tpm_actions::answer::Answer;
-use tpm_actions::call::Call;
-use tpm_actions::reading::end;
-use tpm_actions::target::target_of;
+use crate::access::{check_writer, writing_refusal};
+use tpm_actions_base::answer::Answer;
+use tpm_actions_base::call::Call;
+use tpm_actions_base::reading::end;
+use tpm_actions_base::target::target_of;
 use tpm_bytes::Cursor;
 use tpm_nv::Indices;
 use tpm_record::Keep;
@@ -26,6 +28,6 @@ pub fn nv_increment<K: Keep>(keep: &mut K, call: &Call, _answer: &mut Answer) ->
     check_writer(&target)?;
     match keep.nv_mut().increment(target.handle) {
         Ok(()) => Ok(()),
-        Err(fault) => Err(write_refusal(fault)),
+        Err(fault) => Err(writing_refusal(fault)),
     }
 }

@@ -1,39 +1,37 @@
+//! TPM2_NV_Read: answers data of an index, by its row in `specs/NvRead`.
+
 ghost use Rattle.std.specs.Prelude.{◌≡◌};
-ghost use Rattle.tpm_actions.specs.Answer.{IsEmpty};
-ghost use Rattle.tpm_actions.specs.Request.{request_of};
-ghost use Rattle.tpm_actions.specs.Rows.{Acts};
+ghost use Rattle.tpm_actions_base.specs.Answer.{IsEmpty};
+ghost use Rattle.tpm_actions_base.specs.Request.{request_of};
+ghost use Rattle.tpm_actions_base.specs.Rows.{Acts};
 ghost use Rattle.tpm_nvactions.specs.NvRead.{nv_read_row, parameters_in};
 
-use crate::access::reading_refusal;
-use tpm_actions::answer::Answer;
-use tpm_actions::call::Call;
-use tpm_actions::reading::{end, number};
-use tpm_actions::refusals::{action_refusal, parameter_fault};
-use tpm_actions::target::target_of;
+use tpm_actions_base::answer::Answer;
+use tpm_actions_base::call::Call;
+use tpm_actions_base::reading::{end, number};
+use tpm_actions_base::refusals::{action_refusal, fault_refusal, parameter_refusal};
+use tpm_actions_base::target::target_of;
 use tpm_bytes::Cursor;
 use tpm_nv::Indices;
 use tpm_record::Keep;
-use tpm_types::{Refused, ResponseCode};
-
-/// The most bytes that are read at a time.
-const MOST_BYTES: u16 = 1024;
+use tpm_types::{ActionCheck, DATA_LIMIT, Refused, ResponseCode};
 
 /// What is asked for.
 #[derive(Clone, Copy)]
-pub struct Asked {
+pub struct ReadParameters {
     size: u16,
     offset: u16,
 }
 
 #[tactic(auto, unfolding(crate::specs::NvRead::parameters_in))]
-fn read_parameters(parameters: &[u8]) -> Result<Asked, Refused>
+fn read_parameters(parameters: &[u8]) -> Result<ReadParameters, Refused>
     ensures { result ≡ parameters_in parameters.now }
 {
     let mut text = Cursor::new(parameters);
     let size = number(1, text.u16())?;
     let offset = number(2, text.u16())?;
     end(&text)?;
-    Ok(Asked { size, offset })
+    Ok(ReadParameters { size, offset })
 }
 
 /// TPM2_NV_Read: data of an index.
@@ -45,15 +43,15 @@ pub fn nv_read<K: Keep>(keep: &mut K, call: &Call, answer: &mut Answer) -> Resul
 {
     let target = target_of(keep, call)?;
     let asked = read_parameters(call.parameters)?;
-    target.check_reading().map_err(reading_refusal)?;
-    if asked.size > MOST_BYTES {
-        return Err(parameter_fault(4, 1, ResponseCode::Value));
+    target.check_reading().map_err(fault_refusal)?;
+    if usize::from(asked.size) > DATA_LIMIT {
+        return Err(parameter_refusal(ActionCheck::Fourth, 1, ResponseCode::Value));
     }
     match keep.nv().read(target.handle, asked.offset, asked.size) {
         Ok(bytes) => {
             let _ = answer.parameters.put_sized(bytes);
             Ok(())
         }
-        Err(_) => Err(action_refusal(5, ResponseCode::NvRange.anywhere())),
+        Err(_) => Err(action_refusal(ActionCheck::Fifth, ResponseCode::NvRange.anywhere())),
     }
 }

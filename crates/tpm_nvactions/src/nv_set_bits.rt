@@ -1,14 +1,16 @@
+//! TPM2_NV_SetBits: sets bits of an index that is a field of bits, by its row in `specs/NvSetBits`.
+
 ghost use Rattle.std.specs.Prelude.{◌≡◌};
-ghost use Rattle.tpm_actions.specs.Answer.{IsEmpty};
-ghost use Rattle.tpm_actions.specs.Request.{request_of};
-ghost use Rattle.tpm_actions.specs.Rows.{Acts};
+ghost use Rattle.tpm_actions_base.specs.Answer.{IsEmpty};
+ghost use Rattle.tpm_actions_base.specs.Request.{request_of};
+ghost use Rattle.tpm_actions_base.specs.Rows.{Acts};
 ghost use Rattle.tpm_nvactions.specs.NvSetBits.{nv_set_bits_row};
 
-use crate::access::{check_writer, write_refusal};
-use tpm_actions::answer::Answer;
-use tpm_actions::call::Call;
-use tpm_actions::reading::{end, number};
-use tpm_actions::target::target_of;
+use crate::access::{check_writer, writing_refusal};
+use tpm_actions_base::answer::Answer;
+use tpm_actions_base::call::Call;
+use tpm_actions_base::reading::{end, number};
+use tpm_actions_base::target::target_of;
 use tpm_bytes::Cursor;
 use tpm_nv::Indices;
 use tpm_record::Keep;
@@ -28,6 +30,6 @@ pub fn nv_set_bits<K: Keep>(keep: &mut K, call: &Call, _answer: &mut Answer) -> 
     check_writer(&target)?;
     match keep.nv_mut().set_bits(target.handle, bits) {
         Ok(()) => Ok(()),
-        Err(fault) => Err(write_refusal(fault)),
+        Err(fault) => Err(writing_refusal(fault)),
     }
 }

@@ -1,24 +1,26 @@
+//! TPM2_NV_UndefineSpace: removes an index, by its row in `specs/NvUndefineSpace`.
+
 ghost use Rattle.std.specs.Prelude.{◌≡◌};
-ghost use Rattle.tpm_actions.specs.Answer.{IsEmpty};
-ghost use Rattle.tpm_actions.specs.Request.{request_of};
-ghost use Rattle.tpm_actions.specs.Rows.{Acts};
+ghost use Rattle.tpm_actions_base.specs.Answer.{IsEmpty};
+ghost use Rattle.tpm_actions_base.specs.Request.{request_of};
+ghost use Rattle.tpm_actions_base.specs.Rows.{Acts};
 ghost use Rattle.tpm_nvactions.specs.NvUndefineSpace.{is_kept_from, nv_undefine_space_row};
 
-use tpm_actions::answer::Answer;
-use tpm_actions::call::Call;
-use tpm_actions::reading::end;
-use tpm_actions::refusals::action_refusal;
-use tpm_actions::target::{Target, target_of};
+use tpm_actions_base::answer::Answer;
+use tpm_actions_base::call::Call;
+use tpm_actions_base::reading::end;
+use tpm_actions_base::refusals::action_refusal;
+use tpm_actions_base::target::{Target, target_of};
 use tpm_bytes::Cursor;
 use tpm_nv::Indices;
 use tpm_record::Keep;
-use tpm_types::{Handle, Refused, ResponseCode};
+use tpm_types::{ActionCheck, Handle, Refused, ResponseCode};
 use tpm_types_nv::NvAttribute;
 
 fn is_kept_from(target: &Target) -> bool
     ensures { result ≡ is_kept_from target.now }
 {
-    target.authority == Handle::OWNER && target.attributes.has(NvAttribute::PlatformCreate)
+    target.auth_handle == Handle::OWNER && target.attributes.has(NvAttribute::PlatformCreate)
 }
 
 /// TPM2_NV_UndefineSpace: removes an index.
@@ -35,7 +37,7 @@ pub fn nv_undefine_space<K: Keep>(
     let target = target_of(keep, call)?;
     end(&Cursor::new(call.parameters))?;
     if is_kept_from(&target) {
-        return Err(action_refusal(1, ResponseCode::NvAuthorization.anywhere()));
+        return Err(action_refusal(ActionCheck::First, ResponseCode::NvAuthorization.anywhere()));
     }
     keep.nv_mut().undefine(target.handle);
     Ok(())

@@ -1,38 +1,38 @@
-ghost use Rattle.std.specs.Prelude.{◌≡◌};
-ghost use Rattle.tpm_actions.specs.Answer.{IsEmpty};
-ghost use Rattle.tpm_actions.specs.Request.{request_of};
-ghost use Rattle.tpm_actions.specs.Rows.{Acts};
-ghost use Rattle.tpm_nvactions.specs.NvWrite.{Asks, nv_write_row, parameters_in};
+//! TPM2_NV_Write: writes data of an ordinary index, by its row in `specs/NvWrite`.
 
-use crate::access::{check_writer, write_refusal};
-use tpm_actions::answer::Answer;
-use tpm_actions::call::Call;
-use tpm_actions::reading::{end, number, parameter};
-use tpm_actions::target::target_of;
+ghost use Rattle.tpm_bytes.specs.Reading.{Gives};
+ghost use Rattle.std.specs.Prelude.{◌≡◌};
+ghost use Rattle.tpm_actions_base.specs.Answer.{IsEmpty};
+ghost use Rattle.tpm_actions_base.specs.Request.{request_of};
+ghost use Rattle.tpm_actions_base.specs.Rows.{Acts};
+ghost use Rattle.tpm_nvactions.specs.NvWrite.{nv_write_row, parameters_in, parameters_of};
+
+use crate::access::{check_writer, writing_refusal};
+use tpm_actions_base::answer::Answer;
+use tpm_actions_base::call::Call;
+use tpm_actions_base::reading::{end, number, parameter};
+use tpm_actions_base::target::target_of;
 use tpm_bytes::Cursor;
 use tpm_nv::Indices;
 use tpm_record::Keep;
-use tpm_types::{Refused, read_buffer};
-
-/// The most bytes of data.
-const MOST_BYTES: usize = 1024;
+use tpm_types::{DATA_LIMIT, Refused, read_buffer};
 
 /// What is asked for.
 #[derive(Clone, Copy)]
-pub struct Asked<'a> {
+pub struct WriteParameters<'a> {
     bytes: &'a [u8],
     offset: u16,
 }
 
 #[tactic(auto, unfolding(crate::specs::NvWrite::parameters_in))]
-fn read_parameters(parameters: &[u8]) -> Result<Asked, Refused>
-    ensures { Asks (parameters_in parameters.now) result }
+fn read_parameters(parameters: &[u8]) -> Result<WriteParameters, Refused>
+    ensures { Gives parameters_of (parameters_in parameters.now) result }
 {
     let mut text = Cursor::new(parameters);
-    let bytes = parameter(1, read_buffer(&mut text, MOST_BYTES))?;
+    let bytes = parameter(1, read_buffer(&mut text, DATA_LIMIT))?;
     let offset = number(2, text.u16())?;
     end(&text)?;
-    Ok(Asked { bytes, offset })
+    Ok(WriteParameters { bytes, offset })
 }
 
 /// TPM2_NV_Write: writes data of an ordinary index.
@@ -50,6 +50,6 @@ pub fn nv_write<K: Keep>(keep: &mut K, call: &Call, _answer: &mut Answer) -> Res
         .write(target.handle, asked.offset, asked.bytes)
     {
         Ok(()) => Ok(()),
-        Err(fault) => Err(write_refusal(fault)),
+        Err(fault) => Err(writing_refusal(fault)),
     }
 }

@@ -1,14 +1,16 @@
+//! TPM2_NV_WriteLock: locks an index against writing, by its row in `specs/NvWriteLock`.
+
 ghost use Rattle.std.specs.Prelude.{◌≡◌};
-ghost use Rattle.tpm_actions.specs.Answer.{IsEmpty};
-ghost use Rattle.tpm_actions.specs.Request.{request_of};
-ghost use Rattle.tpm_actions.specs.Rows.{Acts};
+ghost use Rattle.tpm_actions_base.specs.Answer.{IsEmpty};
+ghost use Rattle.tpm_actions_base.specs.Request.{request_of};
+ghost use Rattle.tpm_actions_base.specs.Rows.{Acts};
 ghost use Rattle.tpm_nvactions.specs.NvWriteLock.{nv_write_lock_row};
 
 use crate::access::{check_writer, lock_refusal};
-use tpm_actions::answer::Answer;
-use tpm_actions::call::Call;
-use tpm_actions::reading::end;
-use tpm_actions::target::target_of;
+use tpm_actions_base::answer::Answer;
+use tpm_actions_base::call::Call;
+use tpm_actions_base::reading::end;
+use tpm_actions_base::target::target_of;
 use tpm_bytes::Cursor;
 use tpm_nv::Indices;
 use tpm_record::Keep;

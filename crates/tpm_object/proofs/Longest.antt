@@ -19,7 +19,7 @@ use Rattle.tpm_types_object.specs.Sensitive.{sensitive_at}
 use Rattle.tpm_types_object.proofs.FilledLaws.{or_size_ok}
 use Rattle.tpm_types.proofs.SelectionLaws.{is_equal}
 
--- it takes no more than so many bytes
+-- it takes no more than this many bytes
 abbrev Takes_up_to : {A E : Type 0} → ℕ → (List ℕ → Result (A × List ℕ) E) → Type 0
 Takes_up_to {A} most at = (text : List ℕ) (x : A × List ℕ) → at text ≡ Ok x → length text ≤ most + length x.1
 

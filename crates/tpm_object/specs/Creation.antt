@@ -1,4 +1,4 @@
--- The checks of what a caller gives to a new object, and the sizes of what the TPM adds. TPM 2.0
+-- The checks of what a caller gives to a new object, and the sizes of what the device adds. TPM 2.0
 -- Library, Part 1, section 27 (object creation), and Part 3, section 12.1 (TPM2_Create). The order
 -- of the checks is this device's own.
 use Rattle.std.specs.Prelude.{ℕ, ◌+◌, ◌==◌, ◌&&◌, not, nat_lt, Bool, if◌then◌else◌}
@@ -24,7 +24,7 @@ abbrev pub is_long_auth : SensitiveValues → Public → Bool
 is_long_auth given t = nat_lt (digest_size t.name_alg) (length (trimmed given.user_auth))
 
 -- each of these is wrong, where the caller may give the key or the data to seal:
--- sensitiveDataOrigin says that the TPM makes the key, and what is sealed
+-- sensitiveDataOrigin says that the device makes the key, and what is sealed
 -- is not made
 abbrev pub origin_conflicts : SensitiveValues → Public → List Bool
 origin_conflicts given t =
@@ -57,7 +57,7 @@ parameters_key_size name_alg (parameters_of.KeyedHash Null) = digest_size name_a
 abbrev pub key_size : Public → ℕ
 key_size t = parameters_key_size t.name_alg t.parameters
 
--- how many bytes of a key the TPM makes
+-- how many bytes of a key the device makes
 abbrev pub generated_size : Public → SensitiveValues → ℕ
 generated_size t given = if is_given given.data then 0 else key_size t
 

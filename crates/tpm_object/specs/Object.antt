@@ -2,6 +2,7 @@
 use Rattle.std.specs.Prelude.{ℕ, ◌≤◌, ◌&&◌, not, Bool, true, false, List, length}
 use Rattle.tpm_name.specs.Name.{qualified_name}
 use Rattle.tpm_types_object.specs.ObjectName.{object_name}
+use Rattle.tpm_types.specs.Limits.{sensitive_limit}
 use Rattle.tpm_types.specs.AuthValue.{IsAuthValue, trimmed}
 use Rattle.tpm_types_object.specs.ObjectAttributes.{has}
 use Rattle.tpm_types_object.specs.Public.{IsPublic}
@@ -47,13 +48,13 @@ loaded_object hierarchy public area parent_qualified_name = record {
 }
 
 -- what holds of every loaded object: a public area that has a text, an authorization value, a seed
--- value of at most 32 bytes and a key or data of at most 128 (Part 2, sections 12.2.4 and 12.3.2.4),
--- and a qualified Name of at most 34
+-- value of at most 32 bytes and a key or data within its limit (Part 2, sections 12.2.4 and
+-- 12.3.2.4), and a qualified Name of at most 34
 pub record IsObject (object : Object) : Type 0 where
   pub public : IsPublic object.public
   pub auth_value : IsAuthValue object.auth_value
   pub seed_value : length object.seed_value ≤ 32
-  pub sensitive : length object.sensitive ≤ 128
+  pub sensitive : length object.sensitive ≤ sensitive_limit
   pub qualified_name : length object.qualified_name ≤ 34
 
 -- the highest byte of a loaded object's handle, 80: it is a transient object (TPM_HT_TRANSIENT of

@@ -83,13 +83,6 @@ pub record IsWrapped (parent : Object) (public : Public) (text : List ℕ) (area
 abbrev pub integrity_fault : IntegrityFault
 integrity_fault = record {}
 
--- the bytes that a definition gives, wherever they lie in memory
-abbrev pub Gives : Result (List ℕ) IntegrityFault
-    → Result (Bor (List ℕ)) IntegrityFault
-    → Type 0
-Gives defined (Ok bytes) = defined ≡ Ok bytes.now
-Gives defined (Err fault) = defined ≡ Err fault
-
 -- what an integrity value protects, where the value is right
 unfoldable pub protected_in : (parent : Object)
     → (name text : List ℕ)
@@ -100,14 +93,14 @@ protected_in parent name text = do
       integrity_fault
   Ok integrity.1
 
--- the sensitive area that a plain text is: one sized buffer, and nothing behind it
+-- the sensitive area that a plain text is: one sized buffer, and nothing after it
 unfoldable pub area_in : (plain : List ℕ) → Result Sensitive IntegrityFault
 area_in plain = do
   area ← or_fault (filled_by sensitive_at plain) integrity_fault
   whole ← refused_if (not (length area.1 == 0)) integrity_fault
   Ok area.0
 
--- the area behind an IV of 16 bytes
+-- the area after an IV of 16 bytes
 unfoldable pub decrypted_area : (parent : Object)
     → (name protected : List ℕ)
     → Result Sensitive IntegrityFault

@@ -2,10 +2,10 @@
 -- (object attributes), and Part 3, section 12.1 (TPM2_Create). The order of the checks is this
 -- device's own, and so is that no KEYEDHASH decrypts: no XOR scheme and no derivation parents are
 -- served.
-use Rattle.std.specs.Prelude.{ℕ, ◌==◌, ◌&&◌, ◌||◌, not, Bool, false, if◌then◌else◌}
+use Rattle.std.specs.Prelude.{ℕ, ◌&&◌, not, Bool, false, if◌then◌else◌}
 use Rattle.std.specs.Prelude.{List, [], ◌∷◌, length, Result}
 use Rattle.std.specs.Bool.{beq}
-use Rattle.tpm_mac.specs.Digest.{digest_size}
+use Rattle.tpm_types.specs.Algorithm.{is_policy_size}
 use Rattle.tpm_types_object.specs.ObjectAttributes.{has}
 use Rattle.tpm_types_object.specs.declared.object_attributes.ObjectAttribute.TheVariants as attribute
 use Rattle.tpm_types_object.specs.declared.public.KeyedHashScheme.TheVariants.{Null, Hmac}
@@ -16,10 +16,6 @@ use Rattle.tpm_object.specs.Checks.{first_fault, one_of}
 use Rattle.tpm_object.specs.Object.{is_cipher, is_keyed_hash}
 use Rattle.tpm_object.specs.declared.template.TemplateFault.{TemplateFault}
 use Rattle.tpm_object.specs.declared.template.TemplateFault.TheVariants as fault
-
--- no policy, or a digest of nameAlg
-abbrev pub is_policy_size : Public → Bool
-is_policy_size t = length t.auth_policy == 0 || length t.auth_policy == digest_size t.name_alg
 
 -- under a hierarchy or a parent with fixedTPM, an object is right to have fixedTPM exactly if it
 -- has fixedParent; under another parent it is wrong to have it
@@ -49,7 +45,7 @@ has_wrong_scheme parameters_of.SymCipher a = false
 
 abbrev pub template_checks : (parent_is_fixed : Bool) → Public → List (Bool × TemplateFault)
 template_checks parent_is_fixed t =
-    (not (is_policy_size t), fault.AuthPolicySize)
+    (not (is_policy_size t.name_alg (length t.auth_policy)), fault.AuthPolicySize)
     ∷ (one_of (attribute_conflicts parent_is_fixed t), fault.Attributes)
     ∷ (has_wrong_scheme t.parameters t.attributes, fault.Scheme) ∷ []
 

@@ -1,3 +1,6 @@
+//! The public and the sensitive area of a new object, made from random bytes or from a seed (TPM
+//! 2.0 Library, Part 1, section 27).
+
 ghost use Rattle.std.specs.Prelude.{◌≡◌, ◌≤◌, ℕ, length, List};
 ghost use Rattle.tpm_types_object.specs.SensitiveCreate.{SensitiveValues, sensitive_values_of};
 ghost use Rattle.tpm_types_object.specs.declared.public.Public.{Public};
@@ -17,7 +20,8 @@ pub struct Created {
 ghost use Rattle.tpm_object.specs.Areas.{AreOfOneType, created, new_object_areas, new_public, new_sensitive};
 ghost use Rattle.tpm_object.specs.Primary.{primary_areas};
 
-/// The sensitive area of an object with this seed, and this key where the caller gives no data.
+/// The sensitive area of an object with this seedValue, and this key where the caller gives no
+/// data.
 fn new_sensitive(template: &Public, given: &SensitiveCreate, seed: &[u8], key: &[u8]) -> Sensitive
     requires seed { length seed.now ≤ 32 }
     requires key { length key.now ≤ 32 }

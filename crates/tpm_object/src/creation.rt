@@ -1,3 +1,6 @@
+//! The check of what a caller gives for a new object, and how many bytes of a key the device adds
+//! (TPM 2.0 Library, Part 1, section 27).
+
 ghost use Rattle.std.specs.Prelude.{◌≡◌, ◌≤◌};
 ghost use Rattle.tpm_types_object.specs.SensitiveCreate.{sensitive_values_of};
 ghost use Rattle.tpm_types.specs.Buffer.{is_given};
@@ -80,7 +83,7 @@ fn parameters_key_size(name_alg: HashAlg, parameters: PublicParameters) -> usize
     }
 }
 
-/// How many bytes a key of such an object has that the TPM makes.
+/// How many bytes a key of such an object has that the device makes.
 pub fn key_size(template: &Public) -> usize
     ensures value { result ≡ key_size template.now }
     ensures small { result ≤ 32 }
@@ -88,7 +91,7 @@ pub fn key_size(template: &Public) -> usize
     parameters_key_size(template.name_alg, template.parameters)
 }
 
-/// How many bytes of a key the TPM makes: none where the caller gives the key or data.
+/// How many bytes of a key the device makes: none where the caller gives the key or data.
 pub fn generated_size(template: &Public, given: &SensitiveCreate) -> usize
     ensures value { result ≡ generated_size template.now (sensitive_values_of given.now) }
     ensures small { result ≤ 32 }

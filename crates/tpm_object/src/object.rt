@@ -1,11 +1,14 @@
+//! A loaded object, with its areas and its Names, and whether it can be the parent of others (TPM
+//! 2.0 Library, Part 1, section 23).
+
 ghost use Rattle.std.specs.Prelude.{◌≡◌};
 ghost use Rattle.tpm_types_object.specs.ObjectName.{object_name};
 ghost use Rattle.tpm_object.specs.Object.{are_of_cipher, is_cipher, is_keyed_hash, is_storage_parent, loaded_object};
 
 use tpm_mac::HashAlg;
 use tpm_name::Name;
-use tpm_places::{Kinded, Sizes};
-use tpm_types::{AuthValue, Handle, HierarchyHandle, Octets};
+use tpm_slots::{Kinded, Sizes};
+use tpm_types::{AuthValue, Handle, HierarchyHandle, Octets, SENSITIVE_LIMIT};
 use tpm_types_object::{ObjectAttribute, ObjectAttributes, Public, PublicParameters, Sensitive};
 
 /// A loaded object.
@@ -18,7 +21,7 @@ pub struct Object {
     /// With which it encrypts, or which makes it unique.
     pub seed_value: Octets<32>,
     /// Its key, or the data that it seals.
-    pub sensitive: Octets<128>,
+    pub sensitive: Octets<SENSITIVE_LIMIT>,
     /// Its Name under the Names of all its ancestors.
     pub qualified_name: Name,
 }
@@ -123,7 +126,7 @@ impl Object {
         Object::loaded_named(hierarchy, public, &name, sensitive, parent_qualified_name)
     }
 
-    /// The same where the Name of the object is known.
+    /// The loaded object, where its Name is known.
     pub fn loaded_named(
         hierarchy: HierarchyHandle,
         public: Public,

@@ -1,3 +1,6 @@
+//! Primary objects, which the seed of a hierarchy gives for a template, the same each time (TPM 2.0
+//! Library, Part 3, section 24.1).
+
 ghost use Rattle.std.specs.Prelude.{◌≡◌, ◌+◌, ◌≤◌, length};
 ghost use Rattle.tpm_mac.specs.Digest.{digest_size};
 ghost use Rattle.tpm_types_object.specs.SensitiveCreate.{sensitive_values_of};

@@ -1,3 +1,7 @@
+//! Private areas: a parent encrypts and authenticates the sensitive area of its child, and accepts
+//! nothing else back (TPM 2.0 Library, Part 1, section 22).
+
+ghost use Rattle.tpm_bytes.specs.Reading.{Gives};
 ghost use Rattle.std.specs.Prelude.{◌≡◌, ◌≢◌, ◌≤◌, length, Ok, Err, IfOk};
 ghost use Rattle.tpm_aes.specs.Cfb.{cfb_decrypt_of, cfb_encrypt_of};
 ghost use Rattle.tpm_bytes.specs.Writing.{sized_text};
@@ -21,7 +25,7 @@ use tpm_types_object::{Public, Sensitive};
 pub struct IntegrityFault;
 
 /// The most bytes of a sensitive area in a sized buffer: more are none, encrypted or not.
-const MOST_AREA_BYTES: usize = 202;
+const AREA_LIMIT: usize = 202;
 
 /// The label of the keys by which a parent encrypts.
 const STORAGE_LABEL: &[u8] = b"STORAGE";
@@ -29,7 +33,7 @@ const STORAGE_LABEL: &[u8] = b"STORAGE";
 /// The label of the keys by which a parent authenticates.
 const INTEGRITY_LABEL: &[u8] = b"INTEGRITY";
 
-ghost use Rattle.tpm_object.specs.PrivateArea.{Gives, IsProtected, IsWrapped, area_in, decrypted_area, encrypted_area, integrity_fault, integrity_key, integrity_of, private_text, protected_in, protected_text, authenticated_text, storage_key, unwrapped};
+ghost use Rattle.tpm_object.specs.PrivateArea.{IsProtected, IsWrapped, area_in, decrypted_area, encrypted_area, integrity_fault, integrity_key, integrity_of, private_text, protected_in, protected_text, authenticated_text, storage_key, unwrapped};
 
 /// The key by which a parent encrypts the sensitive area of the object of this Name.
 #[tactic(auto, unfolding(crate::specs::PrivateArea::storage_key))]
@@ -85,10 +89,10 @@ fn encrypted_area(
     name: &Name,
     sensitive: &Sensitive,
     iv: &[u8; 16],
-) -> ArrayVec<u8, MOST_AREA_BYTES>
+) -> ArrayVec<u8, AREA_LIMIT>
     ensures { result.items ≡ encrypted_area parent.now name.now iv.now sensitive.now }
 {
-    let mut text: Sink<MOST_AREA_BYTES> = Sink::new();
+    let mut text: Sink<AREA_LIMIT> = Sink::new();
     let _ = text.put_sized(sensitive.text().as_slice());
     let mut bytes = text.into_bytes();
     Aes128::new(&storage_key(parent, name)).cfb_encrypt(iv, bytes.as_mut_slice());
@@ -159,7 +163,7 @@ fn protected_in<'a>(
     name: &Name,
     private: &'a [u8],
 ) -> Result<&'a [u8], IntegrityFault>
-    ensures { Gives (protected_in parent.now name.now private.now) result }
+    ensures { Gives (λ bytes. bytes.now) (protected_in parent.now name.now private.now) result }
 {
     let mut text = Cursor::new(private);
     let found = text.sized(0xffff).map_err(|_| IntegrityFault)?;
@@ -170,7 +174,7 @@ fn protected_in<'a>(
     Ok(protected)
 }
 
-/// The sensitive area that a plain text is: one sized buffer, and nothing behind it.
+/// The sensitive area that a plain text is: one sized buffer, and nothing after it.
 #[tactic(auto, unfolding(crate::specs::PrivateArea::area_in))]
 fn area_in(plain: &[u8]) -> Result<Sensitive, IntegrityFault>
     ensures value { result ≡ area_in plain.now }
@@ -186,13 +190,8 @@ fn area_in(plain: &[u8]) -> Result<Sensitive, IntegrityFault>
 }
 
 /// The bytes, decrypted.
-fn decrypted(
-    parent: &Object,
-    name: &Name,
-    iv: &[u8; 16],
-    cipher: &[u8],
-) -> ArrayVec<u8, MOST_AREA_BYTES>
-    requires { length cipher.now ≤ MOST_AREA_BYTES }
+fn decrypted(parent: &Object, name: &Name, iv: &[u8; 16], cipher: &[u8]) -> ArrayVec<u8, AREA_LIMIT>
+    requires { length cipher.now ≤ AREA_LIMIT }
     ensures value { result.items
         ≡ cfb_decrypt_of (storage_key parent.now name.now) iv.now cipher.now }
     ensures undone { cfb_encrypt_of (storage_key parent.now name.now) iv.now result.items
@@ -204,7 +203,7 @@ fn decrypted(
     bytes
 }
 
-/// The sensitive area behind an IV of 16 bytes.
+/// The sensitive area after an IV of 16 bytes.
 #[tactic(auto, unfolding(crate::specs::PrivateArea::decrypted_area))]
 fn decrypted_area(
     parent: &Object,
@@ -222,7 +221,7 @@ fn decrypted_area(
         return Err(IntegrityFault);
     }
     let encrypted = text.rest();
-    if encrypted.len() > MOST_AREA_BYTES {
+    if encrypted.len() > AREA_LIMIT {
         return Err(IntegrityFault);
     }
     let mut iv = [0; 16];
@@ -244,7 +243,7 @@ pub fn unwrap(parent: &Object, public: &Public, private: &[u8]) -> Result<Sensit
     unwrap_named(parent, public, &public.name(), private)
 }
 
-/// The same where the Name of the object is known.
+/// Unwraps the private area of an object whose Name is known.
 #[tactic(auto, unfolding(crate::specs::PrivateArea::unwrapped))]
 pub fn unwrap_named(
     parent: &Object,

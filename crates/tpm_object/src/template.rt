@@ -1,8 +1,12 @@
+//! The check of the template of a new object: its policy, its attributes and its scheme (TPM 2.0
+//! Library, Part 1, section 25).
+
 ghost use Rattle.std.specs.Prelude.{◌≡◌};
 ghost use Rattle.tpm_object.specs.Checks.{one_of};
-ghost use Rattle.tpm_object.specs.Template.{attribute_conflicts, has_wrong_fixing, has_wrong_scheme, is_policy_size, template_passes};
+ghost use Rattle.tpm_object.specs.Template.{attribute_conflicts, has_wrong_fixing, has_wrong_scheme, template_passes};
 
 use crate::object::{is_cipher, is_keyed_hash};
+use tpm_types::is_policy_size;
 use tpm_types_object::{
     KeyedHashScheme, ObjectAttribute, ObjectAttributes, Public, PublicParameters,
 };
@@ -16,13 +20,6 @@ pub enum TemplateFault {
     Attributes,
     /// A scheme that does not go with the attributes.
     Scheme,
-}
-
-fn is_policy_size(template: &Public) -> bool
-    ensures { result ≡ is_policy_size template.now }
-{
-    let size = template.auth_policy.len();
-    size == 0 || size == template.name_alg.size()
 }
 
 /// Whether fixedTPM does not go with the parent and with fixedParent.
@@ -77,7 +74,7 @@ fn has_wrong_scheme(parameters: PublicParameters, attributes: ObjectAttributes) 
 pub fn check_template(template: &Public, parent_is_fixed: bool) -> Result<(), TemplateFault>
     ensures { result ≡ template_passes parent_is_fixed template.now }
 {
-    if !is_policy_size(template) {
+    if !is_policy_size(template.name_alg, template.auth_policy.len()) {
         return Err(TemplateFault::AuthPolicySize);
     }
     if has_attribute_conflict(parent_is_fixed, template) {

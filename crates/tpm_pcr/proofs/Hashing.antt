@@ -1,4 +1,5 @@
 -- The values of selected PCRs, joined one by one and bank by bank.
+use Rattle.tpm_bytes.specs.Numbers.{numbers_below}
 use Rattle.std.proofs.Common.{◌≡◌, ℕ, ◌+◌, ◌<◌, Bool, true, false, cond, List, [], ◌∷◌, ◌++◌, add-one, ap, append-nil, append_assoc, filter, get_or, length, map, refl, subst, sym, take, ◌∙◌}
 use Rattle.std.proofs.lemmas.Grind.{flat_map-append}
 use Rattle.std.proofs.lemmas.List.{map-append, take_more}
@@ -10,13 +11,13 @@ use Rattle.tpm_mac.specs.declared.algorithm.HashAlg.{HashAlg}
 use Rattle.tpm_mac.specs.declared.hasher.Hasher.{Hasher}
 use Rattle.tpm_types.specs.Pcr.{is_selected}
 use Rattle.tpm_types.specs.declared.pcr_selection.BankSelection.{BankSelection}
-use Rattle.tpm_pcr.specs.Banks.{all_pcrs, pcr_value, pcrs_below, selected_pcrs, selected_values}
+use Rattle.tpm_pcr.specs.Banks.{all_pcrs, pcr_value, selected_pcrs, selected_values}
 use Rattle.tpm_pcr.specs.Values.{BankValues}
 
 -- the values of a bank's selected PCRs below a number, joined
 abbrev pub text_below : BankValues → BankSelection → ℕ → List ℕ
 text_below all bank n =
-    concat (map (pcr_value all bank.hash) (filter (is_selected bank.select) (pcrs_below n)))
+    concat (map (pcr_value all bank.hash) (filter (is_selected bank.select) (numbers_below n)))
 
 -- the chosen lists and one more, which may be chosen
 joined_cond : (f : ℕ → List ℕ) (front : List ℕ) (n : ℕ) (b : Bool)
@@ -33,8 +34,8 @@ text_below_more : (all : BankValues) (bank : BankSelection) (n : ℕ)
     → text_below all bank (n + 1) ≡ text_below all bank n ++ cond (is_selected bank.select n) (pcr_value all bank.hash n) []
 text_below_more all bank n =
     ap (text_below all bank) (add-one n)
-    ∙ ap (λ (pcrs : List ℕ). concat (map (pcr_value all bank.hash) pcrs)) (filter-append (is_selected bank.select) (pcrs_below n) (n ∷ []))
-    ∙ joined_cond (pcr_value all bank.hash) (filter (is_selected bank.select) (pcrs_below n)) n (is_selected bank.select n)
+    ∙ ap (λ (pcrs : List ℕ). concat (map (pcr_value all bank.hash) pcrs)) (filter-append (is_selected bank.select) (numbers_below n) (n ∷ []))
+    ∙ joined_cond (pcr_value all bank.hash) (filter (is_selected bank.select) (numbers_below n)) n (is_selected bank.select n)
 
 -- all of a bank's selected PCRs are those below 24
 text_below_all : (all : BankValues) (bank : BankSelection)

@@ -1,4 +1,5 @@
 -- The values of the selection that a read answers are the values that it read.
+use Rattle.tpm_bytes.specs.Numbers.{numbers_below}
 use Rattle.std.proofs.Common.{◌≡◌, ℕ, zero, suc, ◌-◌, ◌^◌, ◌<◌, ◌≤◌, ◌==◌, Bool, true, false, cond, List, [], ◌∷◌, ◌++◌, length, max, take, map, filter, refl, ap, sym, subst, ◌∙◌, arith, add-one, append-nil}
 use Rattle.std.proofs.lemmas.List.{take-map, length-map}
 use Rattle.std.proofs.lemmas.List.Elements.{filter-append}
@@ -9,7 +10,7 @@ use Rattle.std.specs.List.{flat_map}
 use Rattle.tpm_pcr.specs.Values.{BankValues}
 use Rattle.tpm_types.specs.declared.pcr_selection.BankSelection.{BankSelection}
 use Rattle.tpm_types.specs.Pcr.{is_selected, with_pcr}
-use Rattle.tpm_pcr.specs.Banks.{all_pcrs, answer_selection, pcr_value, pcrs_below, read_values, select_with, selected_pcrs, selected_values}
+use Rattle.tpm_pcr.specs.Banks.{all_pcrs, answer_selection, pcr_value, read_values, select_with, selected_pcrs, selected_values}
 use Rattle.tpm_pcr.proofs.Reading.{chosen_more, read_values-nil, take-append}
 
 -- a PCR is selected once it is added, and no other one changes
@@ -22,21 +23,21 @@ added_there : (select n k : ℕ) → (k ≡ n → ⊥) → bit_at (with_pcr sele
 added_there select n k other = bit_at_or select (2 ^ n) k ∙ ap (max (bit_at select k)) (bit_at-pow_other n k other) ∙ omega arith
 
 -- two tests that agree below a number choose the same PCRs there
-chosen_same : (p q : ℕ → Bool) (n : ℕ) → ((k : ℕ) → k < n → p k ≡ q k) → filter p (pcrs_below n) ≡ filter q (pcrs_below n)
+chosen_same : (p q : ℕ → Bool) (n : ℕ) → ((k : ℕ) → k < n → p k ≡ q k) → filter p (numbers_below n) ≡ filter q (numbers_below n)
 chosen_same p q zero same = refl
 chosen_same p q (suc n) same =
-    filter-append p (pcrs_below n) (n ∷ [])
+    filter-append p (numbers_below n) (n ∷ [])
     ∙ ap (λ l. l ++ cond (p n) (n ∷ []) []) (chosen_same p q n (λ k below. same k (omega arith)))
-    ∙ ap (λ b. filter q (pcrs_below n) ++ cond b (n ∷ []) []) (same n (omega arith))
-    ∙ sym (filter-append q (pcrs_below n) (n ∷ []))
+    ∙ ap (λ b. filter q (numbers_below n) ++ cond b (n ∷ []) []) (same n (omega arith))
+    ∙ sym (filter-append q (numbers_below n) (n ∷ []))
 
 -- a number selects just these PCRs, all of them below n
 abbrev SelectsJust : ℕ → ℕ → List ℕ → Type 0
-SelectsJust n select pcrs = (filter (is_selected select) (pcrs_below n) ≡ pcrs) × ((k : ℕ) → n ≤ k → bit_at select k ≡ 0)
+SelectsJust n select pcrs = (filter (is_selected select) (numbers_below n) ≡ pcrs) × ((k : ℕ) → n ≤ k → bit_at select k ≡ 0)
 
 just_added : (n select : ℕ) (pcrs : List ℕ) → SelectsJust n select pcrs → SelectsJust (suc n) (with_pcr select n) (pcrs ++ n ∷ [])
 just_added n select pcrs just = (
-  filter-append (is_selected (with_pcr select n)) (pcrs_below n) (n ∷ [])
+  filter-append (is_selected (with_pcr select n)) (numbers_below n) (n ∷ [])
       ∙ ap (λ l. l ++ cond (is_selected (with_pcr select n) n) (n ∷ []) []) (chosen_same _ _ n (λ k below. ap (λ b. b == 1) (added_there select n k (λ e. omega arith))) ∙ just.0)
       ∙ ap (λ b. pcrs ++ cond (b == 1) (n ∷ []) []) (added_here select n),
   λ k above. added_there select n k (λ e. omega arith) ∙ just.1 k (omega arith),
@@ -44,8 +45,8 @@ just_added n select pcrs just = (
 
 just_kept : (n select : ℕ) (pcrs : List ℕ) → SelectsJust n select pcrs → SelectsJust (suc n) select pcrs
 just_kept n select pcrs just = (
-  filter-append (is_selected select) (pcrs_below n) (n ∷ [])
-      ∙ ap (λ b. filter (is_selected select) (pcrs_below n) ++ cond (b == 1) (n ∷ []) []) (just.1 n (omega arith))
+  filter-append (is_selected select) (numbers_below n) (n ∷ [])
+      ∙ ap (λ b. filter (is_selected select) (numbers_below n) ++ cond (b == 1) (n ∷ []) []) (just.1 n (omega arith))
       ∙ append-nil _
       ∙ just.0,
   λ k above. just.1 k (omega arith),
@@ -56,12 +57,12 @@ just_one_more n pcrs true just = subst (λ s. SelectsJust (suc n) s (pcrs ++ n �
 just_one_more n pcrs false just = just_kept n (select_with pcrs) pcrs just
 
 -- the first few of the chosen PCRs
-just_first : (p : ℕ → Bool) (room n : ℕ) → SelectsJust n (select_with (take room (filter p (pcrs_below n)))) (take room (filter p (pcrs_below n)))
+just_first : (p : ℕ → Bool) (room n : ℕ) → SelectsJust n (select_with (take room (filter p (numbers_below n)))) (take room (filter p (numbers_below n)))
 just_first p zero zero = (refl, λ k above. bit_at-zero k)
 just_first p (suc room) zero = (refl, λ k above. bit_at-zero k)
 just_first p room (suc n) =
-    let is : take room (filter p (pcrs_below (suc n))) ≡ _ = ap (λ k. take room (filter p (pcrs_below k))) (sym (add-one n)) ∙ chosen_more p n room in
-    subst (λ l. SelectsJust (suc n) (select_with l) l) (sym is) (just_one_more n (take room (filter p (pcrs_below n))) _ (just_first p room n))
+    let is : take room (filter p (numbers_below (suc n))) ≡ _ = ap (λ k. take room (filter p (numbers_below k))) (sym (add-one n)) ∙ chosen_more p n room in
+    subst (λ l. SelectsJust (suc n) (select_with l) l) (sym is) (just_one_more n (take room (filter p (numbers_below n))) _ (just_first p room n))
 
 -- the first few PCRs of a bank's selection, selected again
 pub selected_first : (room : ℕ) (bank : BankSelection) → selected_pcrs (record bank { select = select_with (take room (selected_pcrs bank)) }) ≡ take room (selected_pcrs bank)

@@ -1,4 +1,5 @@
 -- Reading PCRs one by one, and bank by bank.
+use Rattle.tpm_bytes.specs.Numbers.{numbers_below}
 use Rattle.std.proofs.Common.{◌≡◌, ℕ, ◌+◌, ◌-◌, ◌<◌, ◌≤◌, Bool, true, false, ◌&&◌, cond, nat_lt, List, [], ◌∷◌, ◌++◌, length, get_or, drop, min, take, map, filter, refl, ap, sym, ◌∙◌, arith, add-one, append_assoc, append-nil, length-append, length-take}
 use Rattle.std.proofs.Math.Seq.{take-append-add}
 use Rattle.std.proofs.lemmas.List.{drop_more, take-append-le, take_all, map-append, length-map}
@@ -9,7 +10,7 @@ use Rattle.std.specs.List.{flat_map}
 use Rattle.tpm_pcr.specs.Values.{BankValues}
 use Rattle.tpm_types.specs.declared.pcr_selection.BankSelection.{BankSelection}
 use Rattle.tpm_types.specs.Pcr.{is_selected, with_pcr}
-use Rattle.tpm_pcr.specs.Banks.{all_pcrs, answer_selection, pcr_value, pcrs_below, read_values, select_with, selected_pcrs, selected_values}
+use Rattle.tpm_pcr.specs.Banks.{all_pcrs, answer_selection, pcr_value, read_values, select_with, selected_pcrs, selected_values}
 
 lt_true : (a b : ℕ) → nat_lt a b ≡ true → a < b
 lt_true a b e = grind (arith, nat_tests)
@@ -20,7 +21,7 @@ le_false a b e = grind (arith, nat_tests)
 lt_false : (a b : ℕ) → nat_lt a b ≡ false → a < b → ⊥
 lt_false a b e below = let above : b ≤ a = grind (arith, nat_tests) in absurd (omega arith)
 
--- one more behind the first few, with room for it and without
+-- one more after the first few, with room for it and without
 take_push_room : {X : Type 0} (room : ℕ) (xs : List X) (x : X) → nat_lt (length xs) room ≡ true → take room (xs ++ x ∷ []) ≡ take room xs ++ x ∷ []
 take_push_room room xs x e =
     let below : length xs < room = grind (arith, nat_tests) in
@@ -44,18 +45,18 @@ same_test a b c d false false e f h k = refl
 same_test a b c d true false e f h k = absurd (lt_false c d f (h (lt_true a b e)))
 same_test a b c d false true e f h k = absurd (lt_false a b e (k (lt_true c d f)))
 
--- room for one more among eight, behind some and the first few of others
+-- room for one more among eight, after some and the first few of others
 pub room_left : (old k : ℕ) → nat_lt (old + min (8 - old) k) 8 ≡ nat_lt k (8 - old)
 room_left old k = same_test (old + min (8 - old) k) 8 k (8 - old) _ _ refl refl (λ h. omega arith) (λ h. omega arith)
 
 -- the PCRs below a number that are chosen, the first few of them, and one PCR more
-chosen_by : (p : ℕ → Bool) (n room : ℕ) (b : Bool) → p n ≡ b → take room (filter p (pcrs_below (n + 1))) ≡ cond (b && nat_lt (length (filter p (pcrs_below n))) room) (take room (filter p (pcrs_below n)) ++ n ∷ []) (take room (filter p (pcrs_below n)))
+chosen_by : (p : ℕ → Bool) (n room : ℕ) (b : Bool) → p n ≡ b → take room (filter p (numbers_below (n + 1))) ≡ cond (b && nat_lt (length (filter p (numbers_below n))) room) (take room (filter p (numbers_below n)) ++ n ∷ []) (take room (filter p (numbers_below n)))
 chosen_by p n room true e =
-    rw (add-one, filter-append p (pcrs_below n) (n ∷ []), e) (take_push room (filter p (pcrs_below n)) n _ refl)
+    rw (add-one, filter-append p (numbers_below n) (n ∷ []), e) (take_push room (filter p (numbers_below n)) n _ refl)
 chosen_by p n room false e =
-    rw (add-one, filter-append p (pcrs_below n) (n ∷ []), e, append-nil) refl
+    rw (add-one, filter-append p (numbers_below n) (n ∷ []), e, append-nil) refl
 
-pub chosen_more : (p : ℕ → Bool) (n room : ℕ) → take room (filter p (pcrs_below (n + 1))) ≡ cond (p n && nat_lt (length (filter p (pcrs_below n))) room) (take room (filter p (pcrs_below n)) ++ n ∷ []) (take room (filter p (pcrs_below n)))
+pub chosen_more : (p : ℕ → Bool) (n room : ℕ) → take room (filter p (numbers_below (n + 1))) ≡ cond (p n && nat_lt (length (filter p (numbers_below n))) room) (take room (filter p (numbers_below n)) ++ n ∷ []) (take room (filter p (numbers_below n)))
 chosen_more p n room = chosen_by p n room (p n) refl
 
 select_cond : (b : Bool) (pcrs : List ℕ) (n : ℕ) → cond b (with_pcr (select_with pcrs) n) (select_with pcrs) ≡ select_with (cond b (pcrs ++ n ∷ []) pcrs)
@@ -67,30 +68,30 @@ values_cond true f front pcrs n = append_assoc front (map f pcrs) (f n ∷ []) �
 values_cond false f front pcrs n = refl
 
 -- whether a PCR is read next, by how many values there are
-reads_next : (p : ℕ → Bool) (n pcr old count : ℕ) → pcr ≡ n → count ≡ old + min (8 - old) (length (filter p (pcrs_below n))) → (p pcr && nat_lt count 8) ≡ (p n && nat_lt (length (filter p (pcrs_below n))) (8 - old))
+reads_next : (p : ℕ → Bool) (n pcr old count : ℕ) → pcr ≡ n → count ≡ old + min (8 - old) (length (filter p (numbers_below n))) → (p pcr && nat_lt count 8) ≡ (p n && nat_lt (length (filter p (numbers_below n))) (8 - old))
 reads_next p n pcr old count is counted =
     ap (λ k. p k && nat_lt count 8) is
     ∙ ap (λ k. p n && nat_lt k 8) counted
-    ∙ ap (λ b. p n && b) (room_left old (length (filter p (pcrs_below n))))
+    ∙ ap (λ b. p n && b) (room_left old (length (filter p (numbers_below n))))
 
-pub select_step : (p : ℕ → Bool) (n pcr old count select : ℕ) → pcr ≡ n → count ≡ old + min (8 - old) (length (filter p (pcrs_below n))) → select ≡ select_with (take (8 - old) (filter p (pcrs_below n))) → cond (p pcr && nat_lt count 8) (with_pcr select pcr) select ≡ select_with (take (8 - old) (filter p (pcrs_below (n + 1))))
+pub select_step : (p : ℕ → Bool) (n pcr old count select : ℕ) → pcr ≡ n → count ≡ old + min (8 - old) (length (filter p (numbers_below n))) → select ≡ select_with (take (8 - old) (filter p (numbers_below n))) → cond (p pcr && nat_lt count 8) (with_pcr select pcr) select ≡ select_with (take (8 - old) (filter p (numbers_below (n + 1))))
 select_step p n pcr old count select is counted so =
-    rw (reads_next p n pcr old count is counted, is, so, chosen_more p n (8 - old)) (select_cond _ (take (8 - old) (filter p (pcrs_below n))) n)
+    rw (reads_next p n pcr old count is counted, is, so, chosen_more p n (8 - old)) (select_cond _ (take (8 - old) (filter p (numbers_below n))) n)
 
-pub values_step : (p : ℕ → Bool) (f : ℕ → List ℕ) (n pcr old count : ℕ) (front values : List (List ℕ)) → pcr ≡ n → count ≡ old + min (8 - old) (length (filter p (pcrs_below n))) → values ≡ front ++ map f (take (8 - old) (filter p (pcrs_below n))) → cond (p pcr && nat_lt count 8) (values ++ f pcr ∷ []) values ≡ front ++ map f (take (8 - old) (filter p (pcrs_below (n + 1))))
+pub values_step : (p : ℕ → Bool) (f : ℕ → List ℕ) (n pcr old count : ℕ) (front values : List (List ℕ)) → pcr ≡ n → count ≡ old + min (8 - old) (length (filter p (numbers_below n))) → values ≡ front ++ map f (take (8 - old) (filter p (numbers_below n))) → cond (p pcr && nat_lt count 8) (values ++ f pcr ∷ []) values ≡ front ++ map f (take (8 - old) (filter p (numbers_below (n + 1))))
 values_step p f n pcr old count front values is counted so =
-    rw (reads_next p n pcr old count is counted, is, so, chosen_more p n (8 - old)) (values_cond _ f front (take (8 - old) (filter p (pcrs_below n))) n)
+    rw (reads_next p n pcr old count is counted, is, so, chosen_more p n (8 - old)) (values_cond _ f front (take (8 - old) (filter p (numbers_below n))) n)
 
 -- how many values there are then
-pub values_count : (p : ℕ → Bool) (f : ℕ → List ℕ) (n old count : ℕ) (front values : List (List ℕ)) → length front ≡ old → length values ≡ count → values ≡ front ++ map f (take (8 - old) (filter p (pcrs_below n))) → count ≡ old + min (8 - old) (length (filter p (pcrs_below n)))
+pub values_count : (p : ℕ → Bool) (f : ℕ → List ℕ) (n old count : ℕ) (front values : List (List ℕ)) → length front ≡ old → length values ≡ count → values ≡ front ++ map f (take (8 - old) (filter p (numbers_below n))) → count ≡ old + min (8 - old) (length (filter p (numbers_below n)))
 values_count p f n old count front values before after so =
     sym after
     ∙ ap length so
-    ∙ length-append front (map f (take (8 - old) (filter p (pcrs_below n))))
+    ∙ length-append front (map f (take (8 - old) (filter p (numbers_below n))))
     ∙ rw (length-map, length-take, before) refl
 
 -- all PCRs that are selected are those below 24
-pub selected_pcrs-is : (bank : BankSelection) (n : ℕ) → n ≡ 24 → selected_pcrs bank ≡ filter (is_selected bank.select) (pcrs_below n)
+pub selected_pcrs-is : (bank : BankSelection) (n : ℕ) → n ≡ 24 → selected_pcrs bank ≡ filter (is_selected bank.select) (numbers_below n)
 unfolding selected_pcrs all_pcrs
 selected_pcrs-is bank n e = rw e refl
 
@@ -113,11 +114,11 @@ take_by room xs ys false e = let above : room ≤ length xs = le_false (length x
 pub take-append : {X : Type 0} (room : ℕ) (xs ys : List X) → take room (xs ++ ys) ≡ take room xs ++ take (room - length xs) ys
 take-append room xs ys = take_by room xs ys _ refl
 
--- the room behind the first few
+-- the room after the first few
 pub room_after : (old new k : ℕ) → new ≡ old + min (8 - old) k → 8 - new ≡ (8 - old) - k
 room_after old new k e = omega arith
 
--- one bank more is answered, and what is left is answered behind it
+-- one bank more is answered, and what is left is answered after it
 pub answered_more : (room after i : ℕ) (banks front : List BankSelection) (bank : BankSelection) (select : ℕ) → i < length banks → bank ≡ get_or banks i bank → select ≡ select_with (take room (selected_pcrs bank)) → after ≡ room - length (selected_pcrs bank) → (front ++ record bank { select = select } ∷ []) ++ answer_selection after (drop (i + 1) banks) ≡ front ++ answer_selection room (drop i banks)
 answered_more room after i banks front bank select below is kept left =
     append_assoc front _ _
@@ -128,7 +129,7 @@ answered_more room after i banks front bank select below is kept left =
     ∙ sym (ap (answer_selection room) (drop_more banks i bank below))
     )
 
--- its values are read, and what is left is read behind them
+-- its values are read, and what is left is read after them
 pub read_more : (all : BankValues) (room after i : ℕ) (banks : List BankSelection) (bank : BankSelection) (front : List (List ℕ)) → i < length banks → bank ≡ get_or banks i bank → after ≡ room - length (selected_pcrs bank) → (front ++ take room (selected_values all bank)) ++ read_values all after (drop (i + 1) banks) ≡ front ++ read_values all room (drop i banks)
 unfolding read_values
 read_more all room after i banks bank front below is left =

@@ -1,5 +1,6 @@
 -- PCR banks. TPM 2.0 Library, Part 1, section 17, and Part 3, section 22.4 (TPM2_PCR_Read); how
 -- many PCRs there are and what each starts with, as in the PC Client Platform TPM Profile.
+use Rattle.tpm_bytes.specs.Numbers.{numbers_below}
 use Rattle.std.specs.Prelude.{ℕ, zero, suc, ◌-◌, nat_le, ◌&&◌, if◌then◌else◌, List, [], ◌∷◌, ◌++◌}
 use Rattle.std.specs.Prelude.{length, take, map, filter, fold, replicate, slice_index_or}
 use Rattle.std.specs.List.{concat, flat_map}
@@ -10,14 +11,9 @@ use Rattle.tpm_types.specs.declared.pcr_selection.BankSelection.{BankSelection}
 use Rattle.tpm_types.specs.Pcr.{is_selected, with_pcr}
 use Rattle.tpm_pcr.specs.Values.{BankValues}
 
--- the PCRs below a number, ascending
-abbrev pub pcrs_below : ℕ → List ℕ
-pcrs_below zero = []
-pcrs_below (suc n) = pcrs_below n ++ n ∷ []
-
 -- the PCRs of a bank
 unfoldable pub all_pcrs : List ℕ
-all_pcrs = pcrs_below 24
+all_pcrs = numbers_below 24
 
 -- a PCR starts with all ones from 17 to 22, until a dynamic launch, and else with zeros
 abbrev pub starting_value : HashAlg → ℕ → List ℕ
@@ -57,7 +53,7 @@ unfoldable pub read_values : BankValues → ℕ → List BankSelection → List 
 read_values banks room selection = take room (flat_map (selected_values banks) selection)
 
 -- the selection of just the values that read_values gives: each bank keeps the first PCRs that
--- there is room for, and takes that room, down to none, from the banks behind it; a bank with none
+-- there is room for, and takes that room, down to none, from the banks after it; a bank with none
 -- left stays in the list
 abbrev pub answer_selection : ℕ → List BankSelection → List BankSelection
 answer_selection room [] = []

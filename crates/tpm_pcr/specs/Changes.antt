@@ -60,8 +60,8 @@ with_extension pcr banks digest =
     let hash = hash_of_value digest in
     with_value hash pcr (hash_of hash (pcr_value banks hash pcr ++ digest_of digest)) banks
 
--- a change of so many values is refused where the PCR's locality forbids it, and where the count of
--- updates would pass 2^64 - 1
+-- a change of this many values is refused where the PCR's locality forbids it, and where the count
+-- of updates would pass 2^64 - 1
 abbrev pub change_check : Bool → ℕ → BankValues → Result (Unit {0}) ChangeFault
 change_check may updates banks = do
   locality ← refused_if (not may) fault.Locality
@@ -95,7 +95,7 @@ abbrev pub Changes : Result BankValues ChangeFault
 Changes change old (Ok u) new = change ≡ Ok new
 Changes change old (Err e) new = (change ≡ Err e) × (new ≡ old)
 
--- The same of a change that answers digests.
+-- A change did what it should, and answered these digests; a refusal changes nothing.
 abbrev pub Answers : List DigestValue → Result BankValues ChangeFault
     → BankValues → Result DigestValues ChangeFault → BankValues → Type 0
 Answers digests change old (Ok answer) new = (change ≡ Ok new) × (answer.values.items ≡ digests)

@@ -1,6 +1,6 @@
--- What TPM2_Shutdown(STATE) saves of the PCRs, and TPM2_Startup(STATE) restores: the values of those
--- that measure the start of the platform. TPM 2.0 Library, Part 1, section 12.2.3, and Part 3,
--- sections 9.3 and 9.4; which PCRs these are is the PC Client Platform TPM Profile's.
+-- What TPM2_Shutdown(STATE) saves of the PCRs, and TPM2_Startup(STATE) restores: the values of
+-- those that measure the start of the platform. TPM 2.0 Library, Part 1, section 12.2.3, and Part
+-- 3, sections 9.3 and 9.4; which PCRs these are is the PC Client Platform TPM Profile's.
 use Rattle.std.specs.Prelude.{◌≡◌, ℕ, ◌++◌, List, length, take, drop, replicate}
 use Rattle.std.specs.List.{All}
 use Rattle.tpm_pcr.specs.Values.{BankValues}

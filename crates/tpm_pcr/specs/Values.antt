@@ -2,14 +2,14 @@
 use Rattle.std.specs.Prelude.{◌≡◌, ℕ, ◌<◌, ◌^◌, List, length}
 use Rattle.std.specs.List.{All}
 
--- the values of the PCRs 0 to 23 in each bank, and the update counter: how often a value was written,
--- or TPM2_Clear was counted
+-- the values of the PCRs 0 to 23 in each bank, and the update counter: how often a value was
+-- written, or TPM2_Clear was counted
 pub record BankValues : Type 0 where
   pub sha1 : List (List ℕ)
   pub sha256 : List (List ℕ)
   pub update_count : ℕ
 
--- a bank has 24 values of so many bytes
+-- a bank has 24 values of this many bytes
 abbrev pub IsBank : ℕ → List (List ℕ) → Type 0
 IsBank size values = (length values ≡ 24) × All (λ value. length value ≡ size) values
 

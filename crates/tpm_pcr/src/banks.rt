@@ -1,3 +1,6 @@
+//! The PCR banks: the value of each PCR by each hash algorithm, the update counter, and how
+//! values are read, hashed, saved and restored.
+
 ghost use Rattle.std.specs.Prelude.{◌≡◌, ◌+◌, ◌-◌, [], ◌∷◌, ◌++◌, ◌&&◌, nat_lt, if◌then◌else◌};
 ghost use Rattle.std.specs.Prelude.{◌<◌, ◌^◌, length, take, replicate};
 ghost use Rattle.std.specs.List.{concat, flat_map};
@@ -61,7 +64,8 @@ impl Banks {
         }
     }
 
-    /// The update counter: how many bank values were written since the last TPM2_Startup.
+    /// The update counter: how many bank values were written since the last TPM2_Startup, with one
+    /// more for each TPM2_Clear.
     pub fn update_count(&self) -> u64
         ensures value { result ≡ self.now.update_count }
         // Each bank has 24 values of its digests' size.

@@ -1,3 +1,6 @@
+//! The changes of PCRs by commands, extend, event and reset, and from which localities each PCR
+//! allows them (TPM 2.0 Library, Part 1, section 17).
+
 ghost use Rattle.std.specs.Prelude.{◌≡◌, ◌+◌, ◌-◌, ◌<◌, ◌^◌, ◌++◌};
 ghost use Rattle.std.specs.Prelude.{List, ℕ, [], ◌∷◌, fold, length, replicate};
 ghost use Rattle.tpm_mac.specs.Digest.{digest_size, hash_of};

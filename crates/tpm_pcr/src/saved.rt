@@ -1,3 +1,5 @@
+//! The values of the PCRs 0 to 15, as TPM2_Shutdown(STATE) saves them for TPM2_Startup(STATE).
+
 ghost use Rattle.std.specs.Prelude.{◌≡◌, ◌<◌, slice_set};
 ghost use Rattle.tpm_pcr.specs.Saved.{IsSavedBank};
 

@@ -10,11 +10,11 @@ use Rattle.tpm_policy.specs.Comparison.{signed_number, unsigned_number}
 abbrev pub AreBytes : List ℕ → Type 0
 AreBytes bytes = (i : ℕ) → slice_index bytes i < 256
 
--- the number that bytes spell behind those of another
+-- the number that bytes spell after those of another
 abbrev number_after : ℕ → List ℕ → ℕ
 number_after n bytes = number_from_digits_after 256 n bytes
 
--- behind the lesser of two numbers it stays the lesser
+-- after the lesser of two numbers it stays the lesser
 number_after_lt : (m n : ℕ) (xs ys : List ℕ) → length xs ≡ length ys → AreBytes xs → m < n
     → number_after m xs < number_after n ys
 number_after_lt m n [] [] same fit less = less
@@ -30,7 +30,7 @@ is_less [] others = false
 is_less (byte ∷ bytes) [] = false
 is_less (byte ∷ bytes) (other ∷ others) = nat_lt byte other || (byte == other && is_less bytes others)
 
--- one step of it, behind the same number
+-- one step of it, after the same number
 step_is : (m x y : ℕ) (xs ys : List ℕ) (lt eq : Bool) → length xs ≡ length ys
     → AreBytes xs → AreBytes ys
     → ((n : ℕ) → nat_lt (number_after n xs) (number_after n ys) ≡ is_less xs ys)
@@ -148,14 +148,14 @@ signed_by x y xs ys false true same fit fits is_below are_below =
     let differ : (raised x == raised y) ≡ false = ne_eqb _ _ (λ h. omega (arith, h)) in
     rw (is_below, are_below, below_zero _ _ other, less, differ) refl
 
--- what stands behind the first byte
+-- what stands after the first byte
 abbrev rest_of : List ℕ → List ℕ
 rest_of bytes = take (length bytes - 1) (drop 1 bytes)
 
 rest_is : (x : ℕ) (xs : List ℕ) → rest_of (x ∷ xs) ≡ xs
 rest_is x xs = let size : length (x ∷ xs) - 1 ≡ length xs = omega arith in rw (size) (take-length xs)
 
--- the texts behind the first bytes have one size too
+-- the texts after the first bytes have one size too
 pub rest-length : (bytes others : List ℕ) → length bytes ≡ length others
     → length (rest_of bytes) ≡ length (rest_of others)
 rest-length bytes others same = simp (length-take, length-drop, same) refl

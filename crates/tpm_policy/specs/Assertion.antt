@@ -1,8 +1,11 @@
 -- The assertions of policies. TPM 2.0 Library, Part 3, section 23, and Part 1, section 19.7: each
--- changes the policy digest, and most record what is compared when the session authorizes. In a trial
--- session TPM2_PolicyPCR compares nothing with the PCRs, TPM2_PolicyOR nothing with the digest so
--- far, TPM2_PolicySecret nothing with nonceTPM and a recorded cpHash, and TPM2_PolicyNV nothing with
--- the index. The order of the checks is this device's own.
+-- changes the policy digest, and most record what is compared when the session authorizes. In a
+-- trial session TPM2_PolicyPCR compares nothing with the PCRs, TPM2_PolicyOR nothing with the
+-- digest so far, TPM2_PolicySecret nothing with nonceTPM and a recorded cpHash, and TPM2_PolicyNV
+-- nothing with the index. The order of the checks is this device's own.
+use Rattle.tpm_types_command.specs.declared.command_code.CommandCode.{CommandCode as ServedCommand}
+use Rattle.tpm_types_command.specs.CommandCode.{code_number, is_served}
+use Rattle.tpm_types_command.specs.declared.command_code.CommandCode.TheVariants as served
 use Rattle.std.specs.Prelude.{◌≡◌, ℕ, ◌==◌, ◌&&◌, ◌||◌, not, nat_lt, bit_and, if◌then◌else◌}
 use Rattle.std.specs.Prelude.{Bool, true, false, List, [], ◌∷◌, ◌++◌, length, replicate}
 use Rattle.std.specs.Prelude.{Option, Some, None, Result, Ok, Err}
@@ -14,21 +17,15 @@ use Rattle.tpm_bytes.specs.Reading.{◌>>=◌, refused_if}
 use Rattle.tpm_mac.specs.Digest.{digest_size, hash_of}
 use Rattle.tpm_mac.specs.declared.algorithm.HashAlg.{HashAlg}
 use Rattle.tpm_types.specs.Buffer.{is_given}
-use Rattle.tpm_types.specs.CommandNumber.{is_command_number, policy_auth_value, policy_command_code}
-use Rattle.tpm_types.specs.CommandNumber.{policy_locality, policy_nv, policy_or, policy_pcr, policy_secret}
 use Rattle.tpm_types.specs.Operation.{operation_number}
 use Rattle.tpm_types.specs.PcrSelection.{selection_text}
-use Rattle.tpm_types.specs.Rc.{at, plain}
-use Rattle.tpm_types.specs.declared.action_check.ActionCheck.{ActionCheck}
+use Rattle.tpm_types.specs.ActionFault.{parameter_fault, plain_fault}
 use Rattle.tpm_types.specs.declared.action_check.ActionCheck.TheVariants as action
 use Rattle.tpm_types.specs.declared.operation.Operation.{Operation}
-use Rattle.tpm_types.specs.declared.rc.Place.TheVariants as place
-use Rattle.tpm_types.specs.declared.rc.Rc.{Rc}
-use Rattle.tpm_types.specs.declared.rc.ResponseCode.{ResponseCode}
 use Rattle.tpm_types.specs.declared.rc.ResponseCode.TheVariants as code
 use Rattle.tpm_policy.specs.Comparison.{compares}
 use Rattle.tpm_policy.specs.State.{Policy}
-use Rattle.tpm_policy.specs.declared.fault.PolicyFault.{PolicyFault}
+use Rattle.tpm_types.specs.declared.action_fault.ActionFault.{ActionFault}
 use Rattle.tpm_policy.specs.declared.nv.NvAssertion.{NvAssertion}
 use Rattle.tpm_policy.specs.declared.pcr.PcrAssertion.{PcrAssertion}
 use Rattle.tpm_policy.specs.declared.secret.SecretAssertion.{SecretAssertion}
@@ -60,7 +57,7 @@ pub record NvParts : Type 0 where
   pub operand : List ℕ
   pub offset : ℕ
   pub operation : Operation
-  pub compared : Result (List ℕ) PolicyFault
+  pub compared : Result (List ℕ) ActionFault
 
 -- the same, wherever its bytes lie in memory
 abbrev pub pcr_parts : PcrAssertion → PcrParts
@@ -81,7 +78,7 @@ secret_parts asserted = record {
   expiration = asserted.expiration;
 }
 
-abbrev pub compared_bytes : Result (Bor (List ℕ)) PolicyFault → Result (List ℕ) PolicyFault
+abbrev pub compared_bytes : Result (Bor (List ℕ)) ActionFault → Result (List ℕ) ActionFault
 compared_bytes (Ok bytes) = Ok bytes.now
 compared_bytes (Err fault) = Err fault
 
@@ -105,13 +102,6 @@ pub data Assertion : Type 0 where
   Secret : SecretParts → Assertion
   Nv : NvParts → Assertion
 
--- a fault of a check, with no place, or in a parameter
-abbrev pub fault_of : ActionCheck → Rc → PolicyFault
-fault_of check rc = record { check = check; rc = rc }
-
-abbrev pub parameter_fault : ActionCheck → ResponseCode → ℕ → PolicyFault
-parameter_fault check code number = fault_of check (at (place.Parameter number) (plain code))
-
 -- whether something else is recorded
 abbrev pub is_other : Option ℕ → ℕ → Bool
 is_other None number = false
@@ -122,9 +112,11 @@ is_other_hash None hash = false
 is_other_hash (Some recorded) hash = not (bytes_eq recorded hash)
 
 -- policyDigest := H(policyDigest || commandCode || what the assertion is about)
-abbrev pub extended : HashAlg → (command : ℕ) → (about : List ℕ) → Policy → Policy
+abbrev pub extended : HashAlg → ServedCommand → (about : List ℕ) → Policy → Policy
 extended hash command about policy =
-    record policy { digest = hash_of hash (policy.digest ++ to_be_bytes w32 command ++ about) }
+    record policy {
+      digest = hash_of hash (policy.digest ++ to_be_bytes w32 (code_number command) ++ about);
+    }
 
 -- TPM2_PolicyPCR (section 23.7): the digest of the values is taken, and in a trial session the
 -- given one where one is given
@@ -132,13 +124,13 @@ abbrev pub taken_digest : (trial : Bool) → PcrParts → List ℕ
 taken_digest trial pcr = if trial && is_given pcr.given then pcr.given else pcr.digest
 
 unfoldable pub pcr_asserted : HashAlg → (trial : Bool) → PcrParts
-    → Policy → Result Policy PolicyFault
+    → Policy → Result Policy ActionFault
 pcr_asserted hash trial pcr policy = do
   a1 ← refused_if (not trial && is_other policy.update_count pcr.update_count)
-      (fault_of action.First (plain code.PcrChanged))
+      (plain_fault action.First code.PcrChanged)
   a2 ← refused_if (not trial && is_given pcr.given && not (bytes_eq pcr.given pcr.digest))
-      (parameter_fault action.Second code.Value 1)
-  Ok (record (extended hash policy_pcr (pcr.selection ++ taken_digest trial pcr) policy) {
+      (parameter_fault action.Second 1 code.Value)
+  Ok (record (extended hash served.PolicyPcr (pcr.selection ++ taken_digest trial pcr) policy) {
     update_count = Some pcr.update_count;
   })
 
@@ -146,20 +138,20 @@ pcr_asserted hash trial pcr policy = do
 -- them; what was recorded stays
 unfoldable pub or_digest : HashAlg → (digests : List (List ℕ)) → List ℕ
 or_digest hash digests =
-    hash_of hash (replicate (digest_size hash) 0 ++ to_be_bytes w32 policy_or
+    hash_of hash (replicate (digest_size hash) 0 ++ to_be_bytes w32 (code_number served.PolicyOr)
     ++ flat_map (λ digest. digest) digests)
 
 unfoldable pub or_asserted : HashAlg → (trial : Bool) → (digests : List (List ℕ))
-    → Policy → Result Policy PolicyFault
+    → Policy → Result Policy ActionFault
 or_asserted hash trial digests policy = do
   a1 ← refused_if (not trial && not (list_any (λ digest. bytes_eq digest policy.digest) digests))
-      (parameter_fault action.First code.Value 1)
+      (parameter_fault action.First 1 code.Value)
   Ok (record policy { digest = or_digest hash digests })
 
 -- TPM2_PolicyAuthValue (section 23.17), and TPM2_PolicyPassword (section 23.18), which has the same
 -- digest: they demand the authorization value of the entity, in an HMAC's key or in plain
 abbrev demanding : HashAlg → Demand → Policy → Policy
-demanding hash wanted policy = record (extended hash policy_auth_value [] policy) { demand = wanted }
+demanding hash wanted policy = record (extended hash served.PolicyAuthValue [] policy) { demand = wanted }
 
 unfoldable pub auth_value_asserted : HashAlg → Policy → Policy
 auth_value_asserted hash policy = demanding hash demand.AuthValue policy
@@ -169,41 +161,41 @@ password_asserted hash policy = demanding hash demand.Password policy
 
 -- TPM2_PolicyCommandCode (section 23.11): only this command
 unfoldable pub command_code_asserted : HashAlg → (number : ℕ)
-    → Policy → Result Policy PolicyFault
+    → Policy → Result Policy ActionFault
 command_code_asserted hash number policy = do
-  a1 ← refused_if (is_other policy.command number) (parameter_fault action.First code.Value 1)
-  a2 ← refused_if (not (is_command_number number)) (parameter_fault action.Second code.PolicyCc 1)
-  Ok (record (extended hash policy_command_code (to_be_bytes w32 number) policy) { command = Some number })
+  a1 ← refused_if (is_other policy.command number) (parameter_fault action.First 1 code.Value)
+  a2 ← refused_if (not (is_served number)) (parameter_fault action.Second 1 code.PolicyCc)
+  Ok (record (extended hash served.PolicyCommandCode (to_be_bytes w32 number) policy) { command = Some number })
 
 -- TPM2_PolicyLocality (section 23.8): only those of these localities that were still allowed, of
 -- which there must be one; extended localities, 32 and up, are not served
 unfoldable pub locality_asserted : HashAlg → (localities : ℕ)
-    → Policy → Result Policy PolicyFault
+    → Policy → Result Policy ActionFault
 locality_asserted hash localities policy = do
   a1 ← refused_if
       (localities == 0 || nat_lt 31 localities || bit_and policy.localities localities == 0)
-      (parameter_fault action.First code.Range 1)
-  Ok (record (extended hash policy_locality (localities ∷ []) policy) {
+      (parameter_fault action.First 1 code.Range)
+  Ok (record (extended hash served.PolicyLocality (localities ∷ []) policy) {
     localities = bit_and policy.localities localities;
   })
 
--- TPM2_PolicySecret (section 23.4): policyRef is hashed behind the rest, also where it is empty. No
+-- TPM2_PolicySecret (section 23.4): policyRef is hashed after the rest, also where it is empty. No
 -- policy expires: expiration must be 0, in a trial session too, and cpHashA is checked for its size
 -- in one too (this device's own)
 abbrev pub secret_digest : HashAlg → (digest name reference : List ℕ) → List ℕ
 secret_digest hash digest name reference =
-    hash_of hash (hash_of hash (digest ++ to_be_bytes w32 policy_secret ++ name) ++ reference)
+    hash_of hash (hash_of hash (digest ++ to_be_bytes w32 (code_number served.PolicySecret) ++ name) ++ reference)
 
 unfoldable pub secret_asserted : HashAlg → (trial : Bool) → SecretParts
-    → Policy → Result Policy PolicyFault
+    → Policy → Result Policy ActionFault
 secret_asserted hash trial secret policy = do
-  a1 ← refused_if (not (secret.expiration == 0)) (parameter_fault action.First code.Value 4)
+  a1 ← refused_if (not (secret.expiration == 0)) (parameter_fault action.First 4 code.Value)
   a2 ← refused_if (is_given secret.cp_hash && not (length secret.cp_hash == digest_size hash))
-      (parameter_fault action.Second code.Size 2)
+      (parameter_fault action.Second 2 code.Size)
   a3 ← refused_if (not trial && is_given secret.nonce && not (bytes_eq secret.nonce secret.nonce_tpm))
-      (parameter_fault action.Third code.Nonce 1)
+      (parameter_fault action.Third 1 code.Nonce)
   a4 ← refused_if (not trial && is_given secret.cp_hash && is_other_hash policy.cp_hash secret.cp_hash)
-      (fault_of action.Fourth (plain code.Cphash))
+      (plain_fault action.Fourth code.Cphash)
   Ok (record policy {
     digest = secret_digest hash policy.digest secret.name secret.reference;
     cp_hash = if is_given secret.cp_hash then Some secret.cp_hash else policy.cp_hash;
@@ -211,11 +203,11 @@ secret_asserted hash trial secret policy = do
 
 -- TPM2_PolicyNV (section 23.9): the bytes of the index stand so to the operand; in a trial session
 -- nothing is checked
-abbrev pub nv_compared : (trial : Bool) → NvParts → Result (Unit {0}) PolicyFault
+abbrev pub nv_compared : (trial : Bool) → NvParts → Result (Unit {0}) ActionFault
 nv_compared true nv = Ok tt
 nv_compared false nv = do
   bytes ← nv.compared
-  refused_if (not (compares nv.operation bytes nv.operand)) (fault_of action.Fifth (plain code.Policy))
+  refused_if (not (compares nv.operation bytes nv.operand)) (plain_fault action.Fifth code.Policy)
 
 -- H(operand || offset || operation)
 abbrev pub nv_arguments : HashAlg → NvParts → List ℕ
@@ -224,13 +216,13 @@ nv_arguments hash nv =
     ++ to_be_bytes w16 (operation_number nv.operation))
 
 unfoldable pub nv_asserted : HashAlg → (trial : Bool) → NvParts
-    → Policy → Result Policy PolicyFault
+    → Policy → Result Policy ActionFault
 nv_asserted hash trial nv policy = do
   compared ← nv_compared trial nv
-  Ok (extended hash policy_nv (nv_arguments hash nv ++ nv.name) policy)
+  Ok (extended hash served.PolicyNv (nv_arguments hash nv ++ nv.name) policy)
 
 -- what an assertion makes of a policy, or the first check that refuses it
-abbrev pub asserted : HashAlg → (trial : Bool) → Assertion → Policy → Result Policy PolicyFault
+abbrev pub asserted : HashAlg → (trial : Bool) → Assertion → Policy → Result Policy ActionFault
 asserted hash trial (Pcr pcr) policy = pcr_asserted hash trial pcr policy
 asserted hash trial (Or digests) policy = or_asserted hash trial digests policy
 asserted hash trial AuthValue policy = Ok (auth_value_asserted hash policy)
@@ -241,7 +233,7 @@ asserted hash trial (Secret secret) policy = secret_asserted hash trial secret p
 asserted hash trial (Nv nv) policy = nv_asserted hash trial nv policy
 
 -- An assertion did what it should; a refused one changes nothing.
-abbrev pub Asserts : Result Policy PolicyFault
-    → Policy → Result (Unit {0}) PolicyFault → Policy → Type 0
+abbrev pub Asserts : Result Policy ActionFault
+    → Policy → Result (Unit {0}) ActionFault → Policy → Type 0
 Asserts change old (Ok u) new = change ≡ Ok new
 Asserts change old (Err fault) new = (change ≡ Err fault) × (new ≡ old)

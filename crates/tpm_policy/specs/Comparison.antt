@@ -31,7 +31,7 @@ has_set bytes operand = pointwise (λ byte mask. bit_and byte mask == mask) byte
 abbrev pub has_clear : (bytes operand : List ℕ) → Bool
 has_clear bytes operand = pointwise (λ byte mask. bit_and byte mask == 0) bytes operand
 
--- whether the bytes of the index stand so to an operand of their size
+-- whether the bytes of the index compare so with an operand of their size
 abbrev pub holds : Operation → (bytes operand : List ℕ) → Bool
 holds Equal bytes operand = bytes_eq bytes operand
 holds NotEqual bytes operand = not (bytes_eq bytes operand)
@@ -47,6 +47,6 @@ holds UnsignedLessOrEqual bytes operand = nat_le (unsigned_number bytes) (unsign
 holds BitSet bytes operand = has_set bytes operand
 holds BitClear bytes operand = has_clear bytes operand
 
--- whether the bytes of the index stand so to the operand
+-- whether they do, and have its size
 unfoldable pub compares : Operation → (bytes operand : List ℕ) → Bool
 compares operation bytes operand = length bytes == length operand && holds operation bytes operand

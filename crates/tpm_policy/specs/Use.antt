@@ -1,6 +1,6 @@
 -- The use of a policy session to authorize. TPM 2.0 Library, Part 1, section 19.7, and Part 3,
--- section 5.6 (authorization checks). The order of the checks is this device's own: what was recorded
--- is compared, and then the digest.
+-- section 5.6 (authorization checks). The order of the checks is this device's own: what was
+-- recorded is compared, and then the digest.
 use Rattle.std.specs.Prelude.{ℕ, ◌==◌, ◌&&◌, ◌||◌, not, Bool, false, List, Option, Some, None, is_none, option_map, Result, Ok}
 use Rattle.std.specs.Int.{bit_at}
 use Rattle.std.specs.Str.{bytes_eq}
@@ -59,7 +59,7 @@ parts_of u = record {
   entity = option_map entity_parts u.entity;
 }
 
--- the role of the administrator takes a policy that names the command
+-- the role ADMIN takes a policy that names the command
 abbrev pub lacks_command : Role → Option ℕ → Bool
 lacks_command role.User command = false
 lacks_command role.Admin command = is_none command

@@ -1,3 +1,7 @@
+//! The assertions of a policy that speak of no other part of the device: PolicyOR, PolicyAuthValue,
+//! PolicyPassword, PolicyCommandCode and PolicyLocality.
+
+ghost use Rattle.tpm_types_command.specs.CommandCode.{code_number};
 ghost use Rattle.std.specs.Prelude.{◌≡◌, ◌++◌, ◌≤◌, length, map};
 ghost use Rattle.std.specs.Int.{w32, to_be_bytes};
 ghost use Rattle.std.specs.List.{list_any};
@@ -6,24 +10,22 @@ ghost use Rattle.tpm_mac.specs.Digest.{digest_size, hash_of};
 ghost use Rattle.tpm_types.specs.DigestList.{digests_of};
 ghost use Rattle.tpm_policy.specs.Assertion.{Asserts, auth_value_asserted, command_code_asserted, extended, is_other, locality_asserted, or_asserted, or_digest, password_asserted};
 
-use crate::fault::PolicyFault;
 use crate::state::{Demand, PolicyState};
 use arrayvec::ArrayVec;
 use tpm_bytes::is_equal;
 use tpm_mac::{Digest, HashAlg, digest_parts};
-use tpm_types::{
-    ActionCheck, DigestList, POLICY_AUTH_VALUE, POLICY_COMMAND_CODE, POLICY_LOCALITY, POLICY_OR,
-    ResponseCode, is_command_number,
-};
+use tpm_types::{ActionCheck, ActionFault, DigestList, ResponseCode};
+use tpm_types_command::CommandCode;
 
 /// The most that an assertion of localities may name: 0 to 4, each by its bit.
-const MOST_LOCALITIES: u8 = 31;
+const LOCALITIES_LIMIT: u8 = 31;
 
 /// The hash of a digest, a command code, and what an assertion is about.
-fn extended_digest(hash: HashAlg, digest: &[u8], command: u32, about: &[u8]) -> Digest
-    ensures { result.items ≡ hash_of hash (digest.now ++ to_be_bytes w32 command ++ about.now) }
+fn extended_digest(hash: HashAlg, digest: &[u8], command: CommandCode, about: &[u8]) -> Digest
+    ensures { result.items
+        ≡ hash_of hash (digest.now ++ to_be_bytes w32 (code_number command) ++ about.now) }
 {
-    digest_parts(hash, &[digest, &command.to_be_bytes(), about])
+    digest_parts(hash, &[digest, &command.number().to_be_bytes(), about])
 }
 
 /// Whether the digest is one of these.
@@ -42,7 +44,7 @@ fn or_digest(hash: HashAlg, list: &DigestList) -> Digest
     ensures { result.items ≡ or_digest hash (digests_of list.now.digests.items) }
 {
     let zeros = [0; 32];
-    let code = POLICY_OR.to_be_bytes();
+    let code = CommandCode::PolicyOr.number().to_be_bytes();
     let mut parts: ArrayVec<&[u8], 10> = ArrayVec::new();
     parts.push(&zeros[..hash.size()]);
     parts.push(&code);
@@ -63,7 +65,7 @@ impl PolicyState {
         }
     }
 
-    fn extend(&mut self, hash: HashAlg, command: u32, about: &[u8])
+    fn extend(&mut self, hash: HashAlg, command: CommandCode, about: &[u8])
         ensures { self.new ≡ extended hash command about.now self.old }
     {
         self.digest = extended_digest(hash, self.digest.as_slice(), command, about);
@@ -71,13 +73,13 @@ impl PolicyState {
 
     /// TPM2_PolicyOR: VALUE where the digest is none of these. A trial session takes any.
     #[tactic(auto, unfolding(crate::specs::Assertion::or_asserted))]
-    pub fn or(&mut self, hash: HashAlg, trial: bool, list: &DigestList) -> Result<(), PolicyFault>
+    pub fn or(&mut self, hash: HashAlg, trial: bool, list: &DigestList) -> Result<(), ActionFault>
         ensures { Asserts (or_asserted hash trial (digests_of list.now.digests.items) self.old)
             self.old result self.new }
     {
         if !trial && !is_among(self.digest.as_slice(), list.digests.as_slice()) {
             let check = ActionCheck::First;
-            return Err(PolicyFault::in_parameter(check, ResponseCode::Value, 1));
+            return Err(ActionFault::in_parameter(check, 1, ResponseCode::Value));
         }
         self.digest = or_digest(hash, list);
         Ok(())
@@ -88,7 +90,7 @@ impl PolicyState {
     pub fn auth_value(&mut self, hash: HashAlg)
         ensures { self.new ≡ auth_value_asserted hash self.old }
     {
-        self.extend(hash, POLICY_AUTH_VALUE, &[]);
+        self.extend(hash, CommandCode::PolicyAuthValue, &[]);
         self.demand = Demand::AuthValue;
     }
 
@@ -97,25 +99,25 @@ impl PolicyState {
     pub fn password(&mut self, hash: HashAlg)
         ensures { self.new ≡ password_asserted hash self.old }
     {
-        self.extend(hash, POLICY_AUTH_VALUE, &[]);
+        self.extend(hash, CommandCode::PolicyAuthValue, &[]);
         self.demand = Demand::Password;
     }
 
     /// TPM2_PolicyCommandCode: VALUE where another command is recorded, POLICY_CC where there is no
     /// such command.
     #[tactic(auto, unfolding(crate::specs::Assertion::command_code_asserted))]
-    pub fn command_code(&mut self, hash: HashAlg, number: u32) -> Result<(), PolicyFault>
+    pub fn command_code(&mut self, hash: HashAlg, number: u32) -> Result<(), ActionFault>
         ensures { Asserts (command_code_asserted hash number self.old) self.old result self.new }
     {
         if self.records_other_code(number) {
             let check = ActionCheck::First;
-            return Err(PolicyFault::in_parameter(check, ResponseCode::Value, 1));
+            return Err(ActionFault::in_parameter(check, 1, ResponseCode::Value));
         }
-        if !is_command_number(number) {
+        if !CommandCode::is_served(number) {
             let check = ActionCheck::Second;
-            return Err(PolicyFault::in_parameter(check, ResponseCode::PolicyCc, 1));
+            return Err(ActionFault::in_parameter(check, 1, ResponseCode::PolicyCc));
         }
-        self.extend(hash, POLICY_COMMAND_CODE, &number.to_be_bytes());
+        self.extend(hash, CommandCode::PolicyCommandCode, &number.to_be_bytes());
         self.command = Some(number);
         Ok(())
     }
@@ -123,15 +125,15 @@ impl PolicyState {
     /// TPM2_PolicyLocality: RANGE where no locality is named, an extended one, or none of those
     /// that are left.
     #[tactic(auto, unfolding(crate::specs::Assertion::locality_asserted))]
-    pub fn locality(&mut self, hash: HashAlg, localities: u8) -> Result<(), PolicyFault>
+    pub fn locality(&mut self, hash: HashAlg, localities: u8) -> Result<(), ActionFault>
         ensures { Asserts (locality_asserted hash localities self.old) self.old result self.new }
     {
         let left = self.localities & localities;
-        if localities == 0 || localities > MOST_LOCALITIES || left == 0 {
+        if localities == 0 || localities > LOCALITIES_LIMIT || left == 0 {
             let check = ActionCheck::First;
-            return Err(PolicyFault::in_parameter(check, ResponseCode::Range, 1));
+            return Err(ActionFault::in_parameter(check, 1, ResponseCode::Range));
         }
-        self.extend(hash, POLICY_LOCALITY, &[localities]);
+        self.extend(hash, CommandCode::PolicyLocality, &[localities]);
         self.localities = left;
         Ok(())
     }

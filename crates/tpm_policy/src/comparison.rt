@@ -1,3 +1,6 @@
+//! How TPM2_PolicyNV compares the bytes of an NV index with an operand, as numbers, signed or not,
+//! or bit by bit.
+
 ghost use Rattle.std.specs.Prelude.{◌≡◌, ◌+◌, ◌%◌, int_lt, length, nat_lt};
 ghost use Rattle.tpm_policy.specs.Comparison.{compares, has_clear, has_set, signed_number, unsigned_number};
 

@@ -1,13 +1,15 @@
+//! The assertion of TPM2_PolicyNV, that the data of an NV index compare with an operand as it says.
+
 ghost use Rattle.std.specs.Prelude.{◌≡◌};
 ghost use Rattle.tpm_policy.specs.Assertion as assertion;
 ghost use Rattle.tpm_policy.specs.Assertion.{Asserts, asserted, nv_arguments, nv_compared, nv_parts};
 
 use crate::comparison::compares;
-use crate::fault::PolicyFault;
 use crate::state::PolicyState;
 use tpm_mac::{Digest, HashAlg, digest_parts};
 use tpm_name::Name;
-use tpm_types::{ActionCheck, Operation, POLICY_NV, ResponseCode};
+use tpm_types::{ActionCheck, ActionFault, Operation, ResponseCode};
+use tpm_types_command::CommandCode;
 
 /// What TPM2_PolicyNV is about.
 #[derive(Clone, Copy)]
@@ -19,7 +21,7 @@ pub struct NvAssertion<'a> {
     pub operation: Operation,
     /// As many bytes of the index as the operand has, from the offset on, or why they cannot be
     /// read.
-    pub compared: Result<&'a [u8], PolicyFault>,
+    pub compared: Result<&'a [u8], ActionFault>,
 }
 
 impl NvAssertion<'_> {
@@ -36,7 +38,7 @@ impl NvAssertion<'_> {
 
     /// Refuses bytes that cannot be read, or do not stand so to the operand; in a trial session
     /// nothing.
-    fn check(&self, trial: bool) -> Result<(), PolicyFault>
+    fn check(&self, trial: bool) -> Result<(), ActionFault>
         ensures { result ≡ nv_compared trial (nv_parts self.now) }
     {
         if trial {
@@ -44,10 +46,7 @@ impl NvAssertion<'_> {
         }
         let bytes = self.compared?;
         if !compares(self.operation, bytes, self.operand) {
-            return Err(PolicyFault {
-                check: ActionCheck::Fifth,
-                rc: ResponseCode::Policy.anywhere(),
-            });
+            return Err(ActionFault::plain(ActionCheck::Fifth, ResponseCode::Policy));
         }
         Ok(())
     }
@@ -57,12 +56,12 @@ impl PolicyState {
     /// TPM2_PolicyNV: what refuses the reading of the index, or POLICY where the comparison is
     /// false. A trial session takes any.
     #[tactic(auto, unfolding(crate::specs::Assertion::nv_asserted))]
-    pub fn nv(&mut self, hash: HashAlg, trial: bool, about: &NvAssertion) -> Result<(), PolicyFault>
+    pub fn nv(&mut self, hash: HashAlg, trial: bool, about: &NvAssertion) -> Result<(), ActionFault>
         ensures { Asserts (asserted hash trial (assertion.Nv (nv_parts about.now)) self.old)
             self.old result self.new }
     {
         about.check(trial)?;
-        let code = POLICY_NV.to_be_bytes();
+        let code = CommandCode::PolicyNv.number().to_be_bytes();
         let (digest, arguments) = (self.digest.as_slice(), about.arguments(hash));
         self.digest = digest_parts(
             hash,

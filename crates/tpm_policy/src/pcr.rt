@@ -1,16 +1,19 @@
+//! The assertion of TPM2_PolicyPCR, that selected PCRs have the values of a digest.
+
+ghost use Rattle.tpm_types_command.specs.CommandCode.{code_number};
+ghost use Rattle.tpm_types_command.specs.declared.command_code.CommandCode.TheVariants as served;
 ghost use Rattle.std.specs.Prelude.{◌≡◌, ◌++◌};
 ghost use Rattle.std.specs.Int.{w32, to_be_bytes};
 ghost use Rattle.tpm_mac.specs.Digest.{hash_of};
-ghost use Rattle.tpm_types.specs.CommandNumber.{policy_pcr};
 ghost use Rattle.tpm_types.specs.PcrSelection.{selection_text};
 ghost use Rattle.tpm_policy.specs.Assertion as assertion;
 ghost use Rattle.tpm_policy.specs.Assertion.{Asserts, asserted, is_other, pcr_parts, taken_digest};
 
-use crate::fault::PolicyFault;
 use crate::state::PolicyState;
 use tpm_bytes::{Sink, is_equal};
 use tpm_mac::{Digest, HashAlg, digest_parts};
-use tpm_types::{ActionCheck, POLICY_PCR, PcrSelection, ResponseCode};
+use tpm_types::{ActionCheck, ActionFault, PcrSelection, ResponseCode};
+use tpm_types_command::CommandCode;
 
 /// What TPM2_PolicyPCR is about.
 #[derive(Clone, Copy)]
@@ -20,7 +23,7 @@ pub struct PcrAssertion<'a> {
     pub selection: &'a PcrSelection,
     /// The digest of the values of the selected PCRs.
     pub digest: &'a [u8],
-    /// How often PCRs have been changed.
+    /// The update counter of the PCRs.
     pub update_count: u64,
 }
 
@@ -48,15 +51,16 @@ impl PolicyState {
         }
     }
 
-    /// The policy digest behind the assertion.
+    /// The policy digest after the assertion.
     fn pcr_digest(&self, hash: HashAlg, trial: bool, about: &PcrAssertion) -> Digest
-        ensures { result.items ≡ hash_of hash (self.now.digest ++ to_be_bytes w32 policy_pcr
+        ensures { result.items ≡ hash_of hash
+            (self.now.digest ++ to_be_bytes w32 (code_number served.PolicyPcr)
             ++ (selection_text about.now.selection.now.banks.items
             ++ taken_digest trial (pcr_parts about.now))) }
     {
         let mut selection: Sink<100> = Sink::new();
         let _ = about.selection.write(&mut selection);
-        let code = POLICY_PCR.to_be_bytes();
+        let code = CommandCode::PolicyPcr.number().to_be_bytes();
         let (digest, taken) = (self.digest.as_slice(), about.taken(trial));
         digest_parts(hash, &[digest, &code, selection.as_slice(), taken])
     }
@@ -69,20 +73,17 @@ impl PolicyState {
         hash: HashAlg,
         trial: bool,
         about: &PcrAssertion,
-    ) -> Result<(), PolicyFault>
+    ) -> Result<(), ActionFault>
         ensures { Asserts (asserted hash trial (assertion.Pcr (pcr_parts about.now)) self.old)
             self.old result self.new }
     {
         let (given, digest) = (about.given, about.digest);
         if !trial && self.records_other_count(about.update_count) {
-            return Err(PolicyFault {
-                check: ActionCheck::First,
-                rc: ResponseCode::PcrChanged.anywhere(),
-            });
+            return Err(ActionFault::plain(ActionCheck::First, ResponseCode::PcrChanged));
         }
         if !trial && !given.is_empty() && !is_equal(given, digest) {
             let check = ActionCheck::Second;
-            return Err(PolicyFault::in_parameter(check, ResponseCode::Value, 1));
+            return Err(ActionFault::in_parameter(check, 1, ResponseCode::Value));
         }
         self.digest = self.pcr_digest(hash, trial, about);
         self.update_count = Some(about.update_count);

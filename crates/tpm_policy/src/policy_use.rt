@@ -1,3 +1,6 @@
+//! Whether a policy session authorizes a use of an entity, and what it still demands: the first
+//! condition that does not hold refuses.
+
 ghost use Rattle.std.specs.Prelude.{◌≡◌, ◌==◌, option_map};
 ghost use Rattle.std.specs.Int.{bit_at};
 ghost use Rattle.tpm_types.specs.Locality.{locality_number};
@@ -28,7 +31,7 @@ pub struct Use<'a> {
     pub hash: HashAlg,
     /// Whether the entity can be used now.
     pub available: bool,
-    /// How often PCRs have been changed.
+    /// The update counter of the PCRs.
     pub update_count: u64,
     /// The number of the command.
     pub command: u32,

@@ -1,13 +1,15 @@
+//! The assertion of TPM2_PolicySecret, that the authorization value of an entity is known.
+
 ghost use Rattle.std.specs.Prelude.{◌≡◌};
 ghost use Rattle.tpm_policy.specs.Assertion as assertion;
 ghost use Rattle.tpm_policy.specs.Assertion.{Asserts, asserted, is_other_hash, secret_digest, secret_parts};
 
-use crate::fault::PolicyFault;
-use crate::state::{PolicyState, copied};
-use tpm_bytes::is_equal;
+use crate::state::PolicyState;
+use tpm_bytes::{copied, is_equal};
 use tpm_mac::{Digest, HashAlg, digest_parts};
 use tpm_name::Name;
-use tpm_types::{ActionCheck, POLICY_SECRET, ResponseCode};
+use tpm_types::{ActionCheck, ActionFault, ResponseCode};
+use tpm_types_command::CommandCode;
 
 /// What TPM2_PolicySecret is about. A buffer of no byte gives nothing.
 #[derive(Clone, Copy)]
@@ -25,11 +27,11 @@ pub struct SecretAssertion<'a> {
     pub expiration: u32,
 }
 
-/// The policy digest behind the assertion.
+/// The policy digest after the assertion.
 fn secret_digest(hash: HashAlg, digest: &[u8], name: &Name, reference: &[u8]) -> Digest
     ensures { result.items ≡ secret_digest hash digest.now name.now reference.now }
 {
-    let code = POLICY_SECRET.to_be_bytes();
+    let code = CommandCode::PolicySecret.number().to_be_bytes();
     let first = digest_parts(hash, &[digest, &code, name.as_slice()]);
     digest_parts(hash, &[first.as_slice(), reference])
 }
@@ -54,7 +56,7 @@ impl PolicyState {
         hash: HashAlg,
         trial: bool,
         about: &SecretAssertion,
-    ) -> Result<(), PolicyFault>
+    ) -> Result<(), ActionFault>
         ensures { Asserts
             (asserted hash trial (assertion.Secret (secret_parts about.now)) self.old)
             self.old result self.new }
@@ -62,21 +64,18 @@ impl PolicyState {
         let (cp_hash, nonce) = (about.cp_hash, about.nonce);
         if about.expiration != 0 {
             let check = ActionCheck::First;
-            return Err(PolicyFault::in_parameter(check, ResponseCode::Value, 4));
+            return Err(ActionFault::in_parameter(check, 4, ResponseCode::Value));
         }
         if !cp_hash.is_empty() && cp_hash.len() != hash.size() {
             let check = ActionCheck::Second;
-            return Err(PolicyFault::in_parameter(check, ResponseCode::Size, 2));
+            return Err(ActionFault::in_parameter(check, 2, ResponseCode::Size));
         }
         if !trial && !nonce.is_empty() && !is_equal(nonce, about.nonce_tpm) {
             let check = ActionCheck::Third;
-            return Err(PolicyFault::in_parameter(check, ResponseCode::Nonce, 1));
+            return Err(ActionFault::in_parameter(check, 1, ResponseCode::Nonce));
         }
         if !trial && !cp_hash.is_empty() && self.records_other_hash(cp_hash) {
-            return Err(PolicyFault {
-                check: ActionCheck::Fourth,
-                rc: ResponseCode::Cphash.anywhere(),
-            });
+            return Err(ActionFault::plain(ActionCheck::Fourth, ResponseCode::Cphash));
         }
         let digest = self.digest.as_slice();
         self.digest = secret_digest(hash, digest, about.name, about.reference);

@@ -1,8 +1,12 @@
+//! The state of a policy session: its digest, and what its assertions have recorded (TPM 2.0
+//! Library, Part 1, section 19.7).
+
 ghost use Rattle.std.specs.Prelude.{◌≡◌, ◌<◌, ◌≤◌, ◌^◌, IfSome, length, replicate};
 ghost use Rattle.tpm_mac.specs.Digest.{digest_size};
 
 use arrayvec::ArrayVec;
 use std::marker::Model;
+use tpm_bytes::copied;
 use tpm_mac::{Digest, HashAlg};
 
 /// What a policy demands in addition to its digest.
@@ -58,21 +62,8 @@ fn zeros(hash: HashAlg) -> Digest
     ensures { result.items ≡ replicate (digest_size hash) 0 }
 {
     let mut digest = ArrayVec::new();
-    let _ = match hash {
-        HashAlg::Sha1 => digest.try_extend_from_slice(&[0; 20]),
-        HashAlg::Sha256 => digest.try_extend_from_slice(&[0; 32]),
-    };
+    let _ = digest.try_extend_from_slice(hash.zeros());
     digest
-}
-
-/// The bytes, copied.
-pub(crate) fn copied(bytes: &[u8]) -> Digest
-    requires { length bytes.now ≤ 32 }
-    ensures { result.items ≡ bytes.now }
-{
-    let mut copy = ArrayVec::new();
-    let _ = copy.try_extend_from_slice(bytes);
-    copy
 }
 
 impl PolicyState {

@@ -18,5 +18,6 @@ pub use Rattle.tpm_pcr.specs.Saved as SavedPcrs
 pub use Rattle.tpm_session.specs.Sessions
 pub use Rattle.tpm_name.specs.Name
 pub use Rattle.tpm_object.specs.Object
-pub use Rattle.tpm_places.specs.Numbered
-pub use Rattle.tpm_ascending.specs.Ascending
+pub use Rattle.tpm_slots.specs.Numbered
+pub use Rattle.tpm_sorted_map.specs.SortedMap
+pub mod AnyObject

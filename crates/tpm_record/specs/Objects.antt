@@ -4,10 +4,10 @@
 use Rattle.std.specs.Prelude.{◌≡◌, ℕ, Bool, true, List, Option, Some, option_map, Result, Ok, Err, None, slice_set}
 use Rattle.tpm_object.specs.Object.{transient_byte}
 use Rattle.tpm_object.specs.declared.object.Object.{Object}
-use Rattle.tpm_places.specs.Numbered.{at_number, number_of, without_number}
-use Rattle.tpm_places.specs.Places.{lowest_free}
-use Rattle.tpm_places.specs.declared.places.PlaceFault.{PlaceFault}
-use Rattle.tpm_places.specs.declared.places.PlaceFault.TheVariants.{Full, NoMemory}
+use Rattle.tpm_slots.specs.Numbered.{at_number, number_of, without_number}
+use Rattle.tpm_slots.specs.Slots.{lowest_free}
+use Rattle.tpm_slots.specs.declared.slots.SlotFault.{SlotFault}
+use Rattle.tpm_slots.specs.declared.slots.SlotFault.TheVariants.{Full, NoMemory}
 use Rattle.tpm_types.specs.declared.handle.Handle.{Handle}
 use Rattle.tpm_record.specs.declared.objects.Objects.{Objects}
 
@@ -37,7 +37,7 @@ without_object places handle = without_number transient_byte places handle.numbe
 
 -- An object took the lowest free place, unless all are taken or memory was refused.
 abbrev pub Adds : Bool → List (Option Object) → Object
-    → Result Handle PlaceFault → List (Option Object) → Type 0
+    → Result Handle SlotFault → List (Option Object) → Type 0
 Adds can old object (Ok handle) new =
     (place : ℕ) × (lowest_free old ≡ Some place) × (handle ≡ object_handle place)
     × (new ≡ with_object old place object)

@@ -1,8 +1,9 @@
 -- The persistent objects of a device by their handles, in ascending order of these. TPM 2.0
 -- Library, Part 1, section 37.3 (owner and platform evict objects), and Part 2, section 7.2
 -- (TPM_HT_PERSISTENT: a handle whose highest byte is 81).
+use Rattle.tpm_types.specs.Limits.{persistent_limit}
 use Rattle.std.specs.Prelude.{◌≡◌, ℕ, ◌≤◌, Bool, true, false, [], length, Option}
-use Rattle.tpm_ascending.specs.Ascending.{AreEach, Ascends, Entries, at_key, key_from, with_key, without_key}
+use Rattle.tpm_sorted_map.specs.SortedMap.{AreEach, Ascends, Entries, at_key, key_from, with_key, without_key}
 use Rattle.tpm_object.specs.Object.{IsObject}
 use Rattle.tpm_object.specs.declared.object.Object.{Object}
 use Rattle.tpm_types.specs.Handle.{is_persistent, numbered}
@@ -42,8 +43,8 @@ pub record IsPersistent (number : ℕ) (object : Object) : Type 0 where
   pub owned : can_persist object.hierarchy ≡ true
   pub sized : IsObject object
 
--- what holds of all: there are sixteen at most
+-- what holds of all
 pub record ArePersistent (objects : Entries Object) : Type 0 where
   pub ascends : Ascends objects
-  pub few : length objects ≤ 16
+  pub few : length objects ≤ persistent_limit
   pub each : AreEach IsPersistent objects

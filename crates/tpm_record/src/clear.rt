@@ -1,13 +1,13 @@
 //! What TPM2_Clear does to objects, transient and persistent.
 
 ghost use Rattle.std.specs.Prelude.{◌≡◌, None, if◌then◌else◌, option_copied, slice_set};
-ghost use Rattle.tpm_places.specs.Places.{at_place};
+ghost use Rattle.tpm_slots.specs.Slots.{at_place};
 ghost use Rattle.tpm_record.specs.Clear.{cleared_objects, is_cleared, is_place_cleared};
 
-use tpm_ascending::Choice;
 use tpm_object::Object;
-use tpm_places::Places;
-use tpm_types::HierarchyHandle;
+use tpm_slots::Slots;
+use tpm_sorted_map::Choice;
+use tpm_types::{HierarchyHandle, OBJECT_LIMIT};
 
 /// Whether a hierarchy is cleared.
 fn is_cleared(hierarchy: HierarchyHandle) -> bool
@@ -30,7 +30,7 @@ fn is_place_cleared(object: Option<&Object>) -> bool
 }
 
 /// Frees a place with such an object.
-fn clear_place<O: Places<Object, 8>>(places: &mut O, place: usize)
+fn clear_place<O: Slots<Object, OBJECT_LIMIT>>(places: &mut O, place: usize)
     ensures { O.places places.new
         ≡ (if is_place_cleared (at_place (O.places places.old) place)
         then slice_set (O.places places.old) place None
@@ -56,7 +56,7 @@ impl Choice<Object> for Outlasting {
 
 /// Frees each place with an object of a hierarchy that is cleared.
 #[tactic(auto, unfolding(crate::specs::Clear::cleared_objects), using(crate::proofs::ClearLaws::all_cleared))]
-pub(crate) fn clear_places<O: Places<Object, 8>>(places: &mut O)
+pub(crate) fn clear_places<O: Slots<Object, OBJECT_LIMIT>>(places: &mut O)
     ensures { O.places places.new ≡ cleared_objects (O.places places.old) }
 {
     let _ = places.get(8);

@@ -1,3 +1,6 @@
+//! The trait of a keep, which holds the device's state, and lends each part of it to be read or
+//! changed. Contracts see it as the record that it stands for.
+
 ghost use Rattle.std.specs.Prelude.{◌≡◌, Bool, IfOk, OnErr, replicate, true};
 ghost use Rattle.std.specs.Borrow.{Lends, sem};
 ghost use Rattle.tpm_record.specs.Objects.{objects_of};
@@ -14,28 +17,26 @@ use crate::fixed::Fixed;
 use crate::objects::Objects;
 use crate::persistent::PersistentObjects;
 use std::alloc::Global;
+use tpm_bytes::NoMemory;
 use tpm_nv::Indices;
 use tpm_object::Object;
-use tpm_places::Places;
 use tpm_session::{Session, Sessions};
-
-/// Memory was refused.
-#[derive(Clone, Copy, Debug, PartialEq, Eq)]
-pub struct NoMemory;
+use tpm_slots::Slots;
+use tpm_types::{OBJECT_LIMIT, SESSION_LIMIT};
 
 /// A way of keeping the device's state, which is seen as the record that it stands for.
 pub trait Keep: Drop + Sized {
     /// The places of its sessions.
-    type Se: Places<Session, 16>;
+    type SessionSlots: Slots<Session, SESSION_LIMIT>;
 
     /// The places of its transient objects.
-    type Ob: Places<Object, 8>;
+    type ObjectSlots: Slots<Object, OBJECT_LIMIT>;
 
     /// Its persistent objects.
-    type Pe: PersistentObjects;
+    type PersistentMap: PersistentObjects;
 
     /// Its NV indices.
-    type Nv: Indices;
+    type NvIndices: Indices;
 
     /// The record.
     ghost record_of: { Self → Record };
@@ -44,16 +45,16 @@ pub trait Keep: Drop + Sized {
     ghost with_fixed: { Self → FixedParts → Self };
 
     /// The keep with other sessions.
-    ghost with_sessions: { Self → SessionsParts Self.Se → Self };
+    ghost with_sessions: { Self → SessionsParts Self.SessionSlots → Self };
 
     /// The keep with other transient objects.
-    ghost with_objects: { Self → ObjectsParts Self.Ob → Self };
+    ghost with_objects: { Self → ObjectsParts Self.ObjectSlots → Self };
 
     /// The keep with other persistent objects.
-    ghost with_persistent: { Self → Self.Pe → Self };
+    ghost with_persistent: { Self → Self.PersistentMap → Self };
 
     /// The keep with other NV indices.
-    ghost with_nv: { Self → Self.Nv → Self };
+    ghost with_nv: { Self → Self.NvIndices → Self };
 
     /// Whether memory can be refused where the record grows.
     ghost can_refuse: { Bool };
@@ -78,75 +79,77 @@ pub trait Keep: Drop + Sized {
         ensures value { result.now ≡ (record_of self.old).fixed };
 
     /// The sessions.
-    fn sessions(&self) -> &Sessions<Self::Se>
-        ensures { places_of Self.Se.places result.now ≡ (record_of self.now).sessions };
+    fn sessions(&self) -> &Sessions<Self::SessionSlots>
+        ensures { places_of Self.SessionSlots.places result.now ≡ (record_of self.now).sessions };
 
     /// The sessions, to be changed.
-    fn sessions_mut(&mut self) -> &mut Sessions<Self::Se>
-        ensures* writes_back { sem 𝓛 (Lends Self.row (sessions_row Self.Se.row) self.entry result
-            (with_sessions self.entry.now)) }
-        ensures value { places_of Self.Se.places result.now ≡ (record_of self.old).sessions };
+    fn sessions_mut(&mut self) -> &mut Sessions<Self::SessionSlots>
+        ensures* writes_back { sem 𝓛 (Lends Self.row (sessions_row Self.SessionSlots.row)
+            self.entry result (with_sessions self.entry.now)) }
+        ensures value { places_of Self.SessionSlots.places result.now
+            ≡ (record_of self.old).sessions };
 
     /// The transient objects.
-    fn objects(&self) -> &Objects<Self::Ob>
-        ensures { objects_of Self.Ob.places result.now ≡ (record_of self.now).objects };
+    fn objects(&self) -> &Objects<Self::ObjectSlots>
+        ensures { objects_of Self.ObjectSlots.places result.now ≡ (record_of self.now).objects };
 
     /// The transient objects, to be changed.
-    fn objects_mut(&mut self) -> &mut Objects<Self::Ob>
-        ensures* writes_back { sem 𝓛 (Lends Self.row (objects_row Self.Ob.row) self.entry result
-            (with_objects self.entry.now)) }
-        ensures value { objects_of Self.Ob.places result.now ≡ (record_of self.old).objects };
+    fn objects_mut(&mut self) -> &mut Objects<Self::ObjectSlots>
+        ensures* writes_back { sem 𝓛 (Lends Self.row (objects_row Self.ObjectSlots.row)
+            self.entry result (with_objects self.entry.now)) }
+        ensures value { objects_of Self.ObjectSlots.places result.now
+            ≡ (record_of self.old).objects };
 
     /// The persistent objects.
-    fn persistent(&self) -> &Self::Pe
-        ensures { Self.Pe.entries result.now ≡ (record_of self.now).persistent };
+    fn persistent(&self) -> &Self::PersistentMap
+        ensures { Self.PersistentMap.entries result.now ≡ (record_of self.now).persistent };
 
     /// The persistent objects, to be changed.
-    fn persistent_mut(&mut self) -> &mut Self::Pe
-        ensures* writes_back { sem 𝓛 (Lends Self.row Self.Pe.row self.entry result
+    fn persistent_mut(&mut self) -> &mut Self::PersistentMap
+        ensures* writes_back { sem 𝓛 (Lends Self.row Self.PersistentMap.row self.entry result
             (with_persistent self.entry.now)) }
-        ensures value { Self.Pe.entries result.now ≡ (record_of self.old).persistent };
+        ensures value { Self.PersistentMap.entries result.now ≡ (record_of self.old).persistent };
 
     /// The NV indices.
-    fn nv(&self) -> &Self::Nv
-        ensures { Self.Nv.contents result.now ≡ (record_of self.now).nv };
+    fn nv(&self) -> &Self::NvIndices
+        ensures { Self.NvIndices.contents result.now ≡ (record_of self.now).nv };
 
     /// The NV indices, to be changed.
-    fn nv_mut(&mut self) -> &mut Self::Nv
-        ensures* writes_back { sem 𝓛 (Lends Self.row Self.Nv.row self.entry result
+    fn nv_mut(&mut self) -> &mut Self::NvIndices
+        ensures* writes_back { sem 𝓛 (Lends Self.row Self.NvIndices.row self.entry result
             (with_nv self.entry.now)) }
-        ensures value { Self.Nv.contents result.now ≡ (record_of self.old).nv };
+        ensures value { Self.NvIndices.contents result.now ≡ (record_of self.old).nv };
 
-    /// What is written to the fixed part is its place in the record.
+    /// What is written to the fixed part is in the record.
     ghost fixed_written: { (keep : Self) (fixed : FixedParts)
         → record_of (with_fixed keep fixed) ≡ record (record_of keep) { fixed = fixed } };
 
-    /// And what is written to the sessions.
-    ghost sessions_written: { (keep : Self) (sessions : SessionsParts Self.Se)
+    /// What is written to the sessions is in the record.
+    ghost sessions_written: { (keep : Self) (sessions : SessionsParts Self.SessionSlots)
         → record_of (with_sessions keep sessions)
-        ≡ record (record_of keep) { sessions = places_of Self.Se.places sessions } };
+        ≡ record (record_of keep) { sessions = places_of Self.SessionSlots.places sessions } };
 
-    /// And to the transient objects.
-    ghost objects_written: { (keep : Self) (objects : ObjectsParts Self.Ob)
+    /// What is written to the transient objects is in the record.
+    ghost objects_written: { (keep : Self) (objects : ObjectsParts Self.ObjectSlots)
         → record_of (with_objects keep objects)
-        ≡ record (record_of keep) { objects = objects_of Self.Ob.places objects } };
+        ≡ record (record_of keep) { objects = objects_of Self.ObjectSlots.places objects } };
 
-    /// And to the persistent objects.
-    ghost persistent_written: { (keep : Self) (persistent : Self.Pe)
+    /// What is written to the persistent objects is in the record.
+    ghost persistent_written: { (keep : Self) (persistent : Self.PersistentMap)
         → record_of (with_persistent keep persistent)
-        ≡ record (record_of keep) { persistent = Self.Pe.entries persistent } };
+        ≡ record (record_of keep) { persistent = Self.PersistentMap.entries persistent } };
 
-    /// And to the NV indices.
-    ghost nv_written: { (keep : Self) (nv : Self.Nv)
-        → record_of (with_nv keep nv) ≡ record (record_of keep) { nv = Self.Nv.contents nv } };
+    /// What is written to the NV indices is in the record.
+    ghost nv_written: { (keep : Self) (nv : Self.NvIndices)
+        → record_of (with_nv keep nv) ≡ record (record_of keep) { nv = Self.NvIndices.contents nv } };
 
     /// Memory can be refused where the sessions can be refused it, the objects, transient or
     /// persistent, or the NV indices.
-    ghost sessions_can_refuse: { Self.Se.can_refuse ≡ true → can_refuse ≡ true };
+    ghost sessions_can_refuse: { Self.SessionSlots.can_refuse ≡ true → can_refuse ≡ true };
 
-    ghost objects_can_refuse: { Self.Ob.can_refuse ≡ true → can_refuse ≡ true };
+    ghost objects_can_refuse: { Self.ObjectSlots.can_refuse ≡ true → can_refuse ≡ true };
 
-    ghost persistent_can_refuse: { Self.Pe.can_refuse ≡ true → can_refuse ≡ true };
+    ghost persistent_can_refuse: { Self.PersistentMap.can_refuse ≡ true → can_refuse ≡ true };
 
-    ghost nv_can_refuse: { Self.Nv.can_refuse ≡ true → can_refuse ≡ true };
+    ghost nv_can_refuse: { Self.NvIndices.can_refuse ≡ true → can_refuse ≡ true };
 }

@@ -1,19 +1,29 @@
+//! The keeps of the device's state: one in lists that grow, one in fixed places that never takes
+//! memory.
+
 ghost use Rattle.std.specs.Prelude.{◌≡◌};
 
 use crate::fixed::Fixed;
-use crate::keep::{Keep, NoMemory};
+use crate::keep::Keep;
 use crate::objects::Objects;
 use crate::persistent::{ListObjects, PersistentObjects, SlotObjects};
 use std::alloc::Global;
+use tpm_bytes::NoMemory;
 use tpm_nv::{Indices, ListIndices, SlotIndices};
 use tpm_object::Object;
-use tpm_places::{FixedPlaces, ListPlaces, Places};
 use tpm_session::{Session, Sessions};
+use tpm_slots::{FixedSlots, ListSlots, Slots};
+use tpm_types::{OBJECT_LIMIT, SESSION_LIMIT};
 
 /// The record, with its sessions, its objects, transient and persistent, and its NV indices in
 /// containers of any kind.
 #[derive(Drop)]
-pub struct Kept<S: Places<Session, 16>, O: Places<Object, 8>, P: PersistentObjects, N: Indices> {
+pub struct Kept<
+    S: Slots<Session, SESSION_LIMIT>,
+    O: Slots<Object, OBJECT_LIMIT>,
+    P: PersistentObjects,
+    N: Indices,
+> {
     fixed: Fixed,
     sessions: Sessions<S>,
     objects: Objects<O>,
@@ -23,30 +33,39 @@ pub struct Kept<S: Places<Session, 16>, O: Places<Object, 8>, P: PersistentObjec
 
 /// The record in lists that grow. Memory can be refused to a session, to an object or to an NV
 /// index.
-pub type ListKeep = Kept<ListPlaces<Session, 16>, ListPlaces<Object, 8>, ListObjects, ListIndices>;
+pub type ListKeep = Kept<
+    ListSlots<Session, SESSION_LIMIT>,
+    ListSlots<Object, OBJECT_LIMIT>,
+    ListObjects,
+    ListIndices,
+>;
 
-/// The record in places that are as many as there can be. No memory is ever taken, so none can be
-/// refused. It is some twenty-eight thousand bytes long: it is made once, and lent.
+/// The record in fixed places, one for each thing that there can be. No memory is ever taken, so
+/// none can be refused. It is some twenty-eight thousand bytes long: it is made once, and lent.
 pub type SlotKeep = Kept<
-    FixedPlaces<Session, 16>,
-    FixedPlaces<Object, 8>,
+    FixedSlots<Session, SESSION_LIMIT>,
+    FixedSlots<Object, OBJECT_LIMIT>,
     SlotObjects,
     SlotIndices,
 >;
 
-impl<S: Places<Session, 16>, O: Places<Object, 8>, P: PersistentObjects, N: Indices> Keep
-    for Kept<S, O, P, N> {
+impl<
+    S: Slots<Session, SESSION_LIMIT>,
+    O: Slots<Object, OBJECT_LIMIT>,
+    P: PersistentObjects,
+    N: Indices,
+> Keep for Kept<S, O, P, N> {
     ghost use Rattle.std.specs.Prelude.{◌≡◌, ◌||◌, false, refl, true};
     ghost use Rattle.std.proofs.lemmas.Bool.{or_right};
     ghost use Rattle.tpm_record.specs.Kept.{kept_record};
 
-    type Se = S;
+    type SessionSlots = S;
 
-    type Ob = O;
+    type ObjectSlots = O;
 
-    type Pe = P;
+    type PersistentMap = P;
 
-    type Nv = N;
+    type NvIndices = N;
 
     ghost record_of = { kept_record S.places O.places P.entries N.contents };
 

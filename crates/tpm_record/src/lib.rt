@@ -1,18 +1,20 @@
 #![tactic(auto)]
 
-//! The device's state: the record that contracts see, behind the trait by which it is kept.
+//! The device's state: the record that contracts see, and the trait by which it is kept.
 //!
 //! [`keep::Keep`] is the trait, [`kept::Kept`] the way of keeping the record, in containers of any
-//! kind: [`kept::ListKeep`] in lists that grow, [`kept::SlotKeep`] in places that are as many as
-//! there can be, which takes no memory. [`fixed::Fixed`] is the part that does not grow,
-//! [`saved::Saved`] in it what a shutdown saved, [`objects::Objects`] are the loaded objects,
-//! [`persistent::PersistentObjects`] the persistent ones; NV indices are tpm_nv's. [`tick::tick`]
-//! and [`cycle::power_cycle`] are what happens to a record whatever the command, [`entity`] what a
-//! handle's entity is. It stands on `tpm_lockout`, `tpm_pcr`, `tpm_session`, `tpm_object` and
-//! `tpm_nv`, on `tpm_places` for the places of sessions and transient objects, and on
-//! `tpm_ascending` for the map of persistent ones. It promises for each keep the equations of
+//! kind: [`kept::ListKeep`] in lists that grow, [`kept::SlotKeep`] in fixed places, one for each
+//! object, session and index that there can be, which takes no memory. [`fixed::Fixed`] is the part
+//! that does not grow, [`saved::Saved`] in it what a shutdown saved, [`objects::Objects`] are the
+//! transient objects, [`persistent::PersistentObjects`] the persistent ones; NV indices are
+//! tpm_nv's.
+//! [`tick::tick`] and [`cycle::power_cycle`] are what happens to a record whatever the command,
+//! [`entity`] what a handle's entity is. It stands on `tpm_lockout`, `tpm_pcr`, `tpm_session`,
+//! `tpm_object` and `tpm_nv`, on `tpm_slots` for the places of sessions and transient objects, and
+//! on `tpm_sorted_map` for the map of persistent ones. It promises for each keep the equations of
 //! `specs/` on its record.
 
+pub mod any_object;
 mod clear;
 pub mod cycle;
 pub mod entity;
@@ -27,6 +29,7 @@ pub mod record;
 pub mod saved;
 pub mod tick;
 
+pub use any_object::{add_object, add_persistent, remove_object};
 pub use cycle::power_cycle;
 pub use entity::{
     Means, absence_rc, auth_value_of, copied_auth_value, is_available, is_present, name_of,
@@ -34,7 +37,7 @@ pub use entity::{
 };
 pub use fixed::Fixed;
 pub use hierarchy::{Hierarchies, Secrets};
-pub use keep::{Keep, NoMemory};
+pub use keep::Keep;
 pub use kept::{ListKeep, SlotKeep};
 pub use persistent::PersistentObjects;
 pub use record::read_widths;

@@ -1,7 +1,11 @@
+//! The transient objects of a device by their handles, with the laws that make them
+//! a map.
+
+ghost use Rattle.tpm_types.specs.Limits.{object_limit};
 ghost use Rattle.std.specs.Prelude.{◌≡◌, ◌<◌, is_some, length, option_copied};
 ghost use Rattle.tpm_object.specs.Object.{IsObject, transient_byte};
-ghost use Rattle.tpm_places.specs.Numbered.{MapLaws};
-ghost use Rattle.tpm_places.specs.Places.{AreAll};
+ghost use Rattle.tpm_slots.specs.Numbered.{MapLaws};
+ghost use Rattle.tpm_slots.specs.Slots.{AreAll};
 ghost use Rattle.tpm_record.specs.Clear.{ClearingLaws, cleared_objects};
 ghost use Rattle.tpm_record.specs.Objects.{Adds, next_handle, object_at, object_handle, objects_of, without_object};
 ghost use Rattle.tpm_record.specs.Record.{no_objects};
@@ -9,19 +13,19 @@ ghost use Rattle.tpm_record.specs.Record.{no_objects};
 use crate::clear::clear_places;
 use std::alloc::Global;
 use tpm_object::{Object, TRANSIENT_BYTE};
-use tpm_places::{PlaceFault, Places, numbered};
-use tpm_types::Handle;
+use tpm_slots::{SlotFault, Slots, numbered};
+use tpm_types::{Handle, OBJECT_LIMIT};
 
-/// The transient objects of a device, at most eight, by their handles. Their places are kept by
-/// `O`.
+/// The transient objects of a device, at most [`OBJECT_LIMIT`], by their handles. Their places are
+/// kept by `O`.
 #[derive(Drop)]
-pub struct Objects<O: Places<Object, 8>> {
+pub struct Objects<O: Slots<Object, OBJECT_LIMIT>> {
     places: O,
 }
 
 /// The handle of an object in a place.
 fn handle_of(place: usize) -> Handle
-    requires { place < 8 }
+    requires { place < object_limit }
     ensures { result ≡ object_handle place }
 {
     Handle {
@@ -29,7 +33,7 @@ fn handle_of(place: usize) -> Handle
     }
 }
 
-impl<O: Places<Object, 8>> Objects<O> {
+impl<O: Slots<Object, OBJECT_LIMIT>> Objects<O> {
     /// No object; no memory is taken.
     pub fn new(alloc: Global) -> Objects<O>
         ensures { objects_of O.places result ≡ no_objects }
@@ -43,8 +47,8 @@ impl<O: Places<Object, 8>> Objects<O> {
     #[tactic(auto, unfolding(crate::specs::Objects::object_at))]
     pub fn get(&self, handle: Handle) -> Option<&Object>
         ensures object { option_copied result ≡ object_at (objects_of O.places self.now) handle }
-        // There are always eight places.
-        ensures eight { length (objects_of O.places self.now) ≡ 8 }
+        // There are always as many places as there may be transient objects.
+        ensures all { length (objects_of O.places self.now) ≡ object_limit }
     {
         numbered::get(&self.places, handle.number)
     }
@@ -65,7 +69,7 @@ impl<O: Places<Object, 8>> Objects<O> {
     }
 
     /// Puts an object into the lowest free place, and gives its handle.
-    pub fn add(&mut self, object: Object) -> Result<Handle, PlaceFault>
+    pub fn add(&mut self, object: Object) -> Result<Handle, SlotFault>
         ensures { Adds O.can_refuse (objects_of O.places self.old) object result
             (objects_of O.places self.new) }
     {

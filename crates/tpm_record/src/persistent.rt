@@ -1,5 +1,9 @@
+//! The persistent objects of a device by their handles: the trait, and how they
+//! are kept.
+
+ghost use Rattle.tpm_types.specs.Limits.{persistent_limit};
 ghost use Rattle.std.specs.Prelude.{◌≡◌, Bool, is_some, length, option_copied, true};
-ghost use Rattle.tpm_ascending.specs.Ascending.{Entries, PutsKey};
+ghost use Rattle.tpm_sorted_map.specs.SortedMap.{Entries, PutsKey};
 ghost use Rattle.tpm_object.specs.declared.object.Object.{Object as ObjectParts};
 ghost use Rattle.tpm_record.specs.Clear.{cleared_persistent};
 ghost use Rattle.tpm_record.specs.Persistent.{ArePersistent, can_persist, next_persistent, no_persistent, persistent_at, without_persistent};
@@ -8,13 +12,13 @@ ghost use Rattle.tpm_types.specs.Handle.{is_persistent};
 use crate::clear::Outlasting;
 use std::alloc::Global;
 use std::marker::Model;
-use tpm_ascending::{Ascending, FixedAscending, KeyFault, ListAscending};
 use tpm_object::Object;
-use tpm_places::Sizes;
-use tpm_types::Handle;
+use tpm_slots::Sizes;
+use tpm_sorted_map::{KeyFault, ListMap, SlotMap, SortedMap};
+use tpm_types::{Handle, PERSISTENT_LIMIT};
 
-/// The persistent objects of a device by their handles: at most sixteen. Who may make an object
-/// persistent, or remove it, is no matter of these calls.
+/// The persistent objects of a device by their handles, at most [`PERSISTENT_LIMIT`]. Who may make
+/// an object persistent, or remove it, is no matter of these calls.
 pub trait PersistentObjects: Drop + Sized {
     /// The handles in ascending order, each with its object.
     ghost entries: { Self → Entries ObjectParts };
@@ -46,7 +50,7 @@ pub trait PersistentObjects: Drop + Sized {
     fn add(&mut self, handle: Handle, object: Object) -> Result<(), KeyFault>
         requires named { is_persistent handle ≡ true }
         requires owned { can_persist object.hierarchy ≡ true }
-        ensures { PutsKey 16 can_refuse (entries self.old) handle.number object result
+        ensures { PutsKey persistent_limit can_refuse (entries self.old) handle.number object result
             (entries self.new) };
 
     /// Removes the object of a handle, and tells whether there was one.
@@ -66,19 +70,19 @@ pub trait PersistentObjects: Drop + Sized {
 
 /// Persistent objects in a map by handles.
 #[derive(Drop)]
-pub struct StoredObjects<P: Ascending<Object, 16>> {
+pub struct StoredObjects<P: SortedMap<Object, PERSISTENT_LIMIT>> {
     objects: P,
 }
 
 /// Persistent objects in a list that grows. Memory can be refused where one is added.
-pub type ListObjects = StoredObjects<ListAscending<Object, 16>>;
+pub type ListObjects = StoredObjects<ListMap<Object, PERSISTENT_LIMIT>>;
 
 /// Persistent objects in as many places as there can be. No memory is ever taken, so none can be
 /// refused.
-pub type SlotObjects = StoredObjects<FixedAscending<Object, 16>>;
+pub type SlotObjects = StoredObjects<SlotMap<Object, PERSISTENT_LIMIT>>;
 
-impl<P: Ascending<Object, 16>> Model for StoredObjects<P> {
-    ghost use Rattle.tpm_ascending.specs.Ascending.{AreEach, Entries};
+impl<P: SortedMap<Object, PERSISTENT_LIMIT>> Model for StoredObjects<P> {
+    ghost use Rattle.tpm_sorted_map.specs.SortedMap.{AreEach, Entries};
     ghost use Rattle.tpm_object.specs.declared.object.Object.{Object as ObjectParts};
     ghost use Rattle.tpm_record.specs.Persistent.{IsPersistent};
 
@@ -89,7 +93,7 @@ impl<P: Ascending<Object, 16>> Model for StoredObjects<P> {
     ghost invariant = { λ stored. AreEach IsPersistent (P.entries stored.objects) };
 }
 
-impl<P: Ascending<Object, 16>> PersistentObjects for StoredObjects<P> {
+impl<P: SortedMap<Object, PERSISTENT_LIMIT>> PersistentObjects for StoredObjects<P> {
     ghost entries = { λ stored. stored };
 
     ghost can_refuse = { P.can_refuse };
@@ -116,18 +120,18 @@ impl<P: Ascending<Object, 16>> PersistentObjects for StoredObjects<P> {
         self.objects.next(handle.number)
     }
 
-    #[tactic(auto, using(tpm_ascending::proofs::AscendingLaws::put_each))]
+    #[tactic(auto, using(tpm_sorted_map::proofs::SortedMapLaws::put_each))]
     fn add(&mut self, handle: Handle, object: Object) -> Result<(), KeyFault> {
         object.read_sizes();
         self.objects.insert(handle.number, object)
     }
 
-    #[tactic(auto, using(tpm_ascending::proofs::AscendingLaws::removed_each))]
+    #[tactic(auto, using(tpm_sorted_map::proofs::SortedMapLaws::removed_each))]
     fn remove(&mut self, handle: Handle) -> bool {
         self.objects.remove(handle.number)
     }
 
-    #[tactic(auto, using(tpm_ascending::proofs::AscendingLaws::kept_each))]
+    #[tactic(auto, using(tpm_sorted_map::proofs::SortedMapLaws::kept_each))]
     fn clear_hierarchies(&mut self) {
         self.objects.retain::<Outlasting>();
     }

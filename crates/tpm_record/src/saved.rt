@@ -1,3 +1,6 @@
+//! What the last TPM2_Shutdown saved for the next TPM2_Startup, until it is cancelled (TPM 2.0
+//! Library, Part 3, sections 9.3 and 9.4).
+
 ghost use Rattle.std.specs.Prelude.{◌≡◌, option_copied};
 ghost use Rattle.tpm_record.specs.Saved.{Clear, IsSavedState, Nothing, State, kind_of, restored_from, saved_by, values_of};
 

@@ -1,4 +1,4 @@
--- The text of an entry, of which six parts are written one behind the other.
+-- The text of an entry, of which six parts are written one after the other.
 use Rattle.std.proofs.Common.{◌≡◌, ℕ, ◌+◌, ◌≤◌, List, ◌++◌, length, Result, refl, ap, ◌∙◌, append_assoc, arith}
 use Rattle.std.proofs.lemmas.List.{length-append}
 use Rattle.tpm_bytes.specs.Writing.{Puts}

@@ -1,3 +1,6 @@
+//! The encryption of a first parameter by a session, in place (TPM 2.0 Library, Part 1, section
+//! 21.3). Decryption undoes it.
+
 ghost use Rattle.std.specs.Prelude.{◌≡◌, ◌≤◌, ◌↔◌, IsOk, OnOk, OnErr, length};
 ghost use Rattle.tpm_types.specs.declared.symmetric.SymmetricDefinition.TheVariants.{Aes128Cfb};
 ghost use Rattle.tpm_session.specs.Encryption.{cipher_bytes, cipher_iv, cipher_key, cipher_label, encrypted_parameter, plain_parameter};

@@ -1,3 +1,6 @@
+//! The HMAC by which a session authenticates an entry of a command or of a response, and the text
+//! that it is about (TPM 2.0 Library, Part 1, section 19.6.5).
+
 ghost use Rattle.std.specs.Prelude.{◌≡◌, ◌≤◌, IsTrue, ◌↔◌, length};
 ghost use Rattle.tpm_bytes.specs.Writing.{Puts};
 ghost use Rattle.tpm_mac.specs.Digest.{digest_size};
@@ -116,7 +119,7 @@ impl<'a> EntryText<'a> {
 impl Session {
     ghost use Rattle.tpm_session.specs.EntryText.{command_mac_of, command_text, entry_key, parts_of, response_mac_of, response_text};
 
-    /// The session's key, and behind it an authorization value.
+    /// The session's key, and after it an authorization value.
     pub(crate) fn key_with(&self, auth_value: &[u8]) -> ArrayVec<u8, 64>
         requires { length auth_value.now ≤ 32 }
         ensures { result.items ≡ entry_key self.now auth_value.now }

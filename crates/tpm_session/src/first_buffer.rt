@@ -1,3 +1,6 @@
+//! The size of the sized buffer at the front of the parameters, which is what a session may
+//! encrypt.
+
 ghost use Rattle.tpm_session.specs.FirstBuffer.{FindsFirst};
 
 /// How many bytes the sized buffer at the front of a text has, if it is all there.

@@ -1,3 +1,6 @@
+//! The key of a session, derived from what it is bound to and from the first nonces (TPM 2.0
+//! Library, Part 1, section 19.6.8).
+
 ghost use Rattle.std.specs.Prelude.{◌≡◌, ◌≤◌, ◌++◌, [], length, true};
 ghost use Rattle.tpm_mac.specs.Digest.{digest_size};
 ghost use Rattle.tpm_mac.specs.Kdf.{kdfa_of};
@@ -6,6 +9,7 @@ ghost use Rattle.tpm_session.specs.Key.{is_key_size, is_nonce_size, key_label, s
 use crate::session::Binding;
 use arrayvec::ArrayVec;
 use std::marker::Model;
+use tpm_bytes::copied;
 use tpm_mac::{HashAlg, kdfa};
 
 /// The label of session keys.
@@ -28,23 +32,12 @@ impl Model for SessionKey {
     ghost invariant = { λ k. is_key_size (length k.bytes.items) ≡ true };
 }
 
-/// Whether a caller's first nonce may have so many bytes: at least 16, and no more than a digest
+/// Whether a caller's first nonce may have this many bytes: at least 16, and no more than a digest
 /// (TPM 2.0 Library, Part 3, section 11.1).
 pub fn is_nonce_size(hash: HashAlg, size: usize) -> bool
     ensures { result ≡ is_nonce_size hash size }
 {
     16 <= size && size <= hash.size()
-}
-
-/// The bytes, copied.
-fn copied(bytes: &[u8]) -> ArrayVec<u8, 32>
-    requires { length bytes.now ≤ 32 }
-    ensures value { result.items ≡ bytes.now }
-    ensures size { length result.items ≡ length bytes.now }
-{
-    let mut copy = ArrayVec::new();
-    let _ = copy.try_extend_from_slice(bytes);
-    copy
 }
 
 impl SessionKey {

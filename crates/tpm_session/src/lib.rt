@@ -3,11 +3,12 @@
 //! Authorization sessions (TPM 2.0 Library, Part 1, sections 19.6 and 21): the sessions of a device
 //! by their handles, the HMAC of an entry by a session, and parameters that a session encrypts.
 //!
-//! It stands on `tpm_mac` and `tpm_aes` for HMACs, keys and encryption, on `tpm_name` for the Names
-//! in a command's hash, on `tpm_places` for the places of sessions, and on `tpm_types`. Contracts
-//! see the sessions of [`sessions::Sessions`] as sixteen places, each free or with a session,
-//! whatever keeps them (`tpm_places::places::Places`). A refused start changes nothing. Only the
-//! start of a session may take memory, and none does where the places are fixed.
+//! It stands on `tpm_policy` for the state of a policy session, on `tpm_mac` and `tpm_aes` for
+//! HMACs, keys and encryption, on `tpm_name` for the Names in a command's hash, on `tpm_slots` for
+//! the places of sessions, and on `tpm_types`. Contracts see the sessions of
+//! [`sessions::Sessions`] as places, each free or with a session, whatever keeps them
+//! (`tpm_slots::slots::Slots`). A refused start changes nothing. Only the start of a session may
+//! take memory, and none does where the places are fixed.
 
 pub mod encryption;
 pub mod entry;
@@ -27,4 +28,4 @@ pub use nonce::Nonce;
 pub use parameter_hash::{HashedParameters, command_hash, response_hash};
 pub use parameter_hashes::ParameterHashes;
 pub use session::{Binding, Protection, Session};
-pub use sessions::{Sessions, Start, StartFault};
+pub use sessions::{Sessions, Start, StartFault, handle_of};

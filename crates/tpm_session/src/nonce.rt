@@ -1,7 +1,10 @@
+//! Nonces, of at most 32 bytes (TPM2B_NONCE; TPM 2.0 Library, Part 2, section 10.4.4).
+
 ghost use Rattle.std.specs.Prelude.{◌≡◌, ◌≤◌, length};
 
 use arrayvec::ArrayVec;
 use std::marker::Model;
+use tpm_bytes::copied;
 
 /// A nonce: at most 32 bytes (TPM2B_NONCE of TPM 2.0 Library, Part 2, section 10.4.4). Contracts
 /// see it as its bytes.
@@ -24,9 +27,9 @@ impl Nonce {
         requires { length bytes.now ≤ 32 }
         ensures { result ≡ bytes.now }
     {
-        let mut copy = ArrayVec::new();
-        let _ = copy.try_extend_from_slice(bytes);
-        Nonce { bytes: copy }
+        Nonce {
+            bytes: copied(bytes),
+        }
     }
 
     /// Its bytes.

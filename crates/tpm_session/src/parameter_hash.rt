@@ -1,3 +1,6 @@
+//! The hash of a command's parameters and the hash of a response's: cpHash and rpHash (TPM 2.0
+//! Library, Part 1, sections 18.7 and 18.8).
+
 ghost use Rattle.std.specs.Prelude.{◌≡◌, ◌≤◌, [], length, slice_index_or};
 ghost use Rattle.tpm_mac.specs.Digest.{digest_size};
 ghost use Rattle.tpm_session.specs.ParameterHash.{command_hash_of, response_hash_of};
@@ -5,7 +8,7 @@ ghost use Rattle.tpm_session.specs.ParameterHash.{command_hash_of, response_hash
 use tpm_mac::{Digest, HashAlg, digest_parts};
 use tpm_name::Name;
 
-/// The bytes of the Name in a place, and no byte behind the last.
+/// The bytes of the Name in a place, and no byte after the last.
 fn name_at(names: &[Name], place: usize) -> &[u8]
     ensures { result.now ≡ slice_index_or names.now place [] }
 {

@@ -1,3 +1,6 @@
+//! The parameter hashes of one command or response by each hash algorithm, computed only when they
+//! are asked for, and then once.
+
 ghost use Rattle.std.specs.Prelude.{◌≡◌};
 ghost use Rattle.std.specs.Option.{ForSome};
 ghost use Rattle.tpm_mac.specs.declared.algorithm.HashAlg.TheVariants as alg;
@@ -5,6 +8,7 @@ ghost use Rattle.tpm_session.specs.ParameterHash.{HasFewNames, hashed_parts, par
 
 use crate::parameter_hash::HashedParameters;
 use std::marker::Model;
+use tpm_bytes::copied;
 use tpm_mac::{Digest, HashAlg};
 
 /// The hashes of one command's or one success's parameters, each computed once, when it is first
@@ -26,15 +30,6 @@ impl<'a> Model for ParameterHashes<'a> {
     ghost Value = { HashedParts };
 
     ghost view = { λ h. hashed_parts h.hashed };
-}
-
-/// A digest, copied.
-fn copied(digest: &Digest) -> Digest
-    ensures { result.items ≡ digest.now.items }
-{
-    let mut copy = Digest::new();
-    let _ = copy.try_extend_from_slice(digest.as_slice());
-    copy
 }
 
 impl<'a> ParameterHashes<'a> {
@@ -60,10 +55,10 @@ impl<'a> ParameterHashes<'a> {
             HashAlg::Sha256 => &self.sha256,
         };
         if let Some(digest) = known {
-            return copied(digest);
+            return copied(digest.as_slice());
         }
         let digest = self.hashed.hash(hash);
-        let kept = Some(copied(&digest));
+        let kept = Some(copied(digest.as_slice()));
         match hash {
             HashAlg::Sha1 => self.sha1 = kept,
             HashAlg::Sha256 => self.sha256 = kept,

@@ -1,5 +1,9 @@
+//! The sessions of a device by their handles: how one starts, changes and ends
+//! (TPM 2.0 Library, Part 3, section 11.1).
+
+ghost use Rattle.tpm_types.specs.Limits.{session_limit};
 ghost use Rattle.std.specs.Prelude.{◌≡◌, ◌<◌, is_some, length, option_copied};
-ghost use Rattle.tpm_places.specs.Places.{AreAll, free};
+ghost use Rattle.tpm_slots.specs.Slots.{AreAll, at_place, free};
 ghost use Rattle.tpm_session.specs.Session.{IsSession};
 ghost use Rattle.tpm_session.specs.Sessions.{Starts, flushed, handle_of, places_of, rolled, session_at, started_session, with_session_policy};
 
@@ -8,9 +12,9 @@ use crate::nonce::Nonce;
 use crate::session::{Binding, Session};
 use std::alloc::Global;
 use tpm_mac::HashAlg;
-use tpm_places::{PlaceFault, Places, numbered};
 use tpm_policy::PolicyState;
-use tpm_types::{Handle, SessionType, SymmetricDefinition};
+use tpm_slots::{SlotFault, Slots, numbered};
+use tpm_types::{Handle, SESSION_LIMIT, SessionType, SymmetricDefinition};
 
 /// With what a session starts (TPM 2.0 Library, Part 3, section 11.1).
 #[derive(Drop)]
@@ -34,15 +38,16 @@ pub enum StartFault {
     Memory,
 }
 
-/// The sessions of a device, at most sixteen, by their handles. Their places are kept by `S`.
+/// The sessions of a device, at most [`SESSION_LIMIT`], by their handles. Their places are kept by
+/// `S`.
 #[derive(Drop)]
-pub struct Sessions<S: Places<Session, 16>> {
+pub struct Sessions<S: Slots<Session, SESSION_LIMIT>> {
     slots: S,
 }
 
 /// The handle of a session of this type in a place.
-fn handle_of(kind: SessionType, place: usize) -> Handle
-    requires { place < 16 }
+pub fn handle_of(kind: SessionType, place: usize) -> Handle
+    requires { place < session_limit }
     ensures { result ≡ handle_of kind place }
 {
     Handle {
@@ -71,10 +76,10 @@ fn started_session(start: Start) -> Session
     }
 }
 
-impl<S: Places<Session, 16>> Sessions<S> {
+impl<S: Slots<Session, SESSION_LIMIT>> Sessions<S> {
     /// No session; no memory is taken.
     pub fn new(alloc: Global) -> Sessions<S>
-        ensures { places_of S.places result ≡ free 16 }
+        ensures { places_of S.places result ≡ free session_limit }
     {
         Sessions {
             slots: S::new(alloc),
@@ -92,8 +97,8 @@ impl<S: Places<Session, 16>> Sessions<S> {
         let kind = start.kind;
         match self.slots.insert(started_session(start)) {
             Ok(place) => Ok(handle_of(kind, place)),
-            Err(PlaceFault::Full) => Err(StartFault::SessionMemory),
-            Err(PlaceFault::NoMemory) => Err(StartFault::Memory),
+            Err(SlotFault::Full) => Err(StartFault::SessionMemory),
+            Err(SlotFault::NoMemory) => Err(StartFault::Memory),
         }
     }
 
@@ -101,10 +106,17 @@ impl<S: Places<Session, 16>> Sessions<S> {
     #[tactic(auto, unfolding(crate::specs::Sessions::session_at))]
     pub fn get(&self, handle: Handle) -> Option<&Session>
         ensures session { option_copied result ≡ session_at (places_of S.places self.now) handle }
-        // There are always sixteen places.
-        ensures sixteen { length (places_of S.places self.now) ≡ 16 }
+        // There are always as many places as there may be sessions.
+        ensures all { length (places_of S.places self.now) ≡ session_limit }
     {
         numbered::get(&self.slots, handle.number)
+    }
+
+    /// The session in a place.
+    pub fn in_place(&self, place: usize) -> Option<&Session>
+        ensures { option_copied result ≡ at_place (places_of S.places self.now) place }
+    {
+        self.slots.get(place)
     }
 
     /// Ends the session of a handle, and tells whether there was one.
@@ -118,7 +130,7 @@ impl<S: Places<Session, 16>> Sessions<S> {
 
     /// Ends all sessions.
     pub fn clear(&mut self)
-        ensures { places_of S.places self.new ≡ free 16 }
+        ensures { places_of S.places self.new ≡ free session_limit }
     {
         self.slots.clear();
     }

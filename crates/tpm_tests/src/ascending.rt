@@ -2,10 +2,10 @@
 
 use super::comparison::check;
 use std::process::Abort;
-use tpm_ascending::{Ascending, FixedAscending, KeyFault, ListAscending};
+use tpm_sorted_map::{KeyFault, ListMap, SlotMap, SortedMap};
 
 /// Writes a value under a key, and tells whether it is there.
-fn set<M: Ascending<u32, 3>>(map: &mut M, key: u32, value: u32) -> bool {
+fn set<M: SortedMap<u32, 3>>(map: &mut M, key: u32, value: u32) -> bool {
     match map.get_mut(key) {
         Some(place) => {
             *place = value;
@@ -16,7 +16,7 @@ fn set<M: Ascending<u32, 3>>(map: &mut M, key: u32, value: u32) -> bool {
 }
 
 /// What a map of at most three values answers.
-fn exercise<R: Abort, M: Ascending<u32, 3>>(rt: &R, mut map: M) {
+fn exercise<R: Abort, M: SortedMap<u32, 3>>(rt: &R, mut map: M) {
     check(rt, map.len(), 0);
     check(rt, map.next(0), None);
     check(rt, map.insert(5, 50), Ok(()));
@@ -45,10 +45,10 @@ fn exercise<R: Abort, M: Ascending<u32, 3>>(rt: &R, mut map: M) {
 
 #[test]
 fn in_a_list(rt: HostRuntime) {
-    exercise(&rt, ListAscending::<u32, 3>::new(rt.alloc()));
+    exercise(&rt, ListMap::<u32, 3>::new(rt.alloc()));
 }
 
 #[test]
 fn in_fixed_places(rt: HostRuntime) {
-    exercise(&rt, FixedAscending::<u32, 3>::new(rt.alloc()));
+    exercise(&rt, SlotMap::<u32, 3>::new(rt.alloc()));
 }

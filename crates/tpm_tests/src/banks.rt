@@ -25,7 +25,7 @@ fn bank(hash: HashAlg, octets: [u8; 3]) -> BankSelection {
     BankSelection { hash, select }
 }
 
-// PCRs 0 to 7 and 16 to 18 by SHA-256, and behind them 5, 17, 22 and 23 by SHA-1.
+// PCRs 0 to 7 and 16 to 18 by SHA-256, and after them 5, 17, 22 and 23 by SHA-1.
 #[test]
 fn a_digest_is_over_all_selected_values(rt: HostRuntime) {
     let mut banks = ArrayVec::new();

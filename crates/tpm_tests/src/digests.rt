@@ -233,7 +233,7 @@ fn keys_are_derived(rt: HostRuntime) {
 /// A buffer before a key is derived into its front.
 const UNTOUCHED: [u8; 80] = [0x55; 80];
 
-// The block of the counter by HMAC alone, of which KDFa wants so many bits in all.
+// The block of the counter by HMAC alone, of which KDFa wants this number of bits in all.
 fn block_by_hmac(alg: HashAlg, counter: u32, bits: u32) -> Digest {
     let counter: &[u8] = &counter.to_be_bytes();
     let bits: &[u8] = &bits.to_be_bytes();

@@ -2,7 +2,10 @@
 
 //! What no clause says and no script under `tests/` shows of the crates below the device: published
 //! vectors and numbers that were computed outside, each public call once, and what a tap tells of
-//! its device. A crate with tests is proved twice, so these stand in a crate of their own.
+//! its device.
+//!
+//! It stands on those crates, and nothing stands on it. A crate with tests is proved twice, so
+//! these stand in a crate of their own.
 
 #[cfg(test)]
 mod ascending;

@@ -3,7 +3,7 @@
 use super::comparison::check;
 use tpm_lockout::{Lockout, LockoutFields};
 
-/// So many failed tries of at most three, each forgiven after so many seconds, and a closed
+/// A number of failed tries of at most three, each forgiven after some seconds, and a closed
 /// lockoutAuth that opens after as many.
 fn locked(failed_tries: u32, seconds: u32) -> Lockout {
     Lockout::restore(LockoutFields {

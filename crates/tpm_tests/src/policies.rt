@@ -4,11 +4,10 @@ use super::comparison::check;
 use tpm_bytes::Cursor;
 use tpm_mac::HashAlg;
 use tpm_name::Name;
-use tpm_policy::{
-    Demand, EntityPolicy, PcrAssertion, PolicyFault, PolicyState, SecretAssertion, Use,
-};
+use tpm_policy::{Demand, EntityPolicy, PcrAssertion, PolicyState, SecretAssertion, Use};
 use tpm_types::{
-    ActionCheck, DigestList, Handle, Locality, PcrSelection, Rc, ResponseCode, Role, SessionType,
+    ActionCheck, ActionFault, DigestList, Handle, Locality, PcrSelection, Rc, ResponseCode, Role,
+    SessionType,
 };
 
 /// TPM2_PolicyAuthValue.
@@ -102,10 +101,7 @@ fn digests_are_those_of_the_standard(rt: HostRuntime) {
 fn either_branch_leads_to_one_digest(rt: HostRuntime) {
     let list = DigestList::read(&mut Cursor::new(BRANCHES)).expect(&rt, "two digests");
     let mut state = PolicyState::new(HashAlg::Sha256);
-    let refused = PolicyFault {
-        check: ActionCheck::First,
-        rc: ResponseCode::Value.anywhere().at_parameter(1),
-    };
+    let refused = ActionFault::in_parameter(ActionCheck::First, 1, ResponseCode::Value);
     check(&rt, state.or(HashAlg::Sha256, false, &list), Err(refused));
     check(&rt, state.locality(HashAlg::Sha256, 0x08), Ok(()));
     check(&rt, state.digest(), LOCALITY);
@@ -119,7 +115,7 @@ fn either_branch_leads_to_one_digest(rt: HostRuntime) {
 }
 
 /// Takes PCR 0, which had been changed 7 times, GetRandom, its cpHash and locality 0.
-fn assert_all(state: &mut PolicyState, selection: &PcrSelection) -> Result<(), PolicyFault> {
+fn assert_all(state: &mut PolicyState, selection: &PcrSelection) -> Result<(), ActionFault> {
     let name = Name::of_handle(Handle::ENDORSEMENT);
     state.pcr(HashAlg::Sha256, false, &pcr(selection))?;
     state.command_code(HashAlg::Sha256, GET_RANDOM)?;

@@ -9,17 +9,19 @@ use std::process::Abort;
 use tpm_bytes::Sink;
 use tpm_mac::HashAlg;
 use tpm_name::Name;
-use tpm_places::{FixedPlaces, ListPlaces, Places};
 use tpm_policy::PolicyState;
 use tpm_session::{
     Binding, CommandText, Nonce, Protection, Session, SessionKey, Sessions, Start, StartFault,
     SymmetricFault, command_hash, is_nonce_size, response_hash,
 };
-use tpm_types::{AuthValue, Handle, SessionAttributes, SessionType, SymmetricDefinition};
+use tpm_slots::{FixedSlots, ListSlots, Slots};
+use tpm_types::{
+    AuthValue, Handle, SESSION_LIMIT, SessionAttributes, SessionType, SymmetricDefinition,
+};
 
-type InList = ListPlaces<Session, 16>;
+type InList = ListSlots<Session, SESSION_LIMIT>;
 
-type InSlots = FixedPlaces<Session, 16>;
+type InSlots = FixedSlots<Session, SESSION_LIMIT>;
 
 const NONCE_CALLER: &[u8] = &[0xaa; 16];
 
@@ -77,7 +79,7 @@ fn start(kind: SessionType, binding: Option<Binding>) -> Start<'static> {
 }
 
 /// The number of the handle of a session that starts.
-fn started<S: Places<Session, 16>>(
+fn started<S: Slots<Session, SESSION_LIMIT>>(
     sessions: &mut Sessions<S>,
     kind: SessionType,
 ) -> Result<u32, StartFault> {
@@ -87,7 +89,10 @@ fn started<S: Places<Session, 16>>(
 }
 
 /// The TPM's nonce of a session.
-fn nonce_of<S: Places<Session, 16>>(sessions: &Sessions<S>, number: u32) -> Option<&[u8]> {
+fn nonce_of<S: Slots<Session, SESSION_LIMIT>>(
+    sessions: &Sessions<S>,
+    number: u32,
+) -> Option<&[u8]> {
     let session = sessions.get(Handle { number })?;
     Some(session.nonce_tpm.as_slice())
 }
@@ -98,7 +103,7 @@ fn sessions_are_found_by_their_handles(rt: HostRuntime) {
     find_sessions::<InSlots, HostRuntime>(&rt, rt.alloc());
 }
 
-fn find_sessions<S: Places<Session, 16>, R: Abort>(rt: &R, alloc: Global) {
+fn find_sessions<S: Slots<Session, SESSION_LIMIT>, R: Abort>(rt: &R, alloc: Global) {
     let mut sessions: Sessions<S> = Sessions::new(alloc);
     check(
         rt,
@@ -151,7 +156,7 @@ fn sixteen_sessions_start(rt: HostRuntime) {
     fill_sessions::<InSlots, HostRuntime>(&rt, rt.alloc());
 }
 
-fn fill_sessions<S: Places<Session, 16>, R: Abort>(rt: &R, alloc: Global) {
+fn fill_sessions<S: Slots<Session, SESSION_LIMIT>, R: Abort>(rt: &R, alloc: Global) {
     let mut sessions: Sessions<S> = Sessions::new(alloc);
     for number in 0x0300_0000..0x0300_0010u32 {
         check(rt, started(&mut sessions, SessionType::Policy), Ok(number));

@@ -8,8 +8,7 @@ use tpm_mac::HashAlg;
 use tpm_name::Name;
 use tpm_types::{
     BankSelection, DigestList, DigestValue, DigestValues, Handle, PcrSelect, PcrSelection,
-    ResponseCode, SessionAttributes, SessionType, StartupType, is_command_number, read_buffer,
-    read_yes_no,
+    ResponseCode, SessionAttributes, SessionType, StartupType, read_buffer, read_yes_no,
 };
 use tpm_types_command::{AuthEntry, Command, CommandCode, HandleKind, ParameterKind, read_handles};
 
@@ -247,7 +246,7 @@ fn an_entry_has_its_length(rt: HostRuntime) {
     let attributes = SessionAttributes { octet: 0x20 };
     check(
         &rt,
-        (attributes.has_any(0x21), attributes.has_any(0xdf)),
+        (attributes.decrypts(), attributes.continues_session()),
         (true, false),
     );
 }
@@ -266,6 +265,6 @@ fn policies_are_asked_for(rt: HostRuntime) {
     check(&rt, SessionType::read(&mut text), Ok(SessionType::Policy));
     let refused = SessionType::read(&mut text);
     check(&rt, refused, Err(ResponseCode::Value.anywhere()));
-    check(&rt, is_command_number(0x17b), true);
-    check(&rt, is_command_number(0x17c), false);
+    check(&rt, CommandCode::is_served(0x17b), true);
+    check(&rt, CommandCode::is_served(0x17c), false);
 }

@@ -1,4 +1,5 @@
 -- A line, read part by part.
+use Rattle.tpm_types.specs.Limits.{buffer_limit}
 use Rattle.std.proofs.Common.{◌≡◌, ℕ, ◌+◌, ◌≤◌, Bool, true, false, cond, List, [], ◌∷◌, ◌++◌, length, drop, Option, Some, None, IfSome, Result, Ok, Err, refl, sym, ap, ◌∙◌, subst, arith, length-append}
 use Rattle.std.specs.Prelude.{nat_le, nat_lt}
 use Rattle.std.specs.Option.{IsSome}
@@ -70,9 +71,9 @@ sessions_err (Err other) old new (Err found) fault left e h = ap Err (sym h ∙ 
 -- an area of its own, added to the draft
 area_is : (old area : Option (List ℕ)) (text : List ℕ) → area ≡ grown (Some []) text → with_area old area ≡ grown old (to_be_bytes w32 (length text) ++ text)
 unfolding with_area
-area_is old area text e = by (nat_le (length text) 4096) refl
+area_is old area text e = by (nat_le (length text) buffer_limit) refl
   where
-    by : (b : Bool) → nat_le (length text) 4096 ≡ b → with_area old area ≡ grown old (to_be_bytes w32 (length text) ++ text)
+    by : (b : Bool) → nat_le (length text) buffer_limit ≡ b → with_area old area ≡ grown old (to_be_bytes w32 (length text) ++ text)
     by true short = let less = leb-true _ _ short in rw (e ∙ fits [] text (omega (arith, less))) refl
     by false long = let more = leb-false _ _ long in rw (e ∙ spills [] text (omega (arith, more))) (sym (too_much old (to_be_bytes w32 (length text) ++ text) (omega (arith, more, length-append (to_be_bytes w32 (length text)) text))))
 
@@ -107,9 +108,9 @@ not_fitting tag code = refl
 -- ten bytes and more
 pub still_ten : (draft : Option (List ℕ)) (bytes : List ℕ) → IfSome draft (λ text. 10 ≤ length text) → IfSome (grown draft bytes) (λ text. 10 ≤ length text)
 still_ten None bytes h = subst (λ (d : Option (List ℕ)). IfSome d (λ text. 10 ≤ length text)) (sym (none_grows bytes)) tt
-still_ten (Some text) bytes h = by (nat_le (length text + length bytes) 4096) refl
+still_ten (Some text) bytes h = by (nat_le (length text + length bytes) buffer_limit) refl
   where
-    by : (b : Bool) → nat_le (length text + length bytes) 4096 ≡ b → IfSome (grown (Some text) bytes) (λ text. 10 ≤ length text)
+    by : (b : Bool) → nat_le (length text + length bytes) buffer_limit ≡ b → IfSome (grown (Some text) bytes) (λ text. 10 ≤ length text)
     by true short = subst (λ (d : Option (List ℕ)). IfSome d (λ text. 10 ≤ length text)) (sym (fits text bytes (leb-true _ _ short))) (omega (arith, h, length-append text bytes))
     by false long = subst (λ (d : Option (List ℕ)). IfSome d (λ text. 10 ≤ length text)) (sym (spills text bytes (leb-false _ _ long))) tt
 
@@ -147,19 +148,19 @@ module _ (line : List ℕ) (code : CommandCode) (one : List Token) (n : name_in 
         body : List ℕ
         body = handles_text handles ++ sessions_text entries ++ parameters
 
-        whole : ended four ≡ Ok tt → assembled line ≡ (refused_if (nat_lt 4096 (10 + length body)) TooLong >>= λ fits. Ok (header_text (tag_for entries) (10 + length body) code ++ body))
+        whole : ended four ≡ Ok tt → assembled line ≡ (refused_if (nat_lt buffer_limit (10 + length body)) TooLong >>= λ fits. Ok (header_text (tag_for entries) (10 + length body) code ++ body))
         unfolding assembled spelled command_size command_text body_text body
         whole e = rw (n, h, s, p, e) refl
 
-        -- the text of the command, behind ten bytes
+        -- the text of the command, after ten bytes
         command_is : ended four ≡ Ok tt → (ten : List ℕ) → length ten ≡ 10 → finished (tag_for entries) code (grown (Some ten) body) ≡ assembled line
-        command_is e ten ten_is = by (nat_le (length ten + length body) 4096) refl ∙ sym (whole e)
+        command_is e ten ten_is = by (nat_le (length ten + length body) buffer_limit) refl ∙ sym (whole e)
           where
-            by : (b : Bool) → nat_le (length ten + length body) 4096 ≡ b → finished (tag_for entries) code (grown (Some ten) body) ≡ (refused_if (nat_lt 4096 (10 + length body)) TooLong >>= λ fits. Ok (header_text (tag_for entries) (10 + length body) code ++ body))
+            by : (b : Bool) → nat_le (length ten + length body) buffer_limit ≡ b → finished (tag_for entries) code (grown (Some ten) body) ≡ (refused_if (nat_lt buffer_limit (10 + length body)) TooLong >>= λ fits. Ok (header_text (tag_for entries) (10 + length body) code ++ body))
             by true short = let less = leb-true _ _ short in
-                rw (fits ten body less, le-ltb 4096 (10 + length body) (omega (arith, less, ten_is))) (fitting (tag_for entries) code ten body ten_is)
+                rw (fits ten body less, le-ltb buffer_limit (10 + length body) (omega (arith, less, ten_is))) (fitting (tag_for entries) code ten body ten_is)
             by false long = let more = leb-false _ _ long in
-                rw (spills ten body more, lt-ltb 4096 (10 + length body) (omega (arith, more, ten_is))) (not_fitting (tag_for entries) code)
+                rw (spills ten body more, lt-ltb buffer_limit (10 + length body) (omega (arith, more, ten_is))) (not_fitting (tag_for entries) code)
 
         pub command_finished : ended four ≡ Ok tt → (tag : Tag) → tag ≡ tag_for entries → (ten : List ℕ) → length ten ≡ 10 → (first second third new : Option (List ℕ)) (result : Result (Unit {0}) AsmFault)
             → first ≡ grown (Some ten) (handles_text handles) → second ≡ grown first (sessions_text entries) → third ≡ grown second parameters

@@ -1,4 +1,5 @@
--- A draft to which one text is added behind another.
+-- A draft to which one text is added after another.
+use Rattle.tpm_types.specs.Limits.{buffer_limit}
 use Rattle.std.proofs.Common.{◌≡◌, ℕ, ◌+◌, ◌<◌, ◌≤◌, Bool, true, false, List, ◌++◌, length, Option, Some, None, Result, Ok, Err, refl, sym, ap, ◌∙◌, arith, append_assoc, length-append}
 use Rattle.std.specs.Prelude.{nat_le}
 use Rattle.std.specs.Int.{w16, to_be_bytes}
@@ -8,13 +9,13 @@ use Rattle.tpm_bytes.specs.Writing.{sized_text}
 use Rattle.tpm_text.specs.Draft.{Drafts, grown}
 use Rattle.tpm_text.specs.Hex.{IsChecked}
 
-pub fits : (text bytes : List ℕ) → length text + length bytes ≤ 4096 → grown (Some text) bytes ≡ Some (text ++ bytes)
+pub fits : (text bytes : List ℕ) → length text + length bytes ≤ buffer_limit → grown (Some text) bytes ≡ Some (text ++ bytes)
 unfolding grown
-fits text bytes h = rw (le-leb (length text + length bytes) 4096 h) refl
+fits text bytes h = rw (le-leb (length text + length bytes) buffer_limit h) refl
 
-pub spills : (text bytes : List ℕ) → 4096 < length text + length bytes → grown (Some text) bytes ≡ None
+pub spills : (text bytes : List ℕ) → buffer_limit < length text + length bytes → grown (Some text) bytes ≡ None
 unfolding grown
-spills text bytes h = rw (lt-leb (length text + length bytes) 4096 h) refl
+spills text bytes h = rw (lt-leb (length text + length bytes) buffer_limit h) refl
 
 pub none_grows : (bytes : List ℕ) → grown None bytes ≡ None
 unfolding grown
@@ -22,9 +23,9 @@ none_grows bytes = refl
 
 pub grown-grown : (draft : Option (List ℕ)) (a b : List ℕ) → grown (grown draft a) b ≡ grown draft (a ++ b)
 grown-grown None a b = ap (λ d. grown d b) (none_grows a) ∙ none_grows b ∙ sym (none_grows (a ++ b))
-grown-grown (Some text) a b = by (nat_le (length text + length a) 4096) refl (nat_le (length text + (length a + length b)) 4096) refl
+grown-grown (Some text) a b = by (nat_le (length text + length a) buffer_limit) refl (nat_le (length text + (length a + length b)) buffer_limit) refl
   where
-    by : (fits_a : Bool) → nat_le (length text + length a) 4096 ≡ fits_a → (fits_both : Bool) → nat_le (length text + (length a + length b)) 4096 ≡ fits_both → grown (grown (Some text) a) b ≡ grown (Some text) (a ++ b)
+    by : (fits_a : Bool) → nat_le (length text + length a) buffer_limit ≡ fits_a → (fits_both : Bool) → nat_le (length text + (length a + length b)) buffer_limit ≡ fits_both → grown (grown (Some text) a) b ≡ grown (Some text) (a ++ b)
     by true e true f =
         let short = leb-true _ _ e in let whole = leb-true _ _ f in
         ap (λ d. grown d b) (fits text a short) ∙ fits (text ++ a) b (omega (arith, whole, length-append text a)) ∙ ap Some (append_assoc text a b) ∙ sym (fits text (a ++ b) (omega (arith, whole, length-append a b)))
@@ -53,12 +54,12 @@ sized_behind count (Err fault) old middle (Ok done) new size m h = absurd h
 sized_behind count (Err fault) old middle (Err found) new size m h = h
 
 -- more bytes than a command may have leave no text, whatever is before them
-pub too_much : (draft : Option (List ℕ)) (bytes : List ℕ) → 4096 < length bytes → grown draft bytes ≡ None
+pub too_much : (draft : Option (List ℕ)) (bytes : List ℕ) → buffer_limit < length bytes → grown draft bytes ≡ None
 too_much None bytes long = none_grows bytes
 too_much (Some text) bytes long = spills text bytes (omega (arith, long))
 
 pub sized_too_long : {E : Type 0} (rest : Result (List ℕ) E) (old : Option (List ℕ)) (result : Result (Unit {0}) E)
-    → ((bytes : List ℕ) → rest ≡ Ok bytes → 4096 < length bytes) → IsChecked rest result
+    → ((bytes : List ℕ) → rest ≡ Ok bytes → buffer_limit < length bytes) → IsChecked rest result
     → Drafts (rest >>= λ bytes. Ok (sized_text bytes)) old result None
 sized_too_long (Ok bytes) old (Ok done) long h = let more = long bytes refl in sym (too_much old (sized_text bytes) (omega (arith, more, length-append (to_be_bytes w16 (length bytes)) bytes)))
 sized_too_long (Ok bytes) old (Err fault) long h = absurd h

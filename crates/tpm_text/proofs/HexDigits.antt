@@ -1,4 +1,5 @@
 -- What hex digits write.
+use Rattle.tpm_types.specs.Limits.{buffer_limit}
 use Rattle.std.proofs.Common.{◌≡◌, ℕ, ◌+◌, ◌*◌, ◌/◌, ◌<◌, ◌%◌, true, false, List, [], length, Some, None, Result, Ok, Err, refl, arith}
 use Rattle.std.proofs.lemmas.Bool.{lt-leb}
 use Rattle.std.specs.List.{list_all}
@@ -42,13 +43,13 @@ pub half_of : (digits bytes : List ℕ) → hex_in digits ≡ Ok bytes → lengt
 half_of digits bytes e = (decode_of-ok digits bytes (or_fault_ok _ _ bytes e)).2
 
 -- digits of more bytes than there is room for leave no text
-pub hex_too_long : (digits text : List ℕ) (result : Result (Unit {0}) TokenFault) → IsChecked (hex_in digits) result → 4096 < length text + length digits / 2
+pub hex_too_long : (digits text : List ℕ) (result : Result (Unit {0}) TokenFault) → IsChecked (hex_in digits) result → buffer_limit < length text + length digits / 2
     → Drafts (hex_in digits) (Some text) result None
 unfolding grown
 hex_too_long digits text result checked long = by (hex_in digits) refl result checked
   where
     by : (read : Result (List ℕ) TokenFault) → hex_in digits ≡ read → (result : Result (Unit {0}) TokenFault) → IsChecked read result → Drafts read (Some text) result None
-    by (Ok bytes) e (Ok done) checked = let half = half_of digits bytes e in rw (lt-leb (length text + length bytes) 4096 (omega (arith, half, long))) refl
+    by (Ok bytes) e (Ok done) checked = let half = half_of digits bytes e in rw (lt-leb (length text + length bytes) buffer_limit (omega (arith, half, long))) refl
     by (Ok bytes) e (Err fault) checked = absurd checked
     by (Err fault) e (Ok done) checked = absurd checked
     by (Err fault) e (Err found) checked = checked

@@ -1,4 +1,5 @@
 -- Tokens that are read one after another, and what is written of them.
+use Rattle.tpm_types.specs.Limits.{buffer_limit}
 use Rattle.std.proofs.Common.{◌≡◌, ℕ, zero, suc, ◌≤◌, true, false, List, [], ◌∷◌, ◌++◌, length, take, Option, Some, None, Result, Ok, Err, refl, sym, ap, ◌∙◌, append-nil, arith}
 use Rattle.std.specs.Option.{ForSome, option_map}
 use Rattle.std.proofs.lemmas.Grind.{common_steps}
@@ -13,7 +14,8 @@ use Rattle.tpm_text.specs.declared.fault.AsmFault.TheVariants as fault
 use Rattle.tpm_text.specs.declared.fault.TokenFault.{TokenFault}
 use Rattle.tpm_text.specs.Draft.{drafted, grown}
 use Rattle.tpm_text.specs.Entry.{begins_entry, entry_in, handle_in, text_of_entry}
-use Rattle.tpm_text.specs.Fault.{Gives, at_column, fault_at}
+use Rattle.tpm_bytes.specs.Reading.{Gives}
+use Rattle.tpm_text.specs.Fault.{at_column, fault_at}
 use Rattle.tpm_text.specs.TokenReading.{DraftsRead, first_is_entry}
 use Rattle.tpm_text.specs.Line.{entry_tokens_in, handles_in, parameters_in}
 use Rattle.tpm_text.specs.Parameter.{parameter_text}
@@ -24,7 +26,7 @@ length-take-le-both : (size : ℕ) (bytes : List ℕ) → length (take size byte
 length-take-le-both size bytes = grind (arith, common_steps)
 
 -- nothing is added where nothing is written
-same_size : (bytes : List ℕ) (used : Option ℕ) → ForSome used (λ size. size ≤ 4096) → (let text = option_map (λ size. take size bytes) used in grown text [] ≡ text)
+same_size : (bytes : List ℕ) (used : Option ℕ) → ForSome used (λ size. size ≤ buffer_limit) → (let text = option_map (λ size. take size bytes) used in grown text [] ≡ text)
 same_size bytes None h = none_grows []
 same_size bytes (Some size) h = fits (take size bytes) [] (let small = h size refl in omega (arith, small, length-take-le-both size bytes)) ∙ ap Some (append-nil (take size bytes))
 

@@ -1,4 +1,5 @@
 -- The command that a line spells is one that is read back.
+use Rattle.tpm_types.specs.Limits.{buffer_limit}
 use Rattle.std.proofs.Common.{◌≡◌, ℕ, zero, suc, ◌<◌, ◌≤◌, ◌^◌, Bool, true, false, cond, List, [], ◌∷◌, length, drop, Result, Ok, Err, refl, ap, subst, arith, length-append}
 use Rattle.std.specs.Int.{Width, w8, w32, from_be_bytes, to_be_bytes}
 use Rattle.std.specs.List.{AllByRecursion}
@@ -102,7 +103,7 @@ entries_spell (suc most) (token ∷ tokens) x e = by (entries_spell most tokens)
         subst (λ (x : List Entry × List Token). (length x.0 ≤ suc most) × AllByRecursion Spells x.0) (ok_is (first.0 ∷ others.0.0, others.0.1) x others.2) (omega (arith, rest.0), (one, rest.1))
     by fewer false e = subst (λ (x : List Entry × List Token). (length x.0 ≤ suc most) × AllByRecursion Spells x.0) (ok_is ([], token ∷ tokens) x e) (omega arith, tt)
 
--- entries of so many bytes in all
+-- entries of this many bytes in all
 sized_entries : (entries : List Entry) → AllByRecursion Spells entries → length (entries_text entries) < 2 ^ 16 → AllByRecursion IsEntry entries
 sized_entries [] each small = tt
 sized_entries (entry ∷ entries) each small =
@@ -132,7 +133,7 @@ sessions_size : (entries : List Entry) → length (entries_text entries) ≤ len
 sessions_size [] = omega arith
 sessions_size (entry ∷ entries) = omega (arith, length-append (to_be_bytes w32 (length (entries_text (entry ∷ entries)))) (entries_text (entry ∷ entries)))
 
-spelled_is_command : (line : List ℕ) (c : Whole) → spelled line ≡ Ok c → command_size c ≤ 4096 → IsCommand c
+spelled_is_command : (line : List ℕ) (c : Whole) → spelled line ≡ Ok c → command_size c ≤ buffer_limit → IsCommand c
 unfolding spelled
 spelled_is_command line c e small =
     let name = bind_ok (name_in (tokens_of line)) _ c e in
@@ -143,7 +144,7 @@ spelled_is_command line c e small =
     let h = handles_spell (handle_count name.0.0) name.0.1 handles.0 handles.1 in
     let s = entries_spell 3 handles.0.1 entries.0 entries.1 in
     let is = ok_is (record { code = name.0.0; handles = handles.0.0; entries = entries.0.0; parameters = parameters.0.0 }) c whole.2 in
-    let within : length (entries_text c.entries) ≤ 4096 = omega (arith, small, command_size-is c, length-body c, sessions_size c.entries) in
+    let within : length (entries_text c.entries) ≤ buffer_limit = omega (arith, small, command_size-is c, length-body c, sessions_size c.entries) in
     record {
       handle_count = subst (λ (c : Whole). length c.handles ≡ handle_count c.code) is h.0;
       handles = subst (λ (c : Whole). AllByRecursion IsHandle c.handles) is h.1;
@@ -153,5 +154,5 @@ spelled_is_command line c e small =
     }
 
 -- the text of a command that a line spells is read as that command
-pub spelled_again : (line : List ℕ) (c : Whole) → spelled line ≡ Ok c → command_size c ≤ 4096 → command_at (command_text c) ≡ Ok (c, [])
+pub spelled_again : (line : List ℕ) (c : Whole) → spelled line ≡ Ok c → command_size c ≤ buffer_limit → command_at (command_text c) ≡ Ok (c, [])
 spelled_again line c e small = command_again c (spelled_is_command line c e small)

@@ -8,21 +8,21 @@ use Rattle.tpm_types.specs.declared.refused.Refused.{Refused}
 use Rattle.tpm_types_command.specs.AuthEntry.{Entry}
 use Rattle.tpm_types_command.specs.CommandCode.{code_number, shape_of}
 use Rattle.tpm_types_command.specs.Header.{header_at}
-use Rattle.tpm_types_command.specs.declared.command.Header.{Header}
-use Rattle.tpm_types_command.specs.declared.command.HeaderFault.{HeaderFault}
+use Rattle.tpm_types_command.specs.declared.header.Header.{Header}
+use Rattle.tpm_types_command.specs.declared.header.HeaderFault.{HeaderFault}
 use Rattle.tpm_types_command.specs.declared.command_code.CommandCode.{CommandCode}
 use Rattle.tpm_record.specs.Record.{Record}
 use Rattle.tpm_record.specs.Tick.{ticked}
 use Rattle.tpm_machine_step.specs.Answer.{answer_to, framed, refusal_tag, success_text}
-use Rattle.tpm_machine_step.specs.Events.{Happening, Given, Cycled}
+use Rattle.tpm_machine_step.specs.Events.{PlainEvent, Given, Cycled}
 use Rattle.tpm_machine_step.specs.Execution.{Executes}
 use Rattle.tpm_machine_step.specs.General.{body_of, general, in_command, in_header}
 use Rattle.tpm_machine_step.specs.Step.{Accepted, Stepped, acceptance, accepted, answer_where, refusal_step, refusal_without_memory, step_where, success_step}
-use Rattle.tpm_machine_step.specs.declared.refusal.Refusal.{Refusal}
+use Rattle.tpm_machine_step.specs.declared.refused_command.RefusedCommand.{RefusedCommand}
 use Rattle.tpm_text.specs.Trace.{IsRow, IsTraceable}
 
 -- a refusal names a command that is served, or none
-abbrev Names : {X : Type 0} → Result X Refusal → Type 0
+abbrev Names : {X : Type 0} → Result X RefusedCommand → Type 0
 Names (Ok x) = Unit {0}
 Names (Err e) = (e.code ≡ 0) ⊎ ((code : CommandCode) × (e.code ≡ code_number code))
 
@@ -34,7 +34,7 @@ named_in_header : (header : Result (Header × List ℕ) HeaderFault) → Names (
 named_in_header (Ok header) = tt
 named_in_header (Err fault) = inl refl
 
-named_on : {A B : Type 0} (x : Result A Refusal) (then : A → Result B Refusal) → Names x → ((a : A) → Names (then a)) → Names (x >>= then)
+named_on : {A B : Type 0} (x : Result A RefusedCommand) (then : A → Result B RefusedCommand) → Names x → ((a : A) → Names (then a)) → Names (x >>= then)
 named_on (Ok a) then n m = m a
 named_on (Err e) then n m = n
 
@@ -70,23 +70,23 @@ IsTraced x = IsRow x.row × (10 ≤ length x.response)
 success_traced : (a : Accepted) (random : List ℕ) → IsTraced (success_step a random)
 success_traced a random = ((inr (a.command.code, refl), inl refl), answer_long a random)
 
-refusal_traced : (r : Record) (e : Refusal) → (e.code ≡ 0) ⊎ ((code : CommandCode) × (e.code ≡ code_number code)) → IsTraced (refusal_step r e)
+refusal_traced : (r : Record) (e : RefusedCommand) → (e.code ≡ 0) ⊎ ((code : CommandCode) × (e.code ≡ code_number code)) → IsTraced (refusal_step r e)
 refusal_traced r e named = ((named, inr (e.refused.check, refl)), framed_long (refusal_tag e.refused.check) (rc_number e.refused.rc) [])
 
 traced_without_memory : (r : Record) (random : List ℕ) (a : Accepted) (grows : Bool) → IsTraced (cond grows (refusal_without_memory r a.command) (success_step a random))
 traced_without_memory r random a true = ((inr (a.command.code, refl), inr (Memory, refl)), omega arith)
 traced_without_memory r random a false = success_traced a random
 
-answer_traced : (refused : Bool) (r : Record) (random : List ℕ) (a : Result Accepted Refusal) → Names a → IsTraced (answer_where refused r random a)
+answer_traced : (refused : Bool) (r : Record) (random : List ℕ) (a : Result Accepted RefusedCommand) → Names a → IsTraced (answer_where refused r random a)
 answer_traced false r random (Ok a) named = success_traced a random
 answer_traced false r random (Err e) named = refusal_traced r e named
 answer_traced true r random (Ok a) named = traced_without_memory r random a (shape_of a.command.code).grows
 answer_traced true r random (Err e) named = refusal_traced r e named
 
-step_traced : (refused : Bool) (r : Record) (event : Happening) → IsTraceable event (step_where refused r event)
+step_traced : (refused : Bool) (r : Record) (event : PlainEvent) → IsTraceable event (step_where refused r event)
 step_traced refused r (Given buffer locality elapsed random) =
     let t = ticked r elapsed in answer_traced refused t random (accepted t buffer locality random) (named_accepted t buffer locality random)
 step_traced refused r Cycled = ((inl refl, inl refl), tt)
 
-pub executed : (can : Bool) (old : Record) (event : Happening) (x : Stepped) → Executes can old event x → IsTraceable event x
+pub executed : (can : Bool) (old : Record) (event : PlainEvent) (x : Stepped) → Executes can old event x → IsTraceable event x
 executed can old event x e = subst (IsTraceable event) (sym e.steps.2) (step_traced e.steps.0 old event)

@@ -1,4 +1,5 @@
 -- What a command's text is while it is being written.
+use Rattle.tpm_types.specs.Limits.{buffer_limit}
 use Rattle.std.specs.Prelude.{◌≡◌, ℕ, ◌+◌, nat_le, if◌then◌else◌, List, ◌++◌, length, take, drop}
 use Rattle.std.specs.Prelude.{Option, Some, None, option_map, Result, Ok, Err}
 use Rattle.std.specs.Int.{w32, to_be_bytes}
@@ -17,7 +18,7 @@ drafted draft = option_map (λ size. take size draft.bytes) draft.used
 unfoldable pub grown : Option (List ℕ) → List ℕ → Option (List ℕ)
 grown None bytes = None
 grown (Some text) bytes =
-    if nat_le (length text + length bytes) 4096 then Some (text ++ bytes) else None
+    if nat_le (length text + length bytes) buffer_limit then Some (text ++ bytes) else None
 
 -- a draft with an authorization area: the size of its entries, and these
 unfoldable pub with_area : Option (List ℕ) → Option (List ℕ) → Option (List ℕ)

@@ -14,8 +14,3 @@ fault_at column token.Range = line.Range column
 abbrev pub at_column : {A : Type 0} → ℕ → Result A TokenFault → Result A AsmFault
 at_column column (Ok x) = Ok x
 at_column column (Err fault) = Err (fault_at column fault)
-
--- A reading gave what its definition gives, or its fault.
-abbrev pub Gives : {X Y E : Type 0} → (X → Y) → Result Y E → Result X E → Type 0
-Gives view definition (Ok x) = definition ≡ Ok (view x)
-Gives view definition (Err fault) = definition ≡ Err fault

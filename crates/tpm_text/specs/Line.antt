@@ -1,5 +1,6 @@
 -- Lines: a command in words, one space between two tokens. First its name, then its handles, its
 -- authorization entries, and its parameters, in the order of TPM 2.0 Library, Part 3.
+use Rattle.tpm_types.specs.Limits.{buffer_limit}
 use Rattle.std.specs.Prelude.{◌≡◌, ℕ, zero, suc, nat_lt, cond, List, [], ◌∷◌, ◌++◌}
 use Rattle.std.specs.Prelude.{Result, Ok, Err, ok_or}
 use Rattle.tpm_bytes.specs.Reading.{◌>>=◌, refused_if}
@@ -18,7 +19,7 @@ use Rattle.tpm_text.specs.Fault.{at_column}
 use Rattle.tpm_text.specs.Parameter.{parameter_text}
 use Rattle.tpm_text.specs.Pieces.{Token, tokens_of}
 
--- what is read of the first token, and the tokens behind it; Missing where there is none
+-- what is read of the first token, and the tokens after it; Missing where there is none
 abbrev pub token_in : {A : Type 0}
     → (List ℕ → Result A TokenFault) → List Token → Result (A × List Token) AsmFault
 token_in read [] = Err fault.Missing
@@ -34,7 +35,7 @@ name_in (token ∷ tokens) = do
   code ← ok_or (code_called token.text) fault.BadName
   Ok (code, tokens)
 
--- so many handles
+-- a number of handles
 unfoldable pub handles_in : ℕ → List Token → Result (List Handle × List Token) AsmFault
 handles_in zero tokens = Ok ([], tokens)
 handles_in (suc count) tokens = do
@@ -42,7 +43,7 @@ handles_in (suc count) tokens = do
   others ← handles_in count first.1
   Ok (first.0 ∷ others.0, others.1)
 
--- the entries in front, at most so many; the first token that does not begin like one ends them
+-- the entries in front, at most this many; the first token that does not begin like one ends them
 unfoldable pub entry_tokens_in : ℕ → List Token → Result (List Entry × List Token) AsmFault
 entry_tokens_in zero tokens = Ok ([], tokens)
 entry_tokens_in (suc most) [] = Ok ([], [])
@@ -85,7 +86,7 @@ spelled line = do
 unfoldable pub assembled : List ℕ → Result (List ℕ) AsmFault
 assembled line = do
   command ← spelled line
-  fits ← refused_if (nat_lt 4096 (command_size command)) fault.TooLong
+  fits ← refused_if (nat_lt buffer_limit (command_size command)) fault.TooLong
   Ok (command_text command)
 
 -- A call gave the text of the command that a line spells, or the fault of the line, or had no

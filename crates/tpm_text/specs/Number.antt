@@ -56,7 +56,7 @@ decimal_of digits = result_ok (at_most (2 ^ 32 - 1) (numeral 10 digits))
 abbrev pub locality_of : ℕ → Option ℕ
 locality_of number = if nat_le number 4 then Some number else None
 
--- a number as so many bytes, of which this is the largest number
+-- a number as a number of bytes, of which this is the largest number
 abbrev pub number_text : Width → (most : ℕ) → List ℕ → Result (List ℕ) TokenFault
 number_text width most token = do
   number ← number_in most token

@@ -52,7 +52,7 @@ buffer_text token = do
   bytes ← bytes_in token
   Ok (sized_text bytes)
 
--- a hash algorithm, and all that stands behind the first colon
+-- a hash algorithm, and all that stands after the first colon
 unfoldable pub hash_and_rest_in : List ℕ → Result (HashAlg × List ℕ) TokenFault
 hash_and_rest_in piece = do
   place ← ok_or (position (λ byte. byte == colon) piece) Bad
@@ -85,7 +85,7 @@ element_text element.Bank piece = bank_word_text piece
 element_text element.Digest piece = digest_word_text piece
 element_text element.Buffer piece = buffer_text piece
 
--- the elements of a list, one behind the other
+-- the elements of a list, one after the other
 unfoldable pub elements_text : Element → List (List ℕ) → Result (List ℕ) TokenFault
 elements_text element pieces = do
   texts ← each_in (element_text element) pieces

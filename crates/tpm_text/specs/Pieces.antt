@@ -6,7 +6,7 @@ use Rattle.tpm_bytes.specs.Reading.{◌>>=◌}
 use Rattle.tpm_text.specs.declared.token.Token as declared
 use Rattle.tpm_text.specs.declared.fault.TokenFault.{TokenFault}
 
--- what separates: tokens, the elements of a list, numbers, and a word from what stands behind it
+-- what separates: tokens, the elements of a list, numbers, and a word from what stands after it
 abbrev pub space : ℕ
 space = 32
 
@@ -28,7 +28,7 @@ pub record Token : Type 0 where
   pub column : ℕ
   pub text : List ℕ
 
--- the tokens that stand one behind the other from a column on, a space between two
+-- the tokens that stand one after the other from a column on, a space between two
 abbrev pub placed : ℕ → List (List ℕ) → List Token
 placed column [] = []
 placed column (text ∷ texts) =

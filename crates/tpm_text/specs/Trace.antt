@@ -10,7 +10,7 @@ use Rattle.tpm_types.specs.declared.check.Check.{Check}
 use Rattle.tpm_types_command.specs.CommandCode.{code_named, code_number}
 use Rattle.tpm_types_command.specs.CommandName.{code_name}
 use Rattle.tpm_types_command.specs.declared.command_code.CommandCode.{CommandCode}
-use Rattle.tpm_machine_step.specs.Events.{Happening, Given, Cycled}
+use Rattle.tpm_machine_step.specs.Events.{PlainEvent, Given, Cycled}
 use Rattle.tpm_machine_step.specs.Step.{Stepped}
 use Rattle.tpm_machine_step.specs.declared.event.Row.{Row}
 
@@ -22,12 +22,12 @@ IsRow row =
     × ((row.check ≡ 0) ⊎ ((check : Check) × (row.check ≡ check_number check)))
 
 -- A command is answered by at least a header, which has ten bytes.
-abbrev pub IsAnswered : Happening → List ℕ → Type 0
+abbrev pub IsAnswered : PlainEvent → List ℕ → Type 0
 IsAnswered (Given buffer locality elapsed random) response = 10 ≤ length response
 IsAnswered Cycled response = Unit {0}
 
 -- An event and its step have a trace.
-abbrev pub IsTraceable : Happening → Stepped → Type 0
+abbrev pub IsTraceable : PlainEvent → Stepped → Type 0
 IsTraceable event x = IsRow x.row × IsAnswered event x.response
 
 -- the name of the command of this number; ? where there is none
@@ -43,13 +43,13 @@ check_text number =
     else if number == 255 then codes "M"
     else codes "A" ++ decimal (number - 20)
 
--- the response code, which stands behind a response's tag and size
+-- the response code, which stands after a response's tag and size
 abbrev pub response_code_text : List ℕ → List ℕ
 response_code_text response = encode_lower (slice_range response 6 10)
 
 -- a power cycle; or a command with its name, the locality that it came from, the milliseconds that
 -- passed before it, the check that refused it, and the response code
-abbrev pub trace_text : Happening → Row → (response : List ℕ) → List ℕ
+abbrev pub trace_text : PlainEvent → Row → (response : List ℕ) → List ℕ
 trace_text Cycled row response = codes "power"
 trace_text (Given buffer locality elapsed random) row response =
     name_text row.code ++ codes " L" ++ decimal locality ++ codes " +" ++ decimal elapsed

@@ -1,3 +1,5 @@
+//! The check that a token is bytes in hex, before these are decoded.
+
 ghost use Rattle.std.specs.Prelude.{◌≡◌, Err, MatchResult};
 ghost use Rattle.std.specs.List.{list_all};
 ghost use Rattle.hex.specs.Hex.{is_hex_digit};

@@ -1,3 +1,7 @@
+//! The buffer of a command while it is written, which remembers whether it has become too long, and
+//! gets its header last.
+
+ghost use Rattle.tpm_types.specs.Limits.{buffer_limit};
 ghost use Rattle.std.specs.Prelude.{◌≡◌, ◌≤◌, length, [], Some, IfSome, IsSome};
 ghost use Rattle.std.specs.Option.{ForSome};
 ghost use Rattle.tpm_types_command.specs.Header.{header_text};
@@ -5,19 +9,17 @@ ghost use Rattle.tpm_types_command.specs.Header.{header_text};
 use crate::digits::{check_hex, digits_of};
 use crate::fault::{AsmFault, TokenFault};
 use tpm_bytes::Sink;
+use tpm_types::BUFFER_LIMIT;
 use tpm_types_command::{CommandCode, HEADER_SIZE, Tag};
-
-/// The most bytes that a command may have.
-pub const LIMIT: usize = 4_096;
 
 /// A command's text that is being written, and that knows when it has become too long.
 #[derive(Drop)]
 pub struct Draft {
-    bytes: [u8; 4096],
+    bytes: [u8; BUFFER_LIMIT],
     /// How many bytes were written; none once they were too many.
     used: Option<usize>,
-    ghost capacity: { length bytes ≡ 4096 },
-    ghost within: { ForSome used (λ size. size ≤ 4096) },
+    ghost capacity: { length bytes ≡ buffer_limit },
+    ghost within: { ForSome used (λ size. size ≤ buffer_limit) },
 }
 
 impl Draft {
@@ -30,12 +32,12 @@ impl Draft {
         ensures { drafted result ≡ Some [] }
     {
         Draft {
-            bytes: [0; 4096],
+            bytes: [0; BUFFER_LIMIT],
             used: Some(0),
         }
     }
 
-    /// Begins anew, behind the ten bytes of a header.
+    /// Begins anew, after the ten bytes of a header.
     pub fn begin(&mut self)
         ensures ten { IfSome (drafted self.new) (λ text. length text ≡ 10) }
         ensures some { IsSome (drafted self.new) }
@@ -51,7 +53,7 @@ impl Draft {
         let Some(size) = self.used else {
             return;
         };
-        if bytes.len() > LIMIT - size {
+        if bytes.len() > BUFFER_LIMIT - size {
             self.used = None;
             return;
         }
@@ -69,7 +71,7 @@ impl Draft {
         let Some(size) = self.used else {
             return check_hex(digits);
         };
-        if count > LIMIT - size {
+        if count > BUFFER_LIMIT - size {
             self.used = None;
             return check_hex(digits);
         }
@@ -88,7 +90,7 @@ impl Draft {
     {
         let digits = digits_of(token)?;
         let count = digits.len() / 2;
-        if count > LIMIT {
+        if count > BUFFER_LIMIT {
             self.used = None;
             return check_hex(digits);
         }
@@ -126,7 +128,7 @@ impl Draft {
     /// The bytes so far; none once they were too many.
     pub fn as_slice(&self) -> &[u8]
         ensures value { IfSome (drafted self.now) (λ text. result.now ≡ text) }
-        ensures small { length result.now ≤ 4096 }
+        ensures small { length result.now ≤ buffer_limit }
     {
         &self.bytes[..self.used.unwrap_or(0)]
     }

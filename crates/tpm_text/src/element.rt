@@ -1,3 +1,6 @@
+//! What the elements of a list in words may be: selected PCRs, digests with their algorithm, or
+//! digests alone.
+
 /// What the elements of a list are.
 #[derive(Clone, Copy, Debug, PartialEq, Eq)]
 pub enum Element {

@@ -1,8 +1,11 @@
+//! Handles and authorization entries in words: a password, or a session with nonce, attributes and
+//! HMAC.
+
 ghost use Rattle.std.specs.Prelude.{◌≡◌};
 ghost use Rattle.tpm_text.specs.Draft.{Drafts, drafted};
 ghost use Rattle.tpm_text.specs.Entry.{begins_entry, entry_in, handle_in, hex_handle_in, octet_in, password_entry, session_entry, session_pieces_of, text_of_entry};
 ghost use Rattle.tpm_text.specs.EntryPieces.{four_of};
-ghost use Rattle.tpm_text.specs.Fault.{Gives};
+ghost use Rattle.tpm_bytes.specs.Reading.{Gives};
 ghost use Rattle.tpm_text.specs.Pieces.{colon, pieces_of};
 
 use crate::draft::Draft;

@@ -1,3 +1,5 @@
+//! Why a line spells no command: the first fault from the left, with its column.
+
 ghost use Rattle.std.specs.Prelude.{◌≡◌};
 
 use std::alloc::AllocError;
@@ -14,7 +16,7 @@ pub enum AsmFault {
     Missing,
     /// A number in the token at this column is too large.
     Range { column: usize },
-    /// The command would have more than 4,096 bytes. Nothing else is wrong.
+    /// The command would have more bytes than a buffer may have. Nothing else is wrong.
     TooLong,
     /// Memory was refused. Nothing is wrong with the line.
     NoMemory,

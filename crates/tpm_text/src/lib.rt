@@ -7,10 +7,13 @@
 //! the command, which says what is wanted where, and writes the buffer of the command
 //! ([`draft`]): handles and entries ([`entry`]), and parameters ([`parameter`]), which are numbers
 //! ([`number`]), words ([`word`]), bytes in hex ([`digits`]) and lists ([`list`]). The first fault
-//! from the left is told with its column ([`fault`]).
+//! from the left is told with its column ([`fault`]). A trace ([`trace`]) tells of an event in one
+//! line which command came from which locality, which row of the table it took, and what was
+//! answered.
 //!
-//! A trace ([`trace`]) tells of an event in one line which command came from which locality, which
-//! row of the table it took, and what was answered.
+//! It stands on `tpm_types_command` for the shapes of commands, and on `tpm_machine_step` for
+//! events. Each call equals its definition in `specs/`: a line gives the buffer of the command that
+//! it spells, which is read back as that command, or its first fault.
 
 mod digits;
 pub mod draft;
@@ -27,7 +30,7 @@ mod word;
 
 pub use draft::Draft;
 pub use fault::AsmFault;
-pub use line::{assemble, assemble_in, lines_are_read_back};
+pub use line::{assemble, assemble_in, read_back_laws};
 pub use number::{decimal, is_word, locality};
 pub use token::position_of;
-pub use trace::{executions_are_traceable, trace_line, trace_text};
+pub use trace::{trace_line, trace_text, traceable_laws};

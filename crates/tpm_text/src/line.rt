@@ -1,9 +1,13 @@
+//! The assembly of a line in words to the buffer of a command. The buffer is read back as the
+//! command that the line spells.
+
+ghost use Rattle.tpm_types.specs.Limits.{buffer_limit};
 ghost use Rattle.std.specs.Prelude.{◌≡◌, ◌≤◌, ℕ, List, [], length, IfOk, Ok};
 ghost use Rattle.std.specs.List.{flat_map};
 ghost use Rattle.tpm_types_command.specs.AuthArea.{entries_text};
 ghost use Rattle.tpm_types_command.specs.Command.{Whole, command_at, command_size, command_text, handles_text};
 ghost use Rattle.tpm_text.specs.Draft.{Finishes, drafted};
-ghost use Rattle.tpm_text.specs.Fault.{Gives};
+ghost use Rattle.tpm_bytes.specs.Reading.{Gives};
 ghost use Rattle.tpm_text.specs.TokenReading.{DraftsRead, DraftsSessions, ReadsTokens};
 ghost use Rattle.tpm_text.specs.Line.{Assembles, assembled, ended, entry_tokens_in, handles_in, name_in, parameters_in, spelled};
 ghost use Rattle.tpm_text.specs.Tokens.{tokens_left};
@@ -16,7 +20,7 @@ use crate::token::Tokens;
 use std::alloc::Global;
 use tpm_types_command::{CommandCode, ParameterKind, Tag};
 
-/// Writes so many handles.
+/// Writes a number of handles.
 fn put_handles(count: usize, tokens: &mut Tokens, draft: &mut Draft) -> Result<(), AsmFault>
     ensures { DraftsRead handles_text (handles_in count (tokens_left tokens.old))
         (drafted draft.old) result (drafted draft.new) (tokens_left tokens.new) }
@@ -30,7 +34,7 @@ fn put_handles(count: usize, tokens: &mut Tokens, draft: &mut Draft) -> Result<(
     put_handles(count - 1, tokens, draft)
 }
 
-/// Writes at most so many entries: as many as the tokens begin like one.
+/// Writes at most `most` entries: as many as the tokens begin like one.
 fn put_entries(most: usize, tokens: &mut Tokens, draft: &mut Draft) -> Result<(), AsmFault>
     ensures { DraftsRead entries_text (entry_tokens_in most (tokens_left tokens.old))
         (drafted draft.old) result (drafted draft.new) (tokens_left tokens.new) }
@@ -63,7 +67,7 @@ fn put_parameters(
 }
 
 /// Writes the authorization area, if the next token begins like an entry, and tells whether it did.
-fn put_sessions(tokens: &mut Tokens, draft: &mut Draft) -> Result<Tag, AsmFault>
+fn put_authorization(tokens: &mut Tokens, draft: &mut Draft) -> Result<Tag, AsmFault>
     ensures { DraftsSessions (entry_tokens_in 3 (tokens_left tokens.old)) (drafted draft.old)
         result (drafted draft.new) (tokens_left tokens.new) }
 {
@@ -102,7 +106,7 @@ fn check_end(tokens: &mut Tokens) -> Result<(), AsmFault>
 /// The buffer of the command that a line spells, or the first fault of the line from the left.
 pub fn assemble_in<'a>(line: &[u8], draft: &'a mut Draft) -> Result<&'a [u8], AsmFault>
     ensures value { Gives (λ bytes. bytes.now) (assembled line.now) result }
-    ensures fits { IfOk result (λ bytes. length bytes.now ≤ 4096) }
+    ensures fits { IfOk result (λ bytes. length bytes.now ≤ buffer_limit) }
 {
     write_command(line, draft)?;
     Ok(draft.as_slice())
@@ -117,7 +121,7 @@ fn write_command(line: &[u8], draft: &mut Draft) -> Result<(), AsmFault>
     let shape = code.shape();
     draft.begin();
     put_handles(shape.handles.len(), &mut tokens, draft)?;
-    let tag = put_sessions(&mut tokens, draft)?;
+    let tag = put_authorization(&mut tokens, draft)?;
     put_parameters(shape.parameters, &mut tokens, draft)?;
     check_end(&mut tokens)?;
     draft.finish(tag, code)
@@ -136,7 +140,7 @@ pub fn assemble(alloc: Global, line: &str) -> Result<Vec<u8>, AsmFault>
 }
 
 /// The buffer of a line is read as the command that the line spells.
-pub fn lines_are_read_back()
-    ensures { (line : List ℕ) (c : Whole) → spelled line ≡ Ok c → command_size c ≤ 4096
+pub fn read_back_laws()
+    ensures { (line : List ℕ) (c : Whole) → spelled line ≡ Ok c → command_size c ≤ buffer_limit
         → command_at (command_text c) ≡ Ok (c, []) }
 {}

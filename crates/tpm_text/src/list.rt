@@ -1,8 +1,10 @@
+//! Lists in words, whose elements are joined by `+`: selections of PCRs and lists of digests.
+
 ghost use Rattle.std.specs.Prelude.{◌≡◌, ◌==◌, length};
 ghost use Rattle.std.specs.Int.{w32, to_be_bytes};
 ghost use Rattle.std.specs.List.{count_by};
 ghost use Rattle.tpm_text.specs.Draft.{Drafts, drafted};
-ghost use Rattle.tpm_text.specs.Fault.{Gives};
+ghost use Rattle.tpm_bytes.specs.Reading.{Gives};
 ghost use Rattle.tpm_text.specs.Number.{number_in};
 ghost use Rattle.tpm_text.specs.Parameter.{bank_word_text, digest_word_text, element_text, hash_and_rest_in, elements_text, list_or_none_text, list_text, pcrs_in};
 ghost use Rattle.tpm_text.specs.Pieces.{pieces_of, plus};
@@ -17,7 +19,7 @@ use tpm_bytes::Sink;
 use tpm_mac::HashAlg;
 use tpm_types::{BankSelection, PcrIndex, PcrSelect, hash_number};
 
-/// A hash algorithm, and all that stands behind the first colon.
+/// A hash algorithm, and all that stands after the first colon.
 #[tactic(auto, unfolding(crate::specs::Parameter::hash_and_rest_in))]
 fn hash_and_rest_in(piece: &[u8]) -> Result<(HashAlg, &[u8]), TokenFault>
     ensures { Gives (λ pair. (pair.0, pair.1.now)) (hash_and_rest_in piece.now) result }

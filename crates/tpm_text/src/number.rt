@@ -1,7 +1,9 @@
+//! Numbers in words, decimal or in hex, up to the largest that is wanted; and localities.
+
 ghost use Rattle.std.specs.Prelude.{◌≡◌, ◌<◌, ◌≤◌, ◌^◌, ◌-◌, IfOk, option_and_then, option_map};
 ghost use Rattle.std.specs.List.{list_all};
 ghost use Rattle.tpm_types.specs.Locality.{locality_number};
-ghost use Rattle.tpm_text.specs.Fault.{Gives};
+ghost use Rattle.tpm_bytes.specs.Reading.{Gives};
 ghost use Rattle.tpm_text.specs.Number.{at_most, decimal_of, is_digit, is_word, locality_of};
 ghost use Rattle.tpm_text.specs.Number.{number_in, number_of, numeral, radix_number};
 

@@ -1,6 +1,8 @@
+//! A parameter in words, of any kind that a command's shape names.
+
 ghost use Rattle.std.specs.Prelude.{◌≡◌, MatchResult};
 ghost use Rattle.tpm_text.specs.Draft.{Drafts, drafted};
-ghost use Rattle.tpm_text.specs.Fault.{Gives};
+ghost use Rattle.tpm_bytes.specs.Reading.{Gives};
 ghost use Rattle.tpm_text.specs.Number.{number_text};
 ghost use Rattle.tpm_text.specs.Parameter.{bank_word_text, buffer_text, digest_word_text, element_text, hash_in, hash_text, list_or_none_text, list_text, parameter_text, symmetric_in};
 

@@ -1,3 +1,5 @@
+//! The tokens of a line, with a space between two, each with its column.
+
 ghost use Rattle.std.specs.Prelude.{◌≡◌, ◌==◌, ◌+◌, ◌<◌, ◌≤◌, ◌^◌, [], ◌∷◌, length, IfSome};
 ghost use Rattle.std.specs.List.{position};
 ghost use Rattle.std.specs.Option.{ForSome, option_map_or};
@@ -14,7 +16,7 @@ pub fn position_of(byte: u8, bytes: &[u8]) -> Option<usize>
     memchr(byte, bytes)
 }
 
-/// What stands before the first separator, and what stands behind it, if one is there.
+/// What stands before the first separator, and what stands after it, if one is there.
 #[tactic(auto, using(crate::proofs::Cutting::cuts))]
 pub fn cut(separator: u8, text: &[u8]) -> (&[u8], Option<&[u8]>)
     ensures pieces { pieces_of separator text.now ≡ result.0.now
@@ -40,7 +42,7 @@ pub struct Token<'a> {
 pub struct Tokens<'a> {
     /// How many bytes the whole line has.
     size: usize,
-    /// What stands behind the last space that was passed; none behind the last token.
+    /// What stands after the last space that was passed; none after the last token.
     rest: Option<&'a [u8]>,
     ghost within: { ForSome rest (λ text. length text.now ≤ size) },
     ghost small: { size < 2 ^ 63 },

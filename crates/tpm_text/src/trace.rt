@@ -1,3 +1,6 @@
+//! The trace of an event: one line that tells the command, its locality, its row and its response
+//! code.
+
 ghost use Rattle.std.specs.Prelude.{◌≡◌, ℕ, ◌+◌, ◌≤◌, ◌++◌, ◌⊎◌, Bool, length, codes, IfOk};
 ghost use Rattle.std.specs.Fmt.{decimal};
 ghost use Rattle.std.specs.String.{string_bytes};
@@ -5,7 +8,7 @@ ghost use Rattle.arrayvec.specs.ArrayString.{array_string_len};
 ghost use Rattle.tpm_types.specs.Check.{check_number};
 ghost use Rattle.tpm_types.specs.declared.check.Check.{Check};
 ghost use Rattle.tpm_record.specs.Record.{Record};
-ghost use Rattle.tpm_machine_step.specs.Events.{Happening, happening};
+ghost use Rattle.tpm_machine_step.specs.Events.{PlainEvent, plain_event};
 ghost use Rattle.tpm_machine_step.specs.Execution.{Executes};
 ghost use Rattle.tpm_machine_step.specs.Step.{Stepped};
 ghost use Rattle.tpm_text.specs.Trace.{IsAnswered, IsRow, IsTraceable, check_text, name_text};
@@ -15,8 +18,8 @@ use arrayvec::ArrayString;
 use itoa::Buffer;
 use std::alloc::Global;
 use std::str;
+use tpm_bytes::NoMemory;
 use tpm_machine_step::{Event, Outcome, Row};
-use tpm_record::NoMemory;
 use tpm_types_command::CommandCode;
 
 /// A line that traces an event.
@@ -25,9 +28,9 @@ pub type Trace = ArrayString<64>;
 /// The trace of an event and its outcome, in new memory: [`trace_text`].
 pub fn trace_line(alloc: Global, event: &Event, outcome: &Outcome) -> Result<String, NoMemory>
     requires row { IsRow outcome.now.row }
-    requires response { IsAnswered (happening event.now) outcome.now.response.items }
+    requires response { IsAnswered (plain_event event.now) outcome.now.response.items }
     ensures { IfOk result (λ line. string_bytes line
-        ≡ trace_text (happening event.now) outcome.now.row outcome.now.response.items) }
+        ≡ trace_text (plain_event event.now) outcome.now.row outcome.now.response.items) }
 {
     let text = trace_text(event, outcome.row, outcome.response.as_slice());
     String::from_str(alloc, text.as_str()).map_err(|_| NoMemory)
@@ -37,8 +40,8 @@ pub fn trace_line(alloc: Global, event: &Event, outcome: &Outcome) -> Result<Str
 /// command a line such as `Startup L0 +0 ok 00000000`.
 pub fn trace_text(event: &Event, row: Row, response: &[u8]) -> Trace
     requires row { IsRow row }
-    requires response { IsAnswered (happening event.now) response.now }
-    ensures { result.bytes ≡ trace_text (happening event.now) row response.now }
+    requires response { IsAnswered (plain_event event.now) response.now }
+    ensures { result.bytes ≡ trace_text (plain_event event.now) row response.now }
 {
     let mut text = ArrayString::new();
     match event {
@@ -64,8 +67,8 @@ pub fn trace_text(event: &Event, row: Row, response: &[u8]) -> Trace
 }
 
 /// What an execution of an event gives can be traced.
-pub fn executions_are_traceable()
-    ensures { (can : Bool) (old : Record) (event : Happening) (x : Stepped)
+pub fn traceable_laws()
+    ensures { (can : Bool) (old : Record) (event : PlainEvent) (x : Stepped)
         → Executes can old event x → IsTraceable event x }
 {}
 

@@ -1,6 +1,8 @@
+//! The words for hash algorithms and symmetric definitions, and the numbers that they stand for.
+
 ghost use Rattle.std.specs.Prelude.{◌≡◌};
 ghost use Rattle.tpm_text.specs.Draft.{Drafts, drafted};
-ghost use Rattle.tpm_text.specs.Fault.{Gives};
+ghost use Rattle.tpm_bytes.specs.Reading.{Gives};
 ghost use Rattle.tpm_text.specs.Parameter.{hash_in, hash_text, symmetric_in, symmetric_word_text};
 
 use crate::draft::Draft;

@@ -1,3 +1,4 @@
+-- How long the text of a PCR selection is, and that a loop over its banks writes that text.
 use Rattle.std.proofs.Common.{◌≡◌, ℕ, ◌+◌, ◌*◌, ◌<◌, ◌≤◌, List, [], ◌∷◌, ◌++◌, length, take, get_or, Result, refl, ap, sym, ◌∙◌, append_assoc, arith, length-append, take_all}
 use Rattle.std.specs.Int.{w32, to_be_bytes}
 use Rattle.tpm_bytes.specs.Writing.{Puts}
@@ -18,7 +19,7 @@ pub banks_text-nil : banks_text [] ≡ []
 unfolding banks_text
 banks_text-nil = refl
 
--- a bank is written behind those before it, where there was room for all
+-- a bank is written after those before it, where there was room for all
 pub bank_written : {E : Type 0} (capacity : ℕ) (banks : List BankSelection) (i : ℕ) (bank : BankSelection) (start so_far new : List ℕ) (result : Result (Unit {0}) E) → i < length banks → bank ≡ get_or banks i bank → so_far ≡ start ++ banks_text (take i banks) → length start + 6 * length banks ≤ capacity → Puts capacity (bank_text bank) so_far result new → new ≡ start ++ banks_text (take (i + 1) banks)
 unfolding banks_text
 bank_written capacity banks i bank start so_far new result below is so room puts =

@@ -1,3 +1,4 @@
+-- That a loop over the digests of a list writes the text of the list.
 use Rattle.std.proofs.Common.{◌≡◌, ℕ, ◌+◌, ◌*◌, ◌<◌, ◌≤◌, List, [], ◌++◌, length, take, get_or, Result, refl, ap, sym, ◌∙◌, append_assoc, arith, length-append}
 use Rattle.std.proofs.lemmas.Grind.{common_steps}
 use Rattle.std.proofs.lemmas.List.{take_more, map-append, length-map}
@@ -15,7 +16,7 @@ pub digests_text_more : (digests : List (ArrayVec ℕ)) (i : ℕ) (d : ArrayVec 
 unfolding digests_text
 digests_text_more digests i d below = rw (take_more digests i d below, map-append) (grind (arith, common_steps))
 
--- a digest is written behind those before it, where there was room for it
+-- a digest is written after those before it, where there was room for it
 pub digest_written : {E : Type 0} (capacity : ℕ) (digests : List (ArrayVec ℕ)) (i : ℕ) (digest : ArrayVec ℕ) (bytes start so_far new : List ℕ) (result : Result (Unit {0}) E) → i < length digests → digest ≡ get_or digests i digest → bytes ≡ digest.items → length bytes ≤ 32 → so_far ≡ start ++ digests_text (digests_of (take i digests)) → length so_far ≤ length start + 34 * i → length start + 34 * length digests ≤ capacity → PutsSized capacity bytes so_far result new → (new ≡ start ++ digests_text (digests_of (take (i + 1) digests))) × (length new ≤ length start + 34 * (i + 1))
 digest_written capacity digests i digest bytes start so_far new result below is same short so small room puts =
     let sized : new ≡ so_far ++ sized_text bytes = put_sized_fits capacity bytes so_far result new puts (omega arith) (omega arith) in (

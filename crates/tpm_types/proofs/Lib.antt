@@ -13,3 +13,4 @@ pub mod Buffers
 pub mod DigestListLaws
 pub mod Spelled
 pub mod FieldLaws
+pub mod AttributeBitsLaws

@@ -11,7 +11,7 @@ pub record Spelled {A E : Type 0} (text : A → List ℕ) (Is : A → Type 0) (a
   pub taken : IsTaken text Is at
   pub again : IsAgain text Is at
 
--- both directions for the rest of a structure, behind fields that were read and that the whole has
+-- both directions for the rest of a structure, after fields that were read and that the whole has
 pub record Behind {B C E : Type 0} (seen : B → C) (text : B → List ℕ) (Is : B → Type 0) (at : C → List ℕ → Result (B × List ℕ) E) : Type 0 where
   pub taken : (before : C) (bytes : List ℕ) (x : B × List ℕ) → AreBytes bytes → at before bytes ≡ Ok x → Takes bytes (text x.0) x.1 × Is x.0 × (seen x.0 ≡ before)
   pub again : (x : B) (rest : List ℕ) → Is x → at (seen x) (text x ++ rest) ≡ Ok (x, rest)

@@ -16,7 +16,7 @@ values_text_more : (values : List DigestValue) (i : ℕ) (d : DigestValue) → i
 unfolding values_text
 values_text_more values i d below = rw (take_more values i d below) (grind (arith, common_steps))
 
--- a digest is written behind those before it, where there was room for it
+-- a digest is written after those before it, where there was room for it
 pub value_written : {E : Type 0} (capacity : ℕ) (values : List DigestValue) (i : ℕ) (d : DigestValue) (start so_far new : List ℕ) (r : Result (Unit {0}) E) → i < length values → length (digest_value_text (get_or values i d)) ≤ 34 → so_far ≡ start ++ values_text (take i values) → length so_far ≤ length start + 34 * i → length start + 34 * length values ≤ capacity → Puts capacity (digest_value_text (get_or values i d)) so_far r new → (new ≡ start ++ values_text (take (i + 1) values)) × (length new ≤ length start + 34 * (i + 1))
 value_written capacity values i d start so_far new r below short so small room puts =
     let text = digest_value_text (get_or values i d) in

@@ -1,9 +1,10 @@
 -- Hash algorithms on the wire. TPM 2.0 Library, Part 2, section 6.3 (TPM_ALG_ID) and section 9
 -- (TPMI_ALG_HASH).
-use Rattle.std.specs.Prelude.{ℕ, ◌==◌, List, if◌then◌else◌, Option, Some, None, Result, Ok, ok_or}
+use Rattle.std.specs.Prelude.{ℕ, ◌==◌, ◌||◌, Bool, List, if◌then◌else◌, Option, Some, None, Result, Ok, ok_or}
 use Rattle.std.specs.Int.{w16}
 use Rattle.std.specs.Option.{option_map}
 use Rattle.tpm_bytes.specs.Reading.{◌>>=◌, number_at, or_fault}
+use Rattle.tpm_mac.specs.Digest.{digest_size}
 use Rattle.tpm_mac.specs.declared.algorithm.HashAlg.{HashAlg}
 use Rattle.tpm_mac.specs.declared.algorithm.HashAlg.TheVariants.{Sha1, Sha256}
 use Rattle.tpm_types.specs.declared.rc.Rc.{Rc}
@@ -13,6 +14,10 @@ use Rattle.tpm_types.specs.Rc.{plain}
 abbrev pub hash_number : HashAlg → ℕ
 hash_number Sha1 = 0x0004
 hash_number Sha256 = 0x000b
+
+-- whether an authPolicy of a size goes with a nameAlg: there is none, or it is a digest
+abbrev pub is_policy_size : HashAlg → (size : ℕ) → Bool
+is_policy_size name_alg size = size == 0 || size == digest_size name_alg
 
 -- the hash algorithm of a number, if it is served
 abbrev pub hash_named : ℕ → Option HashAlg

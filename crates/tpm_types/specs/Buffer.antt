@@ -17,7 +17,7 @@ abbrev pub or_sized_rc : {X : Type 0} → Result X SizedFault → Result X Rc
 or_sized_rc (Ok x) = Ok x
 or_sized_rc (Err fault) = Err (sized_rc fault)
 
--- the bytes of a buffer of at most so many, and what is after it
+-- the bytes of a buffer of at most this many, and what is after it
 unfoldable pub buffer_at : ℕ → List ℕ → Result (List ℕ × List ℕ) Rc
 buffer_at limit text = or_sized_rc (sized_at limit text)
 

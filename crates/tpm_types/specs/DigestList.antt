@@ -26,7 +26,8 @@ digest_list_text digests = to_be_bytes w32 (length digests) ++ digests_text dige
 abbrev pub IsDigest : List ℕ → Type 0
 IsDigest digest = length digest ≤ 32
 
--- a list that is read has two to eight digests: TPM2_PolicyOR's alone is read (Part 3, section 23.6)
+-- a list that is read has two to eight digests: TPM2_PolicyOR's alone is read (Part 3, section
+-- 23.6)
 pub record IsDigestList (digests : List (List ℕ)) : Type 0 where
   pub several : 2 ≤ length digests
   pub few : length digests ≤ 8

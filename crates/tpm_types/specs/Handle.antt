@@ -10,15 +10,28 @@ use Rattle.tpm_types.specs.declared.pcr.PcrIndex.{PcrIndex}
 use Rattle.tpm_types.specs.declared.handle.SessionKind.{SessionKind}
 use Rattle.tpm_types.specs.declared.handle.SessionKind.TheVariants.{Password, Session, Other}
 
--- the handle of a number
+-- the handle that has this number
 abbrev pub numbered : ℕ → Handle
 numbered number = record { number = number }
 
--- what the highest byte says that a handle names
+-- the highest byte of a handle: the kind of what it names (TPM_HT)
 abbrev pub handle_type : Handle → ℕ
 handle_type handle = handle.number / 2 ^ 24
 
--- whether a handle is one of a persistent object (81), there or not
+-- whether a handle is one of an NV index (01), a session (02 for HMACs, 03 for policies and
+-- trials), a transient object (80) or a persistent object (81), there or not
+abbrev pub is_nv_index : Handle → Bool
+is_nv_index handle = handle_type handle == 0x01
+
+abbrev pub is_policy_session : Handle → Bool
+is_policy_session handle = handle_type handle == 0x03
+
+abbrev pub is_session : Handle → Bool
+is_session handle = handle_type handle == 0x02 || handle_type handle == 0x03
+
+abbrev pub is_transient : Handle → Bool
+is_transient handle = handle_type handle == 0x80
+
 abbrev pub is_persistent : Handle → Bool
 is_persistent handle = handle_type handle == 0x81
 
@@ -47,10 +60,10 @@ platform_handle = numbered 0x4000_000c
 abbrev pub session_kind : Handle → SessionKind
 session_kind handle =
     if handle.number == password_handle.number then Password
-    else (if handle_type handle == 0x02 || handle_type handle == 0x03 then Session
+    else (if is_session handle then Session
     else Other)
 
--- whose authorization value a handle names (Part 2, section 9.19: TPMI_RH_HIERARCHY_AUTH)
+-- whose authorization value a handle names (Part 2: TPMI_RH_HIERARCHY_AUTH)
 abbrev pub hierarchy_auth_of : Handle → Option HierarchyAuth
 hierarchy_auth_of handle =
     if handle.number == owner_handle.number then Some auth.Owner

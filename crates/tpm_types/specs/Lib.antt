@@ -1,5 +1,5 @@
 pub mod Rc
-pub mod CommandNumber
+pub mod Limits
 pub mod Locality
 pub mod Algorithm
 pub mod Pcr
@@ -14,10 +14,12 @@ pub mod SessionType
 pub mod Operation
 pub mod SessionAttributes
 pub mod ActionCheck
+pub mod ActionFault
 pub mod Check
 pub mod Refused
 pub mod Buffer
 pub mod Symmetric
+pub mod AttributeBits
 pub mod AuthValue
 pub use Rattle.tpm_bytes.specs.Reading
 pub use Rattle.tpm_bytes.specs.Writing

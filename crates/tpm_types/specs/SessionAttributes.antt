@@ -6,3 +6,27 @@ use Rattle.tpm_types.specs.declared.session_attributes.SessionAttributes.{Sessio
 -- whether one of these bits of the attributes is set
 abbrev pub has_bits : ℕ → SessionAttributes → Bool
 has_bits bits attributes = not (bit_and attributes.octet bits == 0)
+
+-- continueSession (bit 0): the session stays after the command
+abbrev pub continues_session : SessionAttributes → Bool
+continues_session attributes = has_bits 0x01 attributes
+
+-- auditExclusive (bit 1), auditReset (2) or audit (7): it is an audit session
+abbrev pub audits : SessionAttributes → Bool
+audits attributes = has_bits 0x86 attributes
+
+-- a reserved bit (3 or 4) is set
+abbrev pub has_reserved_bits : SessionAttributes → Bool
+has_reserved_bits attributes = has_bits 0x18 attributes
+
+-- decrypt (bit 5): the session decrypts the command's first parameter
+abbrev pub decrypts : SessionAttributes → Bool
+decrypts attributes = has_bits 0x20 attributes
+
+-- encrypt (bit 6): it encrypts the response's first parameter
+abbrev pub encrypts : SessionAttributes → Bool
+encrypts attributes = has_bits 0x40 attributes
+
+-- decrypt or encrypt
+abbrev pub uses_cipher : SessionAttributes → Bool
+uses_cipher attributes = has_bits 0x60 attributes

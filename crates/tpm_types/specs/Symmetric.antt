@@ -19,7 +19,7 @@ symmetric_text Null = to_be_bytes w16 0x0010
 symmetric_text Aes128Cfb =
     to_be_bytes w16 0x0006 ++ to_be_bytes w16 0x0080 ++ to_be_bytes w16 0x0043
 
--- what stands behind the number of AES: 128 bits, and the mode CFB
+-- what stands after the number of AES: 128 bits, and the mode CFB
 unfoldable pub aes_at : List ℕ → Result (SymmetricDefinition × List ℕ) Rc
 aes_at text = do
   bits ← or_fault (number_at w16 text) (plain code.Insufficient)
@@ -28,7 +28,7 @@ aes_at text = do
   feedback ← refused_if (not (mode.0 == 0x0043)) (plain code.Mode)
   Ok (Aes128Cfb, mode.1)
 
--- what stands behind the number of an algorithm
+-- what stands after the number of an algorithm
 abbrev pub behind_at : ℕ → List ℕ → Result (SymmetricDefinition × List ℕ) Rc
 behind_at number text =
     if number == 0x0010 then Ok (Null, text)

@@ -1,3 +1,6 @@
+//! Which of a command's own checks refused it, by the place of the check in the command's section
+//! of Part 3.
+
 ghost use Rattle.std.specs.Prelude.{◌≡◌};
 
 /// Which of a command's own checks refused it, by its place in the command's section.

@@ -1,6 +1,9 @@
+//! The numbers of hash algorithms on the wire, and the readers of an algorithm, with or without
+//! NULL (TPM_ALG_ID; TPM 2.0 Library, Part 2, section 6.3).
+
 ghost use Rattle.std.specs.Prelude.{◌≡◌};
 ghost use Rattle.tpm_bytes.specs.Reading.{Reads};
-ghost use Rattle.tpm_types.specs.Algorithm.{hash_at, hash_named, hash_number};
+ghost use Rattle.tpm_types.specs.Algorithm.{hash_at, hash_named, hash_number, is_policy_size};
 ghost use Rattle.tpm_types.specs.Algorithm.{hash_or_null_at, hash_or_null_named, hash_or_null_number};
 
 use crate::rc::{Rc, ResponseCode};
@@ -18,6 +21,14 @@ pub fn hash_number(algorithm: HashAlg) -> u16
         HashAlg::Sha1 => 0x0004,
         HashAlg::Sha256 => 0x000b,
     }
+}
+
+/// Whether an authPolicy of this many bytes goes with this nameAlg: there is none, or it is a
+/// digest.
+pub fn is_policy_size(name_alg: HashAlg, size: usize) -> bool
+    ensures { result ≡ is_policy_size name_alg size }
+{
+    size == 0 || size == name_alg.size()
 }
 
 /// The hash algorithm of this number, if it is served.

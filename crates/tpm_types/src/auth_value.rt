@@ -1,3 +1,6 @@
+//! Authorization values: at most 32 bytes, without the zeros at their end (TPM2B_AUTH; TPM 2.0
+//! Library, Part 1, section 19.6.4.3).
+
 ghost use Rattle.std.specs.Prelude.{◌≡◌, ◌≤◌, [], length};
 ghost use Rattle.std.specs.Str.{bytes_eq};
 ghost use Rattle.tpm_bytes.specs.Reading.{Reads};
@@ -7,7 +10,7 @@ use crate::buffer::read_buffer;
 use crate::rc::Rc;
 use arrayvec::ArrayVec;
 use std::marker::Model;
-use tpm_bytes::Cursor;
+use tpm_bytes::{Cursor, copied};
 
 /// An authorization value: at most 32 bytes, without the zeros at its end (TPM2B_AUTH of TPM 2.0
 /// Library, Part 2, section 10.4.5, and Part 1, section 19.6.4.3). Contracts see it as its bytes.
@@ -37,16 +40,6 @@ pub fn trimmed(bytes: &[u8]) -> &[u8]
         size -= 1;
     }
     &bytes[..size]
-}
-
-/// The bytes, copied.
-fn copied(bytes: &[u8]) -> ArrayVec<u8, 32>
-    requires { length bytes.now ≤ 32 }
-    ensures { result.items ≡ bytes.now }
-{
-    let mut copy = ArrayVec::new();
-    let _ = copy.try_extend_from_slice(bytes);
-    copy
 }
 
 impl AuthValue {

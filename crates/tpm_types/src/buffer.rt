@@ -1,3 +1,6 @@
+//! The reader of a sized buffer (TPM2B) that stays where it lies in the text, and the most bytes of
+//! a digest.
+
 ghost use Rattle.std.specs.Prelude.{◌≤◌, IfOk, length};
 ghost use Rattle.tpm_bytes.specs.Reading.{Reads};
 ghost use Rattle.tpm_types.specs.Buffer.{buffer_at};
@@ -6,7 +9,7 @@ use crate::rc::{Rc, ResponseCode};
 use tpm_bytes::{Cursor, SizedFault};
 
 /// The most bytes of a digest, and so of a nonce and an HMAC.
-pub const MOST_DIGEST: usize = 32;
+pub const DIGEST_LIMIT: usize = 32;
 
 /// Reads a sized buffer of at most `limit` bytes (TPM2B of TPM 2.0 Library, Part 2, section 10.4):
 /// SIZE where it says that it has more, else INSUFFICIENT where it is cut.

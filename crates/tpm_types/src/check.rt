@@ -1,3 +1,6 @@
+//! The check that refused a command: one of those of all commands, one of its own, or memory. Its
+//! number is what the row of an event reports.
+
 ghost use Rattle.std.specs.Prelude.{◌≡◌};
 
 use crate::action_check::ActionCheck;
@@ -6,7 +9,7 @@ use crate::action_check::ActionCheck;
 /// own, and M. Its number is what a row reports.
 #[derive(Clone, Copy, Debug, PartialEq, Eq)]
 pub enum Check {
-    /// G1: fewer than 10 or more than 4,096 bytes.
+    /// G1: fewer bytes than a header, or more than the limit of a buffer.
     Length,
     /// G2: a tag that is neither of the two.
     Tag,
@@ -26,7 +29,7 @@ pub enum Check {
     Authorization,
     /// G10: the other entries, and a first parameter that cannot be decrypted.
     Others,
-    /// G11: the parameters, and bytes left over behind them.
+    /// G11: the parameters, and bytes left over after them.
     Parameters,
     /// A1 to A7: the command's own.
     Action(ActionCheck),

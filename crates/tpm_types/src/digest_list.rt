@@ -1,3 +1,6 @@
+//! Lists of up to eight digests, read and written (TPML_DIGEST; TPM 2.0 Library, Part 2, section
+//! 10.9.5).
+
 ghost use Rattle.std.specs.Prelude.{◌≡◌, ◌+◌, ◌≤◌, ℕ, List, ◌++◌, length, Ok, IfOk};
 ghost use Rattle.tpm_bytes.specs.Reading.{Reads};
 ghost use Rattle.tpm_bytes.specs.Writing.{Puts};
@@ -14,7 +17,7 @@ use tpm_mac::Digest;
 pub const FEWEST_DIGESTS: u32 = 2;
 
 /// How many it has at most.
-pub const MOST_DIGESTS: u32 = 8;
+pub const DIGEST_LIST_LIMIT: u32 = 8;
 
 /// One digest of a list, where it lies in the text.
 #[derive(Drop)]
@@ -81,7 +84,7 @@ impl DigestList {
         let Ok(count) = ahead.u32() else {
             return Err(ResponseCode::Insufficient.anywhere());
         };
-        if count < FEWEST_DIGESTS || count > MOST_DIGESTS {
+        if count < FEWEST_DIGESTS || count > DIGEST_LIST_LIMIT {
             return Err(ResponseCode::Size.anywhere());
         }
         let listed = read_many::<ListedDigest, 8>(&mut ahead, count as usize)?;

@@ -1,3 +1,6 @@
+//! Digests with their hash algorithms, alone (TPMT_HA) and in lists (TPML_DIGEST_VALUES), read and
+//! written (TPM 2.0 Library, Part 2, sections 10.3.2 and 10.9.6).
+
 ghost use Rattle.std.specs.Prelude.{◌≡◌, ◌+◌, ◌*◌, ◌≤◌, ℕ, List, ◌++◌, length, replicate, Ok, IfOk};
 ghost use Rattle.tpm_bytes.specs.Reading.{Reads};
 ghost use Rattle.tpm_bytes.specs.Writing.{Puts};
@@ -13,7 +16,7 @@ use tpm_bytes::{Cursor, Full, Readable, Sink, read_many};
 use tpm_mac::HashAlg;
 
 /// How many digests a list may have: one for each hash algorithm.
-pub const MOST_DIGEST_VALUES: u32 = 2;
+pub const DIGEST_VALUES_LIMIT: u32 = 2;
 
 /// A digest with its algorithm: TPMT_HA of TPM 2.0 Library, Part 2, section 10.3.2.
 #[derive(Clone, Copy, Debug, PartialEq, Eq)]
@@ -144,7 +147,7 @@ impl DigestValues {
         let Ok(count) = ahead.u32() else {
             return Err(ResponseCode::Insufficient.anywhere());
         };
-        if count > MOST_DIGEST_VALUES {
+        if count > DIGEST_VALUES_LIMIT {
             return Err(ResponseCode::Size.anywhere());
         }
         let values = read_many(&mut ahead, count as usize)?;

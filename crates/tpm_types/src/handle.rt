@@ -1,3 +1,6 @@
+//! Handles, and what they name by their number: PCRs, hierarchies, sessions, NV indices and objects
+//! (TPM_HANDLE; TPM 2.0 Library, Part 2, section 7).
+
 ghost use Rattle.std.specs.Prelude.{◌≡◌};
 
 use crate::pcr::{PCR_COUNT, PcrIndex};
@@ -20,7 +23,7 @@ pub enum SessionKind {
     Other,
 }
 
-/// An authorization value of the device's own: TPMI_RH_HIERARCHY_AUTH of Part 2, section 9.19.
+/// An authorization value of the device's own: TPMI_RH_HIERARCHY_AUTH of Part 2.
 #[derive(Clone, Copy, Debug, PartialEq, Eq)]
 pub enum HierarchyAuth {
     /// TPM_RH_OWNER: ownerAuth.
@@ -36,7 +39,7 @@ pub enum HierarchyAuth {
 /// A hierarchy, to which objects belong: TPMI_RH_HIERARCHY+ of Part 2, section 9.13.
 #[derive(Clone, Copy, Debug, PartialEq, Eq)]
 pub enum HierarchyHandle {
-    /// TPM_RH_OWNER: the storage hierarchy.
+    /// TPM_RH_OWNER: the owner's hierarchy, which the standard calls the storage hierarchy.
     Owner,
     /// TPM_RH_ENDORSEMENT.
     Endorsement,
@@ -63,7 +66,7 @@ impl HierarchyHandle {
 }
 
 impl Handle {
-    ghost use Rattle.tpm_types.specs.Handle.{SomePcrOf, handle_type, hierarchy_auth_of, hierarchy_of, is_persistent, pcr_of, session_kind};
+    ghost use Rattle.tpm_types.specs.Handle.{SomePcrOf, handle_type, hierarchy_auth_of, hierarchy_of, is_nv_index, is_persistent, is_policy_session, is_session, is_transient, pcr_of, session_kind};
 
     /// TPM_RS_PW, section 7.4.
     pub const PASSWORD: Handle = Handle {
@@ -144,10 +147,38 @@ impl Handle {
     }
 
     /// What its highest byte says that it names (TPM_HT).
-    pub fn type_byte(self) -> u32
+    fn type_byte(self) -> u32
         ensures { result ≡ handle_type self }
     {
         self.number >> 24
+    }
+
+    /// Whether the handle is one of an NV index, there or not.
+    pub fn is_nv_index(self) -> bool
+        ensures { result ≡ is_nv_index self }
+    {
+        self.type_byte() == 0x01
+    }
+
+    /// Whether the handle is one of a session, there or not.
+    pub fn is_session(self) -> bool
+        ensures { result ≡ is_session self }
+    {
+        matches!(self.type_byte(), 0x02 | 0x03)
+    }
+
+    /// Whether the handle is one of a policy or trial session, there or not.
+    pub fn is_policy_session(self) -> bool
+        ensures { result ≡ is_policy_session self }
+    {
+        self.type_byte() == 0x03
+    }
+
+    /// Whether the handle is one of a transient object, there or not.
+    pub fn is_transient(self) -> bool
+        ensures { result ≡ is_transient self }
+    {
+        self.type_byte() == 0x80
     }
 
     /// Whether the handle is one of a persistent object, there or not.

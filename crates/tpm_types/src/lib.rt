@@ -1,11 +1,12 @@
 #![tactic(auto)]
 
 //! The structures of TPM 2.0 Library, Part 2, that every part of the device speaks of: response
-//! codes, handles, algorithms, PCR selections, digests, authorization values, types of sessions.
-//! Commands stand in `tpm_types_command`, the areas of objects in `tpm_types_object`. Each
-//! structure is a type of its own, which is read from a [`tpm_bytes::cursor::Cursor`] and written
-//! to a [`tpm_bytes::sink::Sink`]. A refusal, of every part of the device, is
-//! [`refused::Refused`]: the response code, the check that found it ([`check`]), and what it counts.
+//! codes, handles, algorithms, PCR selections, digests, authorization values, types of sessions,
+//! and the device's [`limits`]. Commands stand in `tpm_types_command`, the areas of objects in
+//! `tpm_types_object`, those of NV indices in `tpm_types_nv`. Each structure is a type of its own,
+//! which is read from a [`tpm_bytes::cursor::Cursor`] and written to a [`tpm_bytes::sink::Sink`]. A
+//! refusal, of every part of the device, is [`refused::Refused`]: the response code, the check that
+//! found it ([`check`]), and what it counts.
 //!
 //! It stands on `tpm_bytes` for the bytes and on `tpm_mac` for digests and hash algorithms. A read
 //! gives the value or the first fault, as the response code that the standard has for it, and a
@@ -14,15 +15,17 @@
 //! what is spelled so is read. No call here takes memory.
 
 pub mod action_check;
+pub mod action_fault;
 pub mod algorithm;
+pub mod attribute_bits;
 pub mod auth_value;
 pub mod buffer;
 pub mod check;
-pub mod command_number;
 pub mod digest_list;
 pub mod digest_values;
 pub mod grammar;
 pub mod handle;
+pub mod limits;
 pub mod locality;
 pub mod nv_use;
 pub mod octets;
@@ -40,18 +43,22 @@ pub mod symmetric;
 pub mod yes_no;
 
 pub use action_check::ActionCheck;
-pub use algorithm::{hash_number, hash_or_null_number, read_hash, read_hash_or_null};
-pub use auth_value::{AuthValue, trimmed};
-pub use buffer::{MOST_DIGEST, read_buffer};
-pub use check::Check;
-pub use command_number::{
-    POLICY_AUTH_VALUE, POLICY_COMMAND_CODE, POLICY_LOCALITY, POLICY_NV, POLICY_OR, POLICY_PCR,
-    POLICY_SECRET, is_command_number,
+pub use action_fault::ActionFault;
+pub use algorithm::{
+    hash_number, hash_or_null_number, is_policy_size, read_hash, read_hash_or_null,
 };
+pub use attribute_bits::read_attribute_bits;
+pub use auth_value::{AuthValue, trimmed};
+pub use buffer::{DIGEST_LIMIT, read_buffer};
+pub use check::Check;
 pub use digest_list::DigestList;
 pub use digest_values::{DigestValue, DigestValues};
 pub use grammar::bytes_fit;
 pub use handle::{Handle, HierarchyAuth, HierarchyHandle, SessionKind};
+pub use limits::{
+    ANSWER_LIMIT, BUFFER_LIMIT, DATA_LIMIT, NV_DATA_LIMIT, NV_INDEX_LIMIT, NV_SPACE_LIMIT,
+    OBJECT_LIMIT, PERSISTENT_LIMIT, SENSITIVE_LIMIT, SESSION_LIMIT,
+};
 pub use locality::Locality;
 pub use nv_use::NvUse;
 pub use octets::Octets;

@@ -1,3 +1,6 @@
+//! Localities, 0 to 4, from which commands come (TPM 2.0 Library, Part 1, section 3, and Part 2,
+//! section 8.5).
+
 ghost use Rattle.std.specs.Prelude.{◌≡◌, ◌≤◌};
 
 /// The locality that a command comes from, 0 to 4 (TPM 2.0 Library, Part 1, section 3, and Part 2,

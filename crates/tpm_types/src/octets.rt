@@ -1,3 +1,6 @@
+//! The bytes of a sized buffer (TPM2B), kept in a value of their own, at most as many as its type
+//! says.
+
 ghost use Rattle.std.specs.Prelude.{◌≡◌, ◌≤◌, [], length};
 ghost use Rattle.std.specs.Str.{bytes_eq};
 ghost use Rattle.tpm_bytes.specs.Reading.{Reads};
@@ -7,7 +10,7 @@ use crate::buffer::read_buffer;
 use crate::rc::Rc;
 use arrayvec::ArrayVec;
 use std::marker::Model;
-use tpm_bytes::Cursor;
+use tpm_bytes::{Cursor, copied};
 
 /// The bytes of a sized buffer, at most `N` of them (TPM2B of TPM 2.0 Library, Part 2, section
 /// 10.4). Contracts see them as a list.
@@ -39,9 +42,9 @@ impl<const N: usize> Octets<N> {
         requires { length bytes.now ≤ N }
         ensures { result ≡ bytes.now }
     {
-        let mut copy = ArrayVec::new();
-        let _ = copy.try_extend_from_slice(bytes);
-        Octets { bytes: copy }
+        Octets {
+            bytes: copied(bytes),
+        }
     }
 
     /// Reads a sized buffer: SIZE where it says that it has more than `N` bytes, else INSUFFICIENT

@@ -1,3 +1,6 @@
+//! Comparisons of two operands, as policies on NV data make them (TPM_EO; TPM 2.0 Library, Part 2,
+//! section 6.8).
+
 ghost use Rattle.std.specs.Prelude.{◌≡◌};
 ghost use Rattle.tpm_bytes.specs.Reading.{Reads};
 

@@ -1,3 +1,6 @@
+//! The numbers of PCRs, 0 to 23, and which PCRs of one bank are selected (TPM 2.0 Library, Part 2,
+//! section 10.6.2).
+
 ghost use Rattle.std.specs.Prelude.{◌≡◌, ◌<◌, ◌^◌, ℕ};
 
 use std::marker::Model;

@@ -1,3 +1,6 @@
+//! Selections of PCRs in one bank or in several, read and written (TPML_PCR_SELECTION; TPM 2.0
+//! Library, Part 2, section 10.9.7).
+
 ghost use Rattle.std.specs.Prelude.{◌≡◌, ◌+◌, ◌*◌, ◌≤◌, ◌<◌, ℕ, List, ◌++◌, length, IfOk};
 ghost use Rattle.tpm_bytes.specs.Reading.{Reads};
 ghost use Rattle.tpm_bytes.specs.Writing.{Puts};
@@ -12,7 +15,7 @@ use tpm_bytes::{Cursor, Full, Readable, Sink, read_many};
 use tpm_mac::HashAlg;
 
 /// How many banks a selection may name.
-pub const MOST_BANKS: u32 = 16;
+pub const BANK_LIMIT: u32 = 16;
 
 /// PCRs of one bank: TPMS_PCR_SELECTION (TPM 2.0 Library, Part 2, section 10.6.2).
 #[derive(Clone, Copy, Debug, PartialEq, Eq)]
@@ -127,7 +130,7 @@ impl PcrSelection {
         let Ok(count) = ahead.u32() else {
             return Err(ResponseCode::Insufficient.anywhere());
         };
-        if count > MOST_BANKS {
+        if count > BANK_LIMIT {
             return Err(ResponseCode::Size.anywhere());
         }
         let banks = read_many(&mut ahead, count as usize)?;

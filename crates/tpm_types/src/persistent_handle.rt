@@ -1,3 +1,6 @@
+//! The reader of a persistent object's handle (TPMI_DH_PERSISTENT; TPM 2.0 Library, Part 2, section
+//! 9.5).
+
 ghost use Rattle.tpm_bytes.specs.Reading.{Reads};
 ghost use Rattle.tpm_types.specs.PersistentHandle.{persistent_handle_at};
 

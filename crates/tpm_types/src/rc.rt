@@ -1,3 +1,6 @@
+//! Response codes, with the handle, parameter or session that a fault is in (TPM_RC; TPM 2.0
+//! Library, Part 2, section 6.6).
+
 ghost use Rattle.std.specs.Prelude.{◌≡◌, ◌<◌};
 
 /// A response code without its place: TPM_RC of TPM 2.0 Library, Part 2, section 6.6.3, in the

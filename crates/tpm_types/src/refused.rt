@@ -1,3 +1,6 @@
+//! A refusal as all parts of the device give it: the response code, the check that found it, and
+//! what it counts against dictionary attacks.
+
 ghost use Rattle.std.specs.Prelude.{◌≡◌};
 
 use crate::check::Check;
@@ -9,7 +12,7 @@ pub enum Counted {
     None,
     /// A failed try at a protected entity.
     Try,
-    /// A failed try at lockoutAuth.
+    /// A wrong lockoutAuth, which closes it.
     Lockout,
 }
 

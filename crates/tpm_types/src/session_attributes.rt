@@ -1,5 +1,8 @@
+//! The attributes of a session in an authorization entry (TPMA_SESSION; TPM 2.0 Library, Part 2,
+//! section 8.4).
+
 ghost use Rattle.std.specs.Prelude.{◌≡◌};
-ghost use Rattle.tpm_types.specs.SessionAttributes.{has_bits};
+ghost use Rattle.tpm_types.specs.SessionAttributes.{audits, continues_session, decrypts, encrypts, has_bits, has_reserved_bits, uses_cipher};
 
 /// The attributes of a session in an authorization entry: TPMA_SESSION of TPM 2.0 Library, Part 2,
 /// section 8.4.
@@ -8,11 +11,66 @@ pub struct SessionAttributes {
     pub octet: u8,
 }
 
+/// continueSession.
+const CONTINUE_SESSION: u8 = 0x01;
+
+/// auditExclusive, auditReset and audit.
+const AUDIT: u8 = 0x86;
+
+/// Bits 3 and 4.
+const RESERVED: u8 = 0x18;
+
+const DECRYPT: u8 = 0x20;
+
+const ENCRYPT: u8 = 0x40;
+
 impl SessionAttributes {
     /// Whether one of these bits is set.
-    pub fn has_any(self, bits: u8) -> bool
+    fn has_any(self, bits: u8) -> bool
         ensures { result ≡ has_bits bits self }
     {
         self.octet & bits != 0
+    }
+
+    /// Whether the session outlasts the command.
+    pub fn continues_session(self) -> bool
+        ensures { result ≡ continues_session self }
+    {
+        self.has_any(CONTINUE_SESSION)
+    }
+
+    /// Whether it is an audit session.
+    pub fn audits(self) -> bool
+        ensures { result ≡ audits self }
+    {
+        self.has_any(AUDIT)
+    }
+
+    /// Whether a reserved bit is set.
+    pub fn has_reserved_bits(self) -> bool
+        ensures { result ≡ has_reserved_bits self }
+    {
+        self.has_any(RESERVED)
+    }
+
+    /// Whether the session decrypts the command's first parameter.
+    pub fn decrypts(self) -> bool
+        ensures { result ≡ decrypts self }
+    {
+        self.has_any(DECRYPT)
+    }
+
+    /// Whether the session encrypts the response's first parameter.
+    pub fn encrypts(self) -> bool
+        ensures { result ≡ encrypts self }
+    {
+        self.has_any(ENCRYPT)
+    }
+
+    /// Whether the session does either.
+    pub fn uses_cipher(self) -> bool
+        ensures { result ≡ uses_cipher self }
+    {
+        self.has_any(DECRYPT | ENCRYPT)
     }
 }

@@ -1,3 +1,5 @@
+//! The types of sessions: HMAC, policy and trial (TPM_SE; TPM 2.0 Library, Part 2, section 6.11).
+
 ghost use Rattle.std.specs.Prelude.{◌≡◌};
 ghost use Rattle.tpm_bytes.specs.Reading.{Reads};
 

@@ -1,3 +1,6 @@
+//! Whether the device starts afresh or with the state that was saved (TPM_SU; TPM 2.0 Library, Part
+//! 2, section 6.10).
+
 ghost use Rattle.tpm_bytes.specs.Reading.{Reads};
 
 use crate::rc::{Rc, ResponseCode};

@@ -1,3 +1,6 @@
+//! The cipher by which a session encrypts parameters: none, or AES-128 in CFB mode (TPMT_SYM_DEF;
+//! TPM 2.0 Library, Part 2, section 11.1.6).
+
 ghost use Rattle.std.specs.Prelude.{◌≡◌, ℕ, List, ◌++◌, Ok, IfOk};
 ghost use Rattle.tpm_bytes.specs.Reading.{Reads};
 ghost use Rattle.tpm_bytes.specs.Writing.{Puts};
@@ -55,7 +58,7 @@ impl SymmetricDefinition {
         Ok(definition)
     }
 
-    /// Reads what stands behind the number of AES.
+    /// Reads what stands after the number of AES.
     #[tactic(auto, unfolding(crate::specs::Symmetric::aes_at))]
     fn read_aes(text: &mut Cursor) -> Result<SymmetricDefinition, Rc>
         ensures { Reads (λ definition. definition) (aes_at text.old) text.old result text.new }

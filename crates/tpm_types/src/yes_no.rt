@@ -1,3 +1,5 @@
+//! The reader of a yes or a no (TPMI_YES_NO; TPM 2.0 Library, Part 2, section 9.2).
+
 ghost use Rattle.tpm_bytes.specs.Reading.{Reads};
 ghost use Rattle.tpm_types.specs.YesNo.{yes_no_at};
 

@@ -4,12 +4,12 @@ use Rattle.std.specs.Prelude.{IfOk}
 use Rattle.std.specs.List.{flat_map, AllByRecursion}
 use Rattle.tpm_bytes.specs.Reading.{◌>>=◌, Reads}
 use Rattle.tpm_bytes.proofs.Fields.{AreBytes, Takes, Takes-then, bind_ok, ok_is}
-use Rattle.tpm_types_command.specs.declared.command.HeaderFault.{HeaderFault}
+use Rattle.tpm_types_command.specs.declared.header.HeaderFault.{HeaderFault}
 use Rattle.tpm_types.specs.declared.handle.Handle.{Handle}
 use Rattle.tpm_types.specs.declared.rc.Rc.{Rc}
 use Rattle.tpm_types_command.specs.declared.tag.Tag.{Tag}
 use Rattle.tpm_types_command.specs.declared.tag.Tag.TheVariants.{NoSessions, Sessions}
-use Rattle.tpm_types_command.specs.declared.whole_command.Command.{Command}
+use Rattle.tpm_types_command.specs.declared.command.Command.{Command}
 use Rattle.tpm_types_command.specs.AuthArea.{area_text, entries_text}
 use Rattle.tpm_types_command.specs.AuthEntry.{Entry, IsEntry}
 use Rattle.tpm_types_command.specs.Command.{IsCommand, Whole, body_text, command_at, command_size, command_text, handle_text, handles_at, handles_text, header_or_rc, sessions_at, sessions_text, tag_for, whole_of}
@@ -25,7 +25,7 @@ header_or_rc_ok (Err f) x e = absurd cc
 
 -- ---- the authorization area, where there are sessions
 
--- what was read behind a header of this tag
+-- what was read after a header of this tag
 pub record AreSessions (tag : Tag) (bytes : List ℕ) (x : List Entry × List ℕ) : Type 0 where
   pub text : Takes bytes (sessions_text x.0) x.1
   pub tag_is : tag_for x.0 ≡ tag
@@ -116,7 +116,7 @@ command_found old (Err fault) new fits reads = tt
 pub size_is : (c : Whole) (handles sessions : ℕ) → handles ≡ length c.handles → sessions ≡ length (sessions_text c.entries) → 10 + 4 * handles + sessions + length c.parameters ≡ command_size c
 size_is c handles sessions e f = omega (arith, command_size-is c, length-body c)
 
--- the room that is left behind the header, and behind the handles
+-- the room that is left after the header, and after the handles
 pub room_behind_header : (c : Whole) (capacity size : ℕ) (tag : Tag) (old one : List ℕ) → one ≡ old ++ header_text tag size c.code → length old + command_size c ≤ capacity → length one + 4 * length c.handles + length (sessions_text c.entries) + length c.parameters ≤ capacity
 room_behind_header c capacity size tag old one is room = rw is (omega (arith, command_size-is c, length-body c, length-append old (header_text tag size c.code), length-header_text tag size c.code))
 

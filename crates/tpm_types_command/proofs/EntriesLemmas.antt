@@ -1,3 +1,5 @@
+-- That a loop reads the entries of an authorization area one after the other, and that a loop
+-- writes them so.
 use Rattle.std.proofs.Common.{◌≡◌, ℕ, zero, suc, ◌+◌, ◌*◌, List, [], ◌∷◌, ◌++◌, ◌<◌, ◌≤◌, length, arith, map, take, get_or, append-nil, Result, Ok, Err, refl, ap, sym, subst, ◌∙◌, append_assoc, length-append}
 use Rattle.std.proofs.lemmas.Bool.{false≢true}
 use Rattle.std.proofs.lemmas.List.{take_more}
@@ -13,7 +15,7 @@ use Rattle.tpm_types.specs.declared.rc.Rc.{Rc}
 use Rattle.tpm_types.specs.declared.rc.ResponseCode.TheVariants as code
 use Rattle.tpm_types.specs.Rc.{plain}
 
--- the entries that are read, behind those before them
+-- the entries that are read, after those before them
 abbrev pub behind : List Entry → Result (List Entry) Rc → Result (List Entry) Rc
 behind front read = do
   entries ← read

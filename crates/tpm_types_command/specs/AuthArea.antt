@@ -20,7 +20,7 @@ area_text entries = to_be_bytes w32 (length (entries_text entries)) ++ entries_t
 
 -- reading; every fault is AUTHSIZE
 
--- the entries that a whole text is, at most so many
+-- the entries that a whole text is, at most this many
 abbrev pub entries_in : ℕ → List ℕ → Result (List Entry) Rc
 entries_in most [] = Ok []
 entries_in zero (byte ∷ bytes) = Err (plain code.Authsize)

@@ -1,12 +1,13 @@
 -- Whole commands. TPM 2.0 Library, Part 1, sections 18.2 to 18.6: the header, the handles, with
 -- sessions the authorization area, and the parameters.
+use Rattle.tpm_types.specs.Limits.{buffer_limit}
 use Rattle.std.specs.Prelude.{◌≡◌, ℕ, zero, suc, ◌+◌, ◌<◌, ◌≤◌, ◌^◌, ◌↔◌}
 use Rattle.std.specs.Prelude.{List, [], ◌∷◌, ◌++◌, length, map}
 use Rattle.std.specs.Prelude.{Result, Ok, Err, IsOk, OnOk, OnErr}
 use Rattle.std.specs.List.{flat_map, AllByRecursion}
 use Rattle.std.specs.Int.{w32, to_be_bytes}
 use Rattle.tpm_bytes.specs.Reading.{◌>>=◌, number_at, or_fault}
-use Rattle.tpm_types_command.specs.declared.command.HeaderFault.{HeaderFault}
+use Rattle.tpm_types_command.specs.declared.header.HeaderFault.{HeaderFault}
 use Rattle.tpm_types_command.specs.declared.command_code.CommandCode.{CommandCode}
 use Rattle.tpm_types.specs.declared.handle.Handle.{Handle}
 use Rattle.tpm_types.specs.declared.rc.Rc.{Rc}
@@ -14,7 +15,7 @@ use Rattle.tpm_types.specs.declared.rc.ResponseCode.TheVariants as code
 use Rattle.tpm_types.specs.declared.rc.Place.TheVariants as place
 use Rattle.tpm_types_command.specs.declared.tag.Tag.{Tag}
 use Rattle.tpm_types_command.specs.declared.tag.Tag.TheVariants.{NoSessions, Sessions}
-use Rattle.tpm_types_command.specs.declared.whole_command.Command.{Command}
+use Rattle.tpm_types_command.specs.declared.command.Command.{Command}
 use Rattle.tpm_types_command.specs.AuthArea.{area_at, area_text}
 use Rattle.tpm_types_command.specs.AuthEntry.{Entry, HasSizes, IsEntry, entry_of}
 use Rattle.tpm_types_command.specs.Header.{header_at, header_fault_rc, header_text}
@@ -52,7 +53,7 @@ abbrev pub sessions_text : List Entry → List ℕ
 sessions_text [] = []
 sessions_text (entry ∷ entries) = area_text (entry ∷ entries)
 
--- what stands behind the header
+-- what stands after the header
 unfoldable pub body_text : Whole → List ℕ
 body_text c = handles_text c.handles ++ sessions_text c.entries ++ c.parameters
 
@@ -71,18 +72,18 @@ pub record HasText (c : Whole) : Type 0 where
 abbrev pub IsHandle : Handle → Type 0
 IsHandle handle = handle.number < 2 ^ 32
 
--- what has a text that is read: as many handles as its code has, at most three entries, at most
--- 4,096 bytes
+-- what has a text that is read: as many handles as its code has, at most three entries, no more
+-- bytes than a buffer's limit
 pub record IsCommand (c : Whole) : Type 0 where
   pub handle_count : length c.handles ≡ handle_count c.code
   pub handles : AllByRecursion IsHandle c.handles
   pub entry_count : length c.entries ≤ 3
   pub entries : AllByRecursion IsEntry c.entries
-  pub size : command_size c ≤ 4096
+  pub size : command_size c ≤ buffer_limit
 
 -- reading, with the first fault
 
--- so many handles, of which the first has this number among the handles of the command
+-- a number of handles, of which the first has this number among the handles of the command
 abbrev pub handles_at : ℕ → ℕ → List ℕ → Result (List Handle × List ℕ) Rc
 handles_at number zero text = Ok ([], text)
 handles_at number (suc count) text = do

@@ -1,9 +1,8 @@
 -- The commands that are served. TPM 2.0 Library, Part 2, section 6.5.2 (TPM_CC).
+use Rattle.tpm_types.specs.Limits.{data_limit}
 use Rattle.std.specs.Prelude.{ℕ, ◌==◌, is_some, count_by, Bool, true, false, List, [], ◌∷◌, length, Option, slice_get}
 use Rattle.std.specs.List.{find}
 use Rattle.std.specs.Option.{option_map_or, unwrap_or}
-use Rattle.tpm_types.specs.CommandNumber.{policy_auth_value, policy_command_code, policy_locality}
-use Rattle.tpm_types.specs.CommandNumber.{policy_nv, policy_or, policy_pcr, policy_secret}
 use Rattle.tpm_types_command.specs.declared.command_code.CommandCode.{CommandCode}
 use Rattle.tpm_types_command.specs.declared.command_code.CommandCode.TheVariants as code
 use Rattle.tpm_types_command.specs.declared.shape.HandleKind.TheVariants as kind
@@ -37,26 +36,26 @@ code_number code.PcrReset = 0x13d
 code_number code.SelfTest = 0x143
 code_number code.Startup = 0x144
 code_number code.Shutdown = 0x145
-code_number code.PolicyNv = policy_nv
+code_number code.PolicyNv = 0x149
 code_number code.NvRead = 0x14e
 code_number code.NvReadLock = 0x14f
-code_number code.PolicySecret = policy_secret
+code_number code.PolicySecret = 0x151
 code_number code.Create = 0x153
 code_number code.Hmac = 0x155
 code_number code.Load = 0x157
 code_number code.Unseal = 0x15e
 code_number code.FlushContext = 0x165
 code_number code.NvReadPublic = 0x169
-code_number code.PolicyAuthValue = policy_auth_value
-code_number code.PolicyCommandCode = policy_command_code
-code_number code.PolicyLocality = policy_locality
-code_number code.PolicyOr = policy_or
+code_number code.PolicyAuthValue = 0x16b
+code_number code.PolicyCommandCode = 0x16c
+code_number code.PolicyLocality = 0x16f
+code_number code.PolicyOr = 0x171
 code_number code.ReadPublic = 0x173
 code_number code.StartAuthSession = 0x176
 code_number code.GetCapability = 0x17a
 code_number code.GetRandom = 0x17b
 code_number code.PcrRead = 0x17e
-code_number code.PolicyPcr = policy_pcr
+code_number code.PolicyPcr = 0x17f
 code_number code.PolicyRestart = 0x180
 code_number code.ReadClock = 0x181
 code_number code.PcrExtend = 0x182
@@ -116,6 +115,10 @@ all_codes =
 -- the command of a number, if it is served
 unfoldable pub code_named : ℕ → Option CommandCode
 code_named number = find (λ code. code_number code == number) all_codes
+
+-- whether a command of this number is served, and so whether a policy can name it
+abbrev pub is_served : ℕ → Bool
+is_served number = is_some (code_named number)
 
 -- nonceCaller, encryptedSalt (of at most 32 bytes, as no key can decrypt one), sessionType,
 -- symmetric, authHash
@@ -206,14 +209,14 @@ shape_of code.CreatePrimary =
     }
 shape_of code.NvIncrement = on_nv []
 shape_of code.NvSetBits = on_nv (parameter.U64 ∷ [])
-shape_of code.NvExtend = on_nv (parameter.Buffer 1024 ∷ [])
-shape_of code.NvWrite = on_nv (parameter.Buffer 1024 ∷ parameter.U16 ∷ [])
+shape_of code.NvExtend = on_nv (parameter.Buffer data_limit ∷ [])
+shape_of code.NvWrite = on_nv (parameter.Buffer data_limit ∷ parameter.U16 ∷ [])
 shape_of code.NvWriteLock = on_nv []
 shape_of code.DictionaryAttackLockReset = on_lockout []
 shape_of code.DictionaryAttackParameters =
     on_lockout (parameter.U32 ∷ parameter.U32 ∷ parameter.U32 ∷ [])
 shape_of code.NvChangeAuth = shape_with (admin kind.NvIndex ∷ []) (parameter.Buffer 32 ∷ [])
-shape_of code.PcrEvent = shape_with (user kind.PcrOrNull ∷ []) (parameter.Buffer 1024 ∷ [])
+shape_of code.PcrEvent = shape_with (user kind.PcrOrNull ∷ []) (parameter.Buffer data_limit ∷ [])
 shape_of code.PcrReset = shape_with (user kind.Pcr ∷ []) []
 shape_of code.SelfTest = keeping (shape_with [] (parameter.YesNo ∷ []))
 shape_of code.Startup = record (shape_with [] (parameter.StartupType ∷ [])) { forbids_sessions = true }
@@ -226,7 +229,7 @@ shape_of code.NvReadLock = on_read_nv []
 shape_of code.PolicySecret =
     record (shape_with secret_handles secret_parameters) { sized_answer = true; reads_nv = true }
 shape_of code.Create = keeping (on_object create_parameters)
-shape_of code.Hmac = keeping (on_object (parameter.Buffer 1024 ∷ parameter.HashOrNull ∷ []))
+shape_of code.Hmac = keeping (on_object (parameter.Buffer data_limit ∷ parameter.HashOrNull ∷ []))
 shape_of code.Load =
     record (on_object (parameter.Buffer 256 ∷ parameter.Public ∷ [])) {
       answers_handle = true;

@@ -1,4 +1,4 @@
--- The names of the commands. TPM 2.0 Library, Part 3: what stands behind "TPM2_" at the head of
+-- The names of the commands. TPM 2.0 Library, Part 3: what stands after "TPM2_" at the head of
 -- each command's own section.
 use Rattle.std.specs.Prelude.{ℕ, nat_eq, List, Option, codes}
 use Rattle.std.specs.Cmp.Lexicographic.{pointwise}

@@ -1,11 +1,12 @@
 -- A command's header: tag, commandSize, commandCode. TPM 2.0 Library, Part 1, section 18.2.
+use Rattle.tpm_types.specs.Limits.{buffer_limit}
 use Rattle.std.specs.Prelude.{ℕ, ◌==◌, ◌||◌, not, nat_lt}
 use Rattle.std.specs.Prelude.{List, ◌++◌, length, drop, take, Result, Ok, ok_or}
 use Rattle.std.specs.Int.{w16, w32, from_be_bytes, to_be_bytes}
 use Rattle.tpm_bytes.specs.Reading.{◌>>=◌, refused_if}
-use Rattle.tpm_types_command.specs.declared.command.Header.{Header}
-use Rattle.tpm_types_command.specs.declared.command.HeaderFault.{HeaderFault}
-use Rattle.tpm_types_command.specs.declared.command.HeaderFault.TheVariants as fault
+use Rattle.tpm_types_command.specs.declared.header.Header.{Header}
+use Rattle.tpm_types_command.specs.declared.header.HeaderFault.{HeaderFault}
+use Rattle.tpm_types_command.specs.declared.header.HeaderFault.TheVariants as fault
 use Rattle.tpm_types_command.specs.declared.command_code.CommandCode.{CommandCode}
 use Rattle.tpm_types.specs.declared.rc.Rc.{Rc}
 use Rattle.tpm_types.specs.declared.rc.ResponseCode.TheVariants as code
@@ -38,7 +39,7 @@ code_field buffer = from_be_bytes w32 (take 4 (drop 6 buffer))
 -- the header of a whole buffer and what is after it, or its first fault
 unfoldable pub header_at : List ℕ → Result (Header × List ℕ) HeaderFault
 header_at buffer = do
-  length_fits ← refused_if (nat_lt (length buffer) 10 || nat_lt 4096 (length buffer)) fault.Length
+  length_fits ← refused_if (nat_lt (length buffer) 10 || nat_lt buffer_limit (length buffer)) fault.Length
   tag ← ok_or (tag_named (tag_field buffer)) fault.Tag
   size_is_length ← refused_if (not (size_field buffer == length buffer)) fault.Size
   code ← ok_or (code_named (code_field buffer)) fault.Code

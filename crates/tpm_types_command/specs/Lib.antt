@@ -9,6 +9,5 @@ pub mod Header
 pub mod Command
 pub use Rattle.tpm_bytes.specs.Reading
 pub use Rattle.tpm_bytes.specs.Writing
-pub use Rattle.tpm_types.specs.CommandNumber
 pub use Rattle.tpm_types.specs.Handle
 pub use Rattle.tpm_types.specs.SessionAttributes

@@ -10,7 +10,7 @@ use Rattle.tpm_types_command.specs.declared.shape.ParameterKind.{ParameterKind}
 use Rattle.tpm_types_command.specs.declared.shape.ParameterKind.TheVariants as parameter
 use Rattle.tpm_types.specs.declared.role.Role.TheVariants as role
 use Rattle.tpm_types_command.specs.declared.shape.Shape.{Shape}
-use Rattle.tpm_types.specs.Handle.{handle_type, hierarchy_auth_of, hierarchy_of, lockout_handle, null_handle, owner_handle, pcr_of, platform_handle}
+use Rattle.tpm_types.specs.Handle.{hierarchy_auth_of, hierarchy_of, is_nv_index, is_persistent, is_policy_session, is_transient, lockout_handle, null_handle, owner_handle, pcr_of, platform_handle}
 
 -- whether a handle is one of what has an authorization value, there or not: a hierarchy or lockout,
 -- a PCR, an NV index (01), a transient object (80) or a persistent one (81); or TPM_RH_NULL
@@ -18,14 +18,14 @@ use Rattle.tpm_types.specs.Handle.{handle_type, hierarchy_auth_of, hierarchy_of,
 abbrev pub is_entity : Handle → Bool
 is_entity handle =
     handle.number == null_handle.number || is_some (hierarchy_auth_of handle) || is_some (pcr_of handle)
-    || handle_type handle == 0x01 || handle_type handle == 0x80 || handle_type handle == 0x81
+    || is_nv_index handle || is_transient handle || is_persistent handle
 
 -- whether a handle is that of the owner or of the platform (TPMI_RH_PROVISION)
 abbrev pub is_provision : Handle → Bool
 is_provision handle =
     handle.number == owner_handle.number || handle.number == platform_handle.number
 
--- whether a handle is of a kind, after Part 2, section 9: a PCR (TPMI_DH_PCR), or that or
+-- whether a handle is of a kind, by Part 2, section 9: a PCR (TPMI_DH_PCR), or that or
 -- TPM_RH_NULL; TPM_RH_NULL alone, where the standard has a key too; a hierarchy or lockout
 -- (TPMI_RH_HIERARCHY_AUTH); a hierarchy or TPM_RH_NULL (TPMI_RH_HIERARCHY+); an entity as above,
 -- with TPM_RH_NULL or without; a transient object or a persistent one, there or not
@@ -41,14 +41,14 @@ is_of_kind kind.Hierarchy handle = is_some (hierarchy_of handle)
 is_of_kind kind.Entity handle = is_entity handle
 is_of_kind kind.EntityNotNull handle =
     is_entity handle && not (handle.number == null_handle.number)
-is_of_kind kind.Object handle = handle_type handle == 0x80 || handle_type handle == 0x81
-is_of_kind kind.PolicySession handle = handle_type handle == 0x03
+is_of_kind kind.Object handle = is_transient handle || is_persistent handle
+is_of_kind kind.PolicySession handle = is_policy_session handle
 is_of_kind kind.Provision handle = is_provision handle
 is_of_kind kind.Lockout handle = handle.number == lockout_handle.number
 is_of_kind kind.Clear handle =
     handle.number == lockout_handle.number || handle.number == platform_handle.number
-is_of_kind kind.NvAuth handle = is_provision handle || handle_type handle == 0x01
-is_of_kind kind.NvIndex handle = handle_type handle == 0x01
+is_of_kind kind.NvAuth handle = is_provision handle || is_nv_index handle
+is_of_kind kind.NvIndex handle = is_nv_index handle
 
 -- whether a parameter is a sized buffer (TPM2B of Part 2, section 10.4)
 abbrev pub is_sized : ParameterKind → Bool
@@ -100,11 +100,11 @@ facts_of s = record {
   keeps_shutdown = s.keeps_shutdown;
 }
 
--- a handle that is authorized in the role of the user
+-- a handle that is authorized in the role USER
 abbrev pub user : HandleKind → HandleRule
 user kind = record { kind = kind; role = Some role.User }
 
--- one that is authorized in the role of the administrator
+-- one that is authorized in the role ADMIN
 abbrev pub admin : HandleKind → HandleRule
 admin kind = record { kind = kind; role = Some role.Admin }
 

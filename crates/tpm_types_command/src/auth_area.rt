@@ -1,3 +1,6 @@
+//! The authorization area of a command: its size, and one to three entries (TPM 2.0 Library, Part
+//! 1, section 18.6).
+
 ghost use Rattle.std.specs.Prelude.{map};
 ghost use Rattle.tpm_bytes.specs.Reading.{Reads};
 
@@ -7,7 +10,7 @@ use tpm_bytes::Cursor;
 use tpm_types::{Rc, ResponseCode};
 
 /// How many entries an authorization area may have, and how many bytes the smallest has.
-pub const MOST_ENTRIES: usize = 3;
+pub const ENTRY_LIMIT: usize = 3;
 
 pub const LEAST_AREA: usize = 9;
 
@@ -53,7 +56,7 @@ fn read_entries<'a>(bytes: &'a [u8]) -> Result<ArrayVec<AuthEntry<'a>, 3>, Rc>
 {
     let mut left = Cursor::new(bytes);
     let mut entries = ArrayVec::new();
-    for _ in 0..MOST_ENTRIES {
+    for _ in 0..ENTRY_LIMIT {
         if !left.is_empty() {
             entries.push(AuthEntry::read(&mut left)?);
         }

@@ -1,3 +1,6 @@
+//! One entry of an authorization area: session, nonce, attributes, and HMAC or password
+//! (TPMS_AUTH_COMMAND; TPM 2.0 Library, Part 2, section 10.13.2).
+
 ghost use Rattle.std.specs.Prelude.{◌≡◌, ℕ, ◌<◌, List, ◌++◌, length, Ok, IfOk};
 ghost use Rattle.std.specs.Option.{SomeIff};
 ghost use Rattle.tpm_bytes.specs.Reading.{Reads};

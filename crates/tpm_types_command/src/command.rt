@@ -1,79 +1,25 @@
-ghost use Rattle.std.specs.Prelude.{◌≡◌};
-ghost use Rattle.tpm_bytes.specs.Reading.{Reads};
+//! A whole command: its code, handles, authorization entries and parameters (TPM 2.0 Library, Part
+//! 1, section 18). Below it stand its reader and its writer.
+
+ghost use Rattle.std.specs.Prelude.{◌≡◌, length};
+ghost use Rattle.tpm_types_command.specs.CommandCode.{handle_count};
 
 use crate::auth_entry::AuthEntry;
 use crate::command_code::CommandCode;
-use crate::tag::Tag;
 use arrayvec::ArrayVec;
-use tpm_bytes::Cursor;
-use tpm_types::{Handle, Rc, ResponseCode};
+use tpm_types::Handle;
 
-/// The bytes of a command's header, and the most that a command's buffer may have.
-pub const HEADER_SIZE: usize = 10;
+pub mod reading;
+mod writing;
 
-pub const MOST_COMMAND_BYTES: usize = 4096;
-
-/// What a command's header says besides its size (TPM 2.0 Library, Part 1, section 18.2).
-#[derive(Clone, Copy, Debug, PartialEq, Eq)]
-pub struct Header {
-    pub tag: Tag,
+/// A whole command (TPM 2.0 Library, Part 1, section 18): its handles are as many as its code has,
+/// and its tag is that of sessions exactly where it has entries. The parameters are its other
+/// bytes.
+#[derive(Drop)]
+pub struct Command<'a> {
     pub code: CommandCode,
-}
-
-/// The first fault of a command's header, in the order in which it is looked for.
-#[derive(Clone, Copy, Debug, PartialEq, Eq)]
-pub enum HeaderFault {
-    /// Fewer than 10 or more than 4,096 bytes.
-    Length,
-    /// A tag that is neither of the two.
-    Tag,
-    /// A commandSize that is not the buffer's length.
-    Size,
-    /// A command that is not served.
-    Code,
-}
-
-impl HeaderFault {
-    ghost use Rattle.tpm_types_command.specs.Header.{header_fault_rc};
-
-    /// The response code of the fault.
-    pub fn rc(self) -> Rc
-        ensures { result ≡ header_fault_rc self }
-    {
-        match self {
-            HeaderFault::Length | HeaderFault::Size => ResponseCode::CommandSize.anywhere(),
-            HeaderFault::Tag => ResponseCode::BadTag.anywhere(),
-            HeaderFault::Code => ResponseCode::CommandCode.anywhere(),
-        }
-    }
-}
-
-impl Header {
-    ghost use Rattle.tpm_types_command.specs.Header.{header_at};
-
-    /// Reads the header of a command that is the whole rest of the text.
-    #[tactic(auto, unfolding(crate::specs::Header::header_at))]
-    pub fn read(text: &mut Cursor) -> Result<Header, HeaderFault>
-        ensures { Reads (λ header. header) (header_at text.old) text.old result text.new }
-    {
-        let length = text.len();
-        if length < HEADER_SIZE || length > MOST_COMMAND_BYTES {
-            return Err(HeaderFault::Length);
-        }
-        let mut ahead = Cursor::new(text.rest());
-        let (Ok(tag), Ok(size), Ok(code)) = (ahead.u16(), ahead.u32(), ahead.u32()) else {
-            return Err(HeaderFault::Length);
-        };
-        let Some(tag) = Tag::named(tag) else {
-            return Err(HeaderFault::Tag);
-        };
-        if size as usize != length {
-            return Err(HeaderFault::Size);
-        }
-        let Some(code) = CommandCode::named(code) else {
-            return Err(HeaderFault::Code);
-        };
-        *text = ahead;
-        Ok(Header { tag, code })
-    }
+    pub handles: ArrayVec<Handle, 3>,
+    pub entries: ArrayVec<AuthEntry<'a>, 3>,
+    pub parameters: &'a [u8],
+    ghost handles_of_code: { length handles.items ≡ handle_count code },
 }

@@ -1,12 +1,14 @@
+//! The commands that are served, each with its number and its [`Shape`]: every other fact of it but
+//! its name (TPM_CC; TPM 2.0 Library, Part 2, section 6.5.2).
+
 ghost use Rattle.std.specs.Prelude.{◌≡◌, ◌≤◌, ◌==◌, IfSome, length, true};
-ghost use Rattle.tpm_types.specs.CommandNumber.{is_command_number};
 
 use crate::shape::ParameterKind::{
     Buffer, DigestList, Digests, Hash, HashOrNull, NvPublic, Operation, PersistentHandle, Public,
     Selection, SensitiveCreate, SessionType, StartupType, Symmetric, U8, U16, U32, U64, YesNo,
 };
 use crate::shape::{HandleKind, HandleRule, ParameterKind, Shape};
-use tpm_types::{NvUse, Role};
+use tpm_types::{DATA_LIMIT, NvUse, Role};
 
 /// The commands that are served, ascending by number: TPM_CC of TPM 2.0 Library, Part 2, section
 /// 6.5.2.
@@ -139,6 +141,9 @@ const POLICY_SESSION: HandleRule = HandleRule {
     role: None,
 };
 
+/// The most bytes of the data that a command takes.
+const DATA_SIZE: u16 = DATA_LIMIT as u16;
+
 /// inSensitive, inPublic, outsideInfo, creationPCR.
 const CREATE: &[ParameterKind] = &[SensitiveCreate, Public, Buffer(34), Selection];
 
@@ -173,7 +178,7 @@ macro_rules! shape {
 }
 
 impl CommandCode {
-    ghost use Rattle.tpm_types_command.specs.CommandCode.{authorized_handles, code_named, code_number, handle_count, has_sized_parameter, nv_use_at, role_at, shape_of};
+    ghost use Rattle.tpm_types_command.specs.CommandCode.{is_served, authorized_handles, code_named, code_number, handle_count, has_sized_parameter, nv_use_at, role_at, shape_of};
     ghost use Rattle.tpm_types_command.specs.Shape.{facts_of};
 
     /// All of them, ascending by number.
@@ -226,15 +231,20 @@ impl CommandCode {
     ];
 
     /// The number on the wire.
-    #[tactic(auto, unfolding(crate::specs::CommandCode::code_named, tpm_types::specs::CommandNumber::is_command_number))]
+    #[tactic(auto, unfolding(crate::specs::CommandCode::code_named))]
     pub fn number(self) -> u32
         ensures value { result ≡ code_number self }
         // The number names the command.
         ensures again { code_named result ≡ Some self }
-        // A policy can name each command that is served.
-        ensures in_policies { is_command_number result ≡ true }
     {
         self as u32
+    }
+
+    /// Whether a command of this number is served, and so whether a policy can name it.
+    pub fn is_served(number: u32) -> bool
+        ensures { result ≡ is_served number }
+    {
+        CommandCode::named(number).is_some()
     }
 
     /// The command of this number, if it is served.
@@ -320,13 +330,13 @@ impl CommandCode {
             ),
             CommandCode::NvIncrement => shape!([USER_NV_AUTH, NV_INDEX], &[]),
             CommandCode::NvSetBits => shape!([USER_NV_AUTH, NV_INDEX], &[U64]),
-            CommandCode::NvExtend => shape!([USER_NV_AUTH, NV_INDEX], &[Buffer(1024)]),
-            CommandCode::NvWrite => shape!([USER_NV_AUTH, NV_INDEX], &[Buffer(1024), U16]),
+            CommandCode::NvExtend => shape!([USER_NV_AUTH, NV_INDEX], &[Buffer(DATA_SIZE)]),
+            CommandCode::NvWrite => shape!([USER_NV_AUTH, NV_INDEX], &[Buffer(DATA_SIZE), U16]),
             CommandCode::NvWriteLock => shape!([USER_NV_AUTH, NV_INDEX], &[]),
             CommandCode::DictionaryAttackLockReset => shape!([USER_LOCKOUT], &[]),
             CommandCode::DictionaryAttackParameters => shape!([USER_LOCKOUT], &[U32, U32, U32]),
             CommandCode::NvChangeAuth => shape!([ADMIN_NV_INDEX], &[Buffer(32)]),
-            CommandCode::PcrEvent => shape!([USER_PCR_OR_NULL], &[Buffer(1024)]),
+            CommandCode::PcrEvent => shape!([USER_PCR_OR_NULL], &[Buffer(DATA_SIZE)]),
             CommandCode::PcrReset => shape!([USER_PCR], &[]),
             CommandCode::SelfTest => shape!([], &[YesNo], keeps_shutdown),
             CommandCode::Startup => shape!([], &[StartupType], forbids_sessions),
@@ -353,7 +363,7 @@ impl CommandCode {
             CommandCode::Create => shape!([USER_OBJECT], CREATE, sized_answer, keeps_shutdown),
             CommandCode::Hmac => shape!(
                 [USER_OBJECT],
-                &[Buffer(1024), HashOrNull],
+                &[Buffer(DATA_SIZE), HashOrNull],
                 sized_answer,
                 keeps_shutdown
             ),
@@ -390,7 +400,7 @@ impl CommandCode {
         }
     }
 
-    /// How many handles stand behind the command's header.
+    /// How many handles stand after the command's header.
     pub fn handle_count(self) -> usize
         ensures value { result ≡ handle_count self }
         ensures few { result ≤ 3 }

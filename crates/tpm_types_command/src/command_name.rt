@@ -1,3 +1,6 @@
+//! The names of the commands, as Part 3 of the TPM 2.0 Library has them after "TPM2_". No two
+//! commands share one.
+
 ghost use Rattle.std.specs.Prelude.{◌≡◌, ◌≤◌, length, Some};
 
 use crate::command_code::CommandCode;
@@ -5,7 +8,7 @@ use crate::command_code::CommandCode;
 impl CommandCode {
     ghost use Rattle.tpm_types_command.specs.CommandName.{code_called, code_name};
 
-    /// Its name: what stands behind "TPM2_" at the head of its section of TPM 2.0 Library, Part 3.
+    /// Its name: what stands after "TPM2_" at the head of its section of TPM 2.0 Library, Part 3.
     #[tactic(auto, unfolding(crate::specs::CommandName::code_called))]
     pub fn name(self) -> &'static str
         ensures value { result.now ≡ code_name self }

@@ -1,3 +1,6 @@
+//! The reader of a command's handles, which refuses a handle that is not of the kind its [`Shape`]
+//! asks for (TPM 2.0 Library, Part 3, section 5.4).
+
 ghost use Rattle.std.specs.Prelude.{◌≡◌, IfOk, length};
 ghost use Rattle.tpm_bytes.specs.Reading.{Reads};
 ghost use Rattle.tpm_types_command.specs.HandleArea.{allowed_handle_at, allowed_handles_at};

@@ -1,9 +1,12 @@
+//! What a command is made of: its handles and their roles, its parameters, its answer. A [`Shape`]
+//! holds every fact of a command but its number and what it does.
+
 ghost use Rattle.std.specs.Prelude.{◌≡◌};
 ghost use Rattle.tpm_types_command.specs.Shape.{is_entity, is_provision};
 
 use tpm_types::{Handle, Role};
 
-/// What a handle of a command may be, after the types of TPM 2.0 Library, Part 2, section 9.
+/// What a handle of a command may be, by the types of TPM 2.0 Library, Part 2, section 9.
 #[derive(Clone, Copy, Debug, PartialEq, Eq)]
 pub enum HandleKind {
     /// TPMI_DH_PCR: a PCR.
@@ -18,7 +21,7 @@ pub enum HandleKind {
     Hierarchy,
     /// TPMI_DH_ENTITY+: whatever has an authorization value, or TPM_RH_NULL.
     Entity,
-    /// TPMI_DH_ENTITY: the same without TPM_RH_NULL.
+    /// TPMI_DH_ENTITY: whatever has an authorization value.
     EntityNotNull,
     /// TPMI_DH_OBJECT: a transient or a persistent object.
     Object,
@@ -41,8 +44,8 @@ fn is_entity(handle: Handle) -> bool
     ensures { result ≡ is_entity handle }
 {
     let is_permanent = handle == Handle::NULL || handle.hierarchy_auth().is_some();
-    let kind = handle.type_byte();
-    is_permanent || handle.pcr().is_some() || kind == 0x01 || kind == 0x80 || kind == 0x81
+    let is_kept = handle.is_nv_index() || handle.is_transient() || handle.is_persistent();
+    is_permanent || handle.pcr().is_some() || is_kept
 }
 
 /// Whether the handle is that of the owner or of the platform.
@@ -67,13 +70,13 @@ impl HandleKind {
             HandleKind::Hierarchy => handle.hierarchy().is_some(),
             HandleKind::Entity => is_entity(handle),
             HandleKind::EntityNotNull => is_entity(handle) && handle != Handle::NULL,
-            HandleKind::Object => handle.type_byte() == 0x80 || handle.type_byte() == 0x81,
-            HandleKind::PolicySession => handle.type_byte() == 0x03,
+            HandleKind::Object => handle.is_transient() || handle.is_persistent(),
+            HandleKind::PolicySession => handle.is_policy_session(),
             HandleKind::Provision => is_provision(handle),
             HandleKind::Lockout => handle == Handle::LOCKOUT,
             HandleKind::Clear => handle == Handle::LOCKOUT || handle == Handle::PLATFORM,
-            HandleKind::NvAuth => is_provision(handle) || handle.type_byte() == 0x01,
-            HandleKind::NvIndex => handle.type_byte() == 0x01,
+            HandleKind::NvAuth => is_provision(handle) || handle.is_nv_index(),
+            HandleKind::NvIndex => handle.is_nv_index(),
         }
     }
 }
@@ -113,7 +116,7 @@ pub enum ParameterKind {
     Digests,
     /// TPML_DIGEST.
     DigestList,
-    /// A TPM2B of at most so many bytes.
+    /// A TPM2B of at most this many bytes.
     Buffer(u16),
     /// TPM2B_SENSITIVE_CREATE.
     SensitiveCreate,
@@ -174,7 +177,7 @@ pub struct Shape {
     /// Whether the command may want memory that is not there.
     pub grows: bool,
     /// Whether it reads the NV index that authorizes it, where one does; any other command writes
-    /// it, or administers it in that role.
+    /// it, or is authorized in the role ADMIN.
     pub reads_nv: bool,
     /// Whether its success leaves what a TPM2_Shutdown saved; that of any other command cancels it.
     pub keeps_shutdown: bool,

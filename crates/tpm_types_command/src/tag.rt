@@ -1,3 +1,6 @@
+//! The tag of a command or an answer, which says whether it has sessions (TPM_ST; TPM 2.0 Library,
+//! Part 2, section 6.9).
+
 ghost use Rattle.std.specs.Prelude.{◌≡◌};
 
 /// Whether a command has authorization sessions: TPM_ST of TPM 2.0 Library, Part 2, section 6.9.

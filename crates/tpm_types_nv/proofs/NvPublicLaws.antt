@@ -1,24 +1,26 @@
 -- Public areas of NV indices: what is read was spelled so, and what is spelled so is read.
 use Rattle.std.proofs.Common.{◌≡◌, ℕ, ◌^◌, ◌<◌, Bool, true, false, List, [], ◌++◌, length, Ok, refl, subst, append_assoc, append-nil, arith, length-append}
-use Rattle.std.specs.Prelude.{◌==◌, not, bit_and}
+use Rattle.std.specs.Prelude.{not}
 use Rattle.std.specs.Int.{w16, w32, to_be_bytes}
 use Rattle.tpm_bytes.specs.Reading.{◌>>=◌, number_at, or_fault, refused_if}
 use Rattle.tpm_bytes.specs.Writing.{sized_text}
 use Rattle.tpm_bytes.proofs.Fields.{Takes, bind_ok, ok_is, passed, number_or_again, number_or_takes, wide16, wide32}
 use Rattle.tpm_mac.specs.declared.algorithm.HashAlg.{HashAlg}
+use Rattle.tpm_types.specs.Handle.{is_nv_index}
 use Rattle.tpm_types.specs.declared.handle.Handle.{Handle}
 use Rattle.tpm_types.specs.declared.rc.ResponseCode.TheVariants as code
 use Rattle.tpm_types.specs.Algorithm.{hash_number}
 use Rattle.tpm_types.specs.Handle.{numbered}
 use Rattle.tpm_types.specs.Rc.{plain}
+use Rattle.tpm_types.specs.AttributeBits.{attribute_bits_at}
+use Rattle.tpm_types.proofs.AttributeBitsLaws.{attribute_bits_spelled}
 use Rattle.tpm_types.proofs.FieldLaws.{buffer_spelled, number_spelled}
 use Rattle.tpm_types.proofs.HashLaws.{hash_spelled}
-use Rattle.tpm_types.proofs.SelectionLaws.{is_equal}
 use Rattle.tpm_types.proofs.Spelled.{Spelled, all_read, first, respelled, then}
 use Rattle.tpm_types_nv.specs.declared.nv_attributes.NvAttributes.{NvAttributes}
 use Rattle.tpm_types_nv.specs.declared.nv_public.NvPublic.{NvPublic}
 use Rattle.tpm_types_nv.specs.NvAttributes.{IsNvAttributes, nv_attributes_at, nv_attributes_text, reserved_bits}
-use Rattle.tpm_types_nv.specs.NvPublic.{IsNvIndex, IsNvPublic, is_nv_index, nv_index_at, nv_index_text, nv_public_at, nv_public_text}
+use Rattle.tpm_types_nv.specs.NvPublic.{IsNvIndex, IsNvPublic, nv_index_at, nv_index_text, nv_public_at, nv_public_text}
 use Rattle.tpm_types_object.specs.Filled.{filled_by}
 use Rattle.tpm_types_object.proofs.FilledLaws.{filled_spelled}
 
@@ -31,12 +33,9 @@ nv_attributes_spelled : Spelled nv_attributes_text IsNvAttributes nv_attributes_
 unfolding nv_attributes_at
 nv_attributes_spelled = record {
   taken = λ bytes x fits e.
-      let a = bind_ok (or_fault (number_at w32 bytes) (plain code.Insufficient)) (λ bits. refused_if (not (bit_and bits.0 reserved_bits == 0)) (plain code.ReservedBits) >>= λ named. Ok (attributes_of bits)) x e in
-      let b = bind_ok (refused_if (not (bit_and a.0.0 reserved_bits == 0)) (plain code.ReservedBits)) (λ named. Ok (attributes_of a.0)) x a.2 in
-      let t = number_or_takes w32 (2 ^ 32) wide32 (plain code.Insufficient) bytes a.0 fits a.1 in
-      let named = is_equal (bit_and a.0.0 reserved_bits) 0 (passed (not (bit_and a.0.0 reserved_bits == 0)) (plain code.ReservedBits) b.0 b.1) in
-      subst (λ (y : NvAttributes × List ℕ). Takes bytes (nv_attributes_text y.0) y.1 × IsNvAttributes y.0) (ok_is (attributes_of a.0) x b.2) (t.0, record { fits = t.1; named = named });
-  again = λ attributes rest is. rw (number_or_again w32 (2 ^ 32) wide32 (plain code.Insufficient) attributes.bits rest is.fits, is.named) refl;
+      let a = bind_ok (attribute_bits_at reserved_bits bytes) (λ bits. Ok (attributes_of bits)) x e in
+      subst (λ (y : NvAttributes × List ℕ). Takes bytes (nv_attributes_text y.0) y.1 × IsNvAttributes y.0) (ok_is (attributes_of a.0) x a.2) ((attribute_bits_spelled reserved_bits).taken bytes a.0 fits a.1);
+  again = λ attributes rest is. rw ((attribute_bits_spelled reserved_bits).again attributes.bits rest is) refl;
 }
 
 -- ---- the handle of an index

@@ -1,17 +1,16 @@
 -- The attributes of NV indices. TPM 2.0 Library, Part 2, section 13.4 (TPMA_NV).
-use Rattle.std.specs.Prelude.{◌≡◌, ℕ, ◌-◌, ◌*◌, ◌/◌, ◌%◌, ◌<◌, ◌^◌, ◌==◌, not, bit_and, bit_or, Bool}
+use Rattle.std.specs.Prelude.{ℕ, ◌-◌, ◌*◌, ◌/◌, ◌%◌, ◌^◌, ◌==◌, bit_and, bit_or, Bool}
 use Rattle.std.specs.Prelude.{List, [], ◌∷◌, Option, Result, Ok}
 use Rattle.std.specs.List.{sum_by}
 use Rattle.std.specs.Int.{w32, bit_at, bit_not, to_be_bytes}
-use Rattle.tpm_bytes.specs.Reading.{◌>>=◌, number_at, or_fault, refused_if}
+use Rattle.tpm_bytes.specs.Reading.{◌>>=◌}
 use Rattle.tpm_types_nv.specs.declared.nv_attributes.NvAttribute.{NvAttribute}
 use Rattle.tpm_types_nv.specs.declared.nv_attributes.NvAttribute.TheVariants as attribute
 use Rattle.tpm_types_nv.specs.declared.nv_attributes.NvAttributes.{NvAttributes}
 use Rattle.tpm_types_nv.specs.declared.nv_type.NvType.{NvType}
 use Rattle.tpm_types_nv.specs.NvType.{nv_type_named, nv_type_number}
+use Rattle.tpm_types.specs.AttributeBits.{AreAttributeBits, attribute_bits_at}
 use Rattle.tpm_types.specs.declared.rc.Rc.{Rc}
-use Rattle.tpm_types.specs.declared.rc.ResponseCode.TheVariants as code
-use Rattle.tpm_types.specs.Rc.{plain}
 
 -- which bit an attribute is
 abbrev pub attribute_bit : NvAttribute → ℕ
@@ -96,13 +95,11 @@ abbrev pub nv_attributes_text : NvAttributes → List ℕ
 nv_attributes_text attributes = to_be_bytes w32 attributes.bits
 
 -- what has a text: no reserved bit is set
-pub record IsNvAttributes (attributes : NvAttributes) : Type 0 where
-  pub fits : attributes.bits < 2 ^ 32
-  pub named : bit_and attributes.bits reserved_bits ≡ 0
+abbrev pub IsNvAttributes : NvAttributes → Type 0
+IsNvAttributes attributes = AreAttributeBits reserved_bits attributes.bits
 
 -- attributes, and what is after them
 unfoldable pub nv_attributes_at : List ℕ → Result (NvAttributes × List ℕ) Rc
 nv_attributes_at text = do
-  bits ← or_fault (number_at w32 text) (plain code.Insufficient)
-  named ← refused_if (not (bit_and bits.0 reserved_bits == 0)) (plain code.ReservedBits)
+  bits ← attribute_bits_at reserved_bits text
   Ok (record { bits = bits.0 }, bits.1)

@@ -12,12 +12,8 @@ use Rattle.tpm_types.specs.declared.rc.Rc.{Rc}
 use Rattle.tpm_types.specs.declared.rc.ResponseCode.TheVariants as code
 use Rattle.tpm_types.specs.Algorithm.{hash_at, hash_number}
 use Rattle.tpm_types.specs.Buffer.{buffer_at}
-use Rattle.tpm_types.specs.Handle.{handle_type, numbered}
+use Rattle.tpm_types.specs.Handle.{is_nv_index, numbered}
 use Rattle.tpm_types.specs.Rc.{plain}
-
--- whether a handle is one of an NV index
-abbrev pub is_nv_index : Handle → Bool
-is_nv_index handle = handle_type handle == 0x01
 
 abbrev pub nv_index_text : Handle → List ℕ
 nv_index_text handle = to_be_bytes w32 handle.number

@@ -1,3 +1,6 @@
+//! The laws of an NV index's attributes: what setting or clearing one leaves of the others, and of
+//! the type.
+
 ghost use Rattle.tpm_types_nv.specs.AreNvAttributes.{AreNvAttributes};
 
 /// What attributes and which type an index has after an attribute was set or cleared. It does

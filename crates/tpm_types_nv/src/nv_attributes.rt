@@ -1,9 +1,12 @@
+//! The attributes of NV indices, a bit for each, with the four bits of the type (TPMA_NV; TPM 2.0
+//! Library, Part 2, section 13.4).
+
 ghost use Rattle.std.specs.Prelude.{◌≡◌, ◌<◌};
 ghost use Rattle.tpm_bytes.specs.Reading.{Reads};
 
 use crate::nv_type::NvType;
 use tpm_bytes::Cursor;
-use tpm_types::{Rc, ResponseCode};
+use tpm_types::{Rc, read_attribute_bits};
 
 /// The bits that are neither an attribute nor of the type: 8, 9 and 20 to 24.
 const RESERVED_BITS: u32 = 0x01f0_0300;
@@ -102,14 +105,7 @@ impl NvAttributes {
         ensures { Reads (λ attributes. attributes) (nv_attributes_at text.old) text.old
             result text.new }
     {
-        let mut ahead = Cursor::new(text.rest());
-        let Ok(bits) = ahead.u32() else {
-            return Err(ResponseCode::Insufficient.anywhere());
-        };
-        if bits & RESERVED_BITS != 0 {
-            return Err(ResponseCode::ReservedBits.anywhere());
-        }
-        *text = ahead;
+        let bits = read_attribute_bits(text, RESERVED_BITS)?;
         Ok(NvAttributes { bits })
     }
 }

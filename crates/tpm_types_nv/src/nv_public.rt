@@ -1,3 +1,6 @@
+//! The public area of an NV index, and the Name that follows from it (TPMS_NV_PUBLIC; TPM 2.0
+//! Library, Part 2, section 13.5).
+
 ghost use Rattle.std.specs.Prelude.{◌≡◌, ℕ, ◌≤◌, List, ◌++◌, length, Ok, IfOk};
 ghost use Rattle.tpm_bytes.specs.Reading.{Reads};
 ghost use Rattle.tpm_bytes.specs.Writing.{Puts, sized_text};
@@ -8,9 +11,6 @@ use tpm_mac::HashAlg;
 use tpm_name::Name;
 use tpm_types::{Handle, Octets, Rc, ResponseCode, bytes_fit, hash_number, read_hash};
 use tpm_types_object::read_filled;
-
-/// The highest byte of an NV index's handle.
-const NV_INDEX_BYTE: u32 = 0x01;
 
 /// The public area of an NV index: TPMS_NV_PUBLIC of TPM 2.0 Library, Part 2, section 13.5.
 #[derive(Drop)]
@@ -73,7 +73,7 @@ impl NvPublic {
             return Err(ResponseCode::Insufficient.anywhere());
         };
         let handle = Handle { number };
-        if handle.type_byte() != NV_INDEX_BYTE {
+        if !handle.is_nv_index() {
             return Err(ResponseCode::Value.anywhere());
         }
         *text = ahead;

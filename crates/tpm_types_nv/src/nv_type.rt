@@ -1,3 +1,6 @@
+//! The types of NV indices: bytes, a counter, bits, or a digest that is extended (TPM_NT; TPM 2.0
+//! Library, Part 2, section 13.2).
+
 ghost use Rattle.std.specs.Prelude.{◌≡◌};
 ghost use Rattle.tpm_types_nv.specs.NvType.{nv_type_named, nv_type_number};
 

@@ -34,7 +34,7 @@ use Rattle.tpm_types.proofs.SymmetricLaws.{chosen, symmetric_again, symmetric_ta
 
 -- ---- schemes
 
--- what stands behind the number of a scheme
+-- what stands after the number of a scheme
 behind_number : KeyedHashScheme → List ℕ
 behind_number Null = []
 behind_number (Hmac hash) = to_be_bytes w16 (hash_number hash)
@@ -123,7 +123,7 @@ parameters_spelled type = record {
 
 -- ---- public areas
 
--- the fields behind the type, in their order
+-- the fields after the type, in their order
 abbrev Fields : Type 0
 Fields = (((HashAlg × ℕ) × List ℕ) × PublicParameters) × List ℕ
 

@@ -1,14 +1,11 @@
 -- The attributes of objects. TPM 2.0 Library, Part 2, section 8.3 (TPMA_OBJECT).
-use Rattle.std.specs.Prelude.{◌≡◌, ℕ, ◌-◌, ◌<◌, ◌^◌, ◌==◌, not, bit_and, Bool}
-use Rattle.std.specs.Prelude.{List, [], ◌∷◌, Result, Ok}
+use Rattle.std.specs.Prelude.{ℕ, ◌-◌, ◌^◌, ◌==◌, Bool, List, [], ◌∷◌, Result}
 use Rattle.std.specs.List.{sum_by}
 use Rattle.std.specs.Int.{w32, bit_at, to_be_bytes}
-use Rattle.tpm_bytes.specs.Reading.{◌>>=◌, number_at, or_fault, refused_if}
 use Rattle.tpm_types_object.specs.declared.object_attributes.ObjectAttribute.{ObjectAttribute}
 use Rattle.tpm_types_object.specs.declared.object_attributes.ObjectAttribute.TheVariants as attribute
+use Rattle.tpm_types.specs.AttributeBits.{AreAttributeBits, attribute_bits_at}
 use Rattle.tpm_types.specs.declared.rc.Rc.{Rc}
-use Rattle.tpm_types.specs.declared.rc.ResponseCode.TheVariants as code
-use Rattle.tpm_types.specs.Rc.{plain}
 
 -- which bit an attribute is
 abbrev pub attribute_bit : ObjectAttribute → ℕ
@@ -52,13 +49,9 @@ abbrev pub attributes_text : ℕ → List ℕ
 attributes_text attributes = to_be_bytes w32 attributes
 
 -- what has a text: no reserved bit is set
-pub record IsAttributes (attributes : ℕ) : Type 0 where
-  pub fits : attributes < 2 ^ 32
-  pub named : bit_and attributes reserved_bits ≡ 0
+abbrev pub IsAttributes : ℕ → Type 0
+IsAttributes attributes = AreAttributeBits reserved_bits attributes
 
 -- attributes, and what is after them
-unfoldable pub attributes_at : List ℕ → Result (ℕ × List ℕ) Rc
-attributes_at text = do
-  bits ← or_fault (number_at w32 text) (plain code.Insufficient)
-  named ← refused_if (not (bit_and bits.0 reserved_bits == 0)) (plain code.ReservedBits)
-  Ok (bits.0, bits.1)
+abbrev pub attributes_at : List ℕ → Result (ℕ × List ℕ) Rc
+attributes_at text = attribute_bits_at reserved_bits text

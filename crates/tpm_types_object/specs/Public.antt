@@ -57,7 +57,7 @@ hmac_at text = do
   hash ← hash_at text
   Ok (Hmac hash.0, hash.1)
 
--- what stands behind the number of a scheme
+-- what stands after the number of a scheme
 abbrev pub behind_scheme_at : ℕ → List ℕ → Result (KeyedHashScheme × List ℕ) Rc
 behind_scheme_at number text =
     if number == 0x0010 then Ok (Null, text)

@@ -2,6 +2,7 @@
 use Rattle.std.specs.Prelude.{ℕ, ◌≤◌, List, ◌++◌, length, Result, Ok}
 use Rattle.tpm_bytes.specs.Reading.{◌>>=◌}
 use Rattle.tpm_bytes.specs.Writing.{sized_text}
+use Rattle.tpm_types.specs.Limits.{sensitive_limit}
 use Rattle.tpm_types.specs.declared.rc.Rc.{Rc}
 use Rattle.tpm_types_object.specs.declared.sensitive.Sensitive.{Sensitive}
 use Rattle.tpm_types.specs.Buffer.{buffer_at}
@@ -18,7 +19,7 @@ sensitive_text s =
 pub record IsSensitive (s : Sensitive) : Type 0 where
   pub auth_value : length s.auth_value ≤ 32
   pub seed_value : length s.seed_value ≤ 32
-  pub sensitive : length s.sensitive ≤ 128
+  pub sensitive : length s.sensitive ≤ sensitive_limit
 
 -- a sensitive area, and what is after it
 unfoldable pub sensitive_at : List ℕ → Result (Sensitive × List ℕ) Rc
@@ -26,7 +27,7 @@ sensitive_at text = do
   type ← object_type_at text
   auth_value ← buffer_at 32 type.1
   seed_value ← buffer_at 32 auth_value.1
-  sensitive ← buffer_at 128 seed_value.1
+  sensitive ← buffer_at sensitive_limit seed_value.1
   Ok (
     record {
       object_type = type.0;

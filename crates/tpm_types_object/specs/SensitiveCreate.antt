@@ -3,6 +3,7 @@
 use Rattle.std.specs.Prelude.{ℕ, ◌≤◌, List, ◌++◌, length, Result, Ok}
 use Rattle.tpm_bytes.specs.Reading.{◌>>=◌}
 use Rattle.tpm_bytes.specs.Writing.{sized_text}
+use Rattle.tpm_types.specs.Limits.{sensitive_limit}
 use Rattle.tpm_types.specs.declared.rc.Rc.{Rc}
 use Rattle.tpm_types_object.specs.declared.sensitive_create.SensitiveCreate.{SensitiveCreate}
 use Rattle.tpm_types.specs.Buffer.{buffer_at}
@@ -22,11 +23,11 @@ sensitive_create_text s = sized_text s.user_auth ++ sized_text s.«data»
 -- what has a text
 pub record IsSensitiveCreate (s : SensitiveValues) : Type 0 where
   pub user_auth : length s.user_auth ≤ 32
-  pub «data» : length s.«data» ≤ 128
+  pub «data» : length s.«data» ≤ sensitive_limit
 
 -- the values, and what is after them
 unfoldable pub sensitive_create_at : List ℕ → Result (SensitiveValues × List ℕ) Rc
 sensitive_create_at text = do
   user_auth ← buffer_at 32 text
-  given ← buffer_at 128 user_auth.1
+  given ← buffer_at sensitive_limit user_auth.1
   Ok (record { user_auth = user_auth.0; «data» = given.0 }, given.1)

@@ -1,3 +1,6 @@
+//! What a new object was made with: PCRs, locality, parent and what the caller adds
+//! (TPMS_CREATION_DATA; TPM 2.0 Library, Part 2, section 15.1).
+
 ghost use Rattle.std.specs.Prelude.{◌≡◌, ℕ, ◌≤◌, List, ◌++◌, length, Ok, IfOk};
 ghost use Rattle.tpm_bytes.specs.Reading.{Reads};
 ghost use Rattle.tpm_bytes.specs.Writing.{Puts, sized_text};
@@ -33,7 +36,8 @@ impl CreationData {
     /// Reads creation data: INSUFFICIENT where they are cut, and else the first fault of a field.
     pub fn read(text: &mut Cursor) -> Result<CreationData, Rc>
         // Which value it is, or the first fault.
-        ensures exact { Reads (λ creation. creation) (creation_data_at text.old) text.old result text.new }
+        ensures exact { Reads (λ creation. creation) (creation_data_at text.old)
+            text.old result text.new }
         // What is read was spelled so.
         ensures found { IfOk result (λ creation. IsCreationData creation
             × (text.old ≡ creation_data_text creation ++ text.new)) }

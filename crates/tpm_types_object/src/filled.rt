@@ -1,3 +1,6 @@
+//! The reader of a structure that must fill its sized buffer (TPM2B; TPM 2.0 Library, Part 2,
+//! section 10.4.1).
+
 ghost use Rattle.std.specs.Prelude.{◌≡◌};
 ghost use Rattle.tpm_bytes.specs.Reading.{Reads};
 ghost use Rattle.tpm_types_object.specs.Filled.{filled_by, within_buffer};

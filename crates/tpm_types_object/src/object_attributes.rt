@@ -1,9 +1,11 @@
+//! The attributes of objects, a bit for each (TPMA_OBJECT; TPM 2.0 Library, Part 2, section 8.3).
+
 ghost use Rattle.std.specs.Prelude.{◌≡◌, ◌<◌};
 ghost use Rattle.tpm_bytes.specs.Reading.{Reads};
 
 use std::marker::Model;
 use tpm_bytes::Cursor;
-use tpm_types::{Rc, ResponseCode};
+use tpm_types::{Rc, read_attribute_bits};
 
 /// The bits that are no attribute.
 const RESERVED_BITS: u32 = 0xfff8_f309;
@@ -36,8 +38,8 @@ impl ObjectAttribute {
     }
 }
 
-/// The attributes of an object, a bit for each; no other bit is set. Contracts see them as the number
-/// of these bits.
+/// The attributes of an object, a bit for each; no other bit is set. Contracts see them as the
+/// number of these bits.
 #[derive(Clone, Copy, Debug, PartialEq, Eq)]
 pub struct ObjectAttributes {
     bits: u32,
@@ -84,19 +86,11 @@ impl ObjectAttributes {
 
     /// Reads attributes: INSUFFICIENT where they are cut, RESERVED_BITS where a bit is set that is
     /// no attribute.
-    #[tactic(auto, unfolding(crate::specs::ObjectAttributes::attributes_at))]
     pub fn read(text: &mut Cursor) -> Result<ObjectAttributes, Rc>
         ensures { Reads (λ attributes. attributes) (attributes_at text.old) text.old
             result text.new }
     {
-        let mut ahead = Cursor::new(text.rest());
-        let Ok(bits) = ahead.u32() else {
-            return Err(ResponseCode::Insufficient.anywhere());
-        };
-        if bits & RESERVED_BITS != 0 {
-            return Err(ResponseCode::ReservedBits.anywhere());
-        }
-        *text = ahead;
+        let bits = read_attribute_bits(text, RESERVED_BITS)?;
         Ok(ObjectAttributes { bits })
     }
 }

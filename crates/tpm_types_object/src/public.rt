@@ -1,3 +1,6 @@
+//! The public area of an object, with its type and its parameters, and the Name that follows from
+//! it (TPMT_PUBLIC; TPM 2.0 Library, Part 2, section 12.2).
+
 ghost use Rattle.std.specs.Prelude.{◌≡◌, ℕ, ◌≤◌, List, ◌++◌, length, Ok, IfOk};
 ghost use Rattle.tpm_bytes.specs.Reading.{Reads};
 ghost use Rattle.tpm_bytes.specs.Writing.{Puts, sized_text};

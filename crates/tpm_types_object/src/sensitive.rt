@@ -1,3 +1,6 @@
+//! The sensitive area of an object: its authorization value, its seed, and its key or sealed data
+//! (TPMT_SENSITIVE; TPM 2.0 Library, Part 2, section 12.3.2.4).
+
 ghost use Rattle.std.specs.Prelude.{◌≡◌, ℕ, ◌≤◌, List, ◌++◌, length, Ok, IfOk};
 ghost use Rattle.tpm_bytes.specs.Reading.{Reads};
 ghost use Rattle.tpm_bytes.specs.Writing.{Puts, sized_text};
@@ -5,7 +8,7 @@ ghost use Rattle.tpm_bytes.specs.Writing.{Puts, sized_text};
 use crate::filled::read_filled;
 use crate::public::ObjectType;
 use tpm_bytes::{Cursor, Full, Readable, Sink};
-use tpm_types::{Octets, Rc, bytes_fit};
+use tpm_types::{Octets, Rc, SENSITIVE_LIMIT, bytes_fit};
 
 /// The sensitive area of an object: TPMT_SENSITIVE of TPM 2.0 Library, Part 2, section 12.3.2.4.
 #[derive(Drop)]
@@ -16,7 +19,7 @@ pub struct Sensitive {
     /// The seed of a storage key, else what hides `sensitive` in the public area.
     pub seed_value: Octets<32>,
     /// The key, or the sealed data.
-    pub sensitive: Octets<128>,
+    pub sensitive: Octets<SENSITIVE_LIMIT>,
 }
 
 impl Sensitive {

@@ -1,11 +1,15 @@
+//! What a caller gives for the sensitive area of a new object (TPMS_SENSITIVE_CREATE; TPM 2.0
+//! Library, Part 2, section 11.1.15).
+
 ghost use Rattle.std.specs.Prelude.{◌≡◌, ◌≤◌, ℕ, List, ◌++◌, length, Ok, IfOk};
 ghost use Rattle.tpm_bytes.specs.Reading.{Reads};
 ghost use Rattle.tpm_bytes.specs.Writing.{sized_text};
+ghost use Rattle.tpm_types.specs.Limits.{sensitive_limit};
 ghost use Rattle.tpm_types_object.specs.Filled.{filled_by};
 
 use crate::filled::read_filled;
 use tpm_bytes::{Cursor, Readable, Sink};
-use tpm_types::{Rc, bytes_fit, read_buffer};
+use tpm_types::{Rc, SENSITIVE_LIMIT, bytes_fit, read_buffer};
 
 /// What the caller gives to a new object's sensitive area: TPMS_SENSITIVE_CREATE of TPM 2.0
 /// Library, Part 2, section 11.1.15.
@@ -14,7 +18,7 @@ pub struct SensitiveCreate<'a> {
     pub user_auth: &'a [u8],
     pub data: &'a [u8],
     ghost few: { length user_auth.now ≤ 32 },
-    ghost short: { length «data».now ≤ 128 },
+    ghost short: { length «data».now ≤ sensitive_limit },
 }
 
 impl<'a> SensitiveCreate<'a> {
@@ -61,7 +65,7 @@ impl<'a> SensitiveCreate<'a> {
     {
         let mut ahead = Cursor::new(text.rest());
         let user_auth = read_buffer(&mut ahead, 32)?;
-        let data = read_buffer(&mut ahead, 128)?;
+        let data = read_buffer(&mut ahead, SENSITIVE_LIMIT)?;
         *text = ahead;
         Ok(SensitiveCreate { user_auth, data })
     }

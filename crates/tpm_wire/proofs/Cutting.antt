@@ -1,4 +1,5 @@
 -- A stream is cut alike, whatever is executed of it on the way.
+use Rattle.tpm_types.specs.Limits.{buffer_limit}
 use Rattle.std.proofs.Common.{◌≡◌, ℕ, ◌+◌, ◌<◌, ◌≤◌, Bool, true, false, List, [], ◌∷◌, ◌++◌, length, take, drop, Option, Some, None, refl, sym, ap, ◌∙◌, subst, append_assoc, append-nil, length-append, length-drop, arith, inl, inr}
 use Rattle.std.proofs.Math.Seq.{drop-append_seam, take-append_seam}
 use Rattle.std.specs.Prelude.{nat_le, ◌==◌, ◌&&◌, fold, option_and_then, if◌then◌else◌}
@@ -43,22 +44,22 @@ and_right : (a b : Bool) → (a && b) ≡ true → b ≡ true
 and_right true b e = e
 and_right false b e = absurd (false≢true e)
 
-bounds_if : (b : Bool) (size : ℕ) → (b ≡ true → (6 ≤ size) × (size ≤ 4096)) → (6 ≤ (if b then size else 6)) × ((if b then size else 6) ≤ 4096)
+bounds_if : (b : Bool) (size : ℕ) → (b ≡ true → (6 ≤ size) × (size ≤ buffer_limit)) → (6 ≤ (if b then size else 6)) × ((if b then size else 6) ≤ buffer_limit)
 bounds_if true size within = within refl
 bounds_if false size within = (omega arith, omega arith)
 
-size_bounds : (size : ℕ) → (6 ≤ size_by size) × (size_by size ≤ 4096)
+size_bounds : (size : ℕ) → (6 ≤ size_by size) × (size_by size ≤ buffer_limit)
 size_bounds size =
     bounds_if (is_size size) size (λ e.
-    let low = leb-true 10 size (and_left (nat_le 10 size) (nat_le size 4096) e) in
-    let high = leb-true size 4096 (and_right (nat_le 10 size) (nat_le size 4096) e) in
+    let low = leb-true 10 size (and_left (nat_le 10 size) (nat_le size buffer_limit) e) in
+    let high = leb-true size buffer_limit (and_right (nat_le 10 size) (nat_le size buffer_limit) e) in
     (omega arith, omega arith))
 
 some_is : {X : Type 0} (x y : X) → Some x ≡ Some y → x ≡ y
 some_is x y e = cc
 
 -- a buffer has at least six bytes and at most 4,096, and where it has none yet its size is not known
-buffer_bounds : (bytes : List ℕ) (n : ℕ) → buffer_size bytes ≡ Some n → (6 ≤ n) × (n ≤ 4096)
+buffer_bounds : (bytes : List ℕ) (n : ℕ) → buffer_size bytes ≡ Some n → (6 ≤ n) × (n ≤ buffer_limit)
 unfolding command_size
 buffer_bounds (t ∷ u ∷ a ∷ b ∷ c ∷ d ∷ bytes) n is = rw (← some_is _ _ is) (size_bounds (from_be_bytes w32 (a ∷ b ∷ c ∷ d ∷ [])))
 buffer_bounds bytes n is = absurd cc
@@ -120,7 +121,7 @@ ends_here done grown more all n same here six =
     let last : is_last all ≡ is_last grown = rw (← same) (last_shorter grown more (omega (arith, here, six))) in
     rw (front, behind, last) refl
 
--- bytes that complete one, and the others behind it
+-- bytes that complete one, and the others after it
 completed : (done : List (List ℕ)) (rest more all : List ℕ) (n : ℕ) → rest ++ more ≡ all → buffer_size all ≡ Some n → length rest < n → n ≤ length all → fold with_byte (begun done rest) more ≡ fold with_byte (uncut (done ++ take n all ∷ []) (is_last all)) (drop n all)
 completed done rest [] all n is size less fits = absurd (omega (arith, ap length is, length-append rest []))
 completed done rest (byte ∷ more) all n is size less fits =
@@ -169,7 +170,7 @@ next_by taken size = option_and_then (λ n. cut_within n (is_last taken) taken) 
 next_is : (taken : List ℕ) (size : Option ℕ) (o : Option Cut) → buffer_size taken ≡ size → next_by taken (buffer_size taken) ≡ o → next_by taken size ≡ o
 next_is taken size o is e = sym (ap (next_by taken) is) ∙ e
 
--- What is cut next stands behind the buffers before it.
+-- What is cut next stands after the buffers before it.
 pub cut_next : (done : List (List ℕ)) (s : Stream) (c : Cut) → next_of s ≡ Some c → cut_with done s ≡ cut_with (done ++ c.buffer ∷ []) c.after
 cut_next done s c is = by s.ended s.taken (buffer_size s.taken) refl is
   where
@@ -219,10 +220,10 @@ size_known (t ∷ u ∷ a ∷ b ∷ []) is = omega arith
 size_known (t ∷ u ∷ a ∷ b ∷ c ∷ []) is = omega arith
 
 -- Where a stream goes on and no buffer is next, there is room for a byte.
-pub next_room : (s : Stream) → next_of s ≡ None → s.ended ≡ false → length s.taken < 4096
+pub next_room : (s : Stream) → next_of s ≡ None → s.ended ≡ false → length s.taken < buffer_limit
 next_room s none lives = by s.ended s.taken (buffer_size s.taken) refl none lives
   where
-    by : (ended : Bool) (taken : List ℕ) (o : Option ℕ) → buffer_size taken ≡ o → next_of (record { taken = taken; ended = ended }) ≡ None → ended ≡ false → length taken < 4096
+    by : (ended : Bool) (taken : List ℕ) (o : Option ℕ) → buffer_size taken ≡ o → next_of (record { taken = taken; ended = ended }) ≡ None → ended ≡ false → length taken < buffer_limit
     by true taken o size e lives = absurd (false≢true (sym lives))
     by false taken None size e lives = omega (arith, size_known taken size)
     by false taken (Some n) size e lives = omega (arith, waits_for taken e n size, buffer_bounds taken n size)

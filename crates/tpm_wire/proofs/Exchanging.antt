@@ -1,4 +1,4 @@
--- Runs of exchanges, one behind another, and how serving ends.
+-- Runs of exchanges, one after another, and how serving ends.
 use Rattle.std.proofs.Common.{◌≡◌, ℕ, List, [], ◌∷◌, ◌++◌, Bool, Option, Some, Ok, Err, refl, sym, ap, ◌∙◌, subst, append_assoc, append-nil}
 use Rattle.std.proofs.KnownBytes.{Appends-trans}
 use Rattle.std.proofs.lemmas.Fn.{FoldsTo-push}
@@ -66,7 +66,7 @@ exchanges_behind : {F : Type 0} (g : Asking F) (can : Bool) (text buffer : List 
 exchanges_behind g can text buffer old new x =
     (x.0, x.1, x.2, x.3, ap (λ (l : List ℕ). text ++ l) x.4 ∙ sym (append_assoc text old.written _))
 
--- The last response was lost behind those of another run too.
+-- The last response was lost after those of another run too.
 loses_behind : {F : Type 0} (g : Asking F) (can : Bool) (held mid holds : Option (List ℕ)) (start at end : Serving F) (done more : List (List ℕ)) → FoldsTo (Exchanges g can) start done at → Appends held mid at.written → LosesLast g can mid holds (started at.machine at.host) more end → LosesLast g can held holds start (done ++ more) (written_behind at.written end)
 loses_behind g can held mid holds start at end done more run first lost =
     let text = at.written in

@@ -5,15 +5,15 @@ use Rattle.std.specs.List.{FoldsTo}
 use Rattle.std.proofs.lemmas.Bool.{cases_eq}
 use Rattle.std.proofs.lemmas.Option.{unwrap_or-slice_get}
 use Rattle.std.proofs.Math.Seq.{get_or-append_seam}
-use Rattle.tpm_places.specs.Places.{at_place, free}
-use Rattle.tpm_places.proofs.PlaceLaws.{at_inside, at_set-here, at_set-other, lowest_free-free}
+use Rattle.tpm_slots.specs.Slots.{at_place, free}
+use Rattle.tpm_slots.proofs.SlotLaws.{at_inside, at_set-here, at_set-other, lowest_free-free}
 use Rattle.tpm_record.specs.Record.{Record}
 use Rattle.tpm_machine_step.specs.Execution.{Executes}
 use Rattle.tpm_machine_step.specs.Run.{after_all}
 use Rattle.tpm_machine_step.specs.Step.{Stepped, outcome_step}
 use Rattle.tpm_machine_step.specs.declared.event.Outcome.{Outcome}
 use Rattle.tpm_wire.specs.Number.{number_of}
-use Rattle.tpm_wire.specs.Schedule.{Call, Closing, Does, Event, Executed, Feeding, IsServed, Leads, Life, Opening, PowerCycled, PowerCycling, Schedules, SchedulesAreRuns, SchedulesAreServed, Turning, buffer_due, events_in, events_of, executed, happening_of, lives_after, lives_behind, new_life, with_life}
+use Rattle.tpm_wire.specs.Schedule.{Call, Closing, Does, Event, Executed, Feeding, IsServed, Leads, Life, Opening, PowerCycled, PowerCycling, Schedules, SchedulesAreRuns, SchedulesAreServed, Turning, buffer_due, events_in, events_of, executed, plain_event_of, lives_after, lives_after_all, new_life, with_life}
 use Rattle.tpm_wire.specs.Stream.{Cut, Cutting, Stream, cut_of, fed, fitting, next_of, opened, uncut}
 use Rattle.tpm_wire.specs.Wire.{ClosesAt, FeedsAt, TurnsAt, TurnsBy, Wire, given, new_wire}
 use Rattle.tpm_wire.specs.declared.fault.NoConnection.{NoConnection}
@@ -198,7 +198,7 @@ joined : (can : Bool) (old mid new : Record) (first others : List Event) → Fol
 joined can old mid new [] others run also = rw run also
 joined can old mid new (event ∷ first) others run also = (run.0, run.1, joined can run.0 mid new first others run.2 also)
 
-schedule_led : (can : Bool) (old new : Wire) (lives : List (Option Life)) (calls : List Call) → Serve old.streams lives → Schedules can old calls new → Led can old new (lives_behind lives calls) (events_in lives calls)
+schedule_led : (can : Bool) (old new : Wire) (lives : List (Option Life)) (calls : List Call) → Serve old.streams lives → Schedules can old calls new → Led can old new (lives_after_all lives calls) (events_in lives calls)
 schedule_led can old new lives [] so run = stays can old new lives so (sym run)
 schedule_led can old new lives (call ∷ calls) so run =
     let one = call_led can old run.0 lives call so run.1 in
@@ -223,13 +223,13 @@ schedules_served can r calls new run =
     let led = schedule_led can (new_wire r) new (free 8) calls (new_served r) run in
     (led.machine, led.served.each)
 
-leads_run : (r new : Record) (events : List Event) → FoldsTo (Leads false) r events new → new ≡ after_all r (map happening_of events)
+leads_run : (r new : Record) (events : List Event) → FoldsTo (Leads false) r events new → new ≡ after_all r (map plain_event_of events)
 leads_run r new [] run = sym run
-leads_run r new (Executed happening outcome ∷ events) run =
+leads_run r new (Executed plain_event outcome ∷ events) run =
     leads_run run.0 new events run.2
-    ∙ ap (λ (m : Record). after_all m (map happening_of events)) (ap (λ (x : Stepped). x.after) (run.1.exactly refl))
+    ∙ ap (λ (m : Record). after_all m (map plain_event_of events)) (ap (λ (x : Stepped). x.after) (run.1.exactly refl))
 leads_run r new (PowerCycled ∷ events) run =
-    leads_run run.0 new events run.2 ∙ ap (λ (m : Record). after_all m (map happening_of events)) run.1
+    leads_run run.0 new events run.2 ∙ ap (λ (m : Record). after_all m (map plain_event_of events)) run.1
 
 -- Where no memory can be refused, the events are a run.
 pub schedules_run : SchedulesAreRuns

@@ -1,4 +1,5 @@
 -- The pieces in which a stream is read.
+use Rattle.tpm_types.specs.Limits.{buffer_limit}
 use Rattle.std.proofs.Common.{◌≡◌, ℕ, ◌+◌, ◌<◌, ◌≤◌, List, [], ◌∷◌, ◌++◌, length, None, false, refl, sym, ap, ◌∙◌, append-nil, append_assoc, length-append, arith}
 use Rattle.std.proofs.lemmas.Fn.{FoldsTo-push}
 use Rattle.std.specs.List.{FoldsTo}
@@ -17,8 +18,8 @@ pieces_stay done more start (piece ∷ pieces) read run =
     let one = run.1 in
     (run.0, (one.0, one.1, one.2, one.3, first_still _ done more one.4), pieces_stay done more run.0 pieces read run.2)
 
--- One piece more, behind which more buffers are executed.
-pub one_piece : (done more pieces : List (List ℕ)) (read bytes : List ℕ) (s : Stream) → FoldsTo (ReadsPiece done) [] pieces read → cut_of read ≡ cut_with done s → next_of s ≡ None → s.ended ≡ false → 0 < length bytes → length (fed s bytes).taken ≤ 4096 → FoldsTo (ReadsPiece (done ++ more)) [] (pieces ++ bytes ∷ []) (read ++ bytes)
+-- One piece more, after which more buffers are executed.
+pub one_piece : (done more pieces : List (List ℕ)) (read bytes : List ℕ) (s : Stream) → FoldsTo (ReadsPiece done) [] pieces read → cut_of read ≡ cut_with done s → next_of s ≡ None → s.ended ≡ false → 0 < length bytes → length (fed s bytes).taken ≤ buffer_limit → FoldsTo (ReadsPiece (done ++ more)) [] (pieces ++ bytes ∷ []) (read ++ bytes)
 one_piece done more pieces read bytes s run is none lives some fits =
     let whole = is ∙ cut_last done s none in
     let rest : length (cut_of read).rest ≡ length s.taken = ap (λ (c : Cutting). length c.rest) whole in

@@ -9,6 +9,6 @@ pub use Rattle.tpm_machine_step.specs.Events
 pub use Rattle.tpm_machine_step.specs.Execution
 pub use Rattle.tpm_machine_step.specs.Run
 pub use Rattle.tpm_machine_step.specs.Step
-pub use Rattle.tpm_places.specs.Places
+pub use Rattle.tpm_slots.specs.Slots
 pub use Rattle.tpm_record.specs.Cycle
 pub use Rattle.tpm_record.specs.Record

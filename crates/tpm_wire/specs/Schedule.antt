@@ -3,10 +3,10 @@
 use Rattle.std.specs.Prelude.{◌≡◌, ℕ, Bool, false, List, [], ◌∷◌, ◌++◌, length, take, map, slice_set, slice_get}
 use Rattle.std.specs.Prelude.{Option, Some, None, option_map, unwrap_or, Result, Ok}
 use Rattle.std.specs.List.{FoldsTo}
-use Rattle.tpm_places.specs.Places.{at_place, free}
+use Rattle.tpm_slots.specs.Slots.{at_place, free}
 use Rattle.tpm_record.specs.Cycle.{cycled}
 use Rattle.tpm_record.specs.Record.{Record}
-use Rattle.tpm_machine_step.specs.Events.{Happening, Cycled}
+use Rattle.tpm_machine_step.specs.Events.{PlainEvent, Cycled}
 use Rattle.tpm_machine_step.specs.Execution.{Executes}
 use Rattle.tpm_machine_step.specs.Run.{after_all}
 use Rattle.tpm_machine_step.specs.Step.{outcome_step}
@@ -69,18 +69,19 @@ lives_after lives (Turning connection host (Ok (Answer outcome))) =
 lives_after lives (Closing connection (Ok done)) = slice_set lives (number_of connection) None
 lives_after lives call = lives
 
-abbrev pub lives_behind : List (Option Life) → List Call → List (Option Life)
-lives_behind lives [] = lives
-lives_behind lives (call ∷ calls) = lives_behind (lives_after lives call) calls
+-- after all of these calls
+abbrev pub lives_after_all : List (Option Life) → List Call → List (Option Life)
+lives_after_all lives [] = lives
+lives_after_all lives (call ∷ calls) = lives_after_all (lives_after lives call) calls
 
--- the buffer of a connection that is to be executed next: the one of its cut that stands behind as
--- many as were answered
+-- the buffer of a connection that is to be executed next: the first of its cut that was not
+-- answered
 abbrev pub buffer_due : Life → List ℕ
 buffer_due l = unwrap_or (slice_get (cut_of l.bytes).buffers (length l.answers)) []
 
 -- what happened to the machine: a buffer was executed with this outcome, or power was cycled
 pub data Event : Type 0 where
-  Executed : (happening : Happening) (outcome : Outcome) → Event
+  Executed : (plain_event : PlainEvent) (outcome : Outcome) → Event
   PowerCycled : Event
 
 -- the events of a call: an answered turn executed the connection's buffer that was due
@@ -103,16 +104,16 @@ events_in lives (call ∷ calls) = events_of lives call ++ events_in (lives_afte
 
 -- An event leads from one record to the next.
 abbrev pub Leads : Bool → Record → Event → Record → Type 0
-Leads can old (Executed happening outcome) new =
-    Executes can old happening (outcome_step new outcome)
+Leads can old (Executed plain_event outcome) new =
+    Executes can old plain_event (outcome_step new outcome)
 Leads can old PowerCycled new = new ≡ cycled old
 
-abbrev pub happening_of : Event → Happening
-happening_of (Executed happening outcome) = happening
-happening_of PowerCycled = Cycled
+abbrev pub plain_event_of : Event → PlainEvent
+plain_event_of (Executed plain_event outcome) = plain_event
+plain_event_of PowerCycled = Cycled
 
 -- A connection's buffers were executed in order, one an answer, as far as the answers go, and what
--- it holds is what is left of its bytes behind them.
+-- it holds is what is left of its bytes after them.
 abbrev pub IsServed : Option Stream → Option Life → Type 0
 IsServed None None = Unit {0}
 IsServed (Some s) (Some l) =
@@ -127,10 +128,10 @@ SchedulesAreServed = (can : Bool) (r : Record) (calls : List Call) (new : Wire)
     → Schedules can (new_wire r) calls new
     → FoldsTo (Leads can) r (events_in (free 8) calls) new.machine
     × ((number : ℕ)
-    → IsServed (at_place new.streams number) (at_place (lives_behind (free 8) calls) number))
+    → IsServed (at_place new.streams number) (at_place (lives_after_all (free 8) calls) number))
 
 -- Where no memory can be refused, this is where the run of the events leads.
 abbrev pub SchedulesAreRuns : Type 0
 SchedulesAreRuns = (r : Record) (calls : List Call) (new : Wire)
     → Schedules false (new_wire r) calls new
-    → new.machine ≡ after_all r (map happening_of (events_in (free 8) calls))
+    → new.machine ≡ after_all r (map plain_event_of (events_in (free 8) calls))

@@ -1,4 +1,5 @@
 -- Serving one connection to its end.
+use Rattle.tpm_types.specs.Limits.{buffer_limit}
 use Rattle.std.specs.Prelude.{◌≡◌, ℕ, ◌-◌, ◌≤◌, ◌<◌, ◌⊎◌, Bool, true, false}
 use Rattle.std.specs.Prelude.{List, [], ◌∷◌, ◌++◌, length}
 use Rattle.std.specs.Prelude.{Option, Some, None, Result, Ok, Err}
@@ -33,7 +34,7 @@ pub record Serving (F : Type 0) : Type 0 where
 abbrev pub started : {F : Type 0} → Record → F → Serving F
 started r host = record { machine = r; host = host; written = [] }
 
--- The host was asked once, the buffer executed with what it said, and the response written behind
+-- The host was asked once, the buffer executed with what it said, and the response written after
 -- those before; can says whether memory can be refused.
 abbrev pub Exchanges : {F : Type 0} → Asking F → Bool → Serving F → List ℕ → Serving F → Type 0
 Exchanges g can old buffer new =
@@ -51,12 +52,12 @@ Faults g old new = (e : HostFault) × Called g old tt (Err e) new
 abbrev pub Fills : Option (List ℕ) → Option (List ℕ) → Marks → Marks
     → Stream → Result ℕ Failed → Stream → Type 0
 Fills had has before after old (Err failed) new =
-    (after ≡ after_read {E = Failed} before (Err failed) (4096 - length old.taken))
+    (after ≡ after_read {E = Failed} before (Err failed) (buffer_limit - length old.taken))
     × (new ≡ old) × Keeps had has
 Fills had has before after old (Ok count) new =
     (bytes : List ℕ) × Consumes had has bytes × (new ≡ fed old bytes) × (length bytes ≡ count)
-    × (length new.taken ≤ 4096)
-    × (after ≡ after_read {E = Failed} before (Ok count) (4096 - length old.taken))
+    × (length new.taken ≤ buffer_limit)
+    × (after ≡ after_read {E = Failed} before (Ok count) (buffer_limit - length old.taken))
 
 -- The writer failed at the response of the last buffer: all responses before were written whole,
 -- and of this one a part from its front, perhaps none of it.
@@ -91,10 +92,10 @@ AreFirst done buffers = (others : List (List ℕ)) × (buffers ≡ done ++ other
 
 -- how many bytes more there is room for, where each whole buffer was executed
 abbrev pub room_left : Cutting → ℕ
-room_left cut = 4096 - length cut.rest
+room_left cut = buffer_limit - length cut.rest
 
 -- One read gave a piece, of at least one byte and at most as many as there was room for. It was
--- made only since the stream went on behind what was read before, and all buffers that this holds
+-- made only since the stream went on after what was read before, and all buffers that this holds
 -- whole are among those that were executed.
 abbrev pub ReadsPiece : (done : List (List ℕ)) → (old piece new : List ℕ) → Type 0
 ReadsPiece done old piece new =
@@ -103,7 +104,7 @@ ReadsPiece done old piece new =
 
 -- ---- how serving ends
 
--- And there is one more at least.
+-- These are the first buffers, and there is one more at least.
 abbrev pub AreFewer : List (List ℕ) → List (List ℕ) → Type 0
 AreFewer done buffers =
     (next : List ℕ) × (others : List (List ℕ)) × (buffers ≡ done ++ next ∷ others)

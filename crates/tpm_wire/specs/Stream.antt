@@ -1,6 +1,7 @@
 -- The bytes of a connection, and the command buffers that they are cut into. TPM 2.0 Library, Part
--- 1, section 18 (command structure): behind a tag of two bytes a command has commandSize, a number
+-- 1, section 18 (command structure): after a tag of two bytes a command has commandSize, a number
 -- of four bytes, which says how many bytes the whole command has.
+use Rattle.tpm_types.specs.Limits.{buffer_limit}
 use Rattle.std.specs.Prelude.{◌≡◌, ℕ, ◌==◌, ◌-◌, ◌≤◌, ◌&&◌, nat_le, not, Bool, false}
 use Rattle.std.specs.Prelude.{List, [], ◌∷◌, ◌++◌, length, take, drop, min, fold}
 use Rattle.std.specs.Prelude.{Option, Some, None, option_map, option_and_then, if◌then◌else◌}
@@ -13,11 +14,11 @@ unfoldable pub command_size : List ℕ → Option ℕ
 command_size (t ∷ u ∷ a ∷ b ∷ c ∷ d ∷ bytes) = Some (from_be_bytes w32 (a ∷ b ∷ c ∷ d ∷ []))
 command_size bytes = None
 
--- a size that a buffer can have: at least that of a header, at most 4,096
+-- a size that a buffer can have: at least that of a header, at most the limit
 abbrev pub is_size : ℕ → Bool
-is_size size = nat_le 10 size && nat_le size 4096
+is_size size = nat_le 10 size && nat_le size buffer_limit
 
--- how many bytes the buffer has whose commandSize is this: so many, or, where no buffer can have
+-- how many bytes the buffer has whose commandSize is this: that many, or, where no buffer can have
 -- that size, the six that end with it
 abbrev pub size_by : ℕ → ℕ
 size_by size = if is_size size then size else 6
@@ -26,7 +27,7 @@ size_by size = if is_size size then size else 6
 abbrev pub buffer_size : List ℕ → Option ℕ
 buffer_size bytes = option_map size_by (command_size bytes)
 
--- whether no buffer comes behind the one that begins with these bytes, since its commandSize is
+-- whether no buffer comes after the one that begins with these bytes, since its commandSize is
 -- none
 abbrev pub is_last : List ℕ → Bool
 is_last bytes = option_map_or (λ size. not (is_size size)) (command_size bytes) false
@@ -37,14 +38,14 @@ is_whole bytes = option_map_or (λ size. size == length bytes) (buffer_size byte
 
 -- ---- the cut of a stream
 
--- how a stream is cut: its whole buffers in order, the bytes behind them, and whether it has ended:
+-- how a stream is cut: its whole buffers in order, the bytes after them, and whether it has ended:
 -- no buffer comes any more
 pub record Cutting : Type 0 where
   pub buffers : List (List ℕ)
   pub rest : List ℕ
   pub ended : Bool
 
--- with these bytes behind its buffers, which are a buffer if they are a whole one
+-- with these bytes after its buffers, which are a buffer if they are a whole one
 abbrev pub with_rest : Cutting → List ℕ → Cutting
 with_rest c rest =
     if is_whole rest
@@ -57,7 +58,7 @@ with_byte c byte =
     let rest = c.rest ++ byte ∷ [] in
     if c.ended then record c { rest = rest } else with_rest c rest
 
--- the cut of a stream without bytes, behind these buffers
+-- the cut of a stream without bytes, after these buffers
 abbrev pub uncut : List (List ℕ) → Bool → Cutting
 uncut buffers ended = record { buffers = buffers; rest = []; ended = ended }
 
@@ -76,27 +77,27 @@ pub record Stream : Type 0 where
 abbrev pub opened : Stream
 opened = record { taken = []; ended = false }
 
--- how many of so many bytes fit
+-- how many of a number of bytes fit
 abbrev pub fitting : Stream → ℕ → ℕ
-fitting s count = min count (4096 - length s.taken)
+fitting s count = min count (buffer_limit - length s.taken)
 
 -- with these bytes taken
 abbrev pub fed : Stream → List ℕ → Stream
 fed s bytes = record s { taken = s.taken ++ bytes }
 
--- a buffer, and the stream behind it
+-- a buffer, and the stream after it
 pub record Cut : Type 0 where
   pub buffer : List ℕ
   pub after : Stream
 
--- the first so many bytes as a buffer, and whether it is the last
+-- a number of bytes at the front as a buffer, and whether it is the last
 abbrev pub cut_at : ℕ → Bool → List ℕ → Cut
 cut_at size last bytes = record {
   buffer = take size bytes;
   after = record { taken = drop size bytes; ended = last };
 }
 
--- the same, where there are so many
+-- the same, where there are enough
 abbrev pub cut_within : ℕ → Bool → List ℕ → Option Cut
 cut_within size last bytes =
     if nat_le size (length bytes) then Some (cut_at size last bytes) else None

@@ -2,9 +2,9 @@
 use Rattle.std.specs.Prelude.{◌≡◌, ℕ, Bool, List, length, take, slice_set, if◌then◌else◌}
 use Rattle.std.specs.Prelude.{Option, Some, None, Result, Ok, Err}
 use Rattle.tpm_types.specs.Locality.{locality_number}
-use Rattle.tpm_places.specs.Places.{at_place, free, lowest_free}
+use Rattle.tpm_slots.specs.Slots.{at_place, free, lowest_free}
 use Rattle.tpm_record.specs.Record.{Record}
-use Rattle.tpm_machine_step.specs.Events.{Happening, Given}
+use Rattle.tpm_machine_step.specs.Events.{PlainEvent, Given}
 use Rattle.tpm_machine_step.specs.Execution.{Executes}
 use Rattle.tpm_machine_step.specs.Step.{outcome_step}
 use Rattle.tpm_machine.specs.State.{state_of}
@@ -63,14 +63,14 @@ Feeds old number piece result new =
     FeedsAt (at_place old.streams number) old number piece result new
 
 -- the event of a buffer, with what the host says of it
-abbrev pub given : List ℕ → Host → Happening
+abbrev pub given : List ℕ → Host → PlainEvent
 given buffer host = Given buffer (locality_number host.locality) host.elapsed_ms host.random
 
 -- No buffer is whole, and nothing changed.
 abbrev pub Waits : Stream → Wire → Result Turn NoConnection → Wire → Type 0
 Waits s old result new = (result ≡ Ok (if s.ended then Ended else Wants)) × (new ≡ old)
 
--- The buffer that was cut was executed with what the host says, and the stream behind it is left;
+-- The buffer that was cut was executed with what the host says, and the stream after it is left;
 -- can says whether memory can be refused.
 abbrev pub Answers : Bool → Cut → Wire → ℕ → Host → Result Turn NoConnection → Wire → Type 0
 Answers can c old number host (Ok (Answer outcome)) new =

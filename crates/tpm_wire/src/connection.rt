@@ -1,3 +1,7 @@
+//! A connection: the bytes that it has taken and that were not yet executed, from which it gives
+//! one buffer after the other.
+
+ghost use Rattle.tpm_types.specs.Limits.{buffer_limit};
 ghost use Rattle.std.specs.Prelude.{◌≡◌, ◌+◌, ◌≤◌, drop, false, length, take};
 ghost use Rattle.arrayvec.specs.ArrayVec.{array_vec_len};
 ghost use Rattle.tpm_wire.specs.Stream.{IsFront, cut_at, fed, fitting, opened};
@@ -5,9 +9,7 @@ ghost use Rattle.tpm_wire.specs.Stream.{IsFront, cut_at, fed, fitting, opened};
 use crate::front::{Front, front_of};
 use arrayvec::ArrayVec;
 use std::marker::Model;
-
-/// The most bytes that a connection holds, and that a buffer has.
-pub(crate) const BUFFER_LIMIT: usize = 4_096;
+use tpm_types::BUFFER_LIMIT;
 
 /// The bytes that a connection has taken and that were not yet executed, and whether no buffer
 /// comes any more.
@@ -45,7 +47,7 @@ impl Connection {
 
     /// How many bytes fit.
     pub(crate) fn room(&self) -> usize
-        ensures { result + length self.now.taken ≡ 4096 }
+        ensures { result + length self.now.taken ≡ buffer_limit }
     {
         self.taken.remaining_capacity()
     }
@@ -88,7 +90,7 @@ impl Connection {
     }
 }
 
-/// Removes so many bytes in front, and moves the others up.
+/// Removes a number of bytes in front, and moves the others up.
 fn remove_front(bytes: &mut ArrayVec<u8, BUFFER_LIMIT>, count: usize)
     requires { count ≤ array_vec_len bytes.old }
     ensures { bytes.new.items ≡ drop count bytes.old.items }

@@ -1,3 +1,5 @@
+//! Why a connection is not opened, is not there, or is not served to its end.
+
 /// Eight connections are open, and there cannot be one more.
 #[derive(Clone, Copy, Debug, PartialEq, Eq)]
 pub struct Full;

@@ -1,7 +1,9 @@
+//! Where the next command buffer of a connection ends, by the size that the command states.
+
 ghost use Rattle.std.specs.Prelude.{◌≡◌, false};
 ghost use Rattle.tpm_wire.specs.Stream.{IsFront};
 
-use crate::connection::BUFFER_LIMIT;
+use tpm_types::BUFFER_LIMIT;
 
 /// The fewest bytes of a command: those of its header.
 const HEADER_SIZE: usize = 10;
@@ -9,7 +11,7 @@ const HEADER_SIZE: usize = 10;
 /// The bytes of a command up to its size, and with it.
 const SIZE_END: usize = 6;
 
-/// How many bytes in front of a connection are its next buffer, and whether no buffer comes behind
+/// How many bytes in front of a connection are its next buffer, and whether no buffer comes after
 /// it.
 #[derive(Clone, Copy)]
 pub(crate) struct Front {

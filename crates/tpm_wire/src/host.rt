@@ -1,3 +1,5 @@
+//! What the host says of a command: its locality, the time that has passed, and random bytes.
+
 use tpm_types::Locality;
 
 /// What the host says of a command: where it comes from, the milliseconds since the command before

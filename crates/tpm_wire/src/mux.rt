@@ -1,8 +1,10 @@
+//! A machine with up to eight connections, which take turns as the caller wants.
+
 ghost use Rattle.std.specs.Prelude.{◌≡◌, ◌<◌, ◌≤◌, IfSome, None, if◌then◌else◌, length, take};
 ghost use Rattle.tpm_machine.specs.State.{state_of};
 ghost use Rattle.tpm_machine_step.specs.Execution.{Executes};
 ghost use Rattle.tpm_machine_step.specs.Step.{outcome_step};
-ghost use Rattle.tpm_places.specs.Places.{lowest_free};
+ghost use Rattle.tpm_slots.specs.Slots.{lowest_free};
 ghost use Rattle.tpm_record.specs.Cycle.{cycled};
 ghost use Rattle.tpm_wire.specs.Number.{number_of};
 ghost use Rattle.tpm_wire.specs.Stream.{cut_at};
@@ -20,14 +22,14 @@ use tpm_machine_step::{Event, Outcome};
 use tpm_record::Keep;
 
 /// How many connections can be open.
-const CONNECTIONS: usize = 8;
+const CONNECTION_LIMIT: usize = 8;
 
 /// A machine, and up to eight connections to it. What happens to the machine is what its
 /// connections' turns execute, and power cycles.
 #[derive(Drop)]
 pub struct Mux<K: Keep> {
     pub(crate) machine: Machine<K>,
-    pub(crate) connections: [Option<Connection>; CONNECTIONS],
+    pub(crate) connections: [Option<Connection>; CONNECTION_LIMIT],
 }
 
 impl<K: Keep> Mux<K> {

@@ -1,3 +1,5 @@
+//! The numbers of connections, 0 to 7.
+
 ghost use Rattle.std.specs.Prelude.{◌≡◌, ◌<◌};
 
 /// The number of a connection, 0 to 7. A number whose connection was closed names none until a

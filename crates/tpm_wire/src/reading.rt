@@ -1,10 +1,13 @@
+//! One read of a reader into the bytes of a connection, as far as there is room.
+
 ghost use Rattle.std.specs.Prelude.{◌≡◌, length};
 ghost use Rattle.tpm_bytes.specs.Tap.{device_of, marks_of};
 ghost use Rattle.tpm_wire.specs.Serve.{Fills};
 
-use crate::connection::{BUFFER_LIMIT, Connection};
+use crate::connection::Connection;
 use std::io::Read;
 use tpm_bytes::{Failed, Tap};
+use tpm_types::BUFFER_LIMIT;
 
 /// Reads once, as many bytes as the connection has room for at most, and says how many those were.
 /// They pass through `piece`, which a caller makes once for all reads.

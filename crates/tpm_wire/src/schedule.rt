@@ -1,3 +1,6 @@
+//! The law on schedules: in whatever order calls are made, each connection's buffers are executed
+//! in order, each once.
+
 ghost use Rattle.tpm_wire.specs.Schedule.{SchedulesAreRuns, SchedulesAreServed};
 
 /// Does nothing. Its contract is the law on schedules: whatever calls are made on a new mux, in

@@ -1,14 +1,18 @@
+//! The serving of one connection to its end, over any reader and writer: buffers are read and
+//! executed, and their responses written.
+
+ghost use Rattle.tpm_types.specs.Limits.{buffer_limit};
 ghost use Rattle.std.specs.Prelude.{◌≡◌, ◌≢◌, ◌+◌, ◌≤◌, Err, IfOk, List, None, OnOk, length, ℕ};
 ghost use Rattle.std.specs.List.{FoldsTo};
 ghost use Rattle.tpm_bytes.specs.Tap.{device_of, marks_of, unmarked};
 ghost use Rattle.tpm_machine.specs.State.{state_of};
-ghost use Rattle.tpm_places.specs.Places.{lowest_free};
+ghost use Rattle.tpm_slots.specs.Slots.{lowest_free};
 ghost use Rattle.tpm_wire.specs.Serve.{Exchanges, Finishes, Serves, Serving, started};
 ghost use Rattle.tpm_wire.specs.Stream.{CutsTo};
 ghost use Rattle.tpm_wire.specs.Wire.{wire_of};
 ghost use Rattle.tpm_wire.specs.declared.fault.ServeFault.TheVariants.{Full};
 
-use crate::connection::{BUFFER_LIMIT, Connection};
+use crate::connection::Connection;
 use crate::fault::{HostFault, ServeFault};
 use crate::host::Host;
 use crate::mux::{Mux, execute_front, free_place};
@@ -18,6 +22,7 @@ use tpm_bytes::Tap;
 use tpm_machine::Machine;
 use tpm_machine_step::Outcome;
 use tpm_record::Keep;
+use tpm_types::BUFFER_LIMIT;
 
 /// In how many reads one connection may give bytes.
 const READS: u32 = 1_048_576;
@@ -101,7 +106,7 @@ fn answer_whole<K: Keep, W: Write, H: FnMut() -> Result<Host, HostFault>>(
     outcome: &mut Outcome,
 ) -> Result<u64, ServeFault>
     requires callable { H.IsAlwaysCallable host.old }
-    requires small { length connection.old.taken ≤ 4096 }
+    requires small { length connection.old.taken ≤ buffer_limit }
     ensures callable { OnOk result (H.IsAlwaysCallable host.new) }
     ensures count { IfOk result
         (λ count. count + length connection.new.taken ≤ length connection.old.taken) }

@@ -1,3 +1,5 @@
+//! What a turn of a connection gives: nothing yet, an outcome, or the end.
+
 use tpm_machine_step::Outcome;
 
 /// What a turn of a connection gave.

@@ -1,9 +1,10 @@
 //! Connections that take turns.
 
 use super::device::{STARTUP, host, mux};
+use std::alloc::Global;
 use std::process::Abort;
 use std::test::Fail;
-use tpm_record::SlotKeep;
+use tpm_record::{Keep, SlotKeep};
 use tpm_wire::{ConnectionNumber, Mux, Turn};
 
 /// TPM2_Startup, and TPM2_GetRandom of one and of two bytes.
@@ -34,9 +35,9 @@ const SECOND_ANSWERS: &[u8] = &[
 const WRONG_SIZE: &[u8] = &[0x80, 1, 0, 0, 0, 10, 0, 0, 1, 0x42];
 
 /// Feeds a byte, and adds the response to the others, if a turn then answers.
-fn answer<R: Abort>(
+fn answer<K: Keep, R: Abort>(
     rt: &R,
-    mux: &mut Mux<SlotKeep>,
+    mux: &mut Mux<K>,
     connection: ConnectionNumber,
     byte: u8,
     answers: &mut Vec<u8>,
@@ -48,16 +49,15 @@ fn answer<R: Abort>(
     Ok(())
 }
 
-#[test]
-fn two_connections_are_fed_a_byte_in_turn(rt: HostRuntime) -> Result<(), Fail> {
-    let mut mux = mux(rt.alloc())?;
+fn feed_two_in_turn<K: Keep, R: Abort>(rt: &R, alloc: Global) -> Result<(), Fail> {
+    let mut mux: Mux<K> = mux(alloc)?;
     let first = mux.open()?;
     let second = mux.open()?;
-    let mut answers = Vec::new(rt.alloc());
-    let mut other_answers = Vec::new(rt.alloc());
+    let mut answers = Vec::new(alloc);
+    let mut other_answers = Vec::new(alloc);
     for (one, other) in FIRST.iter().zip(SECOND) {
-        answer(&rt, &mut mux, first, *one, &mut answers)?;
-        answer(&rt, &mut mux, second, *other, &mut other_answers)?;
+        answer(rt, &mut mux, first, *one, &mut answers)?;
+        answer(rt, &mut mux, second, *other, &mut other_answers)?;
     }
     assert!(rt; answers.as_slice() == FIRST_ANSWERS);
     assert!(rt; other_answers.as_slice() == SECOND_ANSWERS);
@@ -65,8 +65,12 @@ fn two_connections_are_fed_a_byte_in_turn(rt: HostRuntime) -> Result<(), Fail> {
 }
 
 #[test]
-fn a_size_that_no_command_has_ends_a_connection(rt: HostRuntime) -> Result<(), Fail> {
-    let mut mux = mux(rt.alloc())?;
+fn two_connections_are_fed_a_byte_in_turn(rt: HostRuntime) -> Result<(), Fail> {
+    feed_two_in_turn::<SlotKeep, HostRuntime>(&rt, rt.alloc())
+}
+
+fn end_by_a_wrong_size<K: Keep, R: Abort>(rt: &R, alloc: Global) -> Result<(), Fail> {
+    let mut mux: Mux<K> = mux(alloc)?;
     for size in [[0, 0, 0, 5], [0, 0, 0, 9], [0, 0, 0x10, 1]] {
         let connection = mux.open()?;
         assert_eq!(rt; mux.feed(connection, &[0x80, 1]), Ok(2));
@@ -83,8 +87,12 @@ fn a_size_that_no_command_has_ends_a_connection(rt: HostRuntime) -> Result<(), F
 }
 
 #[test]
-fn a_ninth_connection_is_refused(rt: HostRuntime) -> Result<(), Fail> {
-    let mut mux = mux(rt.alloc())?;
+fn a_size_that_no_command_has_ends_a_connection(rt: HostRuntime) -> Result<(), Fail> {
+    end_by_a_wrong_size::<SlotKeep, HostRuntime>(&rt, rt.alloc())
+}
+
+fn open_nine<K: Keep, R: Abort>(rt: &R, alloc: Global) -> Result<(), Fail> {
+    let mut mux: Mux<K> = mux(alloc)?;
     let first = mux.open()?;
     for _ in 0..7 {
         mux.open()?;
@@ -97,8 +105,12 @@ fn a_ninth_connection_is_refused(rt: HostRuntime) -> Result<(), Fail> {
 }
 
 #[test]
-fn a_power_cycle_keeps_bytes(rt: HostRuntime) -> Result<(), Fail> {
-    let mut mux = mux(rt.alloc())?;
+fn a_ninth_connection_is_refused(rt: HostRuntime) -> Result<(), Fail> {
+    open_nine::<SlotKeep, HostRuntime>(&rt, rt.alloc())
+}
+
+fn cycle_with_bytes<K: Keep, R: Abort>(rt: &R, alloc: Global) -> Result<(), Fail> {
+    let mut mux: Mux<K> = mux(alloc)?;
     let connection = mux.open()?;
     assert_eq!(rt; mux.feed(connection, STARTUP), Ok(12));
     mux.power_cycle();
@@ -107,4 +119,9 @@ fn a_power_cycle_keeps_bytes(rt: HostRuntime) -> Result<(), Fail> {
     let machine = mux.into_machine();
     assert!(rt; Mux::new(machine).close(connection).is_err());
     Ok(())
+}
+
+#[test]
+fn a_power_cycle_keeps_bytes(rt: HostRuntime) -> Result<(), Fail> {
+    cycle_with_bytes::<SlotKeep, HostRuntime>(&rt, rt.alloc())
 }

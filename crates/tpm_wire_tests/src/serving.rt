@@ -7,7 +7,7 @@ use std::io::{ErrorKind, Read, Write};
 use std::process::Abort;
 use std::test::Fail;
 use tpm_bytes::Tap;
-use tpm_record::SlotKeep;
+use tpm_record::{Keep, SlotKeep};
 use tpm_wire::{HostFault, Mux, ServeFault, serve};
 
 /// TPM2_Startup twice, a size of five, and one TPM2_Startup more.
@@ -73,9 +73,9 @@ impl Write for Taken {
 }
 
 /// Serves what comes in pieces of a size, and tells how that ends and what was written.
-fn served(
+fn served<K: Keep>(
     alloc: Global,
-    mux: &mut Mux<SlotKeep>,
+    mux: &mut Mux<K>,
     left: &[u8],
     size: usize,
     failing: Failing,
@@ -96,14 +96,15 @@ fn served(
     (ended, writer.into_inner().bytes)
 }
 
-/// The same on a new device.
-fn served_anew(
+/// Serves what comes in pieces to a new device.
+fn served_anew<K: Keep>(
     alloc: Global,
     left: &[u8],
     size: usize,
     failing: Failing,
 ) -> Result<(Result<u64, ServeFault>, Vec<u8>), Fail> {
-    Ok(served(alloc, &mut mux(alloc)?, left, size, failing))
+    let mut mux: Mux<K> = mux(alloc)?;
+    Ok(served(alloc, &mut mux, left, size, failing))
 }
 
 fn check<R: Abort>(rt: &R, ended: Result<u64, ServeFault>, wanted: Result<u64, ServeFault>) {
@@ -113,7 +114,7 @@ fn check<R: Abort>(rt: &R, ended: Result<u64, ServeFault>, wanted: Result<u64, S
 #[test]
 fn pieces_of_any_size_are_one_stream(rt: HostRuntime) -> Result<(), Fail> {
     for size in [1, 3, 4_096] {
-        let (ended, written) = served_anew(rt.alloc(), STREAM, size, Failing::Nothing)?;
+        let (ended, written) = served_anew::<SlotKeep>(rt.alloc(), STREAM, size, Failing::Nothing)?;
         check(&rt, ended, Ok(3));
         assert!(rt; written.as_slice() == RESPONSES);
     }
@@ -127,20 +128,26 @@ fn what_fails_on_the_way(rt: HostRuntime) -> Result<(), Fail> {
         (Failing::Writer, ServeFault::Write, 0),
         (Failing::Host, ServeFault::Host, 0),
     ] {
-        let (ended, written) = served_anew(rt.alloc(), &STREAM[..20], 4_096, failing)?;
+        let (ended, written) = served_anew::<SlotKeep>(rt.alloc(), &STREAM[..20], 4_096, failing)?;
         check(&rt, ended, Err(fault));
         assert!(rt; written.len() == count);
     }
     Ok(())
 }
 
-#[test]
-fn a_ninth_connection_is_not_served(rt: HostRuntime) -> Result<(), Fail> {
-    let mut mux = mux(rt.alloc())?;
+/// Serves a connection beside eight others, and tells how that ends.
+fn served_ninth<K: Keep>(alloc: Global) -> Result<Result<u64, ServeFault>, Fail> {
+    let mut mux: Mux<K> = mux(alloc)?;
     for _ in 0..8 {
         mux.open()?;
     }
-    let (ended, _) = served(rt.alloc(), &mut mux, STARTUP, 4_096, Failing::Nothing);
+    let (ended, _) = served(alloc, &mut mux, STARTUP, 4_096, Failing::Nothing);
+    Ok(ended)
+}
+
+#[test]
+fn a_ninth_connection_is_not_served(rt: HostRuntime) -> Result<(), Fail> {
+    let ended = served_ninth::<SlotKeep>(rt.alloc())?;
     check(&rt, ended, Err(ServeFault::Full));
     Ok(())
 }
@@ -182,15 +189,20 @@ impl Write for Counted {
     }
 }
 
-#[test]
-fn a_client_without_end_is_cut_off(rt: HostRuntime) -> Result<(), Fail> {
+fn check_cut_off<K: Keep, R: Abort>(rt: &R, alloc: Global) -> Result<(), Fail> {
+    let mut mux: Mux<K> = mux(alloc)?;
     let mut reader = Tap::new(Repeated { next: 0 });
     let mut writer = Tap::new(Counted { bytes: 0 });
     let mut ask = || Ok(host());
-    let ended = serve(&mut mux(rt.alloc())?, &mut reader, &mut writer, &mut ask);
-    check(&rt, ended, Err(ServeFault::Read));
+    let ended = serve(&mut mux, &mut reader, &mut writer, &mut ask);
+    check(rt, ended, Err(ServeFault::Read));
     assert!(rt; reader.reads() == 1_048_576 && !reader.failed());
     // A response of ten bytes to each of 95,325 commands.
     assert!(rt; writer.into_inner().bytes == 953_250);
     Ok(())
+}
+
+#[test]
+fn a_client_without_end_is_cut_off(rt: HostRuntime) -> Result<(), Fail> {
+    check_cut_off::<SlotKeep, HostRuntime>(&rt, rt.alloc())
 }

@@ -16,7 +16,7 @@ since_first now s = (now - unwrap_or s.first now) / 1_000_000
 abbrev pub told : (now : ℕ) → StopwatchState → ℕ
 told now s = min (since_first now s - s.passed) 0xffff_ffff
 
--- behind that command all of it was told or dropped
+-- after that command all of it was told or dropped
 abbrev pub after_command : (now : ℕ) → StopwatchState → StopwatchState
 after_command now s =
     record { first = Some (unwrap_or s.first now); passed = max s.passed (since_first now s) }

@@ -1,10 +1,12 @@
+//! Why the program fails: what it says on standard error, and its exit status.
+
 ghost use Rattle.std.specs.Prelude.{◌≡◌};
 
 use std::alloc::AllocError;
 use std::io::ErrorKind;
 use std::{fmt, io};
+use tpm_bytes::NoMemory;
 use tpm_image::ImageFault;
-use tpm_record::NoMemory;
 use tpm_text::AsmFault;
 use tpmsim_arguments::ArgumentFault;
 use tpmsim_script::ScriptFault;

@@ -1,3 +1,6 @@
+//! The file with the device's image: it is opened at the start, and put in place as a whole at each
+//! save, so that a fault leaves the old one.
+
 use crate::fault::Fault;
 use crate::folder::folder_of;
 use std::fs::{File, OpenOptions};
@@ -9,31 +12,49 @@ use tpm_image::{open, save};
 use tpm_machine::Machine;
 use tpm_record::SlotKeep;
 
-/// The permissions of an image: its owner alone reads and writes it, since it has the device's seeds
-/// and every authorization value.
+/// The permissions of an image: its owner alone reads and writes it, since it has the device's
+/// seeds and every authorization value.
 const OWNER_ALONE: u32 = 0o600;
 
-/// The device whose image is in this file, or none where there is no file.
-pub fn open_file(rt: &HostRuntime, path: &str) -> Result<Option<Machine<SlotKeep>>, Fault> {
-    match fs::read(rt, path) {
-        Ok(image) => Ok(Some(open(rt.alloc(), image.as_slice())?)),
-        Err(error) if error.kind() == ErrorKind::NotFound => Ok(None),
-        Err(error) => Err(Fault::of_io(error, Fault::File)),
-    }
+/// The file of an image. It has the paths that a save needs, so that a save takes no memory: once a
+/// device is served, it is not lost for want of memory.
+#[derive(Drop)]
+pub struct ImageFile<'a> {
+    path: &'a str,
+    /// The new file beside it.
+    new: String,
+    folder: String,
 }
 
-/// Writes the image of a device to a new file beside this one, forces it to the disk, and puts it
-/// in its place, of which the folder is forced to the disk too. Where a fault comes before that, the
-/// old image stays.
-pub fn save_file(rt: &HostRuntime, path: &str, machine: &Machine<SlotKeep>) -> Result<(), Fault> {
-    let new = format!(in rt.alloc(); "{path}.new")?;
-    write_image(rt, new.as_str(), machine)?;
-    let folder = folder_of(path);
-    let folder = format!(in rt.alloc(); "{folder}.")?;
-    put_in_place(rt, new.as_str(), path, folder.as_str()).map_err(|error| Fault::of_io(
-        error,
-        Fault::File,
-    ))
+impl<'a> ImageFile<'a> {
+    /// The file at this path, whether there is one or not.
+    pub fn at(rt: &HostRuntime, path: &'a str) -> Result<ImageFile<'a>, Fault> {
+        let folder = folder_of(path);
+        Ok(ImageFile {
+            path,
+            new: format!(in rt.alloc(); "{path}.new")?,
+            folder: format!(in rt.alloc(); "{folder}.")?,
+        })
+    }
+
+    /// The device whose image is in the file, or none where there is no file.
+    pub fn open(&self, rt: &HostRuntime) -> Result<Option<Machine<SlotKeep>>, Fault> {
+        match fs::read(rt, self.path) {
+            Ok(image) => Ok(Some(open(rt.alloc(), image.as_slice())?)),
+            Err(error) if error.kind() == ErrorKind::NotFound => Ok(None),
+            Err(error) => Err(Fault::of_io(error, Fault::File)),
+        }
+    }
+
+    /// Writes the image of a device to the new file, forces that to the disk, and puts it in the
+    /// place of the old one, of which the folder is forced to the disk too. Where a fault comes
+    /// before that, the old image stays.
+    pub fn save(&self, rt: &HostRuntime, machine: &Machine<SlotKeep>) -> Result<(), Fault> {
+        write_image(rt, self.new.as_str(), machine)?;
+        put_in_place(rt, self.new.as_str(), self.path, self.folder.as_str()).map_err(
+            |error| Fault::of_io(error, Fault::File),
+        )
+    }
 }
 
 /// Writes the image of a device to a file that is made anew, and forces it to the disk.

@@ -3,8 +3,14 @@
 //! A TPM 2.0 simulator that runs scripts of commands, `tpmsim run SCRIPT`, assembles commands from
 //! words, `tpmsim asm LINE`, and serves a device on a socket, `tpmsim serve`.
 //!
-//! Standard output holds the responses in hex, one a line, with `--trace` behind their traces; or
-//! the buffer in hex; or a help. A run that fails says why in one line on standard error.
+//! On standard output, `run` prints each response in hex on a line of its own, and with `--trace` a
+//! line before it that traces the command. `asm` prints the command in hex, and `--help` a help. A
+//! run that fails says why in one line on standard error, and its exit status says of what kind
+//! that is ([`fault`]).
+//!
+//! It stands on tpmsim_arguments for its words, on tpmsim_script for scripts, on `tpm_text` for
+//! lines, and on `tpm_wire` and `tpm_image` for a device that is served. Here is what touches
+//! files, sockets and clocks; what the device answers is proved in the crates below.
 
 mod fault;
 mod folder;

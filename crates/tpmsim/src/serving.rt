@@ -1,9 +1,10 @@
+//! The serving of a device on a socket, one connection after another, with its image saved after
+//! each.
+
 use crate::fault::Fault;
-use crate::image_file::{open_file, save_file};
-use crate::socket::bind;
+use crate::image_file::ImageFile;
+use crate::socket::{Socket, bind};
 use crate::source::Source;
-use std::fs;
-use std::os::unix::net::UnixListener;
 use tpm_bytes::Tap;
 use tpm_machine::Machine;
 use tpm_record::SlotKeep;
@@ -11,17 +12,26 @@ use tpm_wire::{HostFault, Mux, ServeFault, serve};
 use tpmsim_arguments::Service;
 
 /// Serves a device on a socket: the one whose image is in the file, or a new one where there is no
-/// file. Removes the socket's file in the end.
+/// file. Removes the socket's file in the end, if it is still at its path.
 pub fn serve_device(rt: &HostRuntime, service: &Service) -> Result<(), Fault> {
-    let opened = open_file(rt, service.image)?;
+    let file = ImageFile::at(rt, service.image)?;
+    let opened = file.open(rt)?;
     let mut source = Source::open(rt, service.entropy, service.locality)?;
     let machine = match opened {
         Some(machine) => machine,
         None => manufacture(rt, &mut source)?,
     };
-    let listener = bind(rt, service.socket)?;
-    let served = serve_connections(rt, service, &listener, &mut Mux::new(machine), &mut source);
-    let _ = fs::remove_file(rt, service.socket);
+    let socket = bind(rt, service.socket)?;
+    let mut mux = Mux::new(machine);
+    let served = serve_connections(
+        rt,
+        service.connections,
+        &socket,
+        &file,
+        &mut mux,
+        &mut source,
+    );
+    socket.remove(rt, service.socket);
     served
 }
 
@@ -33,16 +43,17 @@ fn manufacture(rt: &HostRuntime, source: &mut Source) -> Result<Machine<SlotKeep
     Ok(Machine::manufacture(rt.alloc(), &random)?)
 }
 
-/// Serves one connection after another, and saves the device behind each.
+/// Serves this many connections, one after another, and saves the device after each.
 fn serve_connections(
     rt: &HostRuntime,
-    service: &Service,
-    listener: &UnixListener,
+    connections: u32,
+    socket: &Socket,
+    file: &ImageFile,
     mux: &mut Mux<SlotKeep>,
     source: &mut Source,
 ) -> Result<(), Fault> {
-    for _ in 0..service.connections {
-        let (stream, _) = listener
+    for _ in 0..connections {
+        let stream = socket
             .accept()
             .map_err(|error| Fault::of_io(error, Fault::Socket))?;
         let mut host = || source.host(rt).map_err(|_| HostFault);
@@ -52,7 +63,7 @@ fn serve_connections(
             &mut Tap::new(&stream),
             &mut host,
         );
-        save_file(rt, service.image, mux.machine())?;
+        file.save(rt, mux.machine())?;
         if served == Err(ServeFault::Host) {
             return Err(Fault::Entropy);
         }

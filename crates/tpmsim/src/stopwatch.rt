@@ -1,3 +1,5 @@
+//! How many milliseconds each command is told, so that no time is told twice.
+
 ghost use Rattle.std.specs.Prelude.{◌≡◌, None};
 ghost use Rattle.std.specs.Time.{instant_nanos};
 ghost use Rattle.tpmsim.specs.Stopwatch.{after_command, told};
@@ -34,8 +36,8 @@ impl Stopwatch {
         }
     }
 
-    /// How many milliseconds a command is told that comes now: 0 the first, and each later one those
-    /// since the first that no command was told, 2^32 - 1 at most. The others are dropped.
+    /// How many milliseconds a command is told that comes now: 0 the first, and each later one
+    /// those since the first that no command was told, 2^32 - 1 at most. The others are dropped.
     pub fn tell(&mut self, now: Instant) -> u32
         ensures value { result ≡ told (instant_nanos now) self.old }
         ensures after { self.new ≡ after_command (instant_nanos now) self.old }

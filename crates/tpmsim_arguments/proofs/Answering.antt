@@ -5,9 +5,9 @@ use Rattle.clap.specs.Words.{IsAmong, Row, Text, fault_of, first_of, is_simple, 
 use Rattle.clap.specs.declared.error.kind.ErrorKind.{ErrorKind}
 use Rattle.clap.specs.declared.error.kind.ErrorKind.TheVariants.{DisplayHelp, DisplayVersion, OutOfMemory}
 use Rattle.clap.proofs.OnLiterals.{clap_on_literals}
-use Rattle.tpm_text.specs.Fault.{Gives}
+use Rattle.tpm_bytes.specs.Reading.{Gives}
 use Rattle.tpmsim_arguments.specs.Answers.{Answers, AreTaken}
-use Rattle.tpmsim_arguments.specs.Asked.{Served, asked, asked_by, asked_in, is_set, service_in, run, assemble, serve, tell}
+use Rattle.tpmsim_arguments.specs.Invocation.{Served, asked, asked_by, asked_in, is_set, service_in, run, assemble, serve, tell}
 use Rattle.tpmsim_arguments.specs.CommandLine.{program}
 use Rattle.tpmsim_arguments.specs.Fault.{fault_of_words}
 use Rattle.tpmsim_arguments.specs.declared.arguments.Arguments.{Arguments}

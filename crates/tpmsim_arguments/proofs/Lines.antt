@@ -7,7 +7,7 @@ use Rattle.clap.specs.Words.{Text}
 use Rattle.clap.proofs.OnLiterals.{clap_on_literals}
 use Rattle.tpm_text.specs.Number.{decimal_of, locality_of}
 use Rattle.tpmsim_arguments.specs.Answers.{AreTaken}
-use Rattle.tpmsim_arguments.specs.Asked.{Asked, asked_by, assemble, run, serve}
+use Rattle.tpmsim_arguments.specs.Invocation.{Invocation, asked_by, assemble, run, serve}
 use Rattle.tpmsim_arguments.specs.Lines.{AskFor, AskForDevice, IsScript, asm_line, begins_with_hyphen, run_line, joined_line, trace_line}
 
 -- a word that begins with no hyphen is no name of an argument
@@ -43,7 +43,7 @@ locality_is : (number : ℕ) → number ≤ 4 → locality_of number ≡ Some nu
 locality_is number small = rw (le-leb number 4 small) refl
 
 -- a service with these numbers, if they are some
-abbrev pub with_numbers : (socket image entropy : Text) → Option ℕ → Option ℕ → Option Asked
+abbrev pub with_numbers : (socket image entropy : Text) → Option ℕ → Option ℕ → Option Invocation
 with_numbers socket image entropy locality connections = option_map serve (option_and_then (λ l. option_and_then (λ c.
     Some (record { socket = socket; image = image; entropy = entropy; locality = l; connections = c })) connections)
     (option_and_then locality_of locality))

@@ -9,7 +9,7 @@ use Rattle.clap.specs.declared.builder.value_parser.Reading.TheVariants.{AsWritt
 use Rattle.clap.specs.declared.parser.matches.ValueSource.TheVariants.{CommandLine}
 use Rattle.clap.proofs.OnLiterals.{clap_on_literals}
 use Rattle.tpm_text.specs.Number.{decimal_of}
-use Rattle.tpmsim_arguments.specs.Asked.{asked_in, asked_of}
+use Rattle.tpmsim_arguments.specs.Invocation.{asked_in, asked_of}
 use Rattle.tpmsim_arguments.specs.CommandLine.{program}
 use Rattle.tpmsim_arguments.specs.Lines.{AskForDevice, NoneBeginsWithHyphen, begins_with_hyphen, serve_line}
 use Rattle.tpmsim_arguments.proofs.Lines.{device_is_asked_for, no_end, no_long, no_short, with_numbers}

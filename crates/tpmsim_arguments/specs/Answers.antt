@@ -3,7 +3,7 @@ use Rattle.std.specs.Prelude.{◌≡◌, ◌⊎◌, List, [], Some, None, Result
 use Rattle.clap.specs.Words.{IsAmong, Text, fault_of, kind_of}
 use Rattle.clap.specs.declared.error.kind.ErrorKind.{ErrorKind}
 use Rattle.clap.specs.declared.error.kind.ErrorKind.TheVariants.{DisplayHelp, DisplayVersion}
-use Rattle.tpmsim_arguments.specs.Asked.{asked, asked_by}
+use Rattle.tpmsim_arguments.specs.Invocation.{asked, asked_by}
 use Rattle.tpmsim_arguments.specs.CommandLine.{program}
 use Rattle.tpmsim_arguments.specs.declared.arguments.Arguments.{Arguments}
 use Rattle.tpmsim_arguments.specs.declared.arguments.Arguments.TheVariants.{Tell}

@@ -1,5 +1,5 @@
 pub mod Answers
-pub mod Asked
+pub mod Invocation
 pub mod CommandLine
 pub mod Fault
 pub mod Lines

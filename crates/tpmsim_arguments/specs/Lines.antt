@@ -4,10 +4,10 @@ use Rattle.std.specs.List.{AllByRecursion}
 use Rattle.clap.specs.Words.{Text}
 use Rattle.tpm_text.specs.Number.{decimal_of}
 use Rattle.tpmsim_arguments.specs.Answers.{AreTaken}
-use Rattle.tpmsim_arguments.specs.Asked.{Asked, asked_by, serve}
+use Rattle.tpmsim_arguments.specs.Invocation.{Invocation, asked_by, serve}
 
 -- clap takes the words, and this is what they ask for
-abbrev pub AskFor : List Text → Asked → Type 0
+abbrev pub AskFor : List Text → Invocation → Type 0
 AskFor words asked = AreTaken words × (asked_by words ≡ Some asked)
 
 -- a hyphen (45) begins the name of an argument

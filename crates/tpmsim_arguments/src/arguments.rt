@@ -1,10 +1,12 @@
+//! The command line: its subcommands and their settings, and what its words ask for.
+
 ghost use Rattle.std.specs.Prelude.{◌≡◌, false, map, ok_or, option_map, IfOk};
 ghost use Rattle.clap.specs.Words.{app_of, first_of, found_of, rows_of, rule_of, shape_of};
 ghost use Rattle.clap.specs.Words.{subcommand_rows_of};
-ghost use Rattle.tpm_text.specs.Fault.{Gives};
+ghost use Rattle.tpm_bytes.specs.Reading.{Gives};
 ghost use Rattle.tpmsim_arguments.specs.Answers.{Answers};
-ghost use Rattle.tpmsim_arguments.specs.Asked.{asked, asked_in, asked_of, is_set, served};
-ghost use Rattle.tpmsim_arguments.specs.Asked.{service_in};
+ghost use Rattle.tpmsim_arguments.specs.Invocation.{asked, asked_in, asked_of, is_set, served};
+ghost use Rattle.tpmsim_arguments.specs.Invocation.{service_in};
 ghost use Rattle.tpmsim_arguments.specs.CommandLine.{asm_command, program, run_command};
 ghost use Rattle.tpmsim_arguments.specs.CommandLine.{serve_command, setting};
 ghost use Rattle.tpmsim_arguments.specs.declared.fault.ArgumentFault.TheVariants.{Usage};
@@ -86,8 +88,8 @@ fn value<'a>(options: &ArgMatches<'a>, name: &str) -> Option<&'a str>
     options.get_str(name)
 }
 
-/// Whether a flag was given. clap has "true" for it then, and else "false"; of any other text its own
-/// `get_flag` would promise nothing.
+/// Whether a flag was given. clap has "true" for it then, and else "false"; of any other text its
+/// own `get_flag` would promise nothing.
 fn is_set(options: &ArgMatches<'_>, flag: &str) -> bool
     ensures { result ≡ is_set flag.now (rows_of (found_of options.now)) }
 {

@@ -1,3 +1,5 @@
+//! Why the words of a command line are refused.
+
 ghost use Rattle.std.specs.Prelude.{◌≡◌};
 
 use std::alloc::AllocError;

@@ -1,5 +1,7 @@
+//! The law that command lines, as people write them, ask for what they say.
+
 ghost use Rattle.std.specs.Prelude.{◌≡◌, ◌∷◌, List, [], ℕ, false, true};
-ghost use Rattle.tpmsim_arguments.specs.Asked.{assemble, run};
+ghost use Rattle.tpmsim_arguments.specs.Invocation.{assemble, run};
 ghost use Rattle.tpmsim_arguments.specs.Lines.{AskFor, AskForDevice, IsScript};
 ghost use Rattle.tpmsim_arguments.specs.Lines.{NoneBeginsWithHyphen, asm_line};
 ghost use Rattle.tpmsim_arguments.specs.Lines.{begins_with_hyphen, joined_line, run_line};
@@ -9,7 +11,7 @@ ghost use Rattle.tpmsim_arguments.specs.Lines.{serve_line, trace_line};
 /// settings begins with a hyphen; a script may be one hyphen. A value that is joined to its name
 /// may be any text.
 #[inline(always)]
-pub fn lines_ask_for_what_they_say()
+pub fn usual_line_laws()
     ensures asm { (name line : List ℕ) → begins_with_hyphen line ≡ false
         → AskFor (asm_line name line) (assemble line) }
     ensures run { (name script : List ℕ) → IsScript script

@@ -1,8 +1,11 @@
 #![tactic(auto)]
 
 //! The command line of the simulator: what its words ask for ([`arguments`]), what a device on a
-//! socket is served with ([`service`]), and why words are refused ([`fault`]). Of the lines that
-//! people write, [`laws`] says what they ask for.
+//! socket is served with ([`service`]), and why words are refused ([`fault`]).
+//!
+//! It stands on `clap`, which matches the words, and opens no file. What words ask for is what
+//! `specs/` says of them; of the lines that people write, [`laws`] says that they ask for what they
+//! say.
 
 pub mod arguments;
 pub mod fault;

@@ -1,3 +1,5 @@
+//! What a device on a socket is served with: its files, the locality, and how many connections.
+
 use tpm_types::Locality;
 
 /// What a device is served with.

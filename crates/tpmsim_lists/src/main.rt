@@ -1,19 +1,72 @@
 #![tactic(auto)]
 
-//! Runs the script on standard input as `tpmsim run -` does, but with the device's state in lists
-//! that grow, and not in fixed slots. What the two print is compared by `tools/scripts.sh`.
+//! What `tpmsim` does, but with the device's state in lists that grow, and not in fixed places. It
+//! is there for the tests: `tools/scripts.sh` compares what the two print of scripts, and
+//! tests/lists_starved.sh refuses it memory.
+//!
+//! With no words it runs the script on standard input. `open FILE` opens the device whose image is
+//! in a file, and prints its image; so it prints what is in the file. `line LINE` executes a
+//! command in words on a new device, and prints its trace.
 
+mod fault;
+
+use fault::Fault;
 use std::process::ExitCode;
+use std::{env, fs};
 use tpm_bytes::Tap;
-use tpm_record::ListKeep;
+use tpm_image::{open, save};
+use tpm_machine::Machine;
+use tpm_machine_step::Event;
+use tpm_record::{Keep, ListKeep};
+use tpm_text::{assemble, trace_line, traceable_laws};
+use tpm_types::Locality;
 use tpmsim_script::run_script;
 
-/// Ends with status 1 on a fault.
 fn main(rt: HostRuntime) -> ExitCode {
-    let mut input = Tap::new(rt.stdin());
-    let mut output = Tap::new(rt.stdout());
-    match run_script::<ListKeep, _, _>(rt.alloc(), &mut input, &mut output, false) {
+    match try_main(&rt) {
         Ok(()) => ExitCode::SUCCESS,
-        Err(_) => ExitCode::FAILURE,
+        Err(fault) => {
+            let _ = eprintln!(rt; "tpmsim_lists: {}", fault.name());
+            ExitCode::from(fault.status())
+        }
     }
+}
+
+fn try_main(rt: &HostRuntime) -> Result<(), Fault> {
+    let words: Vec<String> = env::args(rt)?.collect(rt.alloc())?;
+    match words.as_slice() {
+        [_] => run(rt),
+        [_, word, file] if word.as_str() == "open" => print_image::<ListKeep>(rt, file.as_str()),
+        [_, word, line] if word.as_str() == "line" => print_trace::<ListKeep>(rt, line.as_str()),
+        _ => Err(Fault::Usage),
+    }
+}
+
+/// Runs the script on standard input.
+fn run(rt: &HostRuntime) -> Result<(), Fault> {
+    let input = &mut Tap::new(rt.stdin());
+    let output = &mut Tap::new(rt.stdout());
+    run_script::<ListKeep, _, _>(rt.alloc(), input, output, false)?;
+    Ok(())
+}
+
+/// Opens the device whose image is in this file, and prints the image of that device.
+fn print_image<K: Keep>(rt: &HostRuntime, path: &str) -> Result<(), Fault> {
+    let image = fs::read(rt, path)?;
+    let machine: Machine<K> = open(rt.alloc(), image.as_slice())?;
+    let output = &mut Tap::new(rt.stdout());
+    save(&machine, output).map_err(|_| Fault::File)?;
+    output.flush().map_err(|_| Fault::File)
+}
+
+/// Executes the command that a line spells on a new device, and prints its trace.
+fn print_trace<K: Keep>(rt: &HostRuntime, line: &str) -> Result<(), Fault> {
+    let buffer = assemble(rt.alloc(), line)?;
+    let mut machine: Machine<K> = Machine::manufacture(rt.alloc(), &[0; 256])?;
+    let event = Event::of_command(buffer.as_slice(), Locality::new(0).unwrap(), 0, [0; 256]);
+    let outcome = machine.execute(&event);
+    traceable_laws();
+    let trace = trace_line(rt.alloc(), &event, &outcome)?;
+    println!(rt; "{trace}")?;
+    Ok(())
 }

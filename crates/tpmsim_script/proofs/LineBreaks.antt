@@ -59,7 +59,7 @@ too_long : (line more : List ℕ) → IsUnbroken line → 65536 < length line �
 too_long [] more h l = absurd (omega arith)
 too_long (byte ∷ line) more h l = let begun = line_begun byte line more h in (begun.0, begun.1, begun.2, omega (arith, begun.3))
 
--- what stands before the first 0a, and behind it
+-- what stands before the first 0a, and after it
 before_break : (rest : List ℕ) (at : ℕ) → position is_break rest ≡ Some at → IsUnbroken (take at rest)
 before_break rest at e = λ k d l. let found = position-Some is_break rest at d e in
     let short : k < at = omega (arith, length-take-le at rest (omega (arith, found.0))) in
@@ -74,7 +74,7 @@ at_break rest at e =
 no_break : (rest : List ℕ) → position is_break rest ≡ None → IsUnbroken rest
 no_break rest e = λ k d l. fails_before_first is_break rest k d (grind (arith, common_steps))
 
--- what is found in the bytes that were read behind the start of a line, whatever follows them
+-- what is found in the bytes that were read after the start of a line, whatever follows them
 
 regrouped : (a b c d : List ℕ) → a ++ ((b ++ c) ++ d) ≡ (a ++ b) ++ (c ++ d)
 regrouped a b c d = simp append_assoc

@@ -157,7 +157,7 @@ pub stopped_with_memory : (number : ℕ) (fault : LineFault) (fact : Type 0) →
 stopped_with_memory number stop.Bad fact = tt
 stopped_with_memory number stop.Write fact = tt
 
--- ---- behind the last line that a script may have
+-- ---- after the last line that a script may have
 
 abbrev HasLine : Option (List ℕ) → Type 0
 HasLine left = IfSome left (λ text. (line : List ℕ) × (rest : List (List ℕ)) × (lines_of text ≡ line ∷ rest))
@@ -215,7 +215,7 @@ ended_with_memory here rest known (Err TooManyLines) line found = absurd found
 ended_with_memory here rest known (Err Write) line found = tt
 ended_with_memory here rest known (Err NoMemory) line found = absurd found
 
--- ---- the start of a line, behind which the reader failed
+-- ---- the start of a line, after which the reader failed
 
 pub start_lost : (left before after : Option (List ℕ)) (line rest start : List ℕ) → Keeps left (prepend_known (line ++ rest) before) → Keeps before after → start ≡ line ++ rest → IsUnbroken start → LosesStart left after
 start_lost None before after line rest start h k e unbroken = (start, unbroken, tt)

@@ -27,7 +27,7 @@ pub held : (known : Option (List ℕ)) (old more : List ℕ) → Appends (append
 held None old more = tt
 held (Some known) old more = sym (append_assoc known old more)
 
--- a line that was put behind what was held, within a longer list
+-- a line that was put after what was held, within a longer list
 pub put_behind : (items held line printed rest tail : List ℕ) (used end size : ℕ) → held ≡ items → line ≡ printed → used ≤ length items → end ≡ used + length printed → end ≤ size
     → take end (take size (take used held ++ (line ++ rest) ++ tail)) ≡ take used items ++ printed
 put_behind items held line printed rest tail used end size a b inside e fits =

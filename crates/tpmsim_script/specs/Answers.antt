@@ -7,6 +7,6 @@ use Rattle.tpmsim_script.specs.declared.answers.Answers.{Answers}
 abbrev pub backlog : Answers → List ℕ
 backlog answers = take answers.used answers.text.items
 
--- what the writer holds, where that is known, and behind it the backlog
+-- what the writer holds, where that is known, and after it the backlog
 abbrev pub printout : Option (List ℕ) → Answers → Option (List ℕ)
 printout contents answers = append_known contents (backlog answers)

@@ -11,7 +11,7 @@ use Rattle.tpmsim_script.specs.declared.line.Line as declared
 use Rattle.tpmsim_script.specs.declared.line.Line.TheVariants as code
 
 -- the lines of a text, without the 0a that ends each of them but the last, which need not end with
--- one; behind a 0a at the end there is no line
+-- one; after a 0a at the end there is no line
 abbrev pub lines_of : List ℕ → List (List ℕ)
 lines_of [] = []
 lines_of (byte ∷ text) = if byte == 10 then [] ∷ lines_of text else onto_first byte (lines_of text)
@@ -40,7 +40,7 @@ meaning_alone word =
     else if is_word (codes "power") word then Some CyclesPower
     else None
 
--- what a word says with what stands behind its space
+-- what a word says with what stands after its space
 unfoldable pub meaning_with : List ℕ → List ℕ → Option Meaning
 meaning_with word argument =
     if is_word (codes "cmd") word then Some (Executes argument)

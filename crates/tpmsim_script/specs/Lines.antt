@@ -20,7 +20,7 @@ rest_of lines = slice_range lines.bytes.items lines.next lines.filled
 abbrev pub IsUnbroken : List ℕ → Type 0
 IsUnbroken bytes = All (λ byte. (byte == 10) ≡ false) bytes
 
--- what stands next behind the last byte that was read
+-- what stands next after the last byte that was read
 abbrev pub next_at : Bool → List ℕ → Next
 next_at false line = Incomplete
 next_at true [] = End
@@ -52,7 +52,7 @@ Finds old End new = (line_of old ++ rest_of old ≡ []) × (rest_of new ≡ []) 
 abbrev pub Agrees : Option (List ℕ) → Lines → Type 0
 Agrees remaining lines = lines.ended ≡ true → IsAtEnd remaining
 
--- what is left of a script behind the line that was found last, where it is known what the reader
+-- what is left of a script after the line that was found last, where it is known what the reader
 -- gives
 abbrev pub text_left : Option (List ℕ) → Lines → Option (List ℕ)
 text_left remaining lines = prepend_known (rest_of lines) remaining

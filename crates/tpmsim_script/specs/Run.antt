@@ -37,7 +37,7 @@ AreTheirs (Err fault.Write) reader writer = writer.failed ≡ true
 AreTheirs other reader writer = Unit {0}
 
 -- The lines before the number next were played from p on, the first of them under this number; none
--- is bad; what they print was written behind what the writer held (old); the rest are the others.
+-- is bad; what they print was written after what the writer held (old); the rest are the others.
 abbrev pub PlaysUpTo : Option (List ℕ) → Option (List ℕ) → Option (List ℕ)
     → Playing → ℕ → ℕ → List (List ℕ) → Type 0
 PlaysUpTo None old new p number next rest = Unit {0}
@@ -78,7 +78,7 @@ UnlessFailed (Err (fault.Line number)) fact = fact
 UnlessFailed (Err fault.Read) fact = fact
 UnlessFailed (Err other) fact = Unit {0}
 
--- how a run ends behind the last line that a script may have, by what was found there
+-- how a run ends after the last line that a script may have, by what was found there
 abbrev pub end_at_limit : Result Bool ScriptFault → Result (Unit {0}) ScriptFault
 end_at_limit (Ok true) = Err fault.TooManyLines
 end_at_limit (Ok false) = Ok tt

@@ -9,7 +9,7 @@ use Rattle.std.specs.Result.{result_ok}
 use Rattle.hex.specs.Hex.{encode_lower}
 use Rattle.tpm_types.specs.Locality.{locality_number}
 use Rattle.tpm_record.specs.Record.{Record, manufactured}
-use Rattle.tpm_machine_step.specs.Events.{Happening, Given, Cycled}
+use Rattle.tpm_machine_step.specs.Events.{PlainEvent, Given, Cycled}
 use Rattle.tpm_machine_step.specs.Step.{Stepped, step}
 use Rattle.tpm_text.specs.Line.{assembled}
 use Rattle.tpm_text.specs.Trace.{trace_text}
@@ -71,19 +71,19 @@ abbrev pub silence : Playing → Effect
 silence p = record { text = []; next = p }
 
 -- the trace of an event with this outcome, and the end of its line; nothing where none is traced
-unfoldable pub printed_trace : (traced : Bool) → Happening → Stepped → List ℕ
+unfoldable pub printed_trace : (traced : Bool) → PlainEvent → Stepped → List ℕ
 printed_trace traced event s =
     if traced then trace_text event s.row s.response ++ 10 ∷ [] else []
 
 -- what a command with this outcome does
-abbrev pub answer : Playing → Happening → Stepped → Effect
+abbrev pub answer : Playing → PlainEvent → Stepped → Effect
 answer p event s = record {
   text = printed_trace p.traced event s ++ printed_response s.response;
   next = record p { waited = 0; device = s.after };
 }
 
 -- the event of a command
-abbrev pub command_of : Playing → List ℕ → Happening
+abbrev pub command_of : Playing → List ℕ → PlainEvent
 command_of p buffer = Given buffer p.locality p.waited p.random
 
 -- what a command does
@@ -126,7 +126,7 @@ unfoldable pub perform_line : Playing → List ℕ → Option Effect
 perform_line p line =
     if nat_le (length line) 65536 then option_and_then (perform p) (line_meaning line) else None
 
--- what a script prints, and the number of its first bad line, if there is one, behind which nothing
+-- what a script prints, and the number of its first bad line, if there is one, after which nothing
 -- is done
 pub record Output : Type 0 where
   pub text : List ℕ
@@ -145,12 +145,12 @@ play p number [] = record { text = []; bad = None }
 play p number (line ∷ lines) =
     output_with (perform_line p line) number (λ next. play next (number + 1) lines)
 
--- This is what was written behind what the writer held (old), and the number of the first bad
+-- This is what was written after what the writer held (old), and the number of the first bad
 -- line, if there is one.
 abbrev pub IsOutput : Option (List ℕ) → Option (List ℕ) → Option ℕ → Output → Type 0
 IsOutput old new bad output = Appends old new output.text × (output.bad ≡ bad)
 
--- A run wrote, behind what the writer held (old), what the lines of the text print when they are
+-- A run wrote, after what the writer held (old), what the lines of the text print when they are
 -- played from p on, the first of them under this number; and bad is the number of the first bad
 -- one, if there is one. Nothing is said where it is not known what the reader gives, and nothing of
 -- the writing where it is not known what the writer holds.

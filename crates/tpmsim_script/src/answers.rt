@@ -1,12 +1,14 @@
+//! The lines that a script prints, responses in hex and traces, held in memory until they are
+//! written.
+
+ghost use Rattle.tpm_types.specs.Limits.{buffer_limit};
 ghost use Rattle.std.specs.Prelude.{◌≡◌, ◌+◌, ◌*◌, ◌≤◌, ◌++◌, ◌∷◌, [], length, vec_len};
 ghost use Rattle.tpmsim_script.specs.Script.{printed_response};
-ghost use Rattle.tpm_machine_step.specs.declared.event.TheConstants.{RESPONSE_LIMIT};
 ghost use Rattle.tpmsim_script.specs.declared.answers.TheConstants.{CAPACITY};
 
 use std::alloc::{AllocError, Global};
 use std::io::Write;
 use tpm_bytes::{Failed, Tap};
-use tpm_machine_step::RESPONSE_LIMIT;
 
 /// How many bytes of text are held before they are written.
 const CAPACITY: usize = 65_536;
@@ -35,7 +37,7 @@ impl Answers {
 
     /// Adds the line of a response. It may stay in memory until [`Answers::flush`].
     pub fn put<W: Write>(&mut self, writer: &mut Tap<W>, response: &[u8]) -> Result<(), Failed>
-        requires { length response.now ≤ RESPONSE_LIMIT }
+        requires { length response.now ≤ buffer_limit }
         ensures failed { OnErr result ((marks_of writer.new).failed ≡ true) }
         ensures printed { OnOk result (Appends
             (printout (W.contents (device_of writer.old)) self.old)
@@ -49,7 +51,7 @@ impl Answers {
 
     /// Adds a line of text. It may stay in memory until [`Answers::flush`].
     pub fn put_text<W: Write>(&mut self, writer: &mut Tap<W>, text: &[u8]) -> Result<(), Failed>
-        requires { length text.now ≤ RESPONSE_LIMIT }
+        requires { length text.now ≤ buffer_limit }
         ensures failed { OnErr result ((marks_of writer.new).failed ≡ true) }
         ensures printed { OnOk result (Appends
             (printout (W.contents (device_of writer.old)) self.old)

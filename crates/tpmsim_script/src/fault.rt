@@ -1,7 +1,9 @@
+//! Why a script does not run to its end.
+
 ghost use Rattle.std.specs.Prelude.{◌≡◌};
 
 use std::alloc::AllocError;
-use tpm_record::NoMemory;
+use tpm_bytes::NoMemory;
 
 /// Why a script did not run to its end. The lines before the fault were run, and their responses
 /// written, but for those that a `Write` fault cut off.
@@ -11,7 +13,7 @@ pub enum ScriptFault {
     Line(u32),
     /// The reader failed. The whole lines of what it had given were run.
     Read,
-    /// There are more lines than a script may have. So many as it may have were run.
+    /// There are more lines than a script may have. As many as it may have were run.
     TooManyLines,
     /// The responses could not be written.
     Write,

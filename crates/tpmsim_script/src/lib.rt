@@ -6,6 +6,11 @@
 //! next command is given ([`script`]) and are performed on the device ([`player`]), a command in
 //! [`room`] for its bytes; the responses, and traces where they are asked for, gather in a buffer
 //! ([`answers`]) that is written before more of the script is read ([`run`]).
+//!
+//! It stands on `tpm_machine` for the device, on `tpm_text` for commands in words and traces, and
+//! on `tpm_hex`. What is written is what `specs/` says that the script prints, to its end or to its
+//! first bad line, for a device that is never refused memory; whatever the fault, the lines before
+//! it were run. But for the device's own, memory is taken at the start alone.
 
 mod answers;
 pub mod fault;

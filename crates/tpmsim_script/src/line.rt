@@ -1,3 +1,6 @@
+//! The lines of a script and how they are told apart: commands, localities, waits, random bytes,
+//! power cycles and comments.
+
 ghost use Rattle.std.specs.Prelude.{◌≡◌, ◌+◌, ◌*◌, ◌==◌, ◌≤◌, [], IfOk, length};
 ghost use Rattle.std.specs.List.{position};
 ghost use Rattle.tpmsim_script.specs.Line.{Tells, bytes_of, hex_of, line_meaning, meaning_of};
@@ -69,7 +72,7 @@ impl<'a> Line<'a> {
         }
     }
 
-    /// A word, and what stands behind its space.
+    /// A word, and what stands after its space.
     #[tactic(auto, unfolding(crate::specs::Line::meaning_with))]
     fn with(word: &'a [u8], argument: &'a [u8]) -> Result<Line<'a>, BadLine>
         ensures meaning { Tells meaning_of result (meaning_with word.now argument.now) }

@@ -1,3 +1,5 @@
+//! Why a script stops at a line, before it is known which line that is.
+
 ghost use Rattle.std.specs.Prelude.{◌≡◌};
 
 use crate::fault::ScriptFault;

@@ -1,3 +1,5 @@
+//! The cutting of a text into lines, in memory that does not depend on the text.
+
 ghost use Rattle.std.specs.Prelude.{◌≡◌, ◌≤◌, vec_len};
 ghost use Rattle.tpmsim_script.specs.declared.lines.TheConstants.{CAPACITY, LINE_LIMIT};
 
@@ -103,7 +105,7 @@ impl Lines {
         }
     }
 
-    /// Adds this many of the bytes to the line, and goes past so many.
+    /// Adds the next `count` bytes to the line, and goes past `past` bytes.
     fn take(&mut self, count: usize, past: usize) -> Result<(), TooLong>
         requires count { count ≤ past }
         requires past { past ≤ length (rest_of self.old) }
@@ -156,7 +158,8 @@ impl Lines {
         ensures agrees { OnOk result (Agrees (R.remaining (device_of reader.new)) self.new) }
         ensures ended { OnOk result (self.new.ended ≡ (length (rest_of self.new) == 0)) }
         ensures none { OnErr result (rest_of self.new ≡ []) }
-        ensures kept { OnErr result (Keeps (R.remaining (device_of reader.old)) (R.remaining (device_of reader.new))) }
+        ensures kept { OnErr result
+            (Keeps (R.remaining (device_of reader.old)) (R.remaining (device_of reader.new))) }
     {
         self.next = 0;
         self.filled = 0;

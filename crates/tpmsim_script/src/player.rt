@@ -1,8 +1,11 @@
+//! A device and the script that it plays: each line is performed, and the response is printed,
+//! after its trace where that is asked for.
+
 ghost use Rattle.std.specs.Prelude.{◌≡◌, ◌≤◌, [], false, true, length, IfOk, OnOk, OnErr};
 ghost use Rattle.std.specs.Io.KnownBytes.{Appends, Keeps};
 ghost use Rattle.tpm_bytes.specs.Tap.{device_of, marks_of};
 ghost use Rattle.tpm_machine.specs.State.{state_of};
-ghost use Rattle.tpm_machine_step.specs.Events.{happening};
+ghost use Rattle.tpm_machine_step.specs.Events.{plain_event};
 ghost use Rattle.tpm_machine_step.specs.Step.{outcome_step};
 ghost use Rattle.tpm_text.specs.Trace.{IsTraceable};
 ghost use Rattle.tpmsim_script.specs.Answers.{backlog, printout};
@@ -24,7 +27,7 @@ use tpm_bytes::Tap;
 use tpm_machine::Machine;
 use tpm_machine_step::{Event, Outcome};
 use tpm_record::Keep;
-use tpm_text::{executions_are_traceable, trace_text};
+use tpm_text::{trace_text, traceable_laws};
 
 /// A device, by a way of keeping its state, and what the lines of a script so far say of its next
 /// command.
@@ -122,7 +125,7 @@ impl<K: Keep> Player<K> {
         Ok(())
     }
 
-    /// Executes a command, and prints the response, behind its trace where that is asked for.
+    /// Executes a command, and prints the response, after its trace where that is asked for.
     fn execute<W: Write>(&mut self, buffer: &[u8], writer: &mut Tap<W>) -> Result<(), LineFault>
         ensures failed { IsWriters result (marks_of writer.new) }
         ensures did { K.can_refuse ≡ false → Did
@@ -133,7 +136,7 @@ impl<K: Keep> Player<K> {
     {
         let event = self.script.command(buffer);
         self.machine.execute_into(&event, &mut self.outcome);
-        executions_are_traceable();
+        traceable_laws();
         self.trace(&event, writer)?;
         let response = self.outcome.response.as_slice();
         self.answers
@@ -152,14 +155,14 @@ impl<K: Keep> Player<K> {
     {
         let event = Event::PowerCycle;
         self.machine.execute_into(&event, &mut self.outcome);
-        executions_are_traceable();
+        traceable_laws();
         self.trace(&event, writer)
     }
 
     /// Prints the trace of an event with the outcome that was written last, where it is asked for.
     #[tactic(auto, unfolding(crate::specs::Script::printed_trace), using(crate::proofs::Doing::nothing_printed))]
     fn trace<W: Write>(&mut self, event: &Event, writer: &mut Tap<W>) -> Result<(), LineFault>
-        requires { IsTraceable (happening event.now)
+        requires { IsTraceable (plain_event event.now)
             (outcome_step (state_of K.record_of self.old.machine) self.old.outcome) }
         ensures fault { OnErr result (result ≡ Err LineFault.Write) }
         ensures failed { OnErr result ((marks_of writer.new).failed ≡ true) }
@@ -167,7 +170,7 @@ impl<K: Keep> Player<K> {
         ensures printed { OnOk result (Appends
             (printout (W.contents (device_of writer.old)) self.old.answers)
             (printout (W.contents (device_of writer.new)) self.new.answers)
-            (printed_trace self.old.traced (happening event.now)
+            (printed_trace self.old.traced (plain_event event.now)
             (outcome_step (state_of K.record_of self.old.machine) self.old.outcome))) }
     {
         if !self.traced {

@@ -1,3 +1,6 @@
+//! The memory to which a line's hex is decoded, or its words are assembled, taken once for all
+//! lines.
+
 ghost use Rattle.std.specs.Prelude.{◌≡◌, ◌≤◌, length, vec_len};
 ghost use Rattle.std.specs.Result.{result_ok};
 ghost use Rattle.tpm_text.specs.Line.{assembled};

@@ -1,3 +1,6 @@
+//! The run of a whole script on a new device, from a reader to a writer; whatever the fault, the
+//! lines before it are played and their responses written.
+
 ghost use Rattle.std.specs.Prelude.{◌≡◌, [], false, IfOk, OnOk, OnErr};
 ghost use Rattle.std.specs.Io.KnownBytes.{Keeps};
 ghost use Rattle.tpm_bytes.specs.Tap.{device_of, marks_of};
@@ -25,7 +28,8 @@ pub const SCRIPT_LINES: u32 = 1_048_576;
 /// response to each command to `writer`; with `trace` the trace of each command before its
 /// response, and that of each power cycle. But for the keep it takes memory at the start alone.
 /// Whatever the fault, the lines before it were run, and their responses written, but for those
-/// that a `Write` fault cut off. Of a script of more than [`SCRIPT_LINES`] lines so many are run.
+/// that a `Write` fault cut off. Of a script of more than [`SCRIPT_LINES`] lines the first
+/// [`SCRIPT_LINES`] are run.
 pub fn run_script<K: Keep, R: Read, W: Write>(
     alloc: Global,
     reader: &mut Tap<R>,
@@ -166,7 +170,7 @@ impl<K: Keep> Run<K> {
     }
 }
 
-/// How a run ends behind the last line that a script may have, by what was found there.
+/// How a run ends after the last line that a script may have, by what was found there.
 fn end_at_limit(next: Result<bool, ScriptFault>) -> Result<(), ScriptFault>
     ensures { result ≡ end_at_limit next }
 {

@@ -1,3 +1,6 @@
+//! What the lines of a script so far set for its next command: locality, time that passes, and
+//! random bytes.
+
 ghost use Rattle.std.specs.Prelude.{◌≡◌, ◌+◌, ◌≤◌, ◌<◌, ◌^◌, ◌↔◌, length, replicate};
 ghost use Rattle.std.specs.Prelude.{IsOk, OnOk, OnErr};
 ghost use Rattle.tpm_types.specs.Locality.{locality_number};

@@ -6,7 +6,7 @@ use std::test::Fail;
 use tpm_machine::Machine;
 use tpm_machine_step::{Event, Outcome};
 use tpm_record::SlotKeep;
-use tpm_text::{AsmFault, assemble, executions_are_traceable, trace_line};
+use tpm_text::{AsmFault, assemble, trace_line, traceable_laws};
 use tpm_types::Locality;
 
 const STARTUP: &[u8] = &[0x80, 1, 0, 0, 0, 0x0c, 0, 0, 1, 0x44, 0, 0];
@@ -60,7 +60,7 @@ fn a_command_has_a_trace(rt: HostRuntime) -> Result<(), Fail> {
     let mut machine: Machine<SlotKeep> = Machine::manufacture(rt.alloc(), &[0; 256])?;
     let event = Event::of_command(STARTUP, Locality::new(0).unwrap(), 0, [0; 256]);
     let outcome = machine.execute(&event);
-    executions_are_traceable();
+    traceable_laws();
     let line = trace_line(rt.alloc(), &event, &outcome)?;
     assert!(rt; line.as_str() == "Startup L0 +0 ok 00000000");
     Ok(())

@@ -1,6 +1,6 @@
+use Rattle.tpm_bytes.specs.Numbers.{numbers_below}
 use Rattle.std.proofs.Common.{◌≡◌, ◌≤◌, length}
 use Rattle.std.specs.List.{flat_map}
-use Rattle.tpm_actions_capability.specs.Element.{numbers_below}
 use Rattle.tpm_actions_capability.specs.Elements.{object_element}
 use Rattle.tpm_actions_capability.proofs.elements.objects.Given as goal
 

@@ -1,5 +1,6 @@
+use Rattle.tpm_bytes.specs.Numbers.{numbers_below}
 use Rattle.std.proofs.Common.{◌≡◌, length, map}
-use Rattle.tpm_actions_capability.specs.Element.{by_itself, numbers_below}
+use Rattle.tpm_actions_capability.specs.Element.{by_itself}
 use Rattle.tpm_actions_capability.proofs.elements.pcrs.Given as goal
 
 abbrev pub invariant-loop-number : goal.invariant-loop-number

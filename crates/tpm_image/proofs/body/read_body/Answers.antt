@@ -6,8 +6,8 @@ use Rattle.tpm_image.proofs.body.read_body.Goals as goal
 pub returns : goal.returns
 returns g c =
     let state = c.in-Ok.ensures in
-    let persistent = g.K.Pe.PersistentObjects.entries c.read_objects.new.objects in
-    let nv = g.K.Nv.Indices.contents c.read_indices.new.indices in
+    let persistent = g.K.PersistentMap.PersistentObjects.entries c.read_objects.new.objects in
+    let nv = g.K.NvIndices.Indices.contents c.read_indices.new.indices in
     let kept : NonVolatile = record { state = state.0; persistent = persistent; indices = nv.indices } in
     let r = g.K.Keep.record_of c.args.keep.now in
     let written : g.K.Keep.record_of (g.K.Keep.with_nv (g.K.Keep.with_persistent (g.K.Keep.with_nv (g.K.Keep.with_fixed c.args.keep.now c.read_state.new.fixed) c.set_max_count.new.self) c.read_objects.new.objects) c.read_indices.new.indices) ≡ record r { fixed = c.read_state.new.fixed; persistent = persistent; nv = nv } = search rules in (

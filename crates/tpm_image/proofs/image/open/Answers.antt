@@ -7,8 +7,8 @@ use Rattle.tpm_image.proofs.image.open.Goals as goal
 pub returns-clause-found : goal.returns-clause-found
 returns-clause-found g c =
     let fits : AreBytes c.args.text.now = λ i. c.bytes_fit.ensures i in
-    opened_found (state_of {K = g.row.K.Denot} {S = g.row.K-Se.Denot} {O = g.row.K-Ob.Denot} {P = g.row.K-Pe.Denot} {N = g.row.K-Nv.Denot} g.K.Keep.record_of) (g.K.Keep.empty_can_refuse || g.K.Keep.can_refuse) c.args.text.now c.open_device.result fits c.open_device.ensures
+    opened_found (state_of {K = g.row.K.Denot} {S = g.row.K-SessionSlots.Denot} {O = g.row.K-ObjectSlots.Denot} {P = g.row.K-PersistentMap.Denot} {N = g.row.K-NvIndices.Denot} g.K.Keep.record_of) (g.K.Keep.empty_can_refuse || g.K.Keep.can_refuse) c.args.text.now c.open_device.result fits c.open_device.ensures
 
 pub returns-clause-only : goal.returns-clause-only
 returns-clause-only g c = λ r is same.
-    opened_only (state_of {K = g.row.K.Denot} {S = g.row.K-Se.Denot} {O = g.row.K-Ob.Denot} {P = g.row.K-Pe.Denot} {N = g.row.K-Nv.Denot} g.K.Keep.record_of) (g.K.Keep.empty_can_refuse || g.K.Keep.can_refuse) c.args.text.now r c.open_device.result is same c.open_device.ensures
+    opened_only (state_of {K = g.row.K.Denot} {S = g.row.K-SessionSlots.Denot} {O = g.row.K-ObjectSlots.Denot} {P = g.row.K-PersistentMap.Denot} {N = g.row.K-NvIndices.Denot} g.K.Keep.record_of) (g.K.Keep.empty_can_refuse || g.K.Keep.can_refuse) c.args.text.now r c.open_device.result is same c.open_device.ensures

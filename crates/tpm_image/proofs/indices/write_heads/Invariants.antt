@@ -1,3 +1,5 @@
+use Rattle.tpm_image.specs.Sizes.{index_size}
+use Rattle.tpm_types.specs.Limits.{nv_space_limit}
 use Rattle.std.proofs.Common.{◌≡◌, ◌≤◌, ◌+◌, ◌*◌, ◌++◌, drop, length}
 use Rattle.std.specs.List.{flat_map}
 use Rattle.tpm_nv.specs.Head.{indices_of, total}
@@ -7,8 +9,8 @@ use Rattle.tpm_image.proofs.indices.write_heads.Given as goal
 -- what is written so far, and what is left to be written, are all
 abbrev pub invariant-loop-entry : goal.invariant-loop-entry
 invariant-loop-entry l = record {
-  written : l.text ++ flat_map index_text (indices_of (drop l.entry-index l.heads) l.left) ≡ l.fn.text ++ flat_map index_text (indices_of l.heads l.row);
+  written : l.text ++ flat_map index_text (indices_of (drop l.entry-index l.heads) l.left) ≡ l.fn.text ++ flat_map index_text (indices_of l.heads l.area);
   whole : length l.left ≡ total (drop l.entry-index l.heads);
-  small : length l.left ≤ 8192;
-  size : length l.text + length l.left ≤ length l.fn.text + length l.row + 84 * l.entry-index;
+  small : length l.left ≤ nv_space_limit;
+  size : length l.text + length l.left ≤ length l.fn.text + length l.area + index_size * l.entry-index;
 }

@@ -1,7 +1,7 @@
 use Rattle.std.proofs.Common.{rules}
 use Rattle.tpm_types_command.specs.Command.{whole_of}
 use Rattle.tpm_machine.proofs.Accepting.{accepts}
-use Rattle.tpm_machine.proofs.Decoding.{plain_as_sent}
+use Rattle.tpm_machine.proofs.DecodingLaws.{plain_as_sent}
 use Rattle.tpm_machine.proofs.table.accept.Goals as goal
 
 pub returns-then-any_decrypts : goal.returns-then-any_decrypts

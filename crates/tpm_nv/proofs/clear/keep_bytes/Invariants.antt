@@ -5,7 +5,7 @@ use Rattle.tpm_nv.proofs.clear.keep_bytes.Given as goal
 -- what is kept so far, and what is left, decide about the whole
 abbrev pub invariant-loop-head : goal.invariant-loop-head
 invariant-loop-head g l =
-    (kept_bytes l.heads (g.R.Row.bytes l.initial.row) ≡ take l.kept (g.R.Row.bytes l.row) ++ kept_bytes (drop l.head-index l.heads) (drop l.start (g.R.Row.bytes l.row)))
+    (kept_bytes l.heads (g.R.Area.bytes l.initial.area) ≡ take l.kept (g.R.Area.bytes l.area) ++ kept_bytes (drop l.head-index l.heads) (drop l.start (g.R.Area.bytes l.area)))
     × (l.kept ≤ l.start)
-    × (l.start + total (drop l.head-index l.heads) ≡ length (g.R.Row.bytes l.row))
-    × (length (g.R.Row.bytes l.row) ≡ length (g.R.Row.bytes l.initial.row))
+    × (l.start + total (drop l.head-index l.heads) ≡ length (g.R.Area.bytes l.area))
+    × (length (g.R.Area.bytes l.area) ≡ length (g.R.Area.bytes l.initial.area))

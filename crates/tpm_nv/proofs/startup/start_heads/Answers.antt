@@ -1,5 +1,5 @@
 use Rattle.std.proofs.Common.{◌≡◌, ◌<◌, ◌+◌, ℕ, suc, Some, length, get_or, ap, ◌∙◌, arith}
-use Rattle.tpm_ascending.specs.Ascending.{Entries, at_key, changed_key}
+use Rattle.tpm_sorted_map.specs.SortedMap.{Entries, at_key, changed_key}
 use Rattle.tpm_types_nv.specs.declared.nv_attributes.NvAttributes.{NvAttributes}
 use Rattle.tpm_nv.specs.Head.{with_attributes}
 use Rattle.tpm_nv.specs.Startup.{started_attributes}
@@ -9,7 +9,7 @@ use Rattle.tpm_nv.proofs.startup.start_heads.Goals as goal
 
 pub loop-place-preserved : goal.loop-place-preserved
 loop-place-preserved g c =
-    let old = g.H.Ascending.entries c.args.heads.now in
+    let old = g.H.SortedMap.entries c.args.heads.now in
     let i = c.loop-place.place in
     let so_far = c.loop-place.invariant in
     let inside : i < length old = omega (arith, c.loop-place-test.true, c.len-place-end.ensures) in
@@ -19,7 +19,7 @@ loop-place-preserved g c =
     let entry = c.entry_at-entry.ensures e shown in
     let key : c.entry_at-entry.result.0 ≡ e.0 = ap (λ (p : ℕ × NvAttributes). p.0) entry in
     let attributes : c.started_attributes.result ≡ started_attributes e.1.public.attributes = c.started_attributes.ensures ∙ ap (λ (p : ℕ × NvAttributes). started_attributes p.1) entry in
-    let found : at_key (g.H.Ascending.entries c.loop-place.heads) c.entry_at-entry.result.0 ≡ Some e.1 =
+    let found : at_key (g.H.SortedMap.entries c.loop-place.heads) c.entry_at-entry.result.0 ≡ Some e.1 =
     ap (λ (l : Entries Head). at_key l c.entry_at-entry.result.0) so_far
     ∙ ap (λ (k : ℕ). at_key (started_up_to i old) k) key
     ∙ found_in_turn old i e c.requires inside there.1 in

@@ -16,8 +16,8 @@ returns-clause-found c =
     c.area_in.result fits (subst (λ (l : List ℕ). sized_at 16 c.args.protected.now ≡ Ok (l, rest)) (sym same) read)
     (search rules) c.decrypted-plain.ensures.undone (search rules)
 
-pub returns-then-encrypted-gt-MOST_AREA_BYTES-clause-value : goal.returns-then-encrypted-gt-MOST_AREA_BYTES-clause-value
-returns-then-encrypted-gt-MOST_AREA_BYTES-clause-value c =
+pub returns-then-encrypted-gt-AREA_LIMIT-clause-value : goal.returns-then-encrypted-gt-AREA_LIMIT-clause-value
+returns-then-encrypted-gt-AREA_LIMIT-clause-value c =
     let found = c.in_ok-found.found.now in
     let rest = c.rest-encrypted.result.now in
     let read : sized_at 16 c.args.protected.now ≡ Ok (found, rest) = search rules in

@@ -1,15 +1,16 @@
+use Rattle.tpm_types_command.specs.CommandCode.{code_number}
+use Rattle.tpm_types_command.specs.declared.command_code.CommandCode.TheVariants as served
 use Rattle.std.proofs.Common.{◌≡◌, ◌+◌, ◌++◌, length, replicate, take}
 use Rattle.std.specs.Int.{w32, to_be_bytes}
 use Rattle.std.specs.List.{flat_map}
 use Rattle.tpm_mac.specs.Digest.{digest_size, joined_text}
-use Rattle.tpm_types.specs.CommandNumber.{policy_or}
 use Rattle.tpm_types.specs.DigestList.{digests_of}
 use Rattle.tpm_policy.proofs.assertions.or_digest.Given as goal
 
 -- the zeros, the code and the digests so far
 abbrev pub invariant-loop-digest : goal.invariant-loop-digest
 invariant-loop-digest l = record {
-  so_far : joined_text l.parts.items ≡ replicate (digest_size l.hash) 0 ++ to_be_bytes w32 policy_or
+  so_far : joined_text l.parts.items ≡ replicate (digest_size l.hash) 0 ++ to_be_bytes w32 (code_number served.PolicyOr)
       ++ flat_map (λ digest. digest) (digests_of (take l.digest-index l.digest-items));
   size : length l.parts.items ≡ l.digest-index + 2;
 }

@@ -29,7 +29,7 @@ returns-in_err-tag c =
     let n = ap name_in (sym c.of-tokens.ensures) ∙ reads_tokens_ok (name_in (tokens_left c.of-tokens.result)) c.read_name.result c.in_ok-code.code (tokens_left c.read_name.new.tokens) c.in_ok-code.was c.read_name.ensures in
     let count = ap (λ f. length f.handles) c.shape-shape.ensures.value in
     let h = drafts_read_ok handles_text _ _ _ c.put_handles.result _ c.in_ok-put_handles.was c.put_handles.ensures in
-    let s = sessions_err _ _ _ c.put_sessions.result c.in_err-tag.field-0.0 _ c.in_err-tag.was c.put_sessions.ensures in
+    let s = sessions_err _ _ _ c.put_authorization.result c.in_err-tag.field-0.0 _ c.in_err-tag.was c.put_authorization.ensures in
     rw (p.1, p.2, entries_fault c.args.line.now c.in_ok-code.code (tokens_left c.read_name.new.tokens) n h.0 (tokens_left c.put_handles.new.tokens) (ap (λ k. handles_in k (tokens_left c.read_name.new.tokens)) (sym count) ∙ h.1) c.in_err-tag.field-0.0 s) refl
 
 pub returns-in_err-put_parameters : goal.returns-in_err-put_parameters
@@ -38,10 +38,10 @@ returns-in_err-put_parameters c =
     let n = ap name_in (sym c.of-tokens.ensures) ∙ reads_tokens_ok (name_in (tokens_left c.of-tokens.result)) c.read_name.result c.in_ok-code.code (tokens_left c.read_name.new.tokens) c.in_ok-code.was c.read_name.ensures in
     let count = ap (λ f. length f.handles) c.shape-shape.ensures.value in
     let h = drafts_read_ok handles_text _ _ _ c.put_handles.result _ c.in_ok-put_handles.was c.put_handles.ensures in
-    let s = sessions_ok _ _ _ c.put_sessions.result c.in_ok-tag.tag _ c.in_ok-tag.was c.put_sessions.ensures in
-    let kinds = ap (λ f. parameters_in f.parameters (tokens_left c.put_sessions.new.tokens)) c.shape-shape.ensures.value in
+    let s = sessions_ok _ _ _ c.put_authorization.result c.in_ok-tag.tag _ c.in_ok-tag.was c.put_authorization.ensures in
+    let kinds = ap (λ f. parameters_in f.parameters (tokens_left c.put_authorization.new.tokens)) c.shape-shape.ensures.value in
     let q = sym kinds ∙ drafts_read_err (λ text. text) _ _ _ c.put_parameters.result c.in_err-put_parameters.field-0.0 _ c.in_err-put_parameters.was c.put_parameters.ensures in
-    rw (p.1, p.2, parameters_fault c.args.line.now c.in_ok-code.code (tokens_left c.read_name.new.tokens) n h.0 (tokens_left c.put_handles.new.tokens) (ap (λ k. handles_in k (tokens_left c.read_name.new.tokens)) (sym count) ∙ h.1) s.0 (tokens_left c.put_sessions.new.tokens) s.1 c.in_err-put_parameters.field-0.0 q) refl
+    rw (p.1, p.2, parameters_fault c.args.line.now c.in_ok-code.code (tokens_left c.read_name.new.tokens) n h.0 (tokens_left c.put_handles.new.tokens) (ap (λ k. handles_in k (tokens_left c.read_name.new.tokens)) (sym count) ∙ h.1) s.0 (tokens_left c.put_authorization.new.tokens) s.1 c.in_err-put_parameters.field-0.0 q) refl
 
 pub returns-in_err-check_end : goal.returns-in_err-check_end
 returns-in_err-check_end c =
@@ -49,17 +49,17 @@ returns-in_err-check_end c =
     let n = ap name_in (sym c.of-tokens.ensures) ∙ reads_tokens_ok (name_in (tokens_left c.of-tokens.result)) c.read_name.result c.in_ok-code.code (tokens_left c.read_name.new.tokens) c.in_ok-code.was c.read_name.ensures in
     let count = ap (λ f. length f.handles) c.shape-shape.ensures.value in
     let h = drafts_read_ok handles_text _ _ _ c.put_handles.result _ c.in_ok-put_handles.was c.put_handles.ensures in
-    let s = sessions_ok _ _ _ c.put_sessions.result c.in_ok-tag.tag _ c.in_ok-tag.was c.put_sessions.ensures in
-    let kinds = ap (λ f. parameters_in f.parameters (tokens_left c.put_sessions.new.tokens)) c.shape-shape.ensures.value in
+    let s = sessions_ok _ _ _ c.put_authorization.result c.in_ok-tag.tag _ c.in_ok-tag.was c.put_authorization.ensures in
+    let kinds = ap (λ f. parameters_in f.parameters (tokens_left c.put_authorization.new.tokens)) c.shape-shape.ensures.value in
     let q = drafts_read_ok (λ text. text) _ _ _ c.put_parameters.result _ c.in_ok-put_parameters.was c.put_parameters.ensures in
     let e = gives_is (ended (tokens_left c.put_parameters.new.tokens)) c.check_end.result c.check_end.ensures ∙ c.in_err-check_end.was in
-    rw (p.1, p.2, end_fault c.args.line.now c.in_ok-code.code (tokens_left c.read_name.new.tokens) n h.0 (tokens_left c.put_handles.new.tokens) (ap (λ k. handles_in k (tokens_left c.read_name.new.tokens)) (sym count) ∙ h.1) s.0 (tokens_left c.put_sessions.new.tokens) s.1 q.0 (tokens_left c.put_parameters.new.tokens) (sym kinds ∙ q.1) c.in_err-check_end.field-0.0 e) refl
+    rw (p.1, p.2, end_fault c.args.line.now c.in_ok-code.code (tokens_left c.read_name.new.tokens) n h.0 (tokens_left c.put_handles.new.tokens) (ap (λ k. handles_in k (tokens_left c.read_name.new.tokens)) (sym count) ∙ h.1) s.0 (tokens_left c.put_authorization.new.tokens) s.1 q.0 (tokens_left c.put_parameters.new.tokens) (sym kinds ∙ q.1) c.in_err-check_end.field-0.0 e) refl
 
 pub finish-requires : goal.finish-requires
 finish-requires c =
     let ten = begun (drafted c.begin.new.self) c.begin.ensures.some c.begin.ensures.ten in
     let h = drafts_read_ok handles_text _ _ _ c.put_handles.result _ c.in_ok-put_handles.was c.put_handles.ensures in
-    let s = sessions_ok _ _ _ c.put_sessions.result c.in_ok-tag.tag _ c.in_ok-tag.was c.put_sessions.ensures in
+    let s = sessions_ok _ _ _ c.put_authorization.result c.in_ok-tag.tag _ c.in_ok-tag.was c.put_authorization.ensures in
     let q = drafts_read_ok (λ text. text) _ _ _ c.put_parameters.result _ c.in_ok-put_parameters.was c.put_parameters.ensures in
     let started = subst (λ d. IfSome d (λ text. 10 ≤ length text)) (sym ten.1) (omega (arith, ten.2)) in
     subst (λ d. IfSome d (λ text. 10 ≤ length text)) (sym q.2) (still_ten _ q.0 (subst (λ d. IfSome d (λ text. 10 ≤ length text)) (sym s.3) (still_ten _ (sessions_text s.0) (subst (λ d. IfSome d (λ text. 10 ≤ length text)) (sym h.2) (still_ten _ (handles_text h.0) started)))))
@@ -70,8 +70,8 @@ returns c =
     let n = ap name_in (sym c.of-tokens.ensures) ∙ reads_tokens_ok (name_in (tokens_left c.of-tokens.result)) c.read_name.result c.in_ok-code.code (tokens_left c.read_name.new.tokens) c.in_ok-code.was c.read_name.ensures in
     let count = ap (λ f. length f.handles) c.shape-shape.ensures.value in
     let h = drafts_read_ok handles_text _ _ _ c.put_handles.result _ c.in_ok-put_handles.was c.put_handles.ensures in
-    let s = sessions_ok _ _ _ c.put_sessions.result c.in_ok-tag.tag _ c.in_ok-tag.was c.put_sessions.ensures in
-    let kinds = ap (λ f. parameters_in f.parameters (tokens_left c.put_sessions.new.tokens)) c.shape-shape.ensures.value in
+    let s = sessions_ok _ _ _ c.put_authorization.result c.in_ok-tag.tag _ c.in_ok-tag.was c.put_authorization.ensures in
+    let kinds = ap (λ f. parameters_in f.parameters (tokens_left c.put_authorization.new.tokens)) c.shape-shape.ensures.value in
     let q = drafts_read_ok (λ text. text) _ _ _ c.put_parameters.result _ c.in_ok-put_parameters.was c.put_parameters.ensures in
     let e = gives_is (ended (tokens_left c.put_parameters.new.tokens)) c.check_end.result c.check_end.ensures ∙ c.in_ok-check_end.was in
-    command_finished c.args.line.now c.in_ok-code.code (tokens_left c.read_name.new.tokens) n h.0 (tokens_left c.put_handles.new.tokens) (ap (λ k. handles_in k (tokens_left c.read_name.new.tokens)) (sym count) ∙ h.1) s.0 (tokens_left c.put_sessions.new.tokens) s.1 q.0 (tokens_left c.put_parameters.new.tokens) (sym kinds ∙ q.1) e c.in_ok-tag.tag s.2 ten.0 ten.2 (drafted c.put_handles.new.draft) (drafted c.put_sessions.new.draft) (drafted c.put_parameters.new.draft) (drafted c.finish.new.self) c.finish.result (h.2 ∙ ap (λ d. grown d (handles_text h.0)) ten.1) s.3 q.2 c.finish.ensures
+    command_finished c.args.line.now c.in_ok-code.code (tokens_left c.read_name.new.tokens) n h.0 (tokens_left c.put_handles.new.tokens) (ap (λ k. handles_in k (tokens_left c.read_name.new.tokens)) (sym count) ∙ h.1) s.0 (tokens_left c.put_authorization.new.tokens) s.1 q.0 (tokens_left c.put_parameters.new.tokens) (sym kinds ∙ q.1) e c.in_ok-tag.tag s.2 ten.0 ten.2 (drafted c.put_handles.new.draft) (drafted c.put_authorization.new.draft) (drafted c.put_parameters.new.draft) (drafted c.finish.new.self) c.finish.result (h.2 ∙ ap (λ d. grown d (handles_text h.0)) ten.1) s.3 q.2 c.finish.ensures

@@ -1,3 +1,4 @@
+use Rattle.tpm_types.specs.Limits.{buffer_limit}
 use Rattle.std.proofs.Common.{◌≡◌, ◌-◌, ◌<◌, ◌∷◌, [], ◌++◌, length, refl, sym, ap, ◌∙◌, arith, length-append, inl, inr}
 use Rattle.std.proofs.KnownBytes.{Appends-nil, Appends-trans, Consumes-kept, Consumes-nil, Consumes-trans}
 use Rattle.tpm_bytes.specs.Tap.{Marks, device_of, marks_of}
@@ -47,8 +48,8 @@ returns-then-count-eq0 g c =
     let s = c.loop.connection in
     let whole = i.8 ∙ cut_last i.2 s c.loop.invariant.waits in
     let room = next_room s c.loop.invariant.waits c.loop.invariant.goes_on in
-    let some : 0 < 4096 - length s.taken = omega arith in
-    let end = ended_read (marks_of c.loop.reader) (marks_of c.fill.new.reader) c.in-Ok.count (4096 - length s.taken) c.if-count-eq0.true some f.5 in (
+    let some : 0 < buffer_limit - length s.taken = omega arith in
+    let end = ended_read (marks_of c.loop.reader) (marks_of c.fill.new.reader) c.in-Ok.count (buffer_limit - length s.taken) c.if-count-eq0.true some f.5 in (
       i.0,
       i.1,
       i.2,
@@ -70,7 +71,7 @@ returns-in-Err-answer_whole g c =
     let s = c.loop.connection in
     let mid : Serving _ = record { machine = state_of g.K.Keep.record_of c.loop.machine; host = c.loop.host; written = i.3 } in
     let start = started (state_of g.K.Keep.record_of c.args.machine.now) c.args.host.now in
-    let counted = counted_read (marks_of c.loop.reader) (marks_of c.fill.new.reader) c.in-Ok.count (4096 - length s.taken) c.loop.counter c.loop.invariant.reads c.if-count-eq0.false (omega arith) f.5 in
+    let counted = counted_read (marks_of c.loop.reader) (marks_of c.fill.new.reader) c.in-Ok.count (buffer_limit - length s.taken) c.loop.counter c.loop.invariant.reads c.if-count-eq0.false (omega arith) f.5 in
     let many = pieces_fit i.0 f.0 c.loop.counter i.5 (omega arith) in
     let contents = g.W.Write.contents in (
       i.0 ++ f.0 ∷ [],
@@ -95,7 +96,7 @@ returns-then-has_ended g c =
     let s = c.loop.connection in
     let mid : Serving _ = record { machine = state_of g.K.Keep.record_of c.loop.machine; host = c.loop.host; written = i.3 } in
     let whole = read_on i.1 f.0 i.2 j.0 s c.fill.new.connection c.answer_whole.new.connection i.8 f.2 j.4 ∙ cut_last (i.2 ++ j.0) c.answer_whole.new.connection j.5.0 in
-    let counted = counted_read (marks_of c.loop.reader) (marks_of c.fill.new.reader) c.in-Ok.count (4096 - length s.taken) c.loop.counter c.loop.invariant.reads c.if-count-eq0.false (omega arith) f.5 in
+    let counted = counted_read (marks_of c.loop.reader) (marks_of c.fill.new.reader) c.in-Ok.count (buffer_limit - length s.taken) c.loop.counter c.loop.invariant.reads c.if-count-eq0.false (omega arith) f.5 in
     let many = pieces_fit i.0 f.0 c.loop.counter i.5 (omega arith) in (
       i.0 ++ f.0 ∷ [],
       i.1 ++ f.0,
@@ -128,7 +129,7 @@ loop-preserved g c =
       callable = c.in-Ok-answer_whole.ensures.callable;
       goes_on = sym c.has_ended.ensures ∙ c.if-has_ended.false;
       waits = j.5.0;
-      reads = counted_read (marks_of c.loop.reader) (marks_of c.fill.new.reader) c.in-Ok.count (4096 - length s.taken) c.loop.counter c.loop.invariant.reads c.if-count-eq0.false (omega arith) f.5;
+      reads = counted_read (marks_of c.loop.reader) (marks_of c.fill.new.reader) c.in-Ok.count (buffer_limit - length s.taken) c.loop.counter c.loop.invariant.reads c.if-count-eq0.false (omega arith) f.5;
       count = omega (arith, count, f.4);
       ran = (
         i.0 ++ f.0 ∷ [],

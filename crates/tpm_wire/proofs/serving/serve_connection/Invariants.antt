@@ -1,3 +1,4 @@
+use Rattle.tpm_types.specs.Limits.{buffer_limit}
 use Rattle.std.proofs.Common.{◌≡◌, ◌+◌, ◌*◌, ◌≤◌, List, [], ℕ, length, None, false}
 use denote.Param.Always.{always_mut}
 use Rattle.std.specs.Io.KnownBytes.{Appends, Consumes}
@@ -16,7 +17,7 @@ invariant-loop g l =
       goes_on : l.connection.ended ≡ false;
       waits : next_of l.connection ≡ None;
       reads : (marks_of l.reader).reads ≡ l.counter;
-      count : l.answered + length l.connection.taken ≤ 4096 * l.counter;
+      count : l.answered + length l.connection.taken ≤ buffer_limit * l.counter;
       ran : (pieces : List (List ℕ)) × (read : List ℕ) × (done : List (List ℕ)) × (written : List ℕ)
           × FoldsTo (ReadsPiece done) [] pieces read × (length pieces ≡ l.counter)
           × Consumes (g.R.Read.remaining (device_of l.fn.reader)) (g.R.Read.remaining (device_of l.reader)) read

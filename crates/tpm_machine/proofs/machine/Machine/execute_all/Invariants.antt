@@ -1,7 +1,7 @@
 use Rattle.std.proofs.Common.{drop, map}
 use denote.Param.Always.{always_mut}
 use Rattle.tpm_record.specs.Record.{Record}
-use Rattle.tpm_machine_step.specs.Events.{happening}
+use Rattle.tpm_machine_step.specs.Events.{plain_event}
 use Rattle.tpm_machine_step.specs.Run.{Runs}
 use Rattle.tpm_machine.proofs.machine.Machine.execute_all.Given as goal
 
@@ -12,5 +12,5 @@ invariant-loop-event g l =
     let can = g.K.Keep.can_refuse in
     record {
       callable : always_mut g.F.FnMut l.tell;
-      joined : (new : Record) (q : _) → Runs g.F.FnMut can (record_of l.self.keep) l.tell (map happening (drop l.event-index l.events)) new q → Runs g.F.FnMut can (record_of l.fn.self.keep) l.fn.tell (map happening l.fn.events) new q;
+      joined : (new : Record) (q : _) → Runs g.F.FnMut can (record_of l.self.keep) l.tell (map plain_event (drop l.event-index l.events)) new q → Runs g.F.FnMut can (record_of l.fn.self.keep) l.fn.tell (map plain_event l.fn.events) new q;
     }

@@ -1,4 +1,4 @@
-use Rattle.tpm_machine_step.specs.Events.{happening}
+use Rattle.tpm_machine_step.specs.Events.{plain_event}
 use Rattle.tpm_machine.specs.State.{state_of}
 use Rattle.tpm_machine.proofs.Modesty.{accepts_modestly}
 use Rattle.tpm_machine.proofs.Refusals.{steps_harmless}
@@ -11,7 +11,7 @@ returns g c =
     let state = state_of g.K.Keep.record_of in
     let can = g.K.Keep.can_refuse in
     let old = state c.args.self.now in
-    let event = happening c.args.event.now in
+    let event = plain_event c.args.event.now in
     let done = c.advance-outcome in
     let x : Stepped = record { response = done.new.text.items; row = done.result; after = state done.new.self } in
     let steps = done.ensures.steps in

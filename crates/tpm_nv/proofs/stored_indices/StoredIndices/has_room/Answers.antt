@@ -1,3 +1,4 @@
+use Rattle.tpm_types.specs.Limits.{nv_index_limit, nv_space_limit}
 use Rattle.std.proofs.Common.{sym, ap, ◌∙◌, length, arith}
 use Rattle.std.specs.Prelude.{◌&&◌, nat_lt, nat_le, ◌+◌}
 use Rattle.tpm_nv.proofs.KeptLaws.{room_is}
@@ -9,11 +10,11 @@ is_room-requires-clause-few g c =
 
 pub returns : goal.returns
 returns g c =
-    let es = g.H.Ascending.entries c.self.inside.heads in
-    let row = g.R.Row.bytes c.self.inside.row in
+    let es = g.H.SortedMap.entries c.self.inside.heads in
+    let area = g.R.Area.bytes c.self.inside.area in
     rw (← c.self.view_is) (
     c.is_room.ensures
-    ∙ ap (λ n. nat_lt n 32 && nat_le (length c.as_slice.result.now + c.args.size) 8192) c.len.ensures
-    ∙ ap (λ l. nat_lt (length es) 32 && nat_le (length l + c.args.size) 8192) c.as_slice.ensures
-    ∙ sym (room_is es row c.self.inside.max_count c.args.size c.self.invariant)
+    ∙ ap (λ n. nat_lt n nv_index_limit && nat_le (length c.as_slice.result.now + c.args.size) nv_space_limit) c.len.ensures
+    ∙ ap (λ l. nat_lt (length es) nv_index_limit && nat_le (length l + c.args.size) nv_space_limit) c.as_slice.ensures
+    ∙ sym (room_is es area c.self.inside.max_count c.args.size c.self.invariant)
     )

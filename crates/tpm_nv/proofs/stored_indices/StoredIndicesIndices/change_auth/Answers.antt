@@ -3,7 +3,7 @@ use Rattle.std.specs.Prelude.{Result}
 use Rattle.tpm_nv.specs.Head.{index_with}
 use Rattle.tpm_nv.specs.Index.{NvContents}
 use Rattle.tpm_nv.specs.declared.fault.NvFault.{NvFault}
-use Rattle.tpm_nv.proofs.RowLaws.{with_auth_value_is}
+use Rattle.tpm_nv.proofs.AreaLaws.{with_auth_value_is}
 use Rattle.tpm_nv.proofs.stored_indices.StoredIndicesIndices.change_auth.Goals as goal
 
 pub returns : goal.returns

@@ -1,5 +1,5 @@
 use Rattle.std.proofs.Common.{List, ℕ, ap, ◌∙◌, arith}
-use Rattle.tpm_ascending.specs.Ascending.{kept_entries}
+use Rattle.tpm_sorted_map.specs.SortedMap.{kept_entries}
 use Rattle.tpm_nv.specs.Clear.{cleared}
 use Rattle.tpm_nv.specs.Head.{indices_of, kept_bytes, stays}
 use Rattle.tpm_nv.specs.Index.{NvContents, NvIndex}
@@ -8,21 +8,21 @@ use Rattle.tpm_nv.proofs.stored_indices.StoredIndicesIndices.clear.Goals as goal
 
 pub invariant_of-self : goal.invariant_of-self
 invariant_of-self g c =
-    let es = g.H.Ascending.entries c.self.inside.heads in
-    let row = g.R.Row.bytes c.self.inside.row in
-    let bytes = c.keep_bytes.ensures ∙ ap (λ l. kept_bytes l row) c.as_slice.ensures in
-    rw (c.retain.ensures, bytes) (kept_cleared es row c.self.invariant)
+    let es = g.H.SortedMap.entries c.self.inside.heads in
+    let area = g.R.Area.bytes c.self.inside.area in
+    let bytes = c.keep_bytes.ensures ∙ ap (λ l. kept_bytes l area) c.as_slice.ensures in
+    rw (c.retain.ensures, bytes) (kept_cleared es area c.self.invariant)
 
 pub returns : goal.returns
 unfolding cleared
 returns g c =
-    let es = g.H.Ascending.entries c.self.inside.heads in
-    let row = g.R.Row.bytes c.self.inside.row in
-    let bytes = c.keep_bytes.ensures ∙ ap (λ l. kept_bytes l row) c.as_slice.ensures in
+    let es = g.H.SortedMap.entries c.self.inside.heads in
+    let area = g.R.Area.bytes c.self.inside.area in
+    let bytes = c.keep_bytes.ensures ∙ ap (λ l. kept_bytes l area) c.as_slice.ensures in
     let made : List (ℕ × NvIndex) → NvContents = λ l. record { indices = l; max_count = c.self.inside.max_count } in
     ap made (
-    ap (λ l. indices_of l (g.R.Row.bytes c.keep_bytes.new.row)) c.retain.ensures
+    ap (λ l. indices_of l (g.R.Area.bytes c.keep_bytes.new.area)) c.retain.ensures
     ∙ ap (λ l. indices_of (kept_entries stays es) l) bytes
-    ∙ shown_kept es row (omega (arith, c.self.invariant.whole))
+    ∙ shown_kept es area (omega (arith, c.self.invariant.whole))
     )
     ∙ ap cleared c.self.view_is

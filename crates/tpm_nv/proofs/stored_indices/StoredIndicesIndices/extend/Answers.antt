@@ -8,7 +8,7 @@ use Rattle.tpm_nv.specs.Index.{NvContents, changed_index}
 use Rattle.tpm_nv.specs.declared.fault.NvFault.{NvFault}
 use Rattle.tpm_mac.specs.Digest.{digest_size}
 use Rattle.tpm_nv.proofs.KeptLaws.{data_long, size_of_type, type_of_writable}
-use Rattle.tpm_nv.proofs.RowLaws.{extended_is}
+use Rattle.tpm_nv.proofs.AreaLaws.{extended_is}
 use Rattle.tpm_nv.proofs.stored_indices.StoredIndicesIndices.extend.Goals as goal
 
 pub set_data-requires-clause-whole : goal.set_data-requires-clause-whole

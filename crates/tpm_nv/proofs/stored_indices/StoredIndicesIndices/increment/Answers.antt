@@ -8,7 +8,7 @@ use Rattle.tpm_nv.specs.Index.{NvContents, changed_index}
 use Rattle.tpm_nv.specs.declared.fault.NvFault.{NvFault}
 use Rattle.std.specs.Int.{to_be_bytes, w64}
 use Rattle.tpm_nv.proofs.KeptLaws.{data_long, size_of_type, type_of_writable}
-use Rattle.tpm_nv.proofs.RowLaws.{incremented_is}
+use Rattle.tpm_nv.proofs.AreaLaws.{incremented_is}
 use Rattle.tpm_nv.proofs.stored_indices.StoredIndicesIndices.increment.Goals as goal
 
 pub set_data-requires-clause-whole : goal.set_data-requires-clause-whole
@@ -32,7 +32,7 @@ returns g c =
     let set : c.set_data.new.self ≡ changed_index c.args.self.now c.args.handle (with_data index (to_be_bytes w64 (last + 1))) =
     c.set_data.ensures index t.1.found
     ∙ ap (λ (l : List ℕ). changed_index c.args.self.now c.args.handle (with_data index l)) c.to_be_bytes.ensures in
-    let made : ℕ → NvContents = λ m. record { indices = indices_of (g.H.Ascending.entries c.self-2.inside.heads) (g.R.Row.bytes c.self-2.inside.row); max_count = m } in
+    let made : ℕ → NvContents = λ m. record { indices = indices_of (g.H.SortedMap.entries c.self-2.inside.heads) (g.R.Area.bytes c.self-2.inside.area); max_count = m } in
     let counts = ap made c.max-self-inside.ensures ∙ ap (λ (s : NvContents). counted s (last + 1)) (c.self-2.view_is ∙ set) in
     let ok : NvContents → Result NvContents NvFault = λ s. Ok s in
     incremented_is c.args.self.now c.args.handle h t.0 last t.1 t.2 number fits ∙ ap ok (sym counts)

@@ -5,7 +5,7 @@ use Rattle.tpm_types_nv.specs.declared.nv_attributes.NvAttribute.TheVariants as 
 use Rattle.tpm_nv.specs.Bytes.{piece_of}
 use Rattle.tpm_nv.specs.Head.{size_of}
 use Rattle.tpm_nv.specs.declared.fault.NvFault.{NvFault}
-use Rattle.tpm_nv.proofs.RowLaws.{read_is}
+use Rattle.tpm_nv.proofs.AreaLaws.{read_is}
 use Rattle.tpm_nv.proofs.stored_indices.StoredIndicesIndices.read.Goals as goal
 
 pub piece_at-requires : goal.piece_at-requires

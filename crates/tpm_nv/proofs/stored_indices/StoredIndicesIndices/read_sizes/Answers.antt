@@ -3,4 +3,4 @@ use Rattle.tpm_nv.proofs.stored_indices.StoredIndicesIndices.read_sizes.Goals as
 
 pub returns : goal.returns
 returns g c =
-    rw (← c.self.view_is) (contents_are (g.H.Ascending.entries c.self.inside.heads) (g.R.Row.bytes c.self.inside.row) c.self.inside.max_count c.self.invariant c.count_fits.ensures)
+    rw (← c.self.view_is) (contents_are (g.H.SortedMap.entries c.self.inside.heads) (g.R.Area.bytes c.self.inside.area) c.self.inside.max_count c.self.invariant c.count_fits.ensures)

@@ -8,7 +8,7 @@ use Rattle.tpm_nv.specs.Index.{NvContents, changed_index}
 use Rattle.tpm_nv.specs.declared.fault.NvFault.{NvFault}
 use Rattle.std.specs.Int.{to_be_bytes, w64}
 use Rattle.tpm_nv.proofs.KeptLaws.{data_long, size_of_type, type_of_writable}
-use Rattle.tpm_nv.proofs.RowLaws.{bits_set_is}
+use Rattle.tpm_nv.proofs.AreaLaws.{bits_set_is}
 use Rattle.tpm_nv.proofs.stored_indices.StoredIndicesIndices.set_bits.Goals as goal
 
 pub set_data-requires-clause-whole : goal.set_data-requires-clause-whole

@@ -8,7 +8,7 @@ use Rattle.tpm_nv.specs.Head.{index_with, size_of}
 use Rattle.tpm_nv.specs.Index.{NvContents, changed_index}
 use Rattle.tpm_nv.specs.declared.fault.NvFault.{NvFault}
 use Rattle.tpm_nv.specs.declared.place.Place.{Place}
-use Rattle.tpm_nv.proofs.RowLaws.{written_is}
+use Rattle.tpm_nv.proofs.AreaLaws.{written_is}
 use Rattle.tpm_nv.proofs.stored_indices.StoredIndicesIndices.write.Goals as goal
 
 pub returns : goal.returns

@@ -1,8 +1,9 @@
+use Rattle.tpm_bytes.specs.Numbers.{numbers_below}
 use Rattle.std.proofs.Common.{rules, arith, ◌≡◌, ◌+◌, ◌-◌, ◌∙◌, min, length, filter}
 use Rattle.std.proofs.lemmas.List.{length-map, take-map}
 use Rattle.tpm_types.specs.Pcr.{is_selected}
 use Rattle.tpm_types.specs.DigestList.{digests_of}
-use Rattle.tpm_pcr.specs.Banks.{pcr_value, pcrs_below}
+use Rattle.tpm_pcr.specs.Banks.{pcr_value}
 use Rattle.tpm_pcr.proofs.Reading.{select_step, selected_pcrs-is, values_count, values_step}
 use Rattle.tpm_pcr.proofs.banks.Banks.read_bank.Goals as goal
 
@@ -15,7 +16,7 @@ loop-number-preserved c =
     let front = digests_of c.args.values.now.items in
     let values = digests_of c.loop-number.values.items in
     let is : c.unwrap-pcr.result ≡ n = search rules in
-    let counted : length c.loop-number.values.items ≡ length c.args.values.now.items + min (8 - length c.args.values.now.items) (length (filter p (pcrs_below n))) =
+    let counted : length c.loop-number.values.items ≡ length c.args.values.now.items + min (8 - length c.args.values.now.items) (length (filter p (numbers_below n))) =
     values_count p f n _ _ front values (length-map _ _) (length-map _ _) i.values in
     record {
       select = c.read_pcr.ensures.select ∙ select_step p n _ _ _ _ is counted i.select;

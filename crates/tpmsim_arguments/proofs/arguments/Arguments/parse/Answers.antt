@@ -1,7 +1,7 @@
 use Rattle.std.proofs.Common.{◌≡◌, ◌∙◌, rules, ap, subst, map, List, [], ok_or}
 use Rattle.clap.specs.Words.{App, HasKind, Text, app_of, fault_of, is_simple, is_simple_and_free, kind_of, subcommand_of, subcommand_rows_of}
-use Rattle.tpm_text.specs.Fault.{Gives}
-use Rattle.tpmsim_arguments.specs.Asked.{asked, asked_in}
+use Rattle.tpm_bytes.specs.Reading.{Gives}
+use Rattle.tpmsim_arguments.specs.Invocation.{asked, asked_in}
 use Rattle.tpmsim_arguments.specs.CommandLine.{program}
 use Rattle.tpmsim_arguments.specs.declared.fault.ArgumentFault.TheVariants.{Usage}
 use Rattle.tpmsim_arguments.proofs.Answering.{program_is_free, program_is_simple, refused, taken}

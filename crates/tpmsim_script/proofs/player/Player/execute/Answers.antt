@@ -7,7 +7,7 @@ use Rattle.tpmsim_script.proofs.Doing.{executed, untraced}
 use Rattle.tpmsim_script.proofs.player.Player.execute.Goals as goal
 
 pub trace-requires : goal.trace-requires
-trace-requires g c = c.executions_are_traceable.ensures _ _ _ _ c.execute_into.ensures.executes
+trace-requires g c = c.traceable_laws.ensures _ _ _ _ c.execute_into.ensures.executes
 
 pub returns-clause-did : goal.returns-clause-did
 returns-clause-did g c = λ cannot.

@@ -1,0 +1,46 @@
+-- What a command answers. TPM 2.0 Library, Part 1, section 18 (response structures).
+use Rattle.std.specs.Prelude.{◌≡◌, ℕ, Bool, true, false, List, [], ◌++◌, Option, None}
+use Rattle.tpm_bytes.specs.Writing.{sized_text}
+use Rattle.tpm_types.specs.declared.handle.Handle.{Handle}
+use Rattle.tpm_actions_base.specs.declared.answer.Answer.{Answer}
+
+-- the parameters of an answer: a sized buffer, which a session can encrypt, alone or with what
+-- stands after it; or parameters with no such buffer at their front
+pub data Body : Type 0 where
+  Sized : (bytes : List ℕ) → Body
+  SizedFirst : (bytes rest : List ℕ) → Body
+  Plain : (text : List ℕ) → Body
+
+abbrev pub body_text : Body → List ℕ
+body_text (Sized bytes) = sized_text bytes
+body_text (SizedFirst bytes rest) = sized_text bytes ++ rest
+body_text (Plain text) = text
+
+abbrev pub begins_sized : Body → Bool
+begins_sized (Sized bytes) = true
+begins_sized (SizedFirst bytes rest) = true
+begins_sized (Plain text) = false
+
+-- an answer: the handle of what was made, if there is one, the parameters, and how many of the
+-- event's random bytes were drawn from their front
+pub record AnswerParts : Type 0 where
+  pub handle : Option Handle
+  pub body : Body
+  pub drawn : ℕ
+
+-- parameters alone
+abbrev pub answer_of : Body → AnswerParts
+answer_of body = record { handle = None; body = body; drawn = 0 }
+
+-- and none
+abbrev pub nothing : AnswerParts
+nothing = answer_of (Plain [])
+
+-- The code's answer is this one.
+abbrev pub IsAnswer : AnswerParts → Answer → Type 0
+IsAnswer parts a =
+    (a.handle ≡ parts.handle) × (a.parameters ≡ body_text parts.body) × (a.drawn ≡ parts.drawn)
+
+-- The code's answer is empty, to be written.
+abbrev pub IsEmpty : Answer → Type 0
+IsEmpty a = IsAnswer nothing a

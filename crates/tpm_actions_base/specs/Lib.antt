@@ -1,0 +1,5 @@
+pub mod Request
+pub mod Answer
+pub mod Refusals
+pub mod Rows
+pub mod Target

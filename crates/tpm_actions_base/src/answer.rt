@@ -1,0 +1,46 @@
+//! What a command that succeeds answers: a handle, parameters, and how many random bytes it drew.
+//! One answer is lent to all commands.
+
+ghost use Rattle.std.specs.Prelude.{◌≤◌};
+
+use tpm_bytes::Sink;
+use tpm_types::{ANSWER_LIMIT, Handle};
+
+/// A response's parameters. An answer is made once and lent to each command, so no command pays for
+/// the room.
+pub type Parameters = Sink<ANSWER_LIMIT>;
+
+/// What a command that succeeds answers.
+#[derive(Drop)]
+pub struct Answer {
+    /// The handle of what it made, if it answers one.
+    pub handle: Option<Handle>,
+    pub parameters: Parameters,
+    /// How many random bytes it drew, from the front of the event's.
+    pub drawn: usize,
+    ghost few: { drawn ≤ 96 },
+}
+
+impl Answer {
+    ghost use Rattle.tpm_actions_base.specs.Answer.{IsEmpty};
+
+    /// No handle, no parameters, and no random bytes drawn.
+    pub fn empty() -> Answer
+        ensures { IsEmpty result }
+    {
+        Answer {
+            handle: None,
+            parameters: Sink::new(),
+            drawn: 0,
+        }
+    }
+
+    /// Drops what the command before answered.
+    pub fn clear(&mut self)
+        ensures { IsEmpty self.new }
+    {
+        self.handle = None;
+        self.parameters.clear();
+        self.drawn = 0;
+    }
+}

@@ -1,0 +1,52 @@
+//! What a command's row is called with, once the general checks and the authorization have passed:
+//! handles, locality, parameters and random bytes.
+
+ghost use Rattle.std.specs.Prelude.{◌≡◌};
+
+use crate::refusals::handle_refusal;
+use tpm_types::{Handle, Locality, Refused};
+
+/// What a command is called with, once the general checks and the authorization have passed.
+#[derive(Clone, Copy)]
+pub struct Call<'a> {
+    /// As many as the command's shape has.
+    pub handles: &'a [Handle],
+    pub locality: Locality,
+    /// The parameters, decrypted.
+    pub parameters: &'a [u8],
+    /// The event's random bytes.
+    pub random: &'a [u8; 256],
+}
+
+impl Call<'_> {
+    ghost use Rattle.tpm_actions_base.specs.Request.{first_handle, second_handle, third_handle};
+
+    /// The first handle of a command that has one.
+    pub fn first_handle(&self) -> Result<Handle, Refused>
+        ensures { result ≡ first_handle self.now.handles.now }
+    {
+        match self.handles {
+            [] => Err(handle_refusal()),
+            [first, ..] => Ok(*first),
+        }
+    }
+
+    /// The second handle of a command that has two.
+    pub fn second_handle(&self) -> Result<Handle, Refused>
+        ensures { result ≡ second_handle self.now.handles.now }
+    {
+        match self.handles {
+            [_, second, ..] => Ok(*second),
+            _ => Err(handle_refusal()),
+        }
+    }
+    /// The third handle of a command that has three.
+    pub fn third_handle(&self) -> Result<Handle, Refused>
+        ensures { result ≡ third_handle self.now.handles.now }
+    {
+        match self.handles {
+            [_, _, third, ..] => Ok(*third),
+            _ => Err(handle_refusal()),
+        }
+    }
+}

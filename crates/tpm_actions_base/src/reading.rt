@@ -1,0 +1,49 @@
+//! The reading of a command's parameters, so that each fault tells the number of the parameter it
+//! is in.
+
+ghost use Rattle.std.specs.Prelude.{◌≡◌};
+ghost use Rattle.tpm_bytes.specs.Reading.{or_fault};
+ghost use Rattle.tpm_types.specs.Rc.{plain};
+ghost use Rattle.tpm_types.specs.declared.rc.ResponseCode.TheVariants as code;
+ghost use Rattle.tpm_actions_base.specs.Rows.{all_read, parameter, parameter_refusal};
+
+use tpm_bytes::{Cursor, Short};
+use tpm_types::{Check, Rc, Refused, ResponseCode};
+
+/// A refusal of the parameter of this number.
+fn at_parameter(number: u8, rc: Rc) -> Refused
+    ensures { result ≡ parameter_refusal number rc }
+{
+    Refused::by(Check::Parameters, rc.at_parameter(number))
+}
+
+/// A parameter that is read, by its place.
+pub fn parameter<T>(place: u8, read: Result<T, Rc>) -> Result<T, Refused>
+    ensures { result ≡ parameter place read }
+{
+    match read {
+        Ok(value) => Ok(value),
+        Err(rc) => Err(at_parameter(place, rc)),
+    }
+}
+
+/// A number that is read, by its place: the only fault is that it is cut.
+pub fn number<T>(place: u8, read: Result<T, Short>) -> Result<T, Refused>
+    ensures { result ≡ parameter place (or_fault read (plain code.Insufficient)) }
+{
+    match read {
+        Ok(value) => Ok(value),
+        Err(_) => Err(at_parameter(place, ResponseCode::Insufficient.anywhere())),
+    }
+}
+
+/// Refuses bytes that are left over after the parameters.
+pub fn end(parameters: &Cursor) -> Result<(), Refused>
+    ensures { result ≡ all_read parameters.now }
+{
+    if parameters.is_empty() {
+        Ok(())
+    } else {
+        Err(Refused::by(Check::Parameters, ResponseCode::Size.anywhere()))
+    }
+}

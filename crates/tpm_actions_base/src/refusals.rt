@@ -1,0 +1,42 @@
+//! The refusals that the rows of commands share: by one of a command's own checks, by a handle, or
+//! by refused memory.
+
+ghost use Rattle.std.specs.Prelude.{◌≡◌};
+ghost use Rattle.tpm_actions_base.specs.Refusals.{action_refusal, fault_refusal, handle_refusal, memory_refusal, parameter_refusal};
+
+use tpm_types::{ActionCheck, ActionFault, Check, Rc, Refused, ResponseCode};
+
+/// The refusal where a handle does not name what the general checks have found.
+pub fn handle_refusal() -> Refused
+    ensures { result ≡ handle_refusal }
+{
+    Refused::by(Check::Handles, ResponseCode::Failure.anywhere())
+}
+
+/// The refusal by one of a command's own checks.
+pub fn action_refusal(check: ActionCheck, rc: Rc) -> Refused
+    ensures { result ≡ action_refusal check rc }
+{
+    Refused::by(Check::Action(check), rc)
+}
+
+/// The refusal by one of a command's own checks, with this code of a parameter.
+pub fn parameter_refusal(check: ActionCheck, parameter: u8, code: ResponseCode) -> Refused
+    ensures { result ≡ parameter_refusal check parameter code }
+{
+    action_refusal(check, code.anywhere().at_parameter(parameter))
+}
+
+/// The refusal by what one of a command's own checks found.
+pub fn fault_refusal(fault: ActionFault) -> Refused
+    ensures { result ≡ fault_refusal fault }
+{
+    action_refusal(fault.check, fault.rc)
+}
+
+/// The refusal where memory was refused.
+pub fn memory_refusal() -> Refused
+    ensures { result ≡ memory_refusal }
+{
+    Refused::by(Check::Memory, ResponseCode::Memory.anywhere())
+}

@@ -1,0 +1,105 @@
+//! The NV index that a command names, what authorizes it there, and whether that may write or read
+//! the index.
+
+ghost use Rattle.std.specs.Prelude.{◌≡◌, ℕ, IfErr, IfOk, Ok};
+ghost use Rattle.tpm_nv.specs.Access.{read_at};
+ghost use Rattle.tpm_nv.specs.declared.fault.NvFault.TheVariants.{Range};
+ghost use Rattle.tpm_record.specs.Record.{Record};
+ghost use Rattle.tpm_actions_base.specs.Request.{Request, request_of};
+ghost use Rattle.tpm_actions_base.specs.Target.{attributes_of, may, may_read, may_write};
+ghost use Rattle.tpm_actions_base.specs.Target.{reading_passes, target_of};
+
+use crate::call::Call;
+use crate::refusals::handle_refusal;
+use tpm_nv::Indices;
+use tpm_record::Keep;
+use tpm_types::{ActionCheck, ActionFault, Handle, Refused, ResponseCode};
+use tpm_types_nv::{NvAttribute, NvAttributes};
+
+/// What authorizes a command on an NV index, the index, and its attributes.
+#[derive(Clone, Copy)]
+pub struct Target {
+    pub auth_handle: Handle,
+    pub handle: Handle,
+    pub attributes: NvAttributes,
+}
+
+/// The attributes of an index.
+fn attributes_of<K: Keep>(keep: &K, handle: Handle) -> Result<NvAttributes, Refused>
+    ensures { result ≡ attributes_of (K.record_of keep.now) handle }
+{
+    match keep.nv().get(handle) {
+        Some(head) => Ok(head.public.attributes),
+        None => Err(handle_refusal()),
+    }
+}
+
+/// What a command's first two handles name.
+pub fn target_of<K: Keep>(keep: &K, call: &Call) -> Result<Target, Refused>
+    ensures { result ≡ target_of (K.record_of keep.now) (request_of call.now) }
+{
+    let auth_handle = call.first_handle()?;
+    let handle = call.second_handle()?;
+    let attributes = attributes_of(keep, handle)?;
+    Ok(Target {
+        auth_handle,
+        handle,
+        attributes,
+    })
+}
+
+impl Target {
+    /// Whether authHandle may do with the index what these attributes let the owner and the
+    /// platform do.
+    fn may(&self, owner: NvAttribute, platform: NvAttribute) -> bool
+        ensures { result ≡ may owner platform self.now }
+    {
+        if self.auth_handle == Handle::OWNER {
+            self.attributes.has(owner)
+        } else if self.auth_handle == Handle::PLATFORM {
+            self.attributes.has(platform)
+        } else {
+            self.auth_handle == self.handle
+        }
+    }
+
+    /// Whether it may write the index.
+    pub fn may_write(&self) -> bool
+        ensures { result ≡ may_write self.now }
+    {
+        self.may(NvAttribute::OwnerWrite, NvAttribute::PpWrite)
+    }
+
+    /// Whether it may read the index.
+    pub fn may_read(&self) -> bool
+        ensures { result ≡ may_read self.now }
+    {
+        self.may(NvAttribute::OwnerRead, NvAttribute::PpRead)
+    }
+
+    /// Refuses to read the index: who may not, what is locked, and what is not written.
+    pub fn check_reading(&self) -> Result<(), ActionFault>
+        ensures { result ≡ reading_passes self.now }
+    {
+        if !self.may_read() {
+            return Err(ActionFault::plain(ActionCheck::First, ResponseCode::NvAuthorization));
+        }
+        if self.attributes.has(NvAttribute::ReadLocked) {
+            return Err(ActionFault::plain(ActionCheck::Second, ResponseCode::NvLocked));
+        }
+        if !self.attributes.has(NvAttribute::Written) {
+            return Err(ActionFault::plain(ActionCheck::Third, ResponseCode::NvUninitialized));
+        }
+        Ok(())
+    }
+}
+
+/// The reading of an index that a command names, and that these checks let it read, is refused only
+/// where it goes past the data. It does nothing.
+#[inline(always)]
+#[tactic(auto, using(crate::proofs::TargetLaws::reading_within))]
+pub fn reading_laws()
+    ensures { (r : Record) (q : Request) (offset size : ℕ)
+        → IfOk (target_of r q) (λ target. reading_passes target ≡ Ok tt
+        → IfErr (read_at r.nv target.handle offset size) (λ fault. fault ≡ Range)) }
+{}

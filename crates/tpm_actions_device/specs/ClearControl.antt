@@ -1,0 +1,32 @@
+-- TPM2_ClearControl. TPM 2.0 Library, Part 3, section 24.7.
+use Rattle.tpm_types.specs.declared.action_check.ActionCheck.TheVariants as action
+use Rattle.std.specs.Prelude.{◌==◌, ◌&&◌, not, Bool, Result, Ok}
+use Rattle.tpm_bytes.specs.Reading.{◌>>=◌, refused_if}
+use Rattle.tpm_types.specs.Handle.{lockout_handle}
+use Rattle.tpm_types.specs.Rc.{plain}
+use Rattle.tpm_types.specs.YesNo.{yes_no_at}
+use Rattle.tpm_types.specs.declared.handle.Handle.{Handle}
+use Rattle.tpm_types.specs.declared.rc.ResponseCode.TheVariants as code
+use Rattle.tpm_types.specs.declared.refused.Refused.{Refused}
+use Rattle.tpm_record.specs.Record.{Record}
+use Rattle.tpm_actions_base.specs.Answer.{nothing}
+use Rattle.tpm_actions_base.specs.Refusals.{action_refusal}
+use Rattle.tpm_actions_base.specs.Request.{Request, first_handle}
+use Rattle.tpm_actions_base.specs.Rows.{Success, only}
+
+-- a record in which TPM2_Clear is disabled, or is not
+abbrev pub with_disable_clear : Record → Bool → Record
+with_disable_clear r disables = record r { fixed = record r.fixed { disable_clear = disables } }
+
+-- whether lockoutAuth would enable what the platform alone may
+abbrev pub is_enabled_by_lockout : Handle → (disables : Bool) → Bool
+is_enabled_by_lockout handle disables = handle.number == lockout_handle.number && not disables
+
+-- authHandle, lockout or the platform, authorized; disable. A1: lockoutAuth enables nothing, which
+-- is no failed try
+unfoldable pub clear_control_row : Record → Request → Result Success Refused
+clear_control_row r q = do
+  handle ← first_handle q.handles
+  disables ← only (yes_no_at q.parameters)
+  a1 ← refused_if (is_enabled_by_lockout handle disables) (action_refusal action.First (plain code.AuthFail))
+  Ok (record { answer = nothing; after = with_disable_clear r disables })

@@ -1,0 +1,47 @@
+-- TPM2_FlushContext. TPM 2.0 Library, Part 3, section 28.4.
+use Rattle.tpm_types.specs.declared.action_check.ActionCheck.TheVariants as action
+use Rattle.std.specs.Prelude.{◌||◌, not, Bool, true, false, ℕ, List, is_some, Result, Ok}
+use Rattle.std.specs.Int.{w32}
+use Rattle.tpm_bytes.specs.Reading.{◌>>=◌, number_at, or_fault, refused_if}
+use Rattle.tpm_session.specs.Sessions.{flushed, session_at}
+use Rattle.tpm_types.specs.declared.handle.Handle.{Handle}
+use Rattle.tpm_types.specs.declared.rc.ResponseCode.TheVariants as code
+use Rattle.tpm_types.specs.Handle.{is_session, is_transient, numbered}
+use Rattle.tpm_types.specs.Rc.{plain}
+use Rattle.tpm_record.specs.Objects.{object_at, without_object}
+use Rattle.tpm_record.specs.Record.{Record}
+use Rattle.tpm_types.specs.declared.refused.Refused.{Refused}
+use Rattle.tpm_actions_base.specs.Request.{Request}
+use Rattle.tpm_actions_base.specs.Answer.{nothing}
+use Rattle.tpm_actions_base.specs.Refusals.{parameter_refusal}
+use Rattle.tpm_actions_base.specs.Rows.{Success, only}
+
+-- whether a handle is of what can be flushed: a session (02, 03) or a transient object (80)
+abbrev pub can_be_flushed : Handle → Bool
+can_be_flushed handle = is_session handle || is_transient handle
+
+-- whether a session or a transient object has a handle
+abbrev pub is_loaded : Record → Handle → Bool
+is_loaded r handle = is_some (session_at r.sessions handle) || is_some (object_at r.objects handle)
+
+-- the record without the session of a handle, or without the transient object of it
+abbrev pub flushed_from : Record → Handle → (of_session : Bool) → Record
+flushed_from r handle true = record r { sessions = flushed r.sessions handle }
+flushed_from r handle false = record r { objects = without_object r.objects handle }
+
+-- flushHandle
+abbrev pub flushed_handle : List ℕ → Result Handle Refused
+flushed_handle text = do
+  number ← only (or_fault (number_at w32 text) (plain code.Insufficient))
+  Ok (numbered number)
+
+-- flushHandle. A1: it is neither a session's nor a transient object's; A2: there is none of that
+-- handle
+unfoldable pub flush_context_row : Record → Request → Result Success Refused
+flush_context_row r q = do
+  handle ← flushed_handle q.parameters
+  a1 ← refused_if (not (can_be_flushed handle))
+      (parameter_refusal action.First 1 code.Value)
+  a2 ← refused_if (not (is_loaded r handle))
+      (parameter_refusal action.Second 1 code.Handle)
+  Ok (record { answer = nothing; after = flushed_from r handle (is_session handle) })

@@ -1,0 +1,22 @@
+-- TPM2_GetRandom. TPM 2.0 Library, Part 3, section 16.1.
+use Rattle.std.specs.Prelude.{ℕ, List, take, min, None, Result, Ok}
+use Rattle.std.specs.Int.{w16}
+use Rattle.tpm_bytes.specs.Reading.{◌>>=◌, number_at, or_fault}
+use Rattle.tpm_types.specs.declared.rc.ResponseCode.TheVariants as code
+use Rattle.tpm_types.specs.Rc.{plain}
+use Rattle.tpm_record.specs.Record.{Record}
+use Rattle.tpm_types.specs.declared.refused.Refused.{Refused}
+use Rattle.tpm_actions_base.specs.Answer.{AnswerParts, Sized}
+use Rattle.tpm_actions_base.specs.Request.{Request}
+use Rattle.tpm_actions_base.specs.Rows.{Success, only, unchanged}
+
+-- this many of the event's random bytes, as a sized buffer
+abbrev pub random_answer : ℕ → List ℕ → AnswerParts
+random_answer count random =
+    record { handle = None; body = Sized (take count random); drawn = count }
+
+-- bytesRequested; answered: that many of the event's 256 random bytes, at most 32
+unfoldable pub get_random_row : Record → Request → Result Success Refused
+get_random_row r q = do
+  requested ← only (or_fault (number_at w16 q.parameters) (plain code.Insufficient))
+  Ok (unchanged r (random_answer (min requested 32) q.random))

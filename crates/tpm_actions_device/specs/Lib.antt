@@ -1,0 +1,16 @@
+pub mod PcrChange
+pub mod Startup
+pub mod ClearControl
+pub mod Shutdown
+pub mod SelfTest
+pub mod ReadClock
+pub mod GetRandom
+pub mod PcrRead
+pub mod PcrExtend
+pub mod PcrEvent
+pub mod PcrReset
+pub mod HierarchyChangeAuth
+pub mod DictionaryAttackLockReset
+pub mod DictionaryAttackParameters
+pub mod FlushContext
+pub mod StartAuthSession

@@ -1,0 +1,26 @@
+-- TPM2_ReadClock. TPM 2.0 Library, Part 3, section 29.1, and Part 2, sections 10.11.1
+-- (TPMS_CLOCK_INFO) and 10.11.6 (TPMS_TIME_INFO).
+use Rattle.std.specs.Prelude.{ℕ, ◌++◌, List, [], ◌∷◌, Result, Ok}
+use Rattle.std.specs.Int.{w32, w64, to_be_bytes}
+use Rattle.tpm_bytes.specs.Reading.{◌>>=◌}
+use Rattle.tpm_types.specs.declared.refused.Refused.{Refused}
+use Rattle.tpm_record.specs.Record.{Record}
+use Rattle.tpm_record.specs.declared.fixed.Fixed.{Fixed}
+use Rattle.tpm_actions_base.specs.Answer.{Plain, answer_of}
+use Rattle.tpm_actions_base.specs.Request.{Request}
+use Rattle.tpm_actions_base.specs.Rows.{Success, all_read, unchanged}
+
+-- Time; Clock, the counts of resets and of restarts; and that Clock never went back (yes)
+abbrev pub time_text : Fixed → List ℕ
+time_text f =
+    to_be_bytes w64 f.time
+    ++ to_be_bytes w64 f.clock
+    ++ to_be_bytes w32 f.reset_count
+    ++ to_be_bytes w32 f.restart_count
+    ++ 1 ∷ []
+
+-- no parameters; answered: these
+unfoldable pub read_clock_row : Record → Request → Result Success Refused
+read_clock_row r q = do
+  ended ← all_read q.parameters
+  Ok (unchanged r (answer_of (Plain (time_text r.fixed))))

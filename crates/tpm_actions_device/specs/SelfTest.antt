@@ -1,0 +1,15 @@
+-- TPM2_SelfTest. TPM 2.0 Library, Part 3, section 10.2.
+use Rattle.std.specs.Prelude.{Result, Ok}
+use Rattle.tpm_bytes.specs.Reading.{◌>>=◌}
+use Rattle.tpm_types.specs.YesNo.{yes_no_at}
+use Rattle.tpm_types.specs.declared.refused.Refused.{Refused}
+use Rattle.tpm_record.specs.Record.{Record}
+use Rattle.tpm_actions_base.specs.Answer.{nothing}
+use Rattle.tpm_actions_base.specs.Request.{Request}
+use Rattle.tpm_actions_base.specs.Rows.{Success, only, unchanged}
+
+-- fullTest. All tests have passed already, so there is nothing to do
+unfoldable pub self_test_row : Record → Request → Result Success Refused
+self_test_row r q = do
+  full_test ← only (yes_no_at q.parameters)
+  Ok (unchanged r nothing)

@@ -1,0 +1,110 @@
+-- TPM2_StartAuthSession. TPM 2.0 Library, Part 3, section 11.1, and Part 1, section 19.6.
+use Rattle.tpm_types.specs.declared.action_check.ActionCheck.TheVariants as action
+use Rattle.std.specs.Prelude.{◌≡◌, ℕ, ◌==◌, not, List, length, take, Option, Some, None, if◌then◌else◌, Result, Ok, Err, ok_or, slice_set}
+use Rattle.tpm_bytes.specs.Reading.{◌>>=◌, refused_if}
+use Rattle.tpm_mac.specs.declared.algorithm.HashAlg.{HashAlg}
+use Rattle.tpm_slots.specs.Slots.{lowest_free}
+use Rattle.tpm_session.specs.declared.session.Binding.{Binding}
+use Rattle.tpm_session.specs.declared.session.Session.{Session}
+use Rattle.tpm_types.specs.declared.session_type.SessionType.{SessionType}
+use Rattle.tpm_session.specs.Key.{is_nonce_size}
+use Rattle.tpm_session.specs.Sessions.{handle_of, new_session}
+use Rattle.tpm_types.specs.declared.handle.Handle.{Handle}
+use Rattle.tpm_types.specs.declared.rc.ResponseCode.TheVariants as code
+use Rattle.tpm_types.specs.declared.symmetric.SymmetricDefinition.{SymmetricDefinition}
+use Rattle.tpm_types.specs.Algorithm.{hash_at}
+use Rattle.tpm_types.specs.Buffer.{buffer_at}
+use Rattle.tpm_types.specs.Handle.{null_handle}
+use Rattle.tpm_types.specs.Rc.{plain}
+use Rattle.tpm_types.specs.SessionType.{session_type_at}
+use Rattle.tpm_types.specs.Symmetric.{symmetric_at}
+use Rattle.tpm_record.specs.Entity.{auth_value_of, name_of, protection_of}
+use Rattle.tpm_record.specs.Record.{Record}
+use Rattle.tpm_types.specs.declared.refused.Refused.{Refused}
+use Rattle.tpm_actions_device.specs.declared.start_auth_session.SessionParameters.{SessionParameters}
+use Rattle.tpm_actions_base.specs.Request.{Request, second_handle}
+use Rattle.tpm_actions_base.specs.Answer.{AnswerParts, Sized}
+use Rattle.tpm_actions_base.specs.Refusals.{action_refusal, parameter_refusal}
+use Rattle.tpm_actions_base.specs.Rows.{Success, all_read, parameter}
+
+-- nonceCaller, encryptedSalt, sessionType, symmetric, authHash
+pub record Parameters : Type 0 where
+  pub nonce_caller : List ℕ
+  pub salt : List ℕ
+  pub kind : SessionType
+  pub symmetric : SymmetricDefinition
+  pub hash : HashAlg
+
+abbrev pub parameters_of : SessionParameters → Parameters
+parameters_of asked = record {
+  nonce_caller = asked.nonce_caller.now;
+  salt = asked.salt.now;
+  kind = asked.kind;
+  symmetric = asked.symmetric;
+  hash = asked.hash;
+}
+
+unfoldable pub parameters_in : List ℕ → Result Parameters Refused
+parameters_in text = do
+  nonce ← parameter 1 (buffer_at 32 text)
+  salt ← parameter 2 (buffer_at 32 nonce.1)
+  kind ← parameter 3 (session_type_at salt.1)
+  symmetric ← parameter 4 (symmetric_at kind.1)
+  hash ← parameter 5 (hash_at symmetric.1)
+  ended ← all_read hash.1
+  Ok (record {
+    nonce_caller = nonce.0;
+    salt = salt.0;
+    kind = kind.0;
+    symmetric = symmetric.0;
+    hash = hash.0;
+  })
+
+-- A1: nonceCaller has fewer than 16 bytes, or more than a digest; A2: there is a salt, and no key
+-- to decrypt it
+unfoldable pub parameters_pass : Parameters → Result (Unit {0}) Refused
+parameters_pass p = do
+  a1 ← refused_if (not (is_nonce_size p.hash (length p.nonce_caller)))
+      (parameter_refusal action.First 1 code.Size)
+  refused_if (not (length p.salt == 0)) (parameter_refusal action.Second 2 code.Value)
+
+-- what a session is bound to: the entity as it is now, and none for TPM_RH_NULL
+unfoldable pub binding_of : Record → Handle → Option Binding
+binding_of r bind =
+    if bind.number == null_handle.number then None
+    else Some (record {
+      name = name_of r bind;
+      auth_value = auth_value_of r bind;
+      protection = protection_of r bind;
+    })
+
+-- the session that is started with a nonce of the TPM's
+abbrev pub session_with : Parameters → Option Binding → List ℕ → Session
+session_with p binding nonce = new_session p.kind p.hash p.symmetric binding nonce p.nonce_caller
+
+-- the place that a session takes, or A3: there is none
+abbrev pub session_place : List (Option Session) → Result ℕ Refused
+session_place sessions =
+    ok_or (lowest_free sessions) (action_refusal action.Third (plain code.SessionMemory))
+
+-- the handle of a session in its place, and its nonce, which was drawn
+abbrev pub start_answer : Parameters → Session → ℕ → AnswerParts
+start_answer p s place = record {
+  handle = Some (handle_of s.kind place);
+  body = Sized s.nonce_tpm;
+  drawn = length p.nonce_caller;
+}
+
+-- tpmKey, which is TPM_RH_NULL, and bind; the session takes the lowest free place, and a nonce of
+-- the size of the caller's from the front of the random bytes
+unfoldable pub start_auth_session_row : Record → Request → Result Success Refused
+start_auth_session_row r q = do
+  bind ← second_handle q.handles
+  p ← parameters_in q.parameters
+  passed ← parameters_pass p
+  let s : Session = session_with p (binding_of r bind) (take (length p.nonce_caller) q.random)
+  place ← session_place r.sessions
+  Ok (record {
+    answer = start_answer p s place;
+    after = record r { sessions = slice_set r.sessions place (Some s) };
+  })

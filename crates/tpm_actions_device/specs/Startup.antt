@@ -1,0 +1,112 @@
+-- TPM2_Startup. TPM 2.0 Library, Part 3, section 9.3, and Part 1, section 12.2.3 (startup state).
+use Rattle.tpm_types.specs.declared.action_check.ActionCheck.TheVariants as action
+use Rattle.std.specs.Prelude.{ℕ, ◌+◌, ◌-◌, ◌^◌, ◌==◌, min, true, false, List, [], take, drop, if◌then◌else◌, Result, Ok, Err}
+use Rattle.tpm_lockout.specs.Lockout.{LockoutState}
+use Rattle.tpm_lockout.specs.Recovery.{with_closed}
+use Rattle.tpm_nv.specs.Startup.{started}
+use Rattle.tpm_bytes.specs.Reading.{◌>>=◌}
+use Rattle.tpm_types.specs.declared.rc.ResponseCode.TheVariants as code
+use Rattle.tpm_types.specs.declared.startup_type.StartupType.{StartupType}
+use Rattle.tpm_types.specs.declared.startup_type.StartupType.TheVariants as type
+use Rattle.tpm_types.specs.StartupType.{startup_type_at}
+use Rattle.tpm_types.specs.declared.handle.HierarchyAuth.TheVariants as auth
+use Rattle.tpm_pcr.specs.Values.{BankValues}
+use Rattle.tpm_record.specs.declared.fixed.Fixed.{Fixed}
+use Rattle.tpm_record.specs.declared.hierarchy.Hierarchies.{Hierarchies}
+use Rattle.tpm_record.specs.Entity.{with_hierarchy_auth}
+use Rattle.tpm_record.specs.Record.{Record}
+use Rattle.tpm_record.specs.Saved.{kind_of, restored_from}
+use Rattle.tpm_record.specs.declared.saved.SavedKind.{SavedKind}
+use Rattle.tpm_record.specs.declared.saved.SavedKind.TheVariants as saved
+use Rattle.tpm_types.specs.declared.refused.Refused.{Refused}
+use Rattle.tpm_actions_base.specs.Answer.{nothing}
+use Rattle.tpm_actions_base.specs.Refusals.{parameter_refusal}
+use Rattle.tpm_actions_base.specs.Request.{Request}
+use Rattle.tpm_actions_base.specs.Rows.{Success, only}
+use Rattle.tpm_actions_device.specs.declared.startup.Start.{Start}
+use Rattle.tpm_actions_device.specs.declared.startup.Start.TheVariants.{Reset, Restart, Resume}
+
+-- a startup with CLEAR is a TPM Restart where a state was saved, and else a TPM Reset; with STATE
+-- it is a TPM Resume where a state was saved. A1: it was not
+abbrev pub start_of : StartupType → SavedKind → Result Start Refused
+start_of type.Clear saved.Nothing = Ok Reset
+start_of type.Clear saved.Clear = Ok Reset
+start_of type.Clear saved.State = Ok Restart
+start_of type.State saved.Nothing = Err (parameter_refusal action.First 1 code.Value)
+start_of type.State saved.Clear = Err (parameter_refusal action.First 1 code.Value)
+start_of type.State saved.State = Ok Resume
+
+-- ---- what every startup does
+
+-- a count of startups rises to 2^32 - 1, and no further
+abbrev pub counted_up : ℕ → ℕ
+counted_up count = min (count + 1) (2 ^ 32 - 1)
+
+-- the device is started, and its updates of PCRs are counted from 0
+abbrev pub begun_with : BankValues → Fixed → Fixed
+begun_with banks f = record f { started = true; banks = record banks { update_count = 0 } }
+
+-- ---- what each of the three does
+
+-- platformAuth is empty after a startup with CLEAR (Part 1, section 14.3)
+abbrev pub without_platform_auth : Hierarchies → Hierarchies
+without_platform_auth h = with_hierarchy_auth h auth.Platform []
+
+-- after a TPM Reset the null hierarchy has a new seed and a new proof, too, the first 64 random
+-- bytes (Part 1, sections 14.3 and 14.4)
+abbrev pub reset_hierarchies : Hierarchies → List ℕ → Hierarchies
+reset_hierarchies h random = record (without_platform_auth h) {
+  null = record { seed = take 32 random; proof = take 32 (drop 32 random) };
+}
+
+-- lockoutAuth after a TPM Reset: it is open where a lockoutRecovery of 0 lets no time open it
+abbrev pub reset_lockout : LockoutState → LockoutState
+reset_lockout s = if s.fields.lockout_recovery == 0 then with_closed false s else s
+
+-- one reset more, and no restart or resume since
+abbrev pub reset_fixed : Fixed → List ℕ → Fixed
+reset_fixed f random = record (begun_with f.banks f) {
+  hierarchies = reset_hierarchies f.hierarchies random;
+  lockout = reset_lockout f.lockout;
+  reset_count = counted_up f.reset_count;
+  restart_count = 0;
+}
+
+-- one restart more
+abbrev pub restart_fixed : Fixed → Fixed
+restart_fixed f = record (begun_with f.banks f) {
+  hierarchies = without_platform_auth f.hierarchies;
+  restart_count = counted_up f.restart_count;
+}
+
+-- one more of the same count, and the PCRs that were saved
+abbrev pub resume_fixed : Fixed → Fixed
+resume_fixed f = record (begun_with (restored_from f.saved f.banks) f) {
+  restart_count = counted_up f.restart_count;
+}
+
+-- ---- the row
+
+-- a startup with CLEAR has its effects on NV indices, and a resume none
+abbrev pub started_record : Start → Record → List ℕ → Record
+started_record Reset r random =
+    record r { fixed = reset_fixed r.fixed random; nv = started r.nv }
+started_record Restart r random = record r { fixed = restart_fixed r.fixed; nv = started r.nv }
+started_record Resume r random = record r { fixed = resume_fixed r.fixed }
+
+-- a reset draws a seed and a proof
+abbrev pub start_draws : Start → ℕ
+start_draws Reset = 64
+start_draws Restart = 0
+start_draws Resume = 0
+
+-- startupType, from whatever locality. A1: there is no state to be restored. What was saved is
+-- cancelled, as by any success that does not keep it
+unfoldable pub startup_row : Record → Request → Result Success Refused
+startup_row r q = do
+  type ← only (startup_type_at q.parameters)
+  start ← start_of type (kind_of r.fixed.saved)
+  Ok (record {
+    answer = record nothing { drawn = start_draws start };
+    after = started_record start r q.random;
+  })

@@ -1,0 +1,38 @@
+//! TPM2_ClearControl: disables TPM2_Clear or enables it again, by its row in `specs/ClearControl`.
+
+ghost use Rattle.std.specs.Prelude.{◌≡◌};
+ghost use Rattle.tpm_actions_base.specs.Answer.{IsEmpty};
+ghost use Rattle.tpm_actions_device.specs.ClearControl.{clear_control_row};
+ghost use Rattle.tpm_actions_base.specs.Request.{request_of};
+ghost use Rattle.tpm_actions_base.specs.Rows.{Acts};
+
+use tpm_actions_base::answer::Answer;
+use tpm_actions_base::call::Call;
+use tpm_actions_base::reading::{end, parameter};
+use tpm_actions_base::refusals::action_refusal;
+use tpm_bytes::Cursor;
+use tpm_record::Keep;
+use tpm_types::{ActionCheck, Handle, Refused, ResponseCode, read_yes_no};
+
+/// TPM2_ClearControl: disables TPM2_Clear, or enables it again; AUTH_FAIL where lockoutAuth would
+/// enable it.
+#[tactic(auto, unfolding(crate::specs::ClearControl::clear_control_row))]
+pub fn clear_control<K: Keep>(
+    keep: &mut K,
+    call: &Call,
+    _answer: &mut Answer,
+) -> Result<(), Refused>
+    requires { IsEmpty _answer.old }
+    ensures { Acts (clear_control_row (K.record_of keep.old) (request_of call.now))
+        (K.record_of keep.old) result _answer.new (K.record_of keep.new) }
+{
+    let handle = call.first_handle()?;
+    let mut text = Cursor::new(call.parameters);
+    let disables = parameter(1, read_yes_no(&mut text))?;
+    end(&text)?;
+    if handle == Handle::LOCKOUT && !disables {
+        return Err(action_refusal(ActionCheck::First, ResponseCode::AuthFail.anywhere()));
+    }
+    keep.fixed_mut().disable_clear = disables;
+    Ok(())
+}

@@ -1,0 +1,30 @@
+//! TPM2_DictionaryAttackLockReset: forgets all failed tries, by its row in
+//! `specs/DictionaryAttackLockReset`.
+
+ghost use Rattle.tpm_actions_base.specs.Answer.{IsEmpty};
+ghost use Rattle.tpm_actions_device.specs.DictionaryAttackLockReset.{dictionary_attack_lock_reset_row};
+ghost use Rattle.tpm_actions_base.specs.Request.{request_of};
+ghost use Rattle.tpm_actions_base.specs.Rows.{Acts};
+
+use tpm_actions_base::answer::Answer;
+use tpm_actions_base::call::Call;
+use tpm_actions_base::reading::end;
+use tpm_bytes::Cursor;
+use tpm_record::Keep;
+use tpm_types::Refused;
+
+/// TPM2_DictionaryAttackLockReset: forgets all failed tries.
+#[tactic(auto, unfolding(crate::specs::DictionaryAttackLockReset::dictionary_attack_lock_reset_row))]
+pub fn dictionary_attack_lock_reset<K: Keep>(
+    keep: &mut K,
+    call: &Call,
+    _answer: &mut Answer,
+) -> Result<(), Refused>
+    requires { IsEmpty _answer.old }
+    ensures { Acts (dictionary_attack_lock_reset_row (K.record_of keep.old) (request_of call.now))
+        (K.record_of keep.old) result _answer.new (K.record_of keep.new) }
+{
+    end(&Cursor::new(call.parameters))?;
+    keep.fixed_mut().lockout.reset();
+    Ok(())
+}

@@ -1,0 +1,57 @@
+//! TPM2_DictionaryAttackParameters: sets how many failed tries lock, and the two times, by its row
+//! in `specs/DictionaryAttackParameters`.
+
+ghost use Rattle.std.specs.Prelude.{◌≡◌};
+ghost use Rattle.tpm_actions_base.specs.Answer.{IsEmpty};
+ghost use Rattle.tpm_actions_device.specs.DictionaryAttackParameters.{dictionary_attack_parameters_row, lockout_parameters};
+ghost use Rattle.tpm_actions_base.specs.Request.{request_of};
+ghost use Rattle.tpm_actions_base.specs.Rows.{Acts};
+
+use tpm_actions_base::answer::Answer;
+use tpm_actions_base::call::Call;
+use tpm_actions_base::reading::{end, number};
+use tpm_bytes::Cursor;
+use tpm_record::Keep;
+use tpm_types::Refused;
+
+/// What is asked for; the times are in seconds.
+#[derive(Clone, Copy)]
+pub struct AttackParameters {
+    max_tries: u32,
+    recovery_time: u32,
+    lockout_recovery: u32,
+}
+
+#[tactic(auto, unfolding(crate::specs::DictionaryAttackParameters::lockout_parameters))]
+fn read_parameters(parameters: &[u8]) -> Result<AttackParameters, Refused>
+    ensures { result ≡ lockout_parameters parameters.now }
+{
+    let mut text = Cursor::new(parameters);
+    let max_tries = number(1, text.u32())?;
+    let recovery_time = number(2, text.u32())?;
+    let lockout_recovery = number(3, text.u32())?;
+    end(&text)?;
+    Ok(AttackParameters {
+        max_tries,
+        recovery_time,
+        lockout_recovery,
+    })
+}
+
+/// TPM2_DictionaryAttackParameters: how many failed tries lock, how soon one is forgiven, and how
+/// long a failed try closes lockoutAuth.
+#[tactic(auto, unfolding(crate::specs::DictionaryAttackParameters::dictionary_attack_parameters_row))]
+pub fn dictionary_attack_parameters<K: Keep>(
+    keep: &mut K,
+    call: &Call,
+    _answer: &mut Answer,
+) -> Result<(), Refused>
+    requires { IsEmpty _answer.old }
+    ensures { Acts (dictionary_attack_parameters_row (K.record_of keep.old) (request_of call.now))
+        (K.record_of keep.old) result _answer.new (K.record_of keep.new) }
+{
+    let asked = read_parameters(call.parameters)?;
+    let lockout = &mut keep.fixed_mut().lockout;
+    lockout.set_parameters(asked.max_tries, asked.recovery_time, asked.lockout_recovery);
+    Ok(())
+}

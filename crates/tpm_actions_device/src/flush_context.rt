@@ -1,0 +1,66 @@
+//! TPM2_FlushContext: ends a session or removes a transient object, by its row in
+//! `specs/FlushContext`.
+
+ghost use Rattle.std.specs.Prelude.{◌≡◌};
+ghost use Rattle.tpm_actions_device.specs.FlushContext.{can_be_flushed, flush_context_row, flushed_from, is_loaded};
+ghost use Rattle.tpm_types.specs.Handle.{is_session};
+ghost use Rattle.tpm_actions_base.specs.Answer.{IsEmpty};
+ghost use Rattle.tpm_actions_base.specs.Request.{request_of};
+ghost use Rattle.tpm_actions_base.specs.Rows.{Acts};
+
+use tpm_actions_base::answer::Answer;
+use tpm_actions_base::call::Call;
+use tpm_actions_base::reading::{end, number};
+use tpm_actions_base::refusals::parameter_refusal;
+use tpm_bytes::Cursor;
+use tpm_record::Keep;
+use tpm_types::{ActionCheck, Handle, Refused, ResponseCode};
+
+fn can_be_flushed(handle: Handle) -> bool
+    ensures { result ≡ can_be_flushed handle }
+{
+    handle.is_session() || handle.is_transient()
+}
+
+/// Ends the session of a handle, or removes its transient object.
+fn flush<K: Keep>(keep: &mut K, handle: Handle)
+    ensures { K.record_of keep.new
+        ≡ flushed_from (K.record_of keep.old) handle (is_session handle) }
+{
+    if handle.is_session() {
+        keep.sessions_mut().flush(handle);
+    } else {
+        keep.objects_mut().remove(handle);
+    }
+}
+
+fn is_loaded<K: Keep>(keep: &K, handle: Handle) -> bool
+    ensures { result ≡ is_loaded (K.record_of keep.now) handle }
+{
+    keep.sessions().get(handle).is_some() || keep.objects().get(handle).is_some()
+}
+
+/// TPM2_FlushContext: ends a session, or removes a transient object.
+#[tactic(auto, unfolding(crate::specs::FlushContext::flush_context_row))]
+pub fn flush_context<K: Keep>(
+    keep: &mut K,
+    call: &Call,
+    _answer: &mut Answer,
+) -> Result<(), Refused>
+    requires { IsEmpty _answer.old }
+    ensures { Acts (flush_context_row (K.record_of keep.old) (request_of call.now))
+        (K.record_of keep.old) result _answer.new (K.record_of keep.new) }
+{
+    let mut parameters = Cursor::new(call.parameters);
+    let number = number(1, parameters.u32())?;
+    end(&parameters)?;
+    let handle = Handle { number };
+    if !can_be_flushed(handle) {
+        return Err(parameter_refusal(ActionCheck::First, 1, ResponseCode::Value));
+    }
+    if !is_loaded(keep, handle) {
+        return Err(parameter_refusal(ActionCheck::Second, 1, ResponseCode::Handle));
+    }
+    flush(keep, handle);
+    Ok(())
+}

@@ -1,0 +1,33 @@
+//! TPM2_GetRandom: answers random bytes, at most 32, by its row in `specs/GetRandom`.
+
+ghost use Rattle.tpm_actions_base.specs.Answer.{IsEmpty};
+ghost use Rattle.tpm_actions_device.specs.GetRandom.{get_random_row};
+ghost use Rattle.tpm_actions_base.specs.Request.{request_of};
+ghost use Rattle.tpm_actions_base.specs.Rows.{Acts};
+
+use tpm_actions_base::answer::Answer;
+use tpm_actions_base::call::Call;
+use tpm_actions_base::reading::{end, number};
+use tpm_bytes::Cursor;
+use tpm_record::Keep;
+use tpm_types::Refused;
+
+/// The most bytes that one call answers.
+const RANDOM_LIMIT: usize = 32;
+
+/// TPM2_GetRandom: as many random bytes as are asked for, at most 32.
+#[tactic(auto, unfolding(crate::specs::GetRandom::get_random_row))]
+pub fn get_random<K: Keep>(_keep: &mut K, call: &Call, answer: &mut Answer) -> Result<(), Refused>
+    requires { IsEmpty answer.old }
+    ensures { Acts (get_random_row (K.record_of _keep.old) (request_of call.now))
+        (K.record_of _keep.old) result answer.new (K.record_of _keep.new) }
+{
+    let mut parameters = Cursor::new(call.parameters);
+    let requested = number(1, parameters.u16())?;
+    end(&parameters)?;
+    let count = usize::from(requested).min(RANDOM_LIMIT);
+    let random = call.random;
+    let _ = answer.parameters.put_sized(&random[..count]);
+    answer.drawn = count;
+    Ok(())
+}

@@ -1,0 +1,36 @@
+//! TPM2_HierarchyChangeAuth: sets the authorization value of a hierarchy, or lockoutAuth, by its
+//! row in `specs/HierarchyChangeAuth`.
+
+ghost use Rattle.std.specs.Prelude.{◌≡◌};
+ghost use Rattle.tpm_actions_device.specs.HierarchyChangeAuth.{hierarchy_change_auth_row};
+ghost use Rattle.tpm_actions_base.specs.Answer.{IsEmpty};
+ghost use Rattle.tpm_actions_base.specs.Request.{request_of};
+ghost use Rattle.tpm_actions_base.specs.Rows.{Acts};
+
+use tpm_actions_base::answer::Answer;
+use tpm_actions_base::call::Call;
+use tpm_actions_base::reading::{end, parameter};
+use tpm_bytes::Cursor;
+use tpm_record::Keep;
+use tpm_types::{AuthValue, Refused};
+
+/// TPM2_HierarchyChangeAuth: sets the authorization value of a hierarchy, or lockoutAuth.
+#[tactic(auto, unfolding(crate::specs::HierarchyChangeAuth::hierarchy_change_auth_row))]
+pub fn hierarchy_change_auth<K: Keep>(
+    keep: &mut K,
+    call: &Call,
+    _answer: &mut Answer,
+) -> Result<(), Refused>
+    requires { IsEmpty _answer.old }
+    ensures { Acts (hierarchy_change_auth_row (K.record_of keep.old) (request_of call.now))
+        (K.record_of keep.old) result _answer.new (K.record_of keep.new) }
+{
+    let handle = call.first_handle()?;
+    let mut parameters = Cursor::new(call.parameters);
+    let value = parameter(1, AuthValue::read(&mut parameters))?;
+    end(&parameters)?;
+    if let Some(auth) = handle.hierarchy_auth() {
+        keep.fixed_mut().hierarchies.set_auth_value(auth, value);
+    }
+    Ok(())
+}

@@ -1,0 +1,25 @@
+//! The refusals that the commands share which change PCRs: TPM2_PCR_Extend, TPM2_PCR_Event and
+//! TPM2_PCR_Reset.
+
+ghost use Rattle.std.specs.Prelude.{◌≡◌};
+ghost use Rattle.tpm_actions_device.specs.PcrChange.{change_refusal};
+
+use tpm_actions_base::refusals::action_refusal;
+use tpm_pcr::ChangeFault;
+use tpm_types::{ActionCheck, Refused, ResponseCode};
+
+/// The refusal of a command that would change a PCR.
+pub fn change_refusal(fault: ChangeFault) -> Refused
+    ensures { result ≡ change_refusal fault }
+{
+    match fault {
+        ChangeFault::Locality => action_refusal(
+            ActionCheck::First,
+            ResponseCode::Locality.anywhere(),
+        ),
+        ChangeFault::Failure => action_refusal(
+            ActionCheck::Second,
+            ResponseCode::Failure.anywhere(),
+        ),
+    }
+}

@@ -1,0 +1,41 @@
+//! TPM2_PCR_Event: extends a PCR by the digests of some data and answers these, by its row in
+//! `specs/PcrEvent`.
+
+ghost use Rattle.tpm_actions_device.specs.PcrEvent.{pcr_event_row};
+ghost use Rattle.tpm_actions_base.specs.Answer.{IsEmpty};
+ghost use Rattle.tpm_actions_base.specs.Request.{request_of};
+ghost use Rattle.tpm_actions_base.specs.Rows.{Acts};
+
+use crate::pcr_change::change_refusal;
+use tpm_actions_base::answer::Answer;
+use tpm_actions_base::call::Call;
+use tpm_actions_base::reading::{end, parameter};
+use tpm_bytes::Cursor;
+use tpm_pcr::event_digests;
+use tpm_record::Keep;
+use tpm_types::{DATA_LIMIT, Refused, read_buffer};
+
+/// TPM2_PCR_Event: extends a PCR by the digests of the data, and answers them; on TPM_RH_NULL it
+/// answers them and nothing is checked or changed.
+#[tactic(auto, unfolding(crate::specs::PcrEvent::pcr_event_row))]
+pub fn pcr_event<K: Keep>(keep: &mut K, call: &Call, answer: &mut Answer) -> Result<(), Refused>
+    requires { IsEmpty answer.old }
+    ensures { Acts (pcr_event_row (K.record_of keep.old) (request_of call.now))
+        (K.record_of keep.old) result answer.new (K.record_of keep.new) }
+{
+    let handle = call.first_handle()?;
+    let mut parameters = Cursor::new(call.parameters);
+    let event = parameter(1, read_buffer(&mut parameters, DATA_LIMIT))?;
+    end(&parameters)?;
+    let digests = match handle.pcr() {
+        Some(pcr) => {
+            let banks = &mut keep.fixed_mut().banks;
+            banks
+                .event(pcr, call.locality, event)
+                .map_err(change_refusal)?
+        }
+        None => event_digests(event),
+    };
+    let _ = digests.write(&mut answer.parameters);
+    Ok(())
+}

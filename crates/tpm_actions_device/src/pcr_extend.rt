@@ -1,0 +1,37 @@
+//! TPM2_PCR_Extend: extends a PCR by each digest of a list in turn, by its row in
+//! `specs/PcrExtend`.
+
+ghost use Rattle.std.specs.Prelude.{◌≡◌};
+ghost use Rattle.tpm_actions_device.specs.PcrExtend.{pcr_extend_row};
+ghost use Rattle.tpm_actions_base.specs.Answer.{IsEmpty};
+ghost use Rattle.tpm_actions_base.specs.Request.{request_of};
+ghost use Rattle.tpm_actions_base.specs.Rows.{Acts};
+
+use crate::pcr_change::change_refusal;
+use tpm_actions_base::answer::Answer;
+use tpm_actions_base::call::Call;
+use tpm_actions_base::reading::{end, parameter};
+use tpm_bytes::Cursor;
+use tpm_record::Keep;
+use tpm_types::{DigestValues, Refused};
+
+/// TPM2_PCR_Extend: extends a PCR by each digest in turn; on TPM_RH_NULL nothing is checked or
+/// changed.
+#[tactic(auto, unfolding(crate::specs::PcrExtend::pcr_extend_row))]
+pub fn pcr_extend<K: Keep>(keep: &mut K, call: &Call, _answer: &mut Answer) -> Result<(), Refused>
+    requires { IsEmpty _answer.old }
+    ensures { Acts (pcr_extend_row (K.record_of keep.old) (request_of call.now))
+        (K.record_of keep.old) result _answer.new (K.record_of keep.new) }
+{
+    let handle = call.first_handle()?;
+    let mut parameters = Cursor::new(call.parameters);
+    let digests = parameter(1, DigestValues::read(&mut parameters))?;
+    end(&parameters)?;
+    if let Some(pcr) = handle.pcr() {
+        let banks = &mut keep.fixed_mut().banks;
+        banks
+            .extend(pcr, call.locality, &digests)
+            .map_err(change_refusal)?;
+    }
+    Ok(())
+}

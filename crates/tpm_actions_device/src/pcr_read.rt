@@ -1,0 +1,48 @@
+//! TPM2_PCR_Read: answers the update counter and the values of the first eight selected PCRs, by
+//! its row in `specs/PcrRead`.
+
+ghost use Rattle.std.specs.Prelude.{◌≡◌, ◌++◌, ◌%◌, ◌^◌, []};
+ghost use Rattle.std.specs.Int.{w32, to_be_bytes};
+ghost use Rattle.tpm_types.specs.DigestList.{digest_list_text, digests_of};
+ghost use Rattle.tpm_types.specs.PcrSelection.{selection_text};
+ghost use Rattle.tpm_actions_device.specs.PcrRead.{pcr_read_row};
+ghost use Rattle.tpm_actions_base.specs.Answer.{IsEmpty};
+ghost use Rattle.tpm_actions_base.specs.Request.{request_of};
+ghost use Rattle.tpm_actions_base.specs.Rows.{Acts};
+
+use tpm_actions_base::answer::{Answer, Parameters};
+use tpm_actions_base::call::Call;
+use tpm_actions_base::reading::{end, parameter};
+use tpm_bytes::Cursor;
+use tpm_pcr::PcrReading;
+use tpm_record::Keep;
+use tpm_types::{PcrSelection, Refused};
+
+/// Writes the counter's low 32 bits, the selection, the values.
+fn write_reading(update_count: u64, reading: &PcrReading, answer: &mut Parameters)
+    requires { answer.old ≡ [] }
+    ensures { answer.new ≡ to_be_bytes w32 (update_count % 2 ^ 32)
+        ++ selection_text reading.now.selection.banks.items
+        ++ digest_list_text (digests_of reading.now.values.digests.items) }
+{
+    let _ = answer.put_u32((update_count % (1 << 32)) as u32);
+    let _ = reading.selection.write(answer);
+    let _ = reading.values.write(answer);
+}
+
+/// TPM2_PCR_Read: the update counter, and the values of the first eight PCRs of a selection, with
+/// the selection of just these.
+#[tactic(auto, unfolding(crate::specs::PcrRead::pcr_read_row))]
+pub fn pcr_read<K: Keep>(keep: &mut K, call: &Call, answer: &mut Answer) -> Result<(), Refused>
+    requires { IsEmpty answer.old }
+    ensures { Acts (pcr_read_row (K.record_of keep.old) (request_of call.now))
+        (K.record_of keep.old) result answer.new (K.record_of keep.new) }
+{
+    let mut parameters = Cursor::new(call.parameters);
+    let selection = parameter(1, PcrSelection::read(&mut parameters))?;
+    end(&parameters)?;
+    let banks = &keep.fixed().banks;
+    let reading = banks.read(&selection);
+    write_reading(banks.update_count(), &reading, &mut answer.parameters);
+    Ok(())
+}

@@ -1,0 +1,31 @@
+//! TPM2_PCR_Reset: makes a PCR zeros in both banks, by its row in `specs/PcrReset`.
+
+ghost use Rattle.std.specs.Prelude.{◌≡◌};
+ghost use Rattle.tpm_actions_device.specs.PcrReset.{pcr_reset_row};
+ghost use Rattle.tpm_actions_base.specs.Answer.{IsEmpty};
+ghost use Rattle.tpm_actions_base.specs.Request.{request_of};
+ghost use Rattle.tpm_actions_base.specs.Rows.{Acts};
+
+use crate::pcr_change::change_refusal;
+use tpm_actions_base::answer::Answer;
+use tpm_actions_base::call::Call;
+use tpm_actions_base::reading::end;
+use tpm_bytes::Cursor;
+use tpm_record::Keep;
+use tpm_types::Refused;
+
+/// TPM2_PCR_Reset: makes a PCR zeros in both banks.
+#[tactic(auto, unfolding(crate::specs::PcrReset::pcr_reset_row))]
+pub fn pcr_reset<K: Keep>(keep: &mut K, call: &Call, _answer: &mut Answer) -> Result<(), Refused>
+    requires { IsEmpty _answer.old }
+    ensures { Acts (pcr_reset_row (K.record_of keep.old) (request_of call.now))
+        (K.record_of keep.old) result _answer.new (K.record_of keep.new) }
+{
+    let handle = call.first_handle()?;
+    end(&Cursor::new(call.parameters))?;
+    if let Some(pcr) = handle.pcr() {
+        let banks = &mut keep.fixed_mut().banks;
+        banks.reset(pcr, call.locality).map_err(change_refusal)?;
+    }
+    Ok(())
+}

@@ -1,0 +1,33 @@
+//! TPM2_ReadClock: answers Time, Clock, and the counts of resets and restarts, by its row in
+//! `specs/ReadClock`.
+
+ghost use Rattle.std.specs.Prelude.{◌≡◌};
+ghost use Rattle.tpm_actions_base.specs.Answer.{IsEmpty};
+ghost use Rattle.tpm_actions_device.specs.ReadClock.{read_clock_row};
+ghost use Rattle.tpm_actions_base.specs.Request.{request_of};
+ghost use Rattle.tpm_actions_base.specs.Rows.{Acts};
+
+use tpm_actions_base::answer::Answer;
+use tpm_actions_base::call::Call;
+use tpm_actions_base::reading::end;
+use tpm_bytes::Cursor;
+use tpm_record::Keep;
+use tpm_types::Refused;
+
+/// TPM2_ReadClock: Time, Clock, and the counts of resets and of restarts. Clock never goes back.
+#[tactic(auto, unfolding(crate::specs::ReadClock::read_clock_row))]
+pub fn read_clock<K: Keep>(keep: &mut K, call: &Call, answer: &mut Answer) -> Result<(), Refused>
+    requires { IsEmpty answer.old }
+    ensures { Acts (read_clock_row (K.record_of keep.old) (request_of call.now))
+        (K.record_of keep.old) result answer.new (K.record_of keep.new) }
+{
+    end(&Cursor::new(call.parameters))?;
+    let fixed = keep.fixed();
+    let text = &mut answer.parameters;
+    let _ = text.put_u64(fixed.time);
+    let _ = text.put_u64(fixed.clock);
+    let _ = text.put_u32(fixed.reset_count);
+    let _ = text.put_u32(fixed.restart_count);
+    let _ = text.put_u8(1);
+    Ok(())
+}

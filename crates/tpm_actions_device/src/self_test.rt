@@ -1,0 +1,26 @@
+//! TPM2_SelfTest: does nothing, as all tests have passed already, by its row in `specs/SelfTest`.
+
+ghost use Rattle.std.specs.Prelude.{◌≡◌};
+ghost use Rattle.tpm_actions_base.specs.Answer.{IsEmpty};
+ghost use Rattle.tpm_actions_base.specs.Request.{request_of};
+ghost use Rattle.tpm_actions_base.specs.Rows.{Acts};
+ghost use Rattle.tpm_actions_device.specs.SelfTest.{self_test_row};
+
+use tpm_actions_base::answer::Answer;
+use tpm_actions_base::call::Call;
+use tpm_actions_base::reading::{end, parameter};
+use tpm_bytes::Cursor;
+use tpm_record::Keep;
+use tpm_types::{Refused, read_yes_no};
+
+/// TPM2_SelfTest: all tests have passed already.
+#[tactic(auto, unfolding(crate::specs::SelfTest::self_test_row))]
+pub fn self_test<K: Keep>(_keep: &mut K, call: &Call, _answer: &mut Answer) -> Result<(), Refused>
+    requires { IsEmpty _answer.old }
+    ensures { Acts (self_test_row (K.record_of _keep.old) (request_of call.now))
+        (K.record_of _keep.old) result _answer.new (K.record_of _keep.new) }
+{
+    let mut text = Cursor::new(call.parameters);
+    let _full_test = parameter(1, read_yes_no(&mut text))?;
+    end(&text)
+}

@@ -1,0 +1,30 @@
+//! TPM2_Shutdown: saves what the next TPM2_Startup takes up, by its row in `specs/Shutdown`.
+
+ghost use Rattle.std.specs.Prelude.{◌≡◌};
+ghost use Rattle.tpm_actions_base.specs.Answer.{IsEmpty};
+ghost use Rattle.tpm_actions_base.specs.Request.{request_of};
+ghost use Rattle.tpm_actions_base.specs.Rows.{Acts};
+ghost use Rattle.tpm_actions_device.specs.Shutdown.{shutdown_row};
+
+use tpm_actions_base::answer::Answer;
+use tpm_actions_base::call::Call;
+use tpm_actions_base::reading::{end, parameter};
+use tpm_bytes::Cursor;
+use tpm_record::Keep;
+use tpm_types::{Refused, StartupType};
+
+/// TPM2_Shutdown: saves what the next TPM2_Startup takes up, with STATE the values of the PCRs 0 to
+/// 15.
+#[tactic(auto, unfolding(crate::specs::Shutdown::shutdown_row))]
+pub fn shutdown<K: Keep>(keep: &mut K, call: &Call, _answer: &mut Answer) -> Result<(), Refused>
+    requires { IsEmpty _answer.old }
+    ensures { Acts (shutdown_row (K.record_of keep.old) (request_of call.now))
+        (K.record_of keep.old) result _answer.new (K.record_of keep.new) }
+{
+    let mut text = Cursor::new(call.parameters);
+    let kind = parameter(1, StartupType::read(&mut text))?;
+    end(&text)?;
+    let fixed = keep.fixed_mut();
+    fixed.saved.shut_down(kind, &fixed.banks);
+    Ok(())
+}

@@ -1,0 +1,147 @@
+//! TPM2_Startup: starts the device by a TPM Reset, a TPM Restart or a TPM Resume, by its row in
+//! `specs/Startup`.
+
+ghost use Rattle.std.specs.Prelude.{◌≡◌};
+ghost use Rattle.tpm_actions_base.specs.Answer.{IsEmpty};
+ghost use Rattle.tpm_actions_base.specs.Request.{request_of};
+ghost use Rattle.tpm_actions_base.specs.Rows.{Acts};
+ghost use Rattle.tpm_actions_device.specs.Startup.{reset_fixed, reset_hierarchies, reset_lockout, without_platform_auth};
+ghost use Rattle.tpm_actions_device.specs.Startup.{restart_fixed, resume_fixed, start_draws, start_of, started_record, startup_row};
+
+use tpm_actions_base::answer::Answer;
+use tpm_actions_base::call::Call;
+use tpm_actions_base::reading::{end, parameter};
+use tpm_actions_base::refusals::parameter_refusal;
+use tpm_bytes::Cursor;
+use tpm_lockout::Lockout;
+use tpm_nv::Indices;
+use tpm_record::{Fixed, Hierarchies, Keep, SavedKind, Secrets};
+use tpm_types::{ActionCheck, AuthValue, HierarchyAuth, Refused, ResponseCode, StartupType};
+
+/// How many random bytes a TPM Reset draws: a seed and a proof.
+const RESET_DRAWS: usize = 64;
+
+/// Empties platformAuth.
+fn empty_platform_auth(hierarchies: &mut Hierarchies)
+    ensures { hierarchies.new ≡ without_platform_auth hierarchies.old }
+{
+    hierarchies.set_auth_value(HierarchyAuth::Platform, AuthValue::empty());
+}
+
+/// Does so, and gives the null hierarchy a new seed and a new proof.
+fn reset_hierarchies(hierarchies: &mut Hierarchies, random: &[u8; 256])
+    ensures { hierarchies.new ≡ reset_hierarchies hierarchies.old random.now }
+{
+    empty_platform_auth(hierarchies);
+    let (mut seed, mut proof) = ([0; 32], [0; 32]);
+    seed.copy_from_slice(&random[..32]);
+    proof.copy_from_slice(&random[32..64]);
+    hierarchies.null = Secrets { seed, proof };
+}
+
+/// Opens lockoutAuth where no time opens it.
+fn reset_lockout(lockout: &mut Lockout)
+    ensures { lockout.new ≡ reset_lockout lockout.old }
+{
+    if lockout.fields().lockout_recovery == 0 {
+        lockout.lockout_open();
+    }
+}
+
+/// What a startup is (TPM 2.0 Library, Part 1, section 12.2.3).
+#[derive(Clone, Copy, Debug, PartialEq, Eq)]
+pub enum Start {
+    /// TPM Reset: with CLEAR, where no state was saved.
+    Reset,
+    /// TPM Restart: with CLEAR, where a state was saved.
+    Restart,
+    /// TPM Resume: with STATE, where a state was saved.
+    Resume,
+}
+
+impl Start {
+    /// What a startup of this type is; VALUE where it wants a saved state and there is none.
+    fn of(kind: StartupType, saved: SavedKind) -> Result<Start, Refused>
+        ensures { result ≡ start_of kind saved }
+    {
+        match (kind, saved) {
+            (StartupType::Clear, SavedKind::State) => Ok(Start::Restart),
+            (StartupType::Clear, _) => Ok(Start::Reset),
+            (StartupType::State, SavedKind::State) => Ok(Start::Resume),
+            (StartupType::State, _) => Err(parameter_refusal(
+                ActionCheck::First,
+                1,
+                ResponseCode::Value,
+            )),
+        }
+    }
+}
+
+fn reset(fixed: &mut Fixed, random: &[u8; 256])
+    ensures { fixed.new ≡ reset_fixed fixed.old random.now }
+{
+    fixed.started = true;
+    reset_hierarchies(&mut fixed.hierarchies, random);
+    reset_lockout(&mut fixed.lockout);
+    fixed.banks.restart_update_count();
+    fixed.reset_count = fixed.reset_count.saturating_add(1);
+    fixed.restart_count = 0;
+}
+
+fn restart(fixed: &mut Fixed)
+    ensures { fixed.new ≡ restart_fixed fixed.old }
+{
+    fixed.started = true;
+    empty_platform_auth(&mut fixed.hierarchies);
+    fixed.banks.restart_update_count();
+    fixed.restart_count = fixed.restart_count.saturating_add(1);
+}
+
+fn resume(fixed: &mut Fixed)
+    ensures { fixed.new ≡ resume_fixed fixed.old }
+{
+    fixed.started = true;
+    fixed.saved.restore(&mut fixed.banks);
+    fixed.banks.restart_update_count();
+    fixed.restart_count = fixed.restart_count.saturating_add(1);
+}
+
+/// Starts the device, and tells how many random bytes that draws.
+fn begin<K: Keep>(keep: &mut K, start: Start, random: &[u8; 256]) -> usize
+    ensures after { K.record_of keep.new
+        ≡ started_record start (K.record_of keep.old) random.now }
+    ensures drawn { result ≡ start_draws start }
+{
+    match start {
+        Start::Reset => {
+            reset(keep.fixed_mut(), random);
+            keep.nv_mut().startup();
+            RESET_DRAWS
+        }
+        Start::Restart => {
+            restart(keep.fixed_mut());
+            keep.nv_mut().startup();
+            0
+        }
+        Start::Resume => {
+            resume(keep.fixed_mut());
+            0
+        }
+    }
+}
+
+/// TPM2_Startup: a TPM Reset, a TPM Restart or a TPM Resume; VALUE where it wants a saved state and
+/// there is none.
+#[tactic(auto, unfolding(crate::specs::Startup::startup_row))]
+pub fn startup<K: Keep>(keep: &mut K, call: &Call, answer: &mut Answer) -> Result<(), Refused>
+    requires { IsEmpty answer.old }
+    ensures { Acts (startup_row (K.record_of keep.old) (request_of call.now))
+        (K.record_of keep.old) result answer.new (K.record_of keep.new) }
+{
+    let mut text = Cursor::new(call.parameters);
+    let kind = parameter(1, StartupType::read(&mut text))?;
+    end(&text)?;
+    let start = Start::of(kind, keep.fixed().saved.kind())?;
+    answer.drawn = begin(keep, start, call.random);
+    Ok(())
+}

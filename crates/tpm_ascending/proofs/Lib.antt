@@ -1,2 +1,0 @@
-pub mod AscendingLaws
-pub mod KeyIndex

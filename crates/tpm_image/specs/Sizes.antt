@@ -1,0 +1,34 @@
+-- How many bytes the parts of an image have at most, by the limits of the device.
+use Rattle.std.specs.Prelude.{ℕ, ◌+◌, ◌*◌}
+use Rattle.tpm_types.specs.Limits.{nv_index_limit, nv_space_limit, persistent_limit}
+
+-- what does not grow: hierarchies, lockout, clock, counts, and what a shutdown saved
+abbrev pub state_size : ℕ
+state_size = 1269
+
+-- a persistent object with its handle, and all of them with their number
+abbrev pub object_size : ℕ
+object_size = 330
+
+abbrev pub objects_size : ℕ
+objects_size = 2 + persistent_limit * object_size
+
+-- an NV index without its data, all of them with their data, and with their number
+abbrev pub index_size : ℕ
+index_size = 84
+
+abbrev pub entries_size : ℕ
+entries_size = nv_index_limit * index_size + nv_space_limit
+
+abbrev pub indices_size : ℕ
+indices_size = 2 + entries_size
+
+abbrev pub body_size : ℕ
+body_size = state_size + (objects_size + indices_size)
+
+-- a body, with the digest after it, and the image, whose head has 10 bytes
+abbrev pub text_size : ℕ
+text_size = body_size + 32
+
+abbrev pub image_size : ℕ
+image_size = 10 + text_size

@@ -1,0 +1,153 @@
+//! The decoding of a command's buffer, as far as the general checks go that come before
+//! authorization; the first that fails refuses it.
+
+ghost use Rattle.tpm_types.specs.Limits.{buffer_limit};
+ghost use Rattle.tpm_bytes.specs.Reading.{Gives};
+ghost use Rattle.std.specs.Prelude.{◌≡◌, ◌≤◌, [], Ok, IfOk, length};
+ghost use Rattle.tpm_bytes.specs.Reading.{Reads};
+ghost use Rattle.tpm_types_command.specs.CommandCode.{code_number, handle_count};
+ghost use Rattle.tpm_types_command.specs.Command.{command_at, whole_of};
+ghost use Rattle.tpm_machine_step.specs.General.{body_of, general, header_check, header_refusal, present_handle_at, present_handles_at, sessions_pass};
+
+use arrayvec::ArrayVec;
+use tpm_bytes::{Cursor, ReadableBy};
+use tpm_machine_step::RefusedCommand;
+use tpm_record::{Keep, absence_rc, is_present};
+use tpm_types::{Check, Handle, Rc, Refused, ResponseCode, bytes_fit};
+use tpm_types_command::{
+    Command, CommandCode, HandleRule, Header, HeaderFault, Tag, read_sessions,
+};
+
+fn header_check(fault: HeaderFault) -> Check
+    ensures { result ≡ header_check fault }
+{
+    match fault {
+        HeaderFault::Length => Check::Length,
+        HeaderFault::Tag => Check::Tag,
+        HeaderFault::Size => Check::Size,
+        HeaderFault::Code => Check::Code,
+    }
+}
+
+fn header_refusal(fault: HeaderFault) -> RefusedCommand
+    ensures { result ≡ header_refusal fault }
+{
+    RefusedCommand {
+        code: 0,
+        refused: Refused::by(header_check(fault), fault.rc()),
+    }
+}
+
+/// Refuses sessions where the command may have none, and none where it must have some.
+#[tactic(auto, unfolding(tpm_machine_step::specs::General::sessions_pass))]
+fn check_tag(code: CommandCode, tag: Tag) -> Result<(), Refused>
+    ensures { result ≡ sessions_pass code tag }
+{
+    let has_sessions = tag == Tag::Sessions;
+    if has_sessions && code.shape().forbids_sessions {
+        let rc = ResponseCode::AuthContext.anywhere();
+        return Err(Refused::by(Check::Sessions, rc));
+    }
+    if !has_sessions && code.authorized_handles() > 0 {
+        let rc = ResponseCode::AuthMissing.anywhere();
+        return Err(Refused::by(Check::Sessions, rc));
+    }
+    Ok(())
+}
+
+/// Reads the handle of this number as its rule wants it, if there is what it names.
+#[tactic(auto, unfolding(tpm_machine_step::specs::General::present_handle_at))]
+fn read_handle<K: Keep>(
+    keep: &K,
+    number: u8,
+    rule: &HandleRule,
+    text: &mut Cursor,
+) -> Result<Handle, Rc>
+    ensures { Reads (λ handle. handle)
+        (present_handle_at (K.record_of keep.now) number rule.now text.old) text.old result text.new }
+{
+    let mut ahead = Cursor::new(text.rest());
+    let handle = Handle::read(number, rule, &mut ahead)?;
+    if !is_present(keep, handle) {
+        return Err(absence_rc(number, handle));
+    }
+    *text = ahead;
+    Ok(handle)
+}
+
+/// Reads the handles of a command.
+fn read_handles<K: Keep>(
+    keep: &K,
+    code: CommandCode,
+    text: &mut Cursor,
+) -> Result<ArrayVec<Handle, 3>, Rc>
+    ensures exact { Reads (λ handles. handles.items)
+        (present_handles_at (K.record_of keep.now) code text.old) text.old result text.new }
+    ensures all { IfOk result (λ handles. length handles.items ≡ handle_count code) }
+{
+    let mut ahead = Cursor::new(text.rest());
+    let mut handles = ArrayVec::new();
+    let mut number = 1;
+    let rules = code.shape().handles;
+    for rule in rules {
+        handles.push(read_handle(keep, number, rule, &mut ahead)?);
+        number += 1;
+    }
+    *text = ahead;
+    Ok(handles)
+}
+
+/// Reads what stands after a command's header, or gives the first check that refuses it.
+#[tactic(auto, unfolding(tpm_machine_step::specs::General::body_of))]
+fn decode_body<'a, K: Keep>(
+    keep: &K,
+    header: Header,
+    mut text: Cursor<'a>,
+) -> Result<Command<'a>, Refused>
+    ensures { Gives whole_of (body_of (K.record_of keep.now) header text.entry) result }
+{
+    let code = header.code;
+    let is_startup = code.number() == CommandCode::Startup.number();
+    if keep.fixed().started == is_startup {
+        let rc = ResponseCode::Initialize.anywhere();
+        return Err(Refused::by(Check::Started, rc));
+    }
+    let handles = read_handles(keep, code, &mut text).map_err(|rc| Refused::by(
+        Check::Handles,
+        rc,
+    ))?;
+    check_tag(code, header.tag)?;
+    let entries = read_sessions(&mut text, header.tag).map_err(|rc| Refused::by(
+        Check::Entries,
+        rc,
+    ))?;
+    Ok(Command {
+        code,
+        handles,
+        entries,
+        parameters: text.rest(),
+    })
+}
+
+#[inline(always)]
+#[tactic(auto, unfolding(tpm_machine_step::specs::General::general))]
+fn decode_whole<'a, K: Keep>(keep: &K, buffer: &'a [u8]) -> Result<Command<'a>, RefusedCommand>
+    ensures { Gives whole_of (general (K.record_of keep.now) buffer.now) result }
+{
+    let mut text = Cursor::new(buffer);
+    let header = Header::read(&mut text).map_err(header_refusal)?;
+    decode_body(keep, header, text).map_err(|refused| RefusedCommand::of(header.code, refused))
+}
+
+/// Decodes a command's buffer, or gives the first general check that refuses it.
+#[tactic(auto, using(crate::proofs::DecodingLaws::decodes_reads, crate::proofs::DecodingLaws::decodes_short))]
+pub fn decode<'a, K: Keep>(keep: &K, buffer: &'a [u8]) -> Result<Command<'a>, RefusedCommand>
+    ensures decoded { Gives whole_of (general (K.record_of keep.now) buffer.now) result }
+
+    // It is the command that the whole buffer spells.
+    ensures read { IfOk result (λ command. command_at buffer.now ≡ Ok (whole_of command, [])) }
+    ensures short { IfOk result (λ command. length command.parameters.now ≤ buffer_limit) }
+{
+    bytes_fit(buffer);
+    decode_whole(keep, buffer)
+}

@@ -1,0 +1,26 @@
+//! A refusal together with the code of the command that is refused.
+
+ghost use Rattle.std.specs.Prelude.{◌≡◌};
+ghost use Rattle.tpm_types_command.specs.CommandCode.{code_number};
+
+use tpm_types::Refused;
+use tpm_types_command::CommandCode;
+
+/// A refusal, and the code of the command that is refused; 0 where none was found.
+#[derive(Clone, Copy, Debug, PartialEq, Eq)]
+pub struct RefusedCommand {
+    pub code: u32,
+    pub refused: Refused,
+}
+
+impl RefusedCommand {
+    /// A refusal of a command.
+    pub fn of(code: CommandCode, refused: Refused) -> RefusedCommand
+        ensures { result ≡ record { code = code_number code; refused = refused } }
+    {
+        RefusedCommand {
+            code: code.number(),
+            refused,
+        }
+    }
+}

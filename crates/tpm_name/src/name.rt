@@ -1,0 +1,102 @@
+//! The Name of an entity, of at most 34 bytes: its handle, or a hash algorithm and a digest by it
+//! (TPM 2.0 Library, Part 1, section 16).
+
+ghost use Rattle.std.specs.Prelude.{◌≡◌, ◌≤◌, [], length};
+ghost use Rattle.std.specs.Str.{bytes_eq};
+ghost use Rattle.tpm_mac.specs.Digest.{joined_text};
+ghost use Rattle.tpm_name.specs.Name.{handle_name, hashed_name, qualified_name};
+
+use arrayvec::ArrayVec;
+use std::marker::Model;
+use tpm_bytes::copied;
+use tpm_mac::{HashAlg, digest_parts};
+use tpm_types::{Handle, hash_number};
+
+/// The Name of an entity: at most 34 bytes. Contracts see it as its bytes.
+#[derive(Drop)]
+pub struct Name {
+    bytes: ArrayVec<u8, 34>,
+}
+
+impl Model for Name {
+    ghost use Rattle.std.specs.Prelude.{ℕ, List};
+
+    ghost Value = { List ℕ };
+
+    ghost view = { λ n. n.bytes.items };
+}
+
+impl Default for Name {
+    /// No byte, the Name of nothing (TPM 2.0 Library, Part 1, section 16).
+    fn default() -> Name
+        ensures { result ≡ [] }
+    {
+        Name {
+            bytes: ArrayVec::new(),
+        }
+    }
+}
+
+impl Name {
+    /// The Name of an entity that has no public area, as a hierarchy or a PCR: its handle.
+    pub fn of_handle(handle: Handle) -> Name
+        ensures { result ≡ handle_name handle }
+    {
+        Name {
+            bytes: copied(&handle.number.to_be_bytes()),
+        }
+    }
+
+    /// A Name, or a qualified Name, of these bytes.
+    pub fn of(bytes: &[u8]) -> Name
+        requires { length bytes.now ≤ 34 }
+        ensures { result ≡ bytes.now }
+    {
+        Name {
+            bytes: copied(bytes),
+        }
+    }
+
+    /// A hash algorithm, and the digest of these parts as one text by it: the Name of what has a
+    /// public area of that text.
+    pub fn hashed(alg: HashAlg, parts: &[&[u8]]) -> Name
+        ensures { result ≡ hashed_name alg (joined_text parts.now) }
+    {
+        let mut bytes = ArrayVec::new();
+        let _ = bytes.try_extend_from_slice(&hash_number(alg).to_be_bytes());
+        let _ = bytes.try_extend_from_slice(digest_parts(alg, parts).as_slice());
+        Name { bytes }
+    }
+
+    /// The qualified Name of an object of this Name, under a parent of this qualified Name.
+    #[tactic(auto, unfolding(crate::specs::Name::qualified_name))]
+    pub fn qualified(alg: HashAlg, parent: &[u8], name: &[u8]) -> Name
+        ensures { result ≡ qualified_name alg parent.now name.now }
+    {
+        Name::hashed(alg, &[parent, name])
+    }
+
+    /// Its bytes.
+    pub fn as_slice(&self) -> &[u8]
+        ensures value { result.now ≡ self.now }
+        ensures fits { length result.now ≤ 34 }
+    {
+        self.bytes.as_slice()
+    }
+
+    /// The same Name.
+    pub fn copy(&self) -> Name
+        ensures { result ≡ self.now }
+    {
+        Name {
+            bytes: copied(self.bytes.as_slice()),
+        }
+    }
+
+    /// Whether the two are the same.
+    pub fn is_same(&self, other: &Name) -> bool
+        ensures { result ≡ bytes_eq self.now other.now }
+    {
+        self.bytes.as_slice() == other.bytes.as_slice()
+    }
+}

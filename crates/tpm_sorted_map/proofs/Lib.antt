@@ -1,0 +1,2 @@
+pub mod SortedMapLaws
+pub mod KeyIndex

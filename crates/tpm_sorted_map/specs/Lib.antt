@@ -1,0 +1,2 @@
+pub mod SortedMap
+pub mod IsSortedMap

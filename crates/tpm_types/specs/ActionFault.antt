@@ -1,0 +1,17 @@
+-- Why one of a command's own checks refuses it. TPM 2.0 Library, Part 3: the response codes of each
+-- command.
+use Rattle.std.specs.Prelude.{ℕ}
+use Rattle.tpm_types.specs.declared.action_check.ActionCheck.{ActionCheck}
+use Rattle.tpm_types.specs.declared.action_fault.ActionFault.{ActionFault}
+use Rattle.tpm_types.specs.declared.rc.Place.TheVariants as place
+use Rattle.tpm_types.specs.declared.rc.ResponseCode.{ResponseCode}
+use Rattle.tpm_types.specs.Rc.{at, plain}
+
+-- a fault of a check that is of no handle, parameter or session
+abbrev pub plain_fault : ActionCheck → ResponseCode → ActionFault
+plain_fault check code = record { check = check; rc = plain code }
+
+-- and one of a parameter
+abbrev pub parameter_fault : ActionCheck → (parameter : ℕ) → ResponseCode → ActionFault
+parameter_fault check parameter code =
+    record { check = check; rc = at (place.Parameter parameter) (plain code) }

@@ -1,0 +1,28 @@
+//! The reader of attributes, a bit of 32 for each (TPMA_OBJECT and TPMA_NV; TPM 2.0 Library, Part
+//! 2, sections 8.3 and 13.4).
+
+ghost use Rattle.std.specs.Prelude.{◌≡◌, bit_and, IfOk};
+ghost use Rattle.tpm_bytes.specs.Reading.{Reads};
+ghost use Rattle.tpm_types.specs.AttributeBits.{attribute_bits_at};
+
+use crate::rc::{Rc, ResponseCode};
+use tpm_bytes::Cursor;
+
+/// Reads the bits of attributes: INSUFFICIENT where they are cut, RESERVED_BITS where one of the
+/// `reserved` bits is set.
+#[tactic(auto, unfolding(crate::specs::AttributeBits::attribute_bits_at))]
+pub fn read_attribute_bits(text: &mut Cursor, reserved: u32) -> Result<u32, Rc>
+    ensures exact { Reads (λ bits. bits) (attribute_bits_at reserved text.old) text.old
+        result text.new }
+    ensures named { IfOk result (λ bits. bit_and bits reserved ≡ 0) }
+{
+    let mut ahead = Cursor::new(text.rest());
+    let Ok(bits) = ahead.u32() else {
+        return Err(ResponseCode::Insufficient.anywhere());
+    };
+    if bits & reserved != 0 {
+        return Err(ResponseCode::ReservedBits.anywhere());
+    }
+    *text = ahead;
+    Ok(bits)
+}

@@ -1,0 +1,84 @@
+//! The reader of a whole command, from its header to its parameters.
+
+ghost use Rattle.std.specs.Prelude.{◌≡◌, ◌≤◌, [], length, map, Ok, IfOk};
+ghost use Rattle.tpm_bytes.specs.Reading.{Reads};
+ghost use Rattle.tpm_types_command.specs.AuthEntry.{entry_of};
+ghost use Rattle.tpm_types_command.specs.Command.{IsCommand, Whole, command_at, command_text};
+ghost use Rattle.tpm_types_command.specs.Command.{handles_at, sessions_at, whole_of};
+
+use crate::auth_area::AuthArea;
+use crate::auth_entry::AuthEntry;
+use crate::command::Command;
+use crate::header::Header;
+use crate::tag::Tag;
+use arrayvec::ArrayVec;
+use tpm_bytes::Cursor;
+use tpm_types::{Handle, Rc, ResponseCode, bytes_fit};
+
+impl<'a> Command<'a> {
+    /// Reads a command that is the whole rest of the text, within the limit of a buffer: its
+    /// header's first fault, INSUFFICIENT at the first handle that is cut, or AUTHSIZE.
+    pub fn read(text: &mut Cursor<'a>) -> Result<Command<'a>, Rc>
+        // Which command or which fault it is.
+        ensures exact { Reads whole_of (command_at text.old) text.old result text.new }
+        // What is read was spelled so, all of it.
+        ensures found { IfOk result (λ command. IsCommand (whole_of command)
+            × (text.old ≡ command_text (whole_of command)) × (text.new ≡ [])) }
+        // What is spelled so is read.
+        ensures only { (command : Whole) → IsCommand command → text.old ≡ command_text command
+            → Reads whole_of (Ok (command, [])) text.old result text.new }
+    {
+        bytes_fit(text.rest());
+        Command::read_fields(text)
+    }
+
+    #[tactic(auto, unfolding(crate::specs::Command::command_at))]
+    fn read_fields(text: &mut Cursor<'a>) -> Result<Command<'a>, Rc>
+        ensures { Reads whole_of (command_at text.old) text.old result text.new }
+    {
+        let mut ahead = Cursor::new(text.rest());
+        let header = match Header::read(&mut ahead) {
+            Ok(header) => header,
+            Err(fault) => return Err(fault.rc()),
+        };
+        let handles = read_handles(&mut ahead, header.code.handle_count())?;
+        let entries = read_sessions(&mut ahead, header.tag)?;
+        *text = Cursor::new(&[]);
+        Ok(Command {
+            code: header.code,
+            handles,
+            entries,
+            parameters: ahead.rest(),
+        })
+    }
+}
+
+fn read_handles(text: &mut Cursor, count: usize) -> Result<ArrayVec<Handle, 3>, Rc>
+    requires { count ≤ 3 }
+    ensures exact { Reads (λ handles. handles.items) (handles_at 1 count text.old)
+        text.old result text.new }
+    ensures count { IfOk result (λ handles. length handles.items ≡ count) }
+{
+    let mut ahead = Cursor::new(text.rest());
+    let mut handles = ArrayVec::new();
+    for before in 0..count {
+        let place = before as u8 + 1;
+        let Ok(number) = ahead.u32() else {
+            return Err(ResponseCode::Insufficient.anywhere().at_handle(place));
+        };
+        handles.push(Handle { number });
+    }
+    *text = ahead;
+    Ok(handles)
+}
+
+/// Reads the entries of the authorization area, which is there where the tag says so.
+pub fn read_sessions<'a>(text: &mut Cursor<'a>, tag: Tag) -> Result<ArrayVec<AuthEntry<'a>, 3>, Rc>
+    ensures { Reads (λ entries. map entry_of entries.items) (sessions_at tag text.old)
+        text.old result text.new }
+{
+    match tag {
+        Tag::NoSessions => Ok(ArrayVec::new()),
+        Tag::Sessions => Ok(AuthArea::read(text)?.entries),
+    }
+}

@@ -1,0 +1,80 @@
+//! The header of a command, and its first fault in the order in which it is looked for (TPM 2.0
+//! Library, Part 1, section 18.2).
+
+ghost use Rattle.std.specs.Prelude.{◌≡◌};
+ghost use Rattle.tpm_bytes.specs.Reading.{Reads};
+
+use crate::auth_entry::AuthEntry;
+use crate::command_code::CommandCode;
+use crate::tag::Tag;
+use arrayvec::ArrayVec;
+use tpm_bytes::Cursor;
+use tpm_types::{BUFFER_LIMIT, Handle, Rc, ResponseCode};
+
+/// The bytes of a command's header.
+pub const HEADER_SIZE: usize = 10;
+
+/// What a command's header says besides its size (TPM 2.0 Library, Part 1, section 18.2).
+#[derive(Clone, Copy, Debug, PartialEq, Eq)]
+pub struct Header {
+    pub tag: Tag,
+    pub code: CommandCode,
+}
+
+/// The first fault of a command's header, in the order in which it is looked for.
+#[derive(Clone, Copy, Debug, PartialEq, Eq)]
+pub enum HeaderFault {
+    /// Fewer bytes than a header, or more than the limit of a buffer.
+    Length,
+    /// A tag that is neither of the two.
+    Tag,
+    /// A commandSize that is not the buffer's length.
+    Size,
+    /// A command that is not served.
+    Code,
+}
+
+impl HeaderFault {
+    ghost use Rattle.tpm_types_command.specs.Header.{header_fault_rc};
+
+    /// The response code of the fault.
+    pub fn rc(self) -> Rc
+        ensures { result ≡ header_fault_rc self }
+    {
+        match self {
+            HeaderFault::Length | HeaderFault::Size => ResponseCode::CommandSize.anywhere(),
+            HeaderFault::Tag => ResponseCode::BadTag.anywhere(),
+            HeaderFault::Code => ResponseCode::CommandCode.anywhere(),
+        }
+    }
+}
+
+impl Header {
+    ghost use Rattle.tpm_types_command.specs.Header.{header_at};
+
+    /// Reads the header of a command that is the whole rest of the text.
+    #[tactic(auto, unfolding(crate::specs::Header::header_at))]
+    pub fn read(text: &mut Cursor) -> Result<Header, HeaderFault>
+        ensures { Reads (λ header. header) (header_at text.old) text.old result text.new }
+    {
+        let length = text.len();
+        if length < HEADER_SIZE || length > BUFFER_LIMIT {
+            return Err(HeaderFault::Length);
+        }
+        let mut ahead = Cursor::new(text.rest());
+        let (Ok(tag), Ok(size), Ok(code)) = (ahead.u16(), ahead.u32(), ahead.u32()) else {
+            return Err(HeaderFault::Length);
+        };
+        let Some(tag) = Tag::named(tag) else {
+            return Err(HeaderFault::Tag);
+        };
+        if size as usize != length {
+            return Err(HeaderFault::Size);
+        }
+        let Some(code) = CommandCode::named(code) else {
+            return Err(HeaderFault::Code);
+        };
+        *text = ahead;
+        Ok(Header { tag, code })
+    }
+}

@@ -1,0 +1,12 @@
+use Rattle.tpmsim_arguments.proofs.Lines.{joined_is_served, line_is_assembled, script_is_run, script_is_traced}
+use Rattle.tpmsim_arguments.proofs.Settings.{device_is_served}
+use Rattle.tpmsim_arguments.proofs.laws.usual_line_laws.Goals as goal
+
+pub returns : goal.returns
+returns c = record {
+  asm = line_is_assembled;
+  run = script_is_run;
+  trace = script_is_traced;
+  serve = device_is_served;
+  joined = joined_is_served;
+}

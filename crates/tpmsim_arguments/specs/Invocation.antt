@@ -1,0 +1,91 @@
+-- What a command line asks for, by what clap finds in its words.
+use Rattle.std.specs.Prelude.{ℕ, Bool, false, List, Option, Some, None, codes, if◌then◌else◌}
+use Rattle.std.specs.Prelude.{option_and_then, option_map}
+use Rattle.std.specs.Option.{option_map_or}
+use Rattle.std.specs.Str.{bytes_eq}
+use Rattle.clap.specs.Words.{Row, Text, first_of, kind_of, subcommand_of}
+use Rattle.clap.specs.declared.error.kind.ErrorKind.{ErrorKind}
+use Rattle.tpm_types.specs.Locality.{locality_number}
+use Rattle.tpm_text.specs.Number.{decimal_of, locality_of}
+use Rattle.tpmsim_arguments.specs.CommandLine.{program}
+use Rattle.tpmsim_arguments.specs.declared.arguments.Arguments.{Arguments}
+use Rattle.tpmsim_arguments.specs.declared.arguments.Arguments.TheVariants as arguments
+use Rattle.tpmsim_arguments.specs.declared.service.Service.{Service}
+
+-- what a device is served with
+pub record Served : Type 0 where
+  pub socket : Text
+  pub image : Text
+  pub entropy : Text
+  pub locality : ℕ
+  pub connections : ℕ
+
+-- to run a script, with its trace or without; to print the buffer of a line; to serve a device; to
+-- tell a text of clap's, its help or the version
+pub data Invocation : Type 0 where
+  run : Text → Bool → Invocation
+  assemble : Text → Invocation
+  serve : Served → Invocation
+  tell : ErrorKind → Invocation
+
+-- ---- by the words
+
+-- a flag is set where it was given: clap finds "true" for it then, and else "false"
+abbrev pub is_set : Text → List Row → Bool
+is_set flag rows =
+    option_map_or (λ text. bytes_eq text (codes "true")) (first_of flag rows) false
+
+-- the number that decimal digits write
+abbrev pub number_in : Text → List Row → Option ℕ
+number_in name rows = option_and_then decimal_of (first_of name rows)
+
+infixl 10 ◌>>=◌
+abbrev pub ◌>>=◌ : {A B : Type 0} → Option A → (A → Option B) → Option B
+found >>= next = option_and_then next found
+
+abbrev pub service_in : List Row → Option Served
+service_in rows = do
+  socket ← first_of (codes "socket") rows
+  image ← first_of (codes "image") rows
+  entropy ← first_of (codes "entropy") rows
+  locality ← number_in (codes "locality") rows >>= locality_of
+  connections ← number_in (codes "connections") rows
+  Some (record {
+    socket = socket;
+    image = image;
+    entropy = entropy;
+    locality = locality;
+    connections = connections;
+  })
+
+-- what a command of this name asks for, with these matches
+abbrev pub asked_of : Text → List Row → Option Invocation
+asked_of name rows = if bytes_eq name (codes "run")
+    then option_map (λ script. run script (is_set (codes "trace") rows))
+    (first_of (codes "script") rows)
+    else (if bytes_eq name (codes "asm") then option_map assemble (first_of (codes "line") rows)
+    else (if bytes_eq name (codes "serve") then option_map serve (service_in rows) else None))
+
+abbrev pub asked_in : Option (Text × List Row) → Option Invocation
+asked_in = option_and_then (λ command. asked_of command.0 command.1)
+
+-- what these words ask for, of which the first is the program's name
+abbrev pub asked_by : List Text → Option Invocation
+asked_by words = asked_in (subcommand_of program words)
+
+-- ---- as the code gives it
+
+abbrev pub served : Service → Served
+served service = record {
+  socket = service.socket.now;
+  image = service.image.now;
+  entropy = service.entropy.now;
+  locality = locality_number service.locality;
+  connections = service.connections;
+}
+
+abbrev pub asked : Arguments → Invocation
+asked (arguments.Run script trace) = run script.now trace
+asked (arguments.Assemble line) = assemble line.now
+asked (arguments.Serve service) = serve (served service)
+asked (arguments.Tell error) = tell (kind_of error)
