@@ -82,6 +82,19 @@ for kind in removed folder; do
 done
 rmdir socket
 
+# A file takes the path of the socket, or another run's socket does: it stays there.
+rm -f image
+meanwhile 'a file takes the place of the socket' 'rm socket; echo taken >socket'
+cat socket
+rm -f socket image
+meanwhile 'another run takes the place of the socket' "rm socket
+    '$program' serve --socket socket --image image2 --entropy entropy --locality 0 \
+        --connections 1 >'$room/others' 2>&1 & until [ -S socket ]; do sleep 0.01; done"
+talk 'that run is answered' 4096 "$startup"
+until [ ! -e socket ]; do sleep 0.01; done
+cat "$room/others"
+echo 'it has removed its socket'
+
 # Random bytes for the manufacture, two commands, and a part of a third: they end in the second
 # connection, and what was done until then is saved.
 mv entropy enough

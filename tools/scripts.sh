@@ -2,17 +2,19 @@
 # Runs the scripts of tests/ and examples/, and the shell tests of tests/, with each of the two
 # programs that `rt ci` leaves and with the one in dist/, and compares what comes of them with the
 # files beside them. Then it runs the scripts that are to end well with tpmsim_lists, which keeps
-# the device's state in lists and not in fixed slots: the same bytes over both keeps. Where nothing
-# was built here, the program in dist/ is run alone; that takes a minute, and needs no `rt`.
+# the device's state in lists and not in fixed places, for the same bytes over both keeps; and the
+# shell tests of that program. Where nothing was built here, the program in dist/ is run alone; that
+# takes a minute, and needs no `rt`.
 #
 #   tools/scripts.sh                   all of them
 #   tools/scripts.sh pcr_extend files  these
 #
 # NAME.tpm is run as `PROGRAM run NAME.tpm`, or as `tpmsim_lists <NAME.tpm`, and NAME.sh as `sh
-# NAME.sh PROGRAM`. NAME.out is what standard output must be, NAME.err what standard error must be
-# (no file: empty), and NAME.status the exit status (no file: 0). Where there is a NAME.trace,
-# NAME.tpm is run as `PROGRAM run --trace NAME.tpm` too, which is a further test, and NAME.trace is
-# what standard output must be. The last line is `N passed, M failed`.
+# NAME.sh PROGRAM`. A shell test whose name begins with lists_ is run with tpmsim_lists alone, and all
+# others with the other programs. NAME.out is what standard output must be, NAME.err what standard
+# error must be (no file: empty), and NAME.status the exit status (no file: 0). Where there is a
+# NAME.trace, NAME.tpm is run as `PROGRAM run --trace NAME.tpm` too, which is a further test, and
+# NAME.trace is what standard output must be. The last line is `N passed, M failed`.
 set -u
 
 top=$(CDPATH='' cd "$(dirname "$0")/.." && pwd -P) || exit 1
@@ -144,6 +146,9 @@ for program in "$out/tpmsim" "$out/tpmsim.by-rattle" "$top/dist/tpmsim"; do
     fi
     programs=$((programs + 1))
     for test do
+        case $test in
+        */lists_*.sh) continue ;;
+        esac
         check "$test" "$program" "${test%.*}.out"
         case $test in
         *.tpm) [ ! -f "${test%.*}.trace" ] || check "$test" "$program" "${test%.*}.trace" --trace ;;
@@ -155,7 +160,7 @@ done
 if [ -x "$lists" ]; then
     for test do
         case $test,$(status_of "$test") in
-        *.tpm,0) check "$test" "$lists" "${test%.*}.out" ;;
+        *.tpm,0 | */lists_*.sh,*) check "$test" "$lists" "${test%.*}.out" ;;
         esac
     done
 else

@@ -44,6 +44,9 @@ HANDLE_KINDS = {
 }
 PLACE_BITS = 0xFF_FFFF
 
+# What a command is answered that is refused memory, MEMORY, and how its trace names that.
+STARVED, MEMORY_CHECK = frames.refusal(0x904), "M"
+
 # The successful commands that leave a saved state as it is, beside TPM2_Startup and TPM2_Shutdown,
 # which say themselves what becomes of it: those that only look, and those that only answer.
 KEEPING_SAVED = {
@@ -148,9 +151,13 @@ class Device(
         self.time = 0
         self.lockout.power_cycle()
 
-    def execute(self, buffer, locality, random, elapsed=0):
-        """What comes of a command, so many milliseconds after the one before."""
+    def execute(self, buffer, locality, random, elapsed=0, is_starved=False):
+        """What comes of a command, so many milliseconds after the one before. One that is starved is
+        refused the memory that it needs, and nothing but the time changes.
+        """
         self.tick(elapsed)
+        if is_starved:
+            return Outcome(STARVED, Row.of(buffer, MEMORY_CHECK), "MEMORY")
         try:
             command = general.decode(
                 buffer, self.started, self.sessions, self.objects, self.indices

@@ -37,10 +37,13 @@ def hex_bytes(text):
 
 
 class Player:
-    """A device, and what the lines so far said of the commands to come."""
+    """A device, and what the lines so far said of the commands to come. `starved` has the numbers of
+    the commands, from 1, that are refused memory.
+    """
 
-    def __init__(self):
+    def __init__(self, starved=()):
         self.device, self.locality, self.random, self.elapsed = Device(), 0, bytes(RANDOM_BYTES), 0
+        self.starved, self.commands = starved, 0
 
     def play(self, line):
         """What is printed of a line."""
@@ -80,7 +83,9 @@ class Player:
             raise BadLine from None
 
     def executed(self, buffer):
-        outcome = self.device.execute(buffer, self.locality, self.random, self.elapsed)
+        self.commands += 1
+        is_starved = self.commands in self.starved
+        outcome = self.device.execute(buffer, self.locality, self.random, self.elapsed, is_starved)
         elapsed, self.elapsed = self.elapsed, 0
         return [lines.traced(outcome, self.locality, elapsed), outcome.response.hex()]
 

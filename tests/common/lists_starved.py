@@ -1,0 +1,177 @@
+"""Refuses memory to a device in lists:
+
+    python3 lists_starved.py TPMSIM_LISTS
+
+Each allocation is refused in turn, alone and with all that follow. An image is then opened, and a
+line executed, or the run ends with status 3 and `tpmsim_lists: memory`. A script that has begun
+goes on: a command that needed the memory is answered MEMORY, and all answers have to be those of the
+device in Python, to which the same commands are starved.
+"""
+
+import collections
+import pathlib
+import sys
+
+import device
+import frames
+import image
+import lines
+from player import Player
+from refusals import Refusals
+from shims import HERE, Ending, fail
+
+MEMORY = Ending(3, error=b"tpmsim_lists: memory\n")
+STARVED, SUCCESS = device.STARVED.hex(), bytes(4).hex()
+CODE = slice(12, 20)
+
+# The commands that may be answered MEMORY, and the script that has each of them at each size at
+# which a list grows, and all other commands.
+GROWING = {
+    frames.START_AUTH_SESSION,
+    frames.CREATE_PRIMARY,
+    frames.LOAD,
+    frames.NV_DEFINE_SPACE,
+    frames.EVICT_CONTROL,
+}
+SCRIPT = (HERE / "growing.tpm").read_bytes()
+LINES = SCRIPT.splitlines()
+
+
+def command_lines():
+    """The script's lines that have a command."""
+    return [line for line in LINES if line.startswith(b"do ")]
+
+
+def code_of(line):
+    return int.from_bytes(lines.assemble(line[3:])[6:10], "big")
+
+
+def printed(starved=()):
+    """What the script prints, by the device in Python, where these commands are starved."""
+    player = Player(starved)
+    told = [player.play(line) for line in LINES]
+    return [it[-1] for it in told if it and it[-1] != "power"]
+
+
+def starved_in(answers):
+    """The numbers of the commands, from 1, that were answered MEMORY."""
+    return [number for number, answer in enumerate(answers, 1) if answer == STARVED]
+
+
+class Script:
+    """The script, its commands, and how often each was answered MEMORY where one allocation alone
+    was refused.
+    """
+
+    def __init__(self, program):
+        self.program = program
+        self.commands = command_lines()
+        self.codes = [code_of(line) for line in self.commands]
+        self.whole = printed()
+        self.refused = collections.Counter()
+
+    def check(self):
+        given = self.program.whole([], SCRIPT)
+        if given.status != 0 or self.answers(given) != self.whole:
+            fail(f"the script, nothing refused: {given}")
+        self.check_all_succeed()
+        for turn, alone, rest in self.program.each(self.run):
+            self.check_alone(turn, alone)
+            self.check_run(turn, rest)
+        self.tell()
+
+    def run(self, first, last):
+        return self.program.ended([], first, last, SCRIPT)
+
+    @staticmethod
+    def answers(ending):
+        return ending.output.decode("ascii").splitlines()
+
+    def check_all_succeed(self):
+        """Each command of the device stands in the script, and succeeds there."""
+        answered = zip(self.codes, self.whole)
+        succeeded = {code for code, answer in answered if answer[CODE] == SUCCESS}
+        if succeeded != set(device.ROWS):
+            fail("the script does not have every command")
+
+    def check_run(self, turn, ending):
+        """Gives which commands were starved: they may be, and all answers are those of Python."""
+        if ending == MEMORY:
+            return []
+        answers = self.answers(ending)
+        starved = starved_in(answers)
+        others = {self.codes[number - 1] for number in starved} - GROWING
+        if others:
+            fail(f"allocation {turn} refused, MEMORY is answered by {sorted(others)}")
+        if ending.status != 0 or ending.error or answers != printed(starved):
+            fail(f"allocation {turn} refused, the commands {starved} starved: {ending}")
+        return starved
+
+    def check_alone(self, turn, ending):
+        """A refusal alone starves one command at most, which succeeds the next time."""
+        starved = self.check_run(turn, ending)
+        if len(starved) > 1:
+            fail(f"allocation {turn} refused, the commands {starved} starved")
+        for number in starved:
+            again = self.commands.index(self.commands[number - 1], number)
+            if self.answers(ending)[again][CODE] != SUCCESS:
+                fail(f"allocation {turn} refused, command {again + 1} does not succeed")
+            self.refused[self.codes[number - 1]] += 1
+
+    def tell(self):
+        for code in sorted(GROWING):
+            if not self.refused[code]:
+                fail(f"{lines.NAMES[code]} was never refused memory")
+            print(
+                f"{lines.NAMES[code]}: growths refused: {self.refused[code]}, each answered MEMORY,"
+                " and the same command then succeeded"
+            )
+        print(f"{len(device.ROWS) - len(GROWING)} other commands: never answered MEMORY")
+
+
+def full_image():
+    """The image of the device when the script has filled it up."""
+    player = Player()
+    for line in LINES:
+        if line.startswith(b"do Clear "):
+            break
+        player.play(line)
+    return image.image(player.device)
+
+
+def check_image(program, label, text):
+    """Opens an image, and two that are none. One is refused by its digest, before memory is needed
+    for a device; the other has a byte too many, behind all that the device needs memory for. That
+    it is no image is told whatever memory there is, once the file has been read.
+    """
+    path, words = pathlib.Path("image"), ["open", "image"]
+    path.write_bytes(text)
+    program.check(label, words, Ending(0, text), MEMORY)
+    no_image = Ending(1, error=b"tpmsim_lists: image\n")
+    body = text[image.HEAD_BYTES : -image.DIGEST_AT_END]
+    longer = image.framed(body + b"\0")
+    path.write_bytes(longer[:-1] + bytes([longer[-1] ^ 1]))
+    needed = program.check(f"{label}, with a wrong digest", words, no_image, MEMORY)
+    path.write_bytes(longer)
+    program.check(f"{label}, with a byte too many", words, no_image, MEMORY, needed=needed)
+
+
+def check_line(program, line):
+    trace, _ = Player().play(b"do " + line.encode("ascii"))
+    program.check(f"a line, {line}", ["line", line], Ending(0, f"{trace}\n".encode()), MEMORY)
+
+
+def main():
+    program = Refusals(sys.argv[1])
+    check_image(program, "the image of a new device", image.image(Player().device))
+    check_image(program, "the image of a full device", full_image())
+    check_line(program, "Startup 0")
+    check_line(program, "GetRandom 4")
+    program.check("a bad line", ["line", "x"], Ending(1, error=b"tpmsim_lists: line\n"), MEMORY)
+    program.check("no file", ["open", "none"], Ending(1, error=b"tpmsim_lists: file\n"), MEMORY)
+    program.check("other words", ["run"], Ending(1, error=b"tpmsim_lists: usage\n"), MEMORY)
+    Script(program).check()
+
+
+if __name__ == "__main__":
+    main()

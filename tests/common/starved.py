@@ -1,0 +1,140 @@
+"""Refuses memory to `tpmsim`:
+
+    python3 starved.py PROGRAM
+
+Each allocation is refused in turn, alone and with all that follow. Where all are refused, the run
+has to end with status 3 and `tpmsim: memory`. Where one alone is refused, it has to end so too, or
+else just as it does with nothing refused: some collections ask again, for less.
+"""
+
+import pathlib
+import shutil
+import socket
+import sys
+import time
+from dataclasses import dataclass
+
+import refusals
+from client import received
+from shims import HERE, Ending, ended, fail
+from streams import image_told
+
+TOP = HERE.parent.parent
+SCRIPT = TOP / "examples/measured_boot.tpm"
+MEMORY = Ending(3, error=b"tpmsim: memory\n")
+SERVE = "serve --socket socket --image image --entropy entropy --locality 0 --connections".split()
+
+# TPM2_Startup(CLEAR), TPM2_GetRandom of 4 bytes, and a new ownerAuth: what a connection sends.
+SENT = bytes.fromhex(
+    "80010000000c000001440000"
+    "80010000000c0000017b0004"
+    "8002000000200000012940000001000000094000000900000100000003" "6f776e"
+)
+ROOM = pathlib.Path("served")
+
+
+def out_of(name):
+    return (TOP / name).read_bytes()
+
+
+def check_words(program):
+    """Runs that are done by their words alone."""
+    script, line = str(SCRIPT), "Startup 0"
+    pathlib.Path("bad").write_text("do Startup 3 3\n", "ascii")
+    played = Ending(0, out_of("examples/measured_boot.out"))
+    traced = Ending(0, out_of("examples/measured_boot.trace"))
+    usage, file = Ending(2, error=b"tpmsim: usage\n"), Ending(3, error=b"tpmsim: file\n")
+    cases = [
+        ("a script", ["run", script], played),
+        ("its trace", ["run", "--trace", script], traced),
+        ("a line", ["asm", line], Ending(0, b"80010000000c000001440000\n")),
+        ("no script", ["run", "none"], file),
+        ("a bad script", ["run", "bad"], Ending(2, error=b"tpmsim: script line 1\n")),
+        ("a bad line", ["asm", "Startup"], Ending(2, error=b"tpmsim: asm Missing\n")),
+        ("no words", [], usage),
+        ("too few words", ["run"], usage),
+        ("too many words", ["run", script, script], usage),
+        ("another word", ["rum", script], usage),
+        ("another option", ["run", "--tracing", script], usage),
+        ("a number that is none", [*SERVE, "x"], usage),
+    ]
+    for label, words, whole in cases:
+        program.check(label, words, whole, MEMORY)
+    program.check("a script on standard input", ["run", "-"], played, MEMORY, SCRIPT.read_bytes())
+    for words in ["--help", "--version", "run --help", "serve --help"]:
+        program.check(words, words.split(), program.whole(words.split()), MEMORY)
+
+
+@dataclass(frozen=True)
+class Service:
+    """What came of a run that serves: how it ended, what it answered, and what is in its folder."""
+
+    ending: Ending
+    answers: bytes
+    image: str
+    others: tuple
+
+
+def talked(process):
+    """What a connection is answered, or nothing where the run ends before it."""
+    client = socket.socket(socket.AF_UNIX, socket.SOCK_STREAM)
+    while process.poll() is None:
+        try:
+            client.connect(str(ROOM / "socket"))
+            client.sendall(SENT)
+            client.shutdown(socket.SHUT_WR)
+            return received(client)
+        except (FileNotFoundError, ConnectionRefusedError):
+            time.sleep(0.001)
+        except (BrokenPipeError, ConnectionResetError):
+            break
+    return b""
+
+
+def text_of(path):
+    return path.read_bytes() if path.exists() else None
+
+
+def check_service(program, label, image, connections):
+    """A run that serves this many connections, with this image or with none. It takes its memory
+    before its socket is there: so it answers nothing where it is starved, and leaves nothing.
+    """
+
+    def run(first, last):
+        shutil.rmtree(ROOM, ignore_errors=True)
+        ROOM.mkdir()
+        if image:
+            (ROOM / "image").write_bytes(image)
+        (ROOM / "entropy").write_bytes(bytes(1024))
+        process = program.begun([*SERVE, str(connections)], first, last, ROOM)
+        answers = talked(process) if connections else b""
+        ending = ended(process)
+        names = {path.name for path in ROOM.iterdir()} - {"image", "entropy"}
+        told = image_told(text_of(ROOM / "image"))
+        return Service(ending, answers, told, tuple(sorted(names)))
+
+    before = image_told(image)
+    whole = run(0, 0)
+    if whole.ending != Ending(0) or whole.others or bool(whole.answers) != bool(connections):
+        fail(f"{label}, nothing refused: {whole}")
+    starved = Service(MEMORY, b"", before, ())
+    for turn, alone, rest in program.each(run):
+        if alone not in (whole, starved):
+            fail(f"{label}, allocation {turn} refused: {alone}")
+        if rest != starved:
+            fail(f"{label}, refused all from allocation {turn}: {rest}")
+    print(f"{label}: {MEMORY.error.decode().strip()}")
+    return text_of(ROOM / "image")
+
+
+def main():
+    program = refusals.Refusals(sys.argv[1])
+    check_words(program)
+    check_service(program, "no image and no connection", None, 0)
+    image = check_service(program, "no image, and a connection", None, 1)
+    check_service(program, "an image and no connection", image, 0)
+    check_service(program, "an image and a connection", image, 1)
+
+
+if __name__ == "__main__":
+    main()
