@@ -11,10 +11,10 @@ pub data Body : Type 0 where
   SizedFirst : (bytes rest : List ℕ) → Body
   Plain : (text : List ℕ) → Body
 
-abbrev pub body_text : Body → List ℕ
-body_text (Sized bytes) = sized_text bytes
-body_text (SizedFirst bytes rest) = sized_text bytes ++ rest
-body_text (Plain text) = text
+abbrev pub answer_body_text : Body → List ℕ
+answer_body_text (Sized bytes) = sized_text bytes
+answer_body_text (SizedFirst bytes rest) = sized_text bytes ++ rest
+answer_body_text (Plain text) = text
 
 abbrev pub begins_sized : Body → Bool
 begins_sized (Sized bytes) = true
@@ -39,7 +39,8 @@ nothing = answer_of (Plain [])
 -- The code's answer is this one.
 abbrev pub IsAnswer : AnswerParts → Answer → Type 0
 IsAnswer parts a =
-    (a.handle ≡ parts.handle) × (a.parameters ≡ body_text parts.body) × (a.drawn ≡ parts.drawn)
+    (a.handle ≡ parts.handle) × (a.parameters ≡ answer_body_text parts.body)
+    × (a.drawn ≡ parts.drawn)
 
 -- The code's answer is empty, to be written.
 abbrev pub IsEmpty : Answer → Type 0

@@ -1,1 +1,2 @@
 pub mod EmptyHmac
+pub mod Granting

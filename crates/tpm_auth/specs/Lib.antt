@@ -3,3 +3,4 @@ pub mod Comparison
 pub mod SessionGrant
 pub mod EmptyHmac
 pub mod Grant
+pub mod Granting

@@ -10,6 +10,7 @@
 mod comparison;
 mod entries;
 mod grant;
+pub mod laws;
 mod session_grant;
 
 pub use entries::{any_decrypts, decrypts, encrypts};

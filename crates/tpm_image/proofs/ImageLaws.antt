@@ -9,7 +9,7 @@ use Rattle.tpm_bytes.proofs.Fields.{AreBytes, bind_ok, or_fault_ok}
 use Rattle.tpm_record.specs.Cycle.{cycled}
 use Rattle.tpm_record.specs.IsRecord.{IsRecord}
 use Rattle.tpm_record.specs.Record.{Record}
-use Rattle.tpm_image.specs.Body.{body_of, body_text}
+use Rattle.tpm_image.specs.Body.{body_of, image_body_text}
 use Rattle.tpm_image.specs.Frame.{digest_bytes, framed_body, framed_text, head_bytes}
 use Rattle.tpm_image.specs.Image.{image_of, image_text}
 use Rattle.tpm_image.specs.Sizes.{image_size}
@@ -28,7 +28,7 @@ kept_by framed = framed >>= λ body. or_fault (body_of body) fault.Body
 pub image_again : (kept : NonVolatile) → IsNonVolatile kept → image_of (image_text kept) ≡ Ok kept
 unfolding image_text
 image_again kept is =
-    ap kept_by (framed_again (body_text kept) (omega (arith, body_small kept is)))
+    ap kept_by (framed_again (image_body_text kept) (omega (arith, body_small kept is)))
     ∙ ap (λ r. or_fault r fault.Body) (body_again kept is)
 
 pub image_taken : (text : List ℕ) (kept : NonVolatile) → AreBytes text → image_of text ≡ Ok kept → (text ≡ image_text kept) × IsNonVolatile kept
@@ -45,9 +45,9 @@ image_is text kept fits = (image_taken text kept fits, λ is. ap image_of is.0 �
 
 -- ---- the text's length
 
-pub length-image_text : (kept : NonVolatile) → length (image_text kept) ≡ head_bytes + length (body_text kept) + digest_bytes
+pub length-image_text : (kept : NonVolatile) → length (image_text kept) ≡ head_bytes + length (image_body_text kept) + digest_bytes
 unfolding image_text
-length-image_text kept = length-framed_text (body_text kept)
+length-image_text kept = length-framed_text (image_body_text kept)
 
 pub image_small : (kept : NonVolatile) → IsNonVolatile kept → length (image_text kept) ≤ image_size
 image_small kept is = omega (arith, length-image_text kept, body_small kept is)
@@ -61,8 +61,8 @@ front_short text n few = ap kept_by (cut_short (take n text) (omega (arith, few,
 pub front_cut : (kept : NonVolatile) (n : ℕ) → IsNonVolatile kept → head_bytes + digest_bytes ≤ n → n < length (image_text kept) → image_of (take n (image_text kept)) ≡ Err fault.Length
 unfolding image_text
 front_cut kept n is long less =
-    let size = length-framed_text (body_text kept) in
-    ap kept_by (cut_behind (body_text kept) n (omega (arith, body_small kept is)) long (omega (arith, less, size)))
+    let size = length-framed_text (image_body_text kept) in
+    ap kept_by (cut_behind (image_body_text kept) n (omega (arith, body_small kept is)) long (omega (arith, less, size)))
 
 -- none is an image
 pub prefix_refused : (kept : NonVolatile) (n : ℕ) → IsNonVolatile kept → n < length (image_text kept) → image_of (take n (image_text kept)) ≡ Err (cond (nat_lt n (head_bytes + digest_bytes)) fault.Short fault.Length)

@@ -16,3 +16,4 @@ pub mod RecordLaws
 pub mod Sent
 pub mod StateLaws
 pub mod Writing
+pub mod Histories

@@ -311,8 +311,8 @@ state_in text = do
   )
 
 -- these, the persistent objects and the NV indices
-unfoldable pub body_text : NonVolatile → List ℕ
-body_text kept =
+unfoldable pub image_body_text : NonVolatile → List ℕ
+image_body_text kept =
     state_text kept.state ++ objects_text kept.persistent ++ indices_text kept.indices
 
 -- what a body of these bytes, and of no more, keeps

@@ -2,7 +2,7 @@
 
 ghost use Rattle.tpm_image.specs.Sizes.{body_size, state_size, text_size};
 ghost use Rattle.std.specs.Prelude.{◌≡◌, ◌≤◌, ◌+◌, ◌++◌, [], length, replicate};
-ghost use Rattle.tpm_image.specs.Body.{body_of, body_text, state_in, state_text};
+ghost use Rattle.tpm_image.specs.Body.{body_of, image_body_text, state_in, state_text};
 ghost use Rattle.tpm_image.specs.Filling.{PowersOn, Restores};
 ghost use Rattle.tpm_image.specs.NonVolatile.{kept_of};
 ghost use Rattle.tpm_record.specs.Record.{manufactured};
@@ -73,10 +73,10 @@ fn write_state<K: Keep>(keep: &K, text: &mut Text)
 }
 
 /// Writes a whole body.
-#[tactic(auto, unfolding(crate::specs::Body::body_text))]
+#[tactic(auto, unfolding(crate::specs::Body::image_body_text))]
 pub(crate) fn write_body<K: Keep>(keep: &K, text: &mut Text)
     requires { text.old ≡ [] }
-    ensures written { text.new ≡ body_text (kept_of (K.record_of keep.now)) }
+    ensures written { text.new ≡ image_body_text (kept_of (K.record_of keep.now)) }
     ensures small { length text.new ≤ body_size }
 {
     write_state(keep, text);

@@ -1,6 +1,6 @@
 //! Saving the image of a device, and opening a device from one.
 
-ghost use Rattle.std.specs.Prelude.{◌≡◌, ◌||◌, ◌++◌, IfOk, OnErr, OnOk, is_ok, true};
+ghost use Rattle.std.specs.Prelude.{◌≡◌, ◌||◌, ◌++◌, ◌∷◌, IfOk, OnErr, OnOk, is_ok, true};
 ghost use Rattle.std.specs.Io.KnownBytes.{Appends};
 ghost use Rattle.tpm_bytes.specs.Tap.{AppendsFront, device_of, marks_of};
 ghost use Rattle.tpm_image.specs.Body.{body_of};
@@ -9,6 +9,8 @@ ghost use Rattle.tpm_image.specs.Image.{image_text};
 ghost use Rattle.tpm_image.specs.NonVolatile.{IsNonVolatile, NonVolatile, kept_of, powered_on};
 ghost use Rattle.tpm_image.specs.Opening.{Opens, OpensAgain};
 ghost use Rattle.tpm_machine.specs.State.{state_of};
+ghost use Rattle.tpm_machine_history.specs.Follows.{Follows};
+ghost use Rattle.tpm_machine_history.specs.History.{History, PowerCycled};
 ghost use Rattle.tpm_record.specs.IsRecord.{IsRecord};
 ghost use Rattle.tpm_record.specs.Record.{Record};
 
@@ -96,6 +98,12 @@ pub fn open<K: Keep>(alloc: Global, text: &[u8]) -> Result<Machine<K>, ImageFaul
     // What is spelled so is opened.
     ensures only { (r : Record) → IsRecord r → text.now ≡ image_text (kept_of r)
         → OpensAgain (state_of K.record_of) (K.empty_can_refuse || K.can_refuse) r result }
+
+    // What is opened from the image of a device that followed a history follows that with one power
+    // cycle more.
+    ensures history { (r : Record) (history : History) → IsRecord r → Follows r history
+        → text.now ≡ image_text (kept_of r)
+        → IfOk result (λ machine. Follows (state_of K.record_of machine) (PowerCycled ∷ history)) }
 {
     bytes_fit(text);
     open_device(alloc, text)

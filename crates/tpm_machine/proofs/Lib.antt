@@ -1,4 +1,5 @@
 pub mod Running
+pub mod Histories
 pub mod Refusals
 pub mod Modesty
 pub mod Answering

@@ -12,14 +12,14 @@ use Rattle.tpm_machine_step.specs.Answer.{refusal_text}
 use Rattle.tpm_machine_step.specs.Events.{PlainEvent, Given, Cycled}
 use Rattle.tpm_machine_step.specs.General.{in_command}
 use Rattle.tpm_machine_step.specs.Safe.{IsHarmless}
-use Rattle.tpm_machine_step.specs.Step.{Accepted, Answers, RefusesOrWantsMemory, Stepped, Steps, refusal_step, accepted, answer_of, counted_in, refusal_without_memory, answer_without_memory, step, step_where, success_step}
+use Rattle.tpm_machine_step.specs.Step.{Accepted, Answers, RefusesOrWantsMemory, Stepped, Steps, refusal_step, accepted, stepped_of, counted_in, refusal_without_memory, answer_without_memory, step, step_where, success_step}
 use Rattle.tpm_machine_step.specs.declared.refused_command.RefusedCommand.{RefusedCommand}
 
 -- the same of a record whose time has passed
 abbrev LeavesRecord : Record → Stepped → Type 0
 LeavesRecord r x = x.row.check ≢ 0 → (length x.response ≡ 10) × (refused : Refused) × (x.response ≡ refusal_text refused) × (x.row.check ≡ check_number refused.check) × (x.after ≡ counted_in refused.counted r)
 
-answer_leaves : (r : Record) (random : List ℕ) (a : Result Accepted RefusedCommand) → LeavesRecord r (answer_of r random a)
+answer_leaves : (r : Record) (random : List ℕ) (a : Result Accepted RefusedCommand) → LeavesRecord r (stepped_of r random a)
 answer_leaves r random (Ok a) refused = absurd (refused refl)
 answer_leaves r random (Err e) refused = (refl, e.refused, refl, refl, refl)
 
@@ -48,7 +48,7 @@ pub steps_exactly : (can : Bool) (r : Record) (event : PlainEvent) (x : Stepped)
 steps_exactly can r event x e = (false, λ t. absurd (false≢true t), e)
 
 -- and an answer that is exactly the command's
-pub answers_exactly : (can : Bool) (r : Record) (random : List ℕ) (a : Result Accepted RefusedCommand) (x : Stepped) → x ≡ answer_of r random a → Answers can r random a x
+pub answers_exactly : (can : Bool) (r : Record) (random : List ℕ) (a : Result Accepted RefusedCommand) (x : Stepped) → x ≡ stepped_of r random a → Answers can r random a x
 answers_exactly can r random a x e = (false, λ t. absurd (false≢true t), e)
 
 grows_without_memory : (grows : Bool) (r : Record) (random : List ℕ) (a : Accepted) → grows ≡ true → refusal_without_memory r a.command ≡ cond grows (refusal_without_memory r a.command) (success_step a random)

@@ -11,6 +11,12 @@ ghost use Rattle.tpm_machine_step.specs.Execution.{Executes};
 ghost use Rattle.tpm_machine_step.specs.Safe.{IsModestIfAccepted};
 ghost use Rattle.tpm_machine.specs.State.{state_of};
 ghost use Rattle.tpm_machine_step.specs.Step.{Steps, outcome_step};
+ghost use Rattle.tpm_machine_history.specs.DeviceAuthValues.{HasAuthValues};
+ghost use Rattle.tpm_machine_history.specs.DeviceCounters.{HasCounters};
+ghost use Rattle.tpm_machine_history.specs.DevicePcrs.{HasPcrs};
+ghost use Rattle.tpm_machine_history.specs.DeviceSessions.{HasSessions};
+ghost use Rattle.tpm_machine_history.specs.Follows.{After, Follows, RunFollows};
+ghost use Rattle.tpm_machine_history.specs.History.{History};
 
 use crate::decoding::decode;
 use crate::response::{write_refusal, write_success};
@@ -42,6 +48,9 @@ impl<K: Keep> Machine<K> {
         ensures state { IfOk result (λ machine. state_of K.record_of machine
             ≡ manufactured random.now) }
         ensures is_record { IfOk result (λ machine. IsRecord (state_of K.record_of machine)) }
+
+        // It has accepted nothing yet.
+        ensures history { IfOk result (λ machine. Follows (state_of K.record_of machine) []) }
     {
         let mut keep = K::empty(alloc)?;
         *keep.fixed_mut() = Fixed::manufactured(random);
@@ -74,6 +83,19 @@ impl<K: Keep> Machine<K> {
     pub fn execute(&mut self, event: &Event) -> Outcome
         ensures executes { Executes K.can_refuse (state_of K.record_of self.old)
             (plain_event event.now) (outcome_step (state_of K.record_of self.new) result) }
+
+        // Where the device followed a history, it follows the history with this event, if that was
+        // accepted: counters, PCRs, authorization values and sessions are what that tells.
+        ensures history { After Follows (state_of K.record_of self.old) (plain_event event.now)
+            (outcome_step (state_of K.record_of self.new) result) }
+        ensures counters { After HasCounters (state_of K.record_of self.old)
+            (plain_event event.now) (outcome_step (state_of K.record_of self.new) result) }
+        ensures pcrs { After HasPcrs (state_of K.record_of self.old)
+            (plain_event event.now) (outcome_step (state_of K.record_of self.new) result) }
+        ensures auth_values { After HasAuthValues (state_of K.record_of self.old)
+            (plain_event event.now) (outcome_step (state_of K.record_of self.new) result) }
+        ensures sessions { After HasSessions (state_of K.record_of self.old)
+            (plain_event event.now) (outcome_step (state_of K.record_of self.new) result) }
     {
         let mut outcome = Outcome::empty();
         self.execute_into(event, &mut outcome);
@@ -84,6 +106,19 @@ impl<K: Keep> Machine<K> {
     /// response serves for a whole run.
     pub fn execute_into(&mut self, event: &Event, outcome: &mut Outcome)
         ensures executes { Executes K.can_refuse (state_of K.record_of self.old)
+            (plain_event event.now) (outcome_step (state_of K.record_of self.new) outcome.new) }
+
+        // Where the device followed a history, it follows the history with this event, if that was
+        // accepted: counters, PCRs, authorization values and sessions are what that tells.
+        ensures history { After Follows (state_of K.record_of self.old) (plain_event event.now)
+            (outcome_step (state_of K.record_of self.new) outcome.new) }
+        ensures counters { After HasCounters (state_of K.record_of self.old)
+            (plain_event event.now) (outcome_step (state_of K.record_of self.new) outcome.new) }
+        ensures pcrs { After HasPcrs (state_of K.record_of self.old)
+            (plain_event event.now) (outcome_step (state_of K.record_of self.new) outcome.new) }
+        ensures auth_values { After HasAuthValues (state_of K.record_of self.old)
+            (plain_event event.now) (outcome_step (state_of K.record_of self.new) outcome.new) }
+        ensures sessions { After HasSessions (state_of K.record_of self.old)
             (plain_event event.now) (outcome_step (state_of K.record_of self.new) outcome.new) }
     {
         outcome.response.clear();
@@ -125,7 +160,7 @@ impl<K: Keep> Machine<K> {
     }
 
     /// Runs the events in order, and calls `tell` with the outcome of each, once each.
-    #[tactic(auto, using(crate::proofs::Running::runs_lead))]
+    #[tactic(auto, using(crate::proofs::Running::runs_lead, crate::proofs::Histories::runs_follow))]
     pub fn run<F: FnMut(&Outcome)>(&mut self, events: &[Event], tell: &mut F)
         requires { F.IsAlwaysCallable tell.old }
         ensures runs { Runs F.FnMut K.can_refuse (state_of K.record_of self.old) tell.old
@@ -134,6 +169,12 @@ impl<K: Keep> Machine<K> {
         // Where no memory can be refused, the events lead where their steps lead.
         ensures after { K.can_refuse ≡ false → state_of K.record_of self.new
             ≡ after_all (state_of K.record_of self.old) (map plain_event events.now) }
+
+        // Where the device followed a history, it follows the history with those of the events
+        // that were accepted. No counter went down that stayed defined, and few tries failed.
+        ensures history { (history : History) → Follows (state_of K.record_of self.old) history
+            → RunFollows F.FnMut K.can_refuse (state_of K.record_of self.old) tell.old
+            (map plain_event events.now) (state_of K.record_of self.new) tell.new history }
     {
         self.execute_all(events, tell);
     }

@@ -15,15 +15,12 @@ use Rattle.tpm_actions_base.specs.Rows.{Success}
 use Rattle.tpm_machine_step.specs.Step.{Accepted, acceptance, request_in}
 use Rattle.tpm_machine_step.specs.Table.{row_of}
 use Rattle.tpm_machine_laws.specs.Sessions.{HaveSessions, SessionsStay}
+use Rattle.tpm_machine_laws.proofs.Binding.{ok_at}
 use Rattle.tpm_machine_laws.proofs.Sessions.{entries_have, entries_keep, row_stays}
 
 pub checked_ok : {X : Type 0} (check : Check) (x : Result X Rc) (y : X) → checked check x ≡ Ok y → x ≡ Ok y
 checked_ok {X} check (Ok x) y e = ap (λ (z : X). let r : Result X Rc = Ok z in r) (ok_is {E = Refused} x y e)
 checked_ok check (Err rc) y e = absurd cc
-
-ok_at : {A E : Type 0} (P : A → Type 0) (x : Result A E) (a : A) → IfOk x P → x ≡ Ok a → P a
-ok_at P (Ok b) a holds is = subst P (ok_is b a is) holds
-ok_at P (Err e) a holds is = absurd cc
 
 entries_start : (r : Record) (c : Whole) (locality : ℕ) (grants : _) → authorize r c locality ≡ Ok grants → HaveSessions r c.entries
 unfolding authorize

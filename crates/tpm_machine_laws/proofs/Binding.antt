@@ -1,8 +1,8 @@
 -- Steps of a row.
-use Rattle.std.proofs.Common.{◌≡◌, Bool, true, false, Option, Some, None, Result, Ok, Err, IfOk, IfErr, refl}
+use Rattle.std.proofs.Common.{◌≡◌, Bool, true, false, Option, Some, None, Result, Ok, Err, IfOk, IfErr, refl, subst}
 use Rattle.std.specs.Prelude.{not, ok_or}
 use Rattle.std.proofs.lemmas.Bool.{not-false}
-use Rattle.tpm_bytes.proofs.Fields.{passed}
+use Rattle.tpm_bytes.proofs.Fields.{ok_is, passed}
 use Rattle.tpm_bytes.specs.Reading.{◌>>=◌, or_fault, refused_if}
 use Rattle.tpm_types.specs.Refused.{checked, refusal}
 use Rattle.tpm_types_command.specs.declared.command_code.CommandCode.{CommandCode}
@@ -30,6 +30,11 @@ ok_then P Q (Err e) f k h = tt
 pub ok_weaker : {A E : Type 0} (P Q : A → Type 0) (x : Result A E) → IfOk x P → ((a : A) → P a → Q a) → IfOk x Q
 ok_weaker P Q (Ok a) k h = h a k
 ok_weaker P Q (Err e) k h = tt
+
+-- and so of the success that there is
+pub ok_at : {A E : Type 0} (P : A → Type 0) (x : Result A E) (a : A) → IfOk x P → x ≡ Ok a → P a
+ok_at P (Ok b) a holds is = subst P (ok_is b a is) holds
+ok_at P (Err e) a holds is = absurd cc
 
 -- what holds of each refusal of a step, and of each after it
 pub err_bind : {A B E : Type 0} (Q : E → Type 0) (x : Result A E) (f : A → Result B E) → IfErr x Q → ((a : A) → IfErr (f a) Q) → IfErr (x >>= f) Q

@@ -1,11 +1,8 @@
 -- What the entries of a command are granted.
-use Rattle.std.proofs.Common.{rules, ◌≡◌, ◌⊎◌, ℕ, zero, suc, ◌+◌, ◌<◌, ◌≤◌, arith, true, List, [], ◌∷◌, ◌++◌, length, length-append, slice_get, Option, Some, None, option_map, Result, Ok, IfOk, is_some, refl, inl, inr}
-use Rattle.std.proofs.lemmas.Bool.{cases_lt, false≢true, ltb-false}
+use Rattle.std.proofs.Common.{rules, ◌≡◌, ◌⊎◌, ℕ, ◌+◌, arith, true, List, [], ◌∷◌, ◌++◌, length, get_or, slice_get, Option, Some, None, option_and_then, option_map, Result, Ok, IfOk, is_some, refl, ap, ◌∙◌, inl, inr}
+use Rattle.std.proofs.lemmas.Bool.{false≢true}
 use Rattle.std.proofs.lemmas.List.{length-take}
-use Rattle.std.proofs.lemmas.Option.{slice_get_past}
-use Rattle.std.specs.Prelude.{nat_lt}
-use Rattle.tpm_bytes.specs.Reading.{refused_if}
-use Rattle.tpm_bytes.proofs.Fields.{passed}
+use Rattle.std.proofs.lemmas.Option.{slice_get-get_or, slice_get_cases, slice_get_past}
 use Rattle.tpm_session.specs.declared.session.Protection.{Protection}
 use Rattle.tpm_session.specs.declared.session.Session.{Session}
 use Rattle.tpm_types.specs.declared.check.Check.TheVariants as check
@@ -16,7 +13,6 @@ use Rattle.tpm_types.specs.declared.refused.Refused.{Refused}
 use Rattle.tpm_types.specs.declared.session_type.SessionType.{SessionType}
 use Rattle.tpm_types.specs.declared.session_type.SessionType.TheVariants as type
 use Rattle.tpm_types.specs.Handle.{session_kind}
-use Rattle.tpm_types.specs.Refused.{checked}
 use Rattle.tpm_types_command.specs.declared.command_code.CommandCode.{CommandCode}
 use Rattle.tpm_types_command.specs.AuthEntry.{Entry}
 use Rattle.tpm_types_command.specs.Command.{Whole}
@@ -25,12 +21,14 @@ use Rattle.tpm_record.specs.Record.{Record}
 use Rattle.tpm_auth.specs.Comparison.{check_of, failure}
 use Rattle.tpm_auth.specs.Entries.{entries_pass, session_of}
 use Rattle.tpm_auth.specs.Grant.{authorize, authorized, grant, grant_by, grants_pass, password_grant, session_grant_if, undemanding}
+use Rattle.tpm_auth.specs.Granting.{IsGranting}
 use Rattle.tpm_auth.specs.SessionGrant.{demand_by, demanded, session_grant}
 use Rattle.tpm_auth.specs.declared.session_grant.Grant.{Grant}
+use Rattle.tpm_auth.proofs.Granting.{granting}
 use Rattle.tpm_machine_laws.specs.Grants.{GrantsFit, granted_handle, handle_in}
 use Rattle.tpm_machine_laws.specs.Refusals.{RefusesAuthorization}
 use Rattle.tpm_machine_laws.specs.Sessions.{HasSession, HaveSessions}
-use Rattle.tpm_machine_laws.proofs.Binding.{err_bind, err_checked, err_if, ok_bind, ok_bind_is, ok_then, ok_weaker}
+use Rattle.tpm_machine_laws.proofs.Binding.{err_bind, err_checked, err_if, ok_at, ok_bind, ok_weaker}
 use Rattle.tpm_machine_laws.proofs.Sessions.{entries_have}
 
 -- ---- what refuses
@@ -112,56 +110,25 @@ grant_grants r c locality n used e = kind_grants (session_kind e.session) r c lo
 
 -- ---- and all of them
 
--- the grants so far are those of these handles
-abbrev Follow : List Handle → List (Option Grant) → Type 0
-Follow handles grants = (place : ℕ) → place < length grants → granted_handle grants place ≡ slice_get handles place
-
--- what stands in a list with one more thing at its end
-get_before : {X : Type 0} (xs : List X) (x : X) (n : ℕ) → n < length xs → slice_get (xs ++ x ∷ []) n ≡ slice_get xs n
-get_before [] x n within = absurd (omega arith)
-get_before (y ∷ xs) x zero within = refl
-get_before (y ∷ xs) x (suc n) within = get_before xs x n (omega arith)
-
-get_last : {X : Type 0} (xs : List X) (x : X) → slice_get (xs ++ x ∷ []) (length xs) ≡ Some x
-get_last [] x = refl
-get_last (y ∷ xs) x = get_last xs x
-
--- one more grant
-follow_more : (handles : List Handle) (before : List (Option Grant)) (this : Option Grant) → Follow handles before → handle_in this ≡ slice_get handles (length before) → Follow handles (before ++ this ∷ [])
-follow_more handles before this follow is place within = place_by (cases_lt place (length before))
-  where
-    place_by : (place < length before) ⊎ (length before ≤ place) → granted_handle (before ++ this ∷ []) place ≡ slice_get handles place
-    place_by (inl below) = rw (get_before before this place below) (follow place below)
-    place_by (inr past) =
-        let last : place ≡ length before = omega (arith, length-append before (this ∷ []), within, past) in
-        rw (last, get_last before this) is
-
--- the grants of the entries that are left, after those before them
-walk_grants : (r : Record) (c : Whole) (locality : ℕ) (before : List (Option Grant)) (es : List Entry) → Follow (authorized c) before → IfOk (grants_pass r c locality before es) (λ grants. (length grants ≡ length before + length es) × Follow (authorized c) grants)
-walk_grants r c locality before [] follow = (omega arith, follow)
-walk_grants r c locality before (e ∷ es) follow =
-    ok_then (λ granted. handle_in granted ≡ slice_get (authorized c) (length before)) _ (grant r c locality (length before + 1) (slice_get (authorized c) (length before)) e) _
-    (grant_grants r c locality (length before + 1) (slice_get (authorized c) (length before)) e) (λ this is.
-    ok_weaker _ _ (grants_pass r c locality (before ++ this ∷ []) es)
-    (walk_grants r c locality (before ++ this ∷ []) es (follow_more (authorized c) before this follow is))
-    (λ grants all. (omega (arith, all.0, length-append before (this ∷ [])), all.1)))
-
 -- The handles that need authorization are no more than the entries, so after the entries there is
 -- neither a grant nor such a handle.
-all_fit : (c : Whole) (grants : List (Option Grant)) → authorized_handles c.code ≤ length c.entries → length grants ≡ length c.entries → Follow (authorized c) grants → GrantsFit c grants
-all_fit c grants enough long follow = record { entries = long; handles = λ place. place_by place (cases_lt place (length grants)) }
+all_fit : (r : Record) (c : Whole) (locality : ℕ) (grants : List (Option Grant)) → IsGranting r c locality grants → GrantsFit c grants
+all_fit r c locality grants all = record { entries = all.as_many; handles = fit_at }
   where
-    place_by : (place : ℕ) → (place < length grants) ⊎ (length grants ≤ place) → granted_handle grants place ≡ slice_get (authorized c) place
-    place_by place (inl below) = follow place below
-    place_by place (inr past) =
-        let few = length-take (authorized_handles c.code) c.handles in
-        rw (slice_get_past grants place past, slice_get_past (authorized c) place (omega (arith, few, enough, long, past))) refl
+    fit_at : (place : ℕ) → granted_handle grants place ≡ slice_get (authorized c) place
+    fit_at place =
+        elim (slice_get_cases c.entries place).1 [
+          | inl e ↦
+              let used = slice_get (authorized c) place in
+              let granted : Option Grant = get_or grants place None in
+              let there : slice_get grants place ≡ Some granted = slice_get-get_or grants place None (omega (arith, all.as_many, e.1)) in
+              ap (option_and_then handle_in) there
+              ∙ ok_at (λ g. handle_in g ≡ used) (grant r c locality (place + 1) used e.0) granted
+              (grant_grants r c locality (place + 1) used e.0) (all.each place e.0 granted e.2 there)
+          | inr past ↦
+              let few = length-take (authorized_handles c.code) c.handles in
+              rw (slice_get_past grants place (omega (arith, all.as_many, past.0)), slice_get_past (authorized c) place (omega (arith, few, all.enough, past.0))) refl
+        ]
 
 pub grants_fit : (r : Record) (c : Whole) (locality : ℕ) → IfOk (authorize r c locality) (GrantsFit c)
-unfolding authorize
-grants_fit r c locality =
-    ok_bind _ (checked check.Entries (entries_pass r c.code [] c.entries)) _ (λ own.
-    ok_bind_is _ (refused_if (nat_lt (length c.entries) (authorized_handles c.code)) _) _ (λ enough is.
-    ok_then _ _ (grants_pass r c locality [] c.entries) _ (walk_grants r c locality [] c.entries (λ place within. absurd (omega (arith, within)))) (λ grants all.
-    let fit : GrantsFit c grants = all_fit c grants (ltb-false _ _ (passed _ _ enough is)) (omega (arith, all.0)) all.1 in
-    search (rules, ok_bind, fit))))
+grants_fit r c locality = ok_weaker _ _ (authorize r c locality) (granting r c locality) (all_fit r c locality)

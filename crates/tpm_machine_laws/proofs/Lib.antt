@@ -7,6 +7,7 @@ pub mod Accepted
 pub mod Readings
 pub mod Refusals
 pub mod Handles
+pub mod Decoding
 pub mod Memory
 pub mod Grants
 pub mod AllPlaces
@@ -14,3 +15,8 @@ pub mod SizedParts
 pub mod SizedRows
 pub mod Draws
 pub mod SizedSteps
+pub mod HandleRules
+pub mod Acceptance
+pub mod Leaving
+pub mod Started
+pub mod Uncounted

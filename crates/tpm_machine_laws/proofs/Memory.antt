@@ -23,7 +23,7 @@ use Rattle.tpm_auth.specs.Grant.{authorize, grants_pass}
 use Rattle.tpm_machine_step.specs.Events.{PlainEvent, Given, Cycled}
 use Rattle.tpm_machine_step.specs.Execution.{Executes}
 use Rattle.tpm_machine_step.specs.General.{body_of, both_or_neither, general, in_command, in_header, is_startup, present_handles_at, sessions_pass}
-use Rattle.tpm_machine_step.specs.Step.{Accepted, Stepped, acceptance, accepted, answer_of, request_in, step}
+use Rattle.tpm_machine_step.specs.Step.{Accepted, Stepped, acceptance, accepted, stepped_of, request_in, step}
 use Rattle.tpm_machine_step.specs.Table.{row_of}
 use Rattle.tpm_machine_step.specs.declared.refused_command.RefusedCommand.{RefusedCommand}
 use Rattle.tpm_machine_laws.specs.Refusals.{Passes}
@@ -116,7 +116,7 @@ below check.Memory other = absurd (other refl)
 other_number : (c : Check) → c ≢ check.Memory → check_number c ≢ check_number check.Memory
 other_number c other = λ same. absurd (omega (arith, below c other, same))
 
-answer_wants : (r : Record) (random : List ℕ) (a : Result Accepted RefusedCommand) → WantsNone a → (answer_of r random a).row.check ≢ check_number check.Memory
+answer_wants : (r : Record) (random : List ℕ) (a : Result Accepted RefusedCommand) → WantsNone a → (stepped_of r random a).row.check ≢ check_number check.Memory
 answer_wants r random (Ok a) none = λ same. absurd cc
 answer_wants r random (Err e) none = other_number e.refused.check none
 

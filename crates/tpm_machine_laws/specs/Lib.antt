@@ -5,3 +5,4 @@ pub mod Refusals
 pub mod Handles
 pub mod Grants
 pub mod Sizes
+pub mod Acceptance

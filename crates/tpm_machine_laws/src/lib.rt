@@ -8,30 +8,35 @@
 //! It stands on the definitions of tpm_machine_step. A row is opened here, so that theorems over
 //! histories need not open any.
 
-ghost use Rattle.std.specs.Prelude.{◌≡◌, ◌≢◌, ℕ, ◌+◌, ◌*◌, ◌≤◌, Bool, IfOk, List, [], Ok, Option};
-ghost use Rattle.std.specs.Prelude.{false, length};
+ghost use Rattle.std.specs.Prelude.{◌≡◌, ◌≢◌, ℕ, ◌+◌, ◌*◌, ◌≤◌, Bool, IfOk, List, [], ◌∷◌, Ok, Option};
+ghost use Rattle.std.specs.Prelude.{IfErr, false, length, true};
+ghost use Rattle.tpm_types.specs.declared.refused.Counted.TheVariants as counted;
 ghost use Rattle.std.specs.List.{AllByRecursion};
 ghost use Rattle.tpm_types.specs.Check.{check_number};
 ghost use Rattle.tpm_types.specs.declared.check.Check.TheVariants as check;
-ghost use Rattle.tpm_types_command.specs.Command.{Whole};
+ghost use Rattle.tpm_types_command.specs.Command.{Whole, command_at};
 ghost use Rattle.tpm_types_command.specs.CommandCode.{shape_of};
 ghost use Rattle.tpm_types_command.specs.declared.command_code.CommandCode.{CommandCode};
+ghost use Rattle.tpm_types_command.specs.declared.shape.HandleRule.{HandleRule};
+ghost use Rattle.tpm_types.specs.declared.handle.Handle.{Handle};
 ghost use Rattle.tpm_record.specs.Cycle.{cycled};
 ghost use Rattle.tpm_record.specs.Record.{Record, manufactured};
 ghost use Rattle.tpm_auth.specs.Entries.{entries_pass};
 ghost use Rattle.tpm_auth.specs.Grant.{authorize, grants_pass};
 ghost use Rattle.tpm_auth.specs.declared.session_grant.Grant.{Grant};
-ghost use Rattle.tpm_actions_base.specs.Request.{Request};
+ghost use Rattle.tpm_actions_base.specs.Request.{Request, first_handle, second_handle};
 ghost use Rattle.tpm_machine_step.specs.Answer.{Written, answer_to};
 ghost use Rattle.tpm_machine_step.specs.Events.{PlainEvent, IsEvent};
 ghost use Rattle.tpm_machine_step.specs.Execution.{Executes};
 ghost use Rattle.tpm_machine_step.specs.General.{general};
 ghost use Rattle.tpm_machine_step.specs.Run.{Runs, after_all};
-ghost use Rattle.tpm_machine_step.specs.Step.{Accepted, Stepped, acceptance, step, step_where};
+ghost use Rattle.tpm_machine_step.specs.Step.{Accepted, Stepped, acceptance, accepted};
+ghost use Rattle.tpm_machine_step.specs.Step.{step, step_where, success_step};
+ghost use Rattle.tpm_machine_laws.specs.Acceptance.{IsAcceptance, LeavesEffect, OnlySessions};
 ghost use Rattle.tpm_machine_step.specs.Table.{row_of};
 ghost use Rattle.tpm_machine_laws.specs.Footprint.{Touches, part_of};
 ghost use Rattle.tpm_machine_laws.specs.Grants.{GrantsFit};
-ghost use Rattle.tpm_machine_laws.specs.Handles.{HandlesFit};
+ghost use Rattle.tpm_machine_laws.specs.Handles.{FitsRule, HandlesFit};
 ghost use Rattle.tpm_machine_laws.specs.Refusals.{Passes, RefusesAuthorization};
 ghost use Rattle.tpm_machine_laws.specs.Sessions.{HaveSessions, SessionsStay};
 ghost use Rattle.tpm_machine_laws.specs.Shapes.{AnswersItsShape, GrowsAsShaped, ReadsParameters, spelled};
@@ -101,6 +106,18 @@ pub fn row_handle_laws()
         → HandlesFit r (shape_of c).handles q.handles → Passes check.Handles (row_of r c q) }
 {}
 
+/// Of handles that fit rules, the first fits the first rule, and the second the second one.
+#[inline(always)]
+#[tactic(auto, using(crate::proofs::HandleRules::first_fits, crate::proofs::HandleRules::second_fits))]
+pub fn handle_place_laws()
+    ensures first { (r : Record) (rule : HandleRule) (rules : List HandleRule)
+        (handles : List Handle) (handle : Handle) → HandlesFit r (rule ∷ rules) handles
+        → first_handle handles ≡ Ok handle → FitsRule r rule handle }
+    ensures second { (r : Record) (one rule : HandleRule) (rules : List HandleRule)
+        (handles : List Handle) (handle : Handle) → HandlesFit r (one ∷ rule ∷ rules) handles
+        → second_handle handles ≡ Ok handle → FitsRule r rule handle }
+{}
+
 /// The general checks let a command through only where its handles fit these rules.
 #[inline(always)]
 #[tactic(auto, using(crate::proofs::Handles::general_fits))]
@@ -116,6 +133,17 @@ pub fn handle_fit_laws()
 pub fn later_handle_laws()
     ensures { (r : Record) (buffer : List ℕ) (c : Whole) (locality : ℕ) (random : List ℕ)
         → general r buffer ≡ Ok c → Passes check.Handles (acceptance r c locality random) }
+{}
+
+/// What the general checks let through is the command that the whole buffer spells: so one buffer
+/// decodes to one command, whatever the record.
+#[inline(always)]
+#[tactic(auto, using(crate::proofs::Decoding::general_reads, crate::proofs::Decoding::one_command))]
+pub fn decoding_laws()
+    ensures read { (r : Record) (buffer : List ℕ)
+        → IfOk (general r buffer) (λ c. command_at buffer ≡ Ok (c, [])) }
+    ensures one { (r s : Record) (buffer : List ℕ) (c d : Whole)
+        → general r buffer ≡ Ok c → general s buffer ≡ Ok d → c ≡ d }
 {}
 
 /// No row refuses anything for want of memory.
@@ -152,6 +180,45 @@ pub fn granted_session_laws()
 pub fn grant_laws()
     ensures { (r : Record) (c : Whole) (locality : ℕ)
         → IfOk (authorize r c locality) (GrantsFit c) }
+{}
+
+/// What is accepted is due, its handles fit, its entries authorize what they are granted, and it is
+/// a success of its row.
+#[inline(always)]
+#[tactic(auto, using(crate::proofs::Acceptance::accepted_is))]
+pub fn acceptance_laws()
+    ensures { (r : Record) (buffer : List ℕ) (locality : ℕ) (random : List ℕ)
+        → IfOk (accepted r buffer locality random) (IsAcceptance r locality random) }
+{}
+
+/// What follows a row changes nothing of its effect but sessions, and what a shutdown saved.
+#[inline(always)]
+#[tactic(auto, using(crate::proofs::Leaving::answered_only, crate::proofs::Leaving::success_leaves))]
+pub fn effect_laws()
+    ensures answer { (c : Whole) (grants : List (Option Grant)) (a : Written) (effect : Record)
+        (random : List ℕ) → OnlySessions effect (answer_to c grants a effect random).after }
+    ensures success { (a : Accepted) (random : List ℕ)
+        → LeavesEffect a.success.after (success_step a random).after }
+{}
+
+/// After an accepted command the device is started.
+#[inline(always)]
+#[tactic(auto, using(crate::proofs::Started::is_started))]
+pub fn started_laws()
+    ensures { (r : Record) (a : Accepted) (locality : ℕ) (random : List ℕ)
+        → IsAcceptance r locality random a
+        → (success_step a random).after.fixed.started ≡ true }
+{}
+
+/// Neither a general check nor a row counts anything against dictionary attacks: only the
+/// authorization does.
+#[inline(always)]
+#[tactic(auto, using(crate::proofs::Uncounted::row_plain, crate::proofs::Uncounted::general_plain))]
+pub fn uncounted_laws()
+    ensures row { (r : Record) (c : CommandCode) (q : Request)
+        → IfErr (row_of r c q) (λ e. e.counted ≡ counted.None) }
+    ensures general { (r : Record) (buffer : List ℕ)
+        → IfErr (general r buffer) (λ e. e.refused.counted ≡ counted.None) }
 {}
 
 /// A device as it is manufactured has no session, and so all of them have their sizes; and so it is

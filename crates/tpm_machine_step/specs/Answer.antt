@@ -8,7 +8,7 @@ use Rattle.tpm_types_command.specs.CommandCode.{code_number}
 use Rattle.tpm_types.specs.Rc.{rc_number}
 use Rattle.tpm_session.specs.ParameterHash.{OfResponse}
 use Rattle.tpm_record.specs.Record.{Record}
-use Rattle.tpm_actions_base.specs.Answer.{AnswerParts, body_text}
+use Rattle.tpm_actions_base.specs.Answer.{AnswerParts, answer_body_text}
 use Rattle.tpm_actions_base.specs.declared.answer.Answer.{Answer}
 use Rattle.tpm_machine_step.specs.Entries.{Drawn, entries_answer, entries_ended, entries_rolled}
 use Rattle.tpm_machine_step.specs.Granted.{Granted, granted_entries}
@@ -56,7 +56,7 @@ pub record Written : Type 0 where
   pub drawn : ℕ
 
 abbrev pub written_of : AnswerParts → Written
-written_of a = record { handle = a.handle; parameters = body_text a.body; drawn = a.drawn }
+written_of a = record { handle = a.handle; parameters = answer_body_text a.body; drawn = a.drawn }
 
 -- the code's answer
 abbrev pub text_of : Answer → Written

@@ -5,7 +5,7 @@ use Rattle.tpm_record.specs.Tick.{ticked}
 use Rattle.tpm_types.specs.Limits.{answer_limit}
 use Rattle.tpm_types.specs.Check.{check_number}
 use Rattle.tpm_types.specs.declared.refused.Refused.{Refused}
-use Rattle.tpm_actions_base.specs.Answer.{body_text}
+use Rattle.tpm_actions_base.specs.Answer.{answer_body_text}
 use Rattle.tpm_machine_step.specs.Answer.{refusal_text}
 use Rattle.tpm_machine_step.specs.Entries.{DrawsFew}
 use Rattle.tpm_machine_step.specs.Events.{PlainEvent, Given, Cycled}
@@ -29,7 +29,7 @@ IsHarmless r event x = x.row.check ≢ 0
 -- them at most 192 are drawn. Its parameters have no more bytes than the limit.
 abbrev pub IsModest : List ℕ → Accepted → Type 0
 IsModest random a =
-    (a.success.answer.drawn ≤ 96) × (length (body_text a.success.answer.body) ≤ answer_limit)
+    (a.success.answer.drawn ≤ 96) × (length (answer_body_text a.success.answer.body) ≤ answer_limit)
     × DrawsFew random a.success.after a.command.entries a.success.answer.drawn
 
 -- Where a command is accepted, its success is modest.

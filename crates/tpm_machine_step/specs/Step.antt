@@ -126,9 +126,9 @@ success_step a random =
       after = settled a.command.code x.after;
     }
 
-abbrev pub answer_of : Record → List ℕ → Result Accepted RefusedCommand → Stepped
-answer_of r random (Ok a) = success_step a random
-answer_of r random (Err e) = refusal_step r e
+abbrev pub stepped_of : Record → List ℕ → Result Accepted RefusedCommand → Stepped
+stepped_of r random (Ok a) = success_step a random
+stepped_of r random (Err e) = refusal_step r e
 
 -- the step of which an outcome tells that left this record
 abbrev pub outcome_step : Record → Outcome → Stepped
@@ -152,7 +152,7 @@ answer_without_memory r random (Err e) = refusal_step r e
 
 -- the answer to a command, to which memory is refused (true) or is not (false)
 abbrev pub answer_where : Bool → Record → List ℕ → Result Accepted RefusedCommand → Stepped
-answer_where false r random a = answer_of r random a
+answer_where false r random a = stepped_of r random a
 answer_where true r random a = answer_without_memory r random a
 
 -- the step of an event, to which memory is refused or is not: for a command first its time passes

@@ -31,7 +31,7 @@ use Rattle.tpm_nv.specs.IsContents.{AreIndices, IsContents}
 use Rattle.tpm_nv.specs.Place.{IsPlaceOf, place_of}
 use Rattle.tpm_nv.specs.declared.head.Head.{Head}
 use Rattle.tpm_nv.specs.declared.place.Found.{Found}
-use Rattle.tpm_nv.specs.declared.place.Place.{Place}
+use Rattle.tpm_nv.specs.declared.place.DataPlace.{DataPlace}
 use Rattle.tpm_nv.proofs.Cuts.{ascends_among, bytes_among, changed_among, found_among, head_at, heads_among, heads_changed, heads_put, heads_removed, length_among, length_put, none_among, piece_fits, put_anew, put_back, put_within, start_fits, total_changed, total_put, total_removed}
 
 -- ---- what a lookup of a head says of the index
@@ -249,10 +249,10 @@ module _ (es : Entries Head) (area : List ℕ) (count : ℕ) (handle : Handle) (
       (t.0, t.1, some.1 ∙ sym (start_is es area count handle shown view))
 
 -- the place of an index that was found
-pub is_place : (contents : NvContents) (handle : Handle) (h : Head) (old : List ℕ) (start : ℕ) (place : Place) → place ≡ place_of h start → IsIndexOf contents handle h old → start ≡ start_in contents handle → IsPlaceOf contents handle place
+pub is_place : (contents : NvContents) (handle : Handle) (h : Head) (old : List ℕ) (start : ℕ) (place : DataPlace) → place ≡ place_of h start → IsIndexOf contents handle h old → start ≡ start_in contents handle → IsPlaceOf contents handle place
 is_place contents handle h old start place same is from = (
-  known_some (λ (i : NvIndex). (place.attributes ≡ i.public.attributes) × (place.size ≡ i.public.data_size)) (index_at contents handle) (index_with h old) is.found (ap (λ (p : Place). p.attributes) same, ap (λ (p : Place). p.size) same),
-  ap (λ (p : Place). p.start) same ∙ from,
+  known_some (λ (i : NvIndex). (place.attributes ≡ i.public.attributes) × (place.size ≡ i.public.data_size)) (index_at contents handle) (index_with h old) is.found (ap (λ (p : DataPlace). p.attributes) same, ap (λ (p : DataPlace). p.size) same),
+  ap (λ (p : DataPlace). p.start) same ∙ from,
 )
 
 -- the data of an index that is written are its bytes

@@ -19,11 +19,11 @@ use Rattle.tpm_nv.specs.declared.fault.NvFault.{NvFault}
 use Rattle.tpm_nv.specs.declared.fault.NvFault.TheVariants.{Undefined, Locked, Attributes, Range, Uninitialized}
 
 -- A call gave the contents that it is to give, or was refused with its fault and changed nothing.
-abbrev pub Changes : Result NvContents NvFault
+abbrev pub ChangesContents : Result NvContents NvFault
     → NvContents → Result (Unit {0}) NvFault → NvContents
     → Type 0
-Changes answer old (Ok done) new = answer ≡ Ok new
-Changes answer old (Err fault) new = (answer ≡ Err fault) × (new ≡ old)
+ChangesContents answer old (Ok done) new = answer ≡ Ok new
+ChangesContents answer old (Err fault) new = (answer ≡ Err fault) × (new ≡ old)
 
 -- the index of a handle, which is to be there
 abbrev pub index_or_fault : NvContents → Handle → Result NvIndex NvFault
@@ -117,7 +117,7 @@ extended contents handle bytes = do
 -- ---- reading
 
 -- whether an index may be read: it is not locked against reading, and it is written. A command
--- that reads asks this of its handles, before its parameters
+-- that reads asks this once its parameters are read, and before it looks at their values
 abbrev pub readable : NvIndex → Result (Unit {0}) NvFault
 readable index = do
   unlocked ← refused_if (index_has index attribute.ReadLocked) Locked

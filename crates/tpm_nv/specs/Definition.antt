@@ -48,8 +48,8 @@ undefinable_attributes =
 -- each of these is wrong: a type that is not served; an attribute that no index has as it is
 -- defined; an index that nobody may write, or that nobody may read; a counter that a startup
 -- clears; PLATFORMCREATE where the owner defines the index, or none where the platform does
-abbrev pub attribute_conflicts : (by_platform : Bool) → NvAttributes → List Bool
-attribute_conflicts by_platform a =
+abbrev pub index_attribute_conflicts : (by_platform : Bool) → NvAttributes → List Bool
+index_attribute_conflicts by_platform a =
     not (is_some (index_type a))
     ∷ has_one a undefinable_attributes
     ∷ not (has_one a write_attributes)
@@ -79,7 +79,8 @@ definition_passes by_platform p auth_size = do
   value ← refused_if (nat_lt (digest_size p.name_alg) auth_size) fault.AuthValueSize
   policy ← refused_if (not (is_policy_size p.name_alg (length p.auth_policy))) fault.AuthPolicySize
   attributes ← refused_if
-      (list_any (λ wrong. wrong) (attribute_conflicts by_platform p.attributes)) fault.Attributes
+      (list_any (λ wrong. wrong) (index_attribute_conflicts by_platform p.attributes))
+      fault.Attributes
   refused_if (not (has_type_size p)) fault.DataSize
 
 -- ---- the effect

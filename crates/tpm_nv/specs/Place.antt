@@ -8,14 +8,14 @@ use Rattle.tpm_nv.specs.Index.{NvContents, index_at}
 use Rattle.tpm_nv.specs.declared.head.Head.{Head}
 use Rattle.tpm_nv.specs.declared.pieces.Piece.{Piece}
 use Rattle.tpm_nv.specs.declared.place.Found.{Found}
-use Rattle.tpm_nv.specs.declared.place.Place.{Place}
+use Rattle.tpm_nv.specs.declared.place.DataPlace.{DataPlace}
 
 -- the place of an index with this head whose bytes begin here, and its bytes there
-abbrev pub place_of : Head → ℕ → Place
+abbrev pub place_of : Head → ℕ → DataPlace
 place_of head start =
     record { attributes = head.public.attributes; start = start; size = size_of head }
 
-abbrev pub piece_at_place : Place → Piece
+abbrev pub piece_at_place : DataPlace → Piece
 piece_at_place place = record {
   start = place.start;
   size = place.size;
@@ -29,7 +29,7 @@ IsFound contents handle found =
     × (found.start ≡ start_in contents handle)
 
 -- The index of a handle is there, and stands in this place.
-abbrev pub IsPlaceOf : NvContents → Handle → Place → Type 0
+abbrev pub IsPlaceOf : NvContents → Handle → DataPlace → Type 0
 IsPlaceOf contents handle place =
     IsSomeAnd (index_at contents handle) (λ index.
     (place.attributes ≡ index.public.attributes) × (place.size ≡ index.public.data_size))

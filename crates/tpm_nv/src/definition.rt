@@ -3,7 +3,7 @@
 
 ghost use Rattle.std.specs.Prelude.{◌≡◌, OnOk, false, true};
 ghost use Rattle.std.specs.List.{list_any};
-ghost use Rattle.tpm_nv.specs.Definition.{attribute_conflicts, definition_passes, has_one, has_type_size, read_attributes, undefinable_attributes, write_attributes};
+ghost use Rattle.tpm_nv.specs.Definition.{index_attribute_conflicts, definition_passes, has_one, has_type_size, read_attributes, undefinable_attributes, write_attributes};
 ghost use Rattle.tpm_types_nv.specs.NvAttributes.{has};
 ghost use Rattle.tpm_types_nv.specs.declared.nv_attributes.NvAttribute.TheVariants as attribute;
 
@@ -56,7 +56,7 @@ fn has_reader(attributes: NvAttributes) -> bool
 }
 
 fn has_attribute_conflict(by_platform: bool, attributes: NvAttributes) -> bool
-    ensures { result ≡ list_any (λ wrong. wrong) (attribute_conflicts by_platform attributes) }
+    ensures { result ≡ list_any (λ wrong. wrong) (index_attribute_conflicts by_platform attributes) }
 {
     attributes.index_type().is_none()
         || is_undefinable(attributes)

@@ -4,7 +4,7 @@
 ghost use Rattle.tpm_bytes.specs.Reading.{Gives};
 ghost use Rattle.std.specs.Prelude.{◌≡◌, ◌<◌, ◌≤◌, ◌^◌, ℕ, [], Bool, false, true, is_some, if◌then◌else◌};
 ghost use Rattle.std.specs.Prelude.{length, option_copied, option_map, OnOk};
-ghost use Rattle.tpm_nv.specs.Access.{Changes, bits_set, check_readable, extended, incremented, read_at, read_locked, with_auth_value, write_locked, written};
+ghost use Rattle.tpm_nv.specs.Access.{ChangesContents, bits_set, check_readable, extended, incremented, read_at, read_locked, with_auth_value, write_locked, written};
 ghost use Rattle.tpm_nv.specs.Clear.{cleared};
 ghost use Rattle.tpm_nv.specs.Definition.{Defines, defined_index, has_type_size};
 ghost use Rattle.tpm_nv.specs.Head.{head_of, heads_of, indices_of};
@@ -85,22 +85,22 @@ pub trait Indices: Drop + Sized {
 
     /// Writes data from an offset on (Part 3, section 31.7).
     fn write(&mut self, handle: Handle, offset: u16, bytes: &[u8]) -> Result<(), NvFault>
-        ensures { Changes (written (contents self.old) handle offset bytes.now) (contents self.old)
+        ensures { ChangesContents (written (contents self.old) handle offset bytes.now) (contents self.old)
             result (contents self.new) };
 
     /// Raises a counter (Part 3, section 31.8).
     fn increment(&mut self, handle: Handle) -> Result<(), NvFault>
-        ensures { Changes (incremented (contents self.old) handle) (contents self.old)
+        ensures { ChangesContents (incremented (contents self.old) handle) (contents self.old)
             result (contents self.new) };
 
     /// Sets bits (Part 3, section 31.10).
     fn set_bits(&mut self, handle: Handle, bits: u64) -> Result<(), NvFault>
-        ensures { Changes (bits_set (contents self.old) handle bits) (contents self.old)
+        ensures { ChangesContents (bits_set (contents self.old) handle bits) (contents self.old)
             result (contents self.new) };
 
     /// Extends a digest (Part 3, section 31.9).
     fn extend(&mut self, handle: Handle, bytes: &[u8]) -> Result<(), NvFault>
-        ensures { Changes (extended (contents self.old) handle bytes.now) (contents self.old)
+        ensures { ChangesContents (extended (contents self.old) handle bytes.now) (contents self.old)
             result (contents self.new) };
 
     /// Whether an index may be read.
@@ -114,17 +114,17 @@ pub trait Indices: Drop + Sized {
 
     /// Locks an index against writing (Part 3, section 31.11).
     fn lock_write(&mut self, handle: Handle) -> Result<(), NvFault>
-        ensures { Changes (write_locked (contents self.old) handle) (contents self.old)
+        ensures { ChangesContents (write_locked (contents self.old) handle) (contents self.old)
             result (contents self.new) };
 
     /// Locks an index against reading (Part 3, section 31.14).
     fn lock_read(&mut self, handle: Handle) -> Result<(), NvFault>
-        ensures { Changes (read_locked (contents self.old) handle) (contents self.old)
+        ensures { ChangesContents (read_locked (contents self.old) handle) (contents self.old)
             result (contents self.new) };
 
     /// Gives an index another authorization value (Part 3, section 31.15).
     fn change_auth(&mut self, handle: Handle, value: AuthValue) -> Result<(), NvFault>
-        ensures { Changes (with_auth_value (contents self.old) handle value) (contents self.old)
+        ensures { ChangesContents (with_auth_value (contents self.old) handle value) (contents self.old)
             result (contents self.new) };
 
     /// What a startup with CLEAR does (Part 3, section 9.3).

@@ -16,17 +16,17 @@ pub(crate) struct Found<'a> {
 
 /// What a change of its data needs of it.
 #[derive(Clone, Copy)]
-pub(crate) struct Place {
+pub(crate) struct DataPlace {
     pub(crate) attributes: NvAttributes,
     pub(crate) start: usize,
     pub(crate) size: usize,
 }
 
 impl Found<'_> {
-    pub(crate) fn place(&self) -> Place
+    pub(crate) fn place(&self) -> DataPlace
         ensures { result ≡ place_of self.now.head.now self.now.start }
     {
-        Place {
+        DataPlace {
             attributes: self.head.public.attributes,
             start: self.start,
             size: usize::from(self.head.public.data_size),
@@ -34,7 +34,7 @@ impl Found<'_> {
     }
 }
 
-impl Place {
+impl DataPlace {
     /// Its bytes, and whether they are data.
     pub(crate) fn piece(&self) -> Piece
         ensures { result ≡ piece_at_place self.now }

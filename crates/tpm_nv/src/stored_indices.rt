@@ -23,7 +23,7 @@ use crate::heads::{auth_value_fits, found_at, put_head, set_attributes, set_auth
 use crate::indices::Indices;
 use crate::item_area::{ListArea, SlotArea};
 use crate::pieces::{piece_at, put_between, put_bytes};
-use crate::place::{Found, Place};
+use crate::place::{DataPlace, Found};
 use crate::startup::start_heads;
 use crate::values::{count_fits, digest_of, is_part, is_room, is_write_lockable, number_of};
 use std::alloc::Global;
@@ -106,7 +106,7 @@ impl<H: SortedMap<Head, NV_INDEX_LIMIT>, R: Area> StoredIndices<H, R> {
 
     /// Writes bytes over the data of an index from an offset on. Data of an index that was never
     /// written count as bytes `first`. The index is written afterwards.
-    fn put_data(&mut self, handle: Handle, place: Place, offset: usize, first: u8, bytes: &[u8])
+    fn put_data(&mut self, handle: Handle, place: DataPlace, offset: usize, first: u8, bytes: &[u8])
         requires there { IsPlaceOf self.old handle place }
         requires within { offset + length bytes.now ≤ place.size }
         ensures { (index : NvIndex) → index_at self.old handle ≡ Some index
@@ -130,7 +130,7 @@ impl<H: SortedMap<Head, NV_INDEX_LIMIT>, R: Area> StoredIndices<H, R> {
     }
 
     /// Puts other data in the place of all data of an index; it is written then.
-    fn set_data(&mut self, handle: Handle, place: Place, bytes: &[u8])
+    fn set_data(&mut self, handle: Handle, place: DataPlace, bytes: &[u8])
         requires there { IsPlaceOf self.old handle place }
         requires whole { IsSomeAnd (index_at self.old handle) (λ index.
             (length bytes.now ≡ index.public.data_size)

@@ -25,8 +25,8 @@ has_wrong_fixing parent_is_fixed a =
     else has a attribute.FixedTpm
 
 -- each of these is wrong
-abbrev pub attribute_conflicts : (parent_is_fixed : Bool) → Public → List Bool
-attribute_conflicts parent_is_fixed t =
+abbrev pub object_attribute_conflicts : (parent_is_fixed : Bool) → Public → List Bool
+object_attribute_conflicts parent_is_fixed t =
     let restricted : Bool = has t.attributes attribute.Restricted in
     let decrypt : Bool = has t.attributes attribute.Decrypt in
     let sign : Bool = has t.attributes attribute.Sign in
@@ -46,7 +46,7 @@ has_wrong_scheme parameters_of.SymCipher a = false
 abbrev pub template_checks : (parent_is_fixed : Bool) → Public → List (Bool × TemplateFault)
 template_checks parent_is_fixed t =
     (not (is_policy_size t.name_alg (length t.auth_policy)), fault.AuthPolicySize)
-    ∷ (one_of (attribute_conflicts parent_is_fixed t), fault.Attributes)
+    ∷ (one_of (object_attribute_conflicts parent_is_fixed t), fault.Attributes)
     ∷ (has_wrong_scheme t.parameters t.attributes, fault.Scheme) ∷ []
 
 -- whether a template passes, or the fault of the first check that holds

@@ -3,7 +3,7 @@
 
 ghost use Rattle.std.specs.Prelude.{◌≡◌};
 ghost use Rattle.tpm_object.specs.Checks.{one_of};
-ghost use Rattle.tpm_object.specs.Template.{attribute_conflicts, has_wrong_fixing, has_wrong_scheme, template_passes};
+ghost use Rattle.tpm_object.specs.Template.{object_attribute_conflicts, has_wrong_fixing, has_wrong_scheme, template_passes};
 
 use crate::object::{is_cipher, is_keyed_hash};
 use tpm_types::is_policy_size;
@@ -36,7 +36,7 @@ fn has_wrong_fixing(parent_is_fixed: bool, attributes: ObjectAttributes) -> bool
 }
 
 fn has_attribute_conflict(parent_is_fixed: bool, template: &Public) -> bool
-    ensures { result ≡ one_of (attribute_conflicts parent_is_fixed template.now) }
+    ensures { result ≡ one_of (object_attribute_conflicts parent_is_fixed template.now) }
 {
     let attributes = template.attributes;
     let fixed_tpm = attributes.has(ObjectAttribute::FixedTpm);

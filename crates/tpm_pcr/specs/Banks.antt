@@ -1,7 +1,7 @@
 -- PCR banks. TPM 2.0 Library, Part 1, section 17, and Part 3, section 22.4 (TPM2_PCR_Read); how
 -- many PCRs there are and what each starts with, as in the PC Client Platform TPM Profile.
 use Rattle.tpm_bytes.specs.Numbers.{numbers_below}
-use Rattle.std.specs.Prelude.{ℕ, zero, suc, ◌-◌, nat_le, ◌&&◌, if◌then◌else◌, List, [], ◌∷◌, ◌++◌}
+use Rattle.std.specs.Prelude.{◌≡◌, ◌<◌, ℕ, zero, suc, ◌-◌, nat_le, ◌&&◌, if◌then◌else◌, List, [], ◌∷◌, ◌++◌}
 use Rattle.std.specs.Prelude.{length, take, map, filter, fold, replicate, slice_index_or}
 use Rattle.std.specs.List.{concat, flat_map}
 use Rattle.tpm_mac.specs.declared.algorithm.HashAlg.{HashAlg}
@@ -34,6 +34,19 @@ bank_values banks Sha256 = banks.sha256
 
 abbrev pub pcr_value : BankValues → HashAlg → ℕ → List ℕ
 pcr_value banks bank pcr = slice_index_or (bank_values banks bank) pcr []
+
+-- a value for each PCR of each bank
+abbrev pub PcrValues : Type 0
+PcrValues = HashAlg → ℕ → List ℕ
+
+-- Each bank has a value for each of the 24 PCRs.
+abbrev pub HaveAll : BankValues → Type 0
+HaveAll banks = (bank : HashAlg) → length (bank_values banks bank) ≡ 24
+
+-- Both banks have these values.
+abbrev pub HaveValues : BankValues → PcrValues → Type 0
+HaveValues banks values =
+    (bank : HashAlg) (pcr : ℕ) → pcr < 24 → pcr_value banks bank pcr ≡ values bank pcr
 
 -- what TPM2_PCR_Read answers
 

@@ -60,6 +60,13 @@ with_extension pcr banks digest =
     let hash = hash_of_value digest in
     with_value hash pcr (hash_of hash (pcr_value banks hash pcr ++ digest_of digest)) banks
 
+-- what that makes of the value of a PCR in a bank: nothing, if the digest is not of its hash
+abbrev pub value_extended : HashAlg → List ℕ → DigestValue → List ℕ
+value_extended alg.Sha1 old (Sha1 digest) = hash_of alg.Sha1 (old ++ digest)
+value_extended alg.Sha1 old (Sha256 digest) = old
+value_extended alg.Sha256 old (Sha1 digest) = old
+value_extended alg.Sha256 old (Sha256 digest) = hash_of alg.Sha256 (old ++ digest)
+
 -- a change of this many values is refused where the PCR's locality forbids it, and where the count
 -- of updates would pass 2^64 - 1
 abbrev pub change_check : Bool → ℕ → BankValues → Result (Unit {0}) ChangeFault
@@ -90,13 +97,14 @@ clear_counted banks = do
   Ok (record banks { update_count = banks.update_count + 1 })
 
 -- A change did what it should; a refusal changes nothing.
-abbrev pub Changes : Result BankValues ChangeFault
+abbrev pub ChangesBanks : Result BankValues ChangeFault
     → BankValues → Result (Unit {0}) ChangeFault → BankValues → Type 0
-Changes change old (Ok u) new = change ≡ Ok new
-Changes change old (Err e) new = (change ≡ Err e) × (new ≡ old)
+ChangesBanks change old (Ok u) new = change ≡ Ok new
+ChangesBanks change old (Err e) new = (change ≡ Err e) × (new ≡ old)
 
 -- A change did what it should, and answered these digests; a refusal changes nothing.
-abbrev pub Answers : List DigestValue → Result BankValues ChangeFault
+abbrev pub AnswersDigests : List DigestValue → Result BankValues ChangeFault
     → BankValues → Result DigestValues ChangeFault → BankValues → Type 0
-Answers digests change old (Ok answer) new = (change ≡ Ok new) × (answer.values.items ≡ digests)
-Answers digests change old (Err e) new = (change ≡ Err e) × (new ≡ old)
+AnswersDigests digests change old (Ok answer) new =
+    (change ≡ Ok new) × (answer.values.items ≡ digests)
+AnswersDigests digests change old (Err e) new = (change ≡ Err e) × (new ≡ old)

@@ -7,7 +7,7 @@ ghost use Rattle.tpm_mac.specs.Digest.{digest_size, hash_of};
 ghost use Rattle.tpm_types.specs.DigestValues.{digest_of, hash_of_value};
 ghost use Rattle.tpm_types.specs.Locality.{locality_number};
 ghost use Rattle.tpm_pcr.specs.Banks.{pcr_value};
-ghost use Rattle.tpm_pcr.specs.Changes.{Answers, Changes, change_check, clear_counted};
+ghost use Rattle.tpm_pcr.specs.Changes.{AnswersDigests, ChangesBanks, change_check, clear_counted};
 ghost use Rattle.tpm_pcr.specs.Changes.{event_digests, extend_of};
 ghost use Rattle.tpm_pcr.specs.Changes.{may_extend, may_reset, reset_of, use_of};
 ghost use Rattle.tpm_pcr.specs.Changes.{with_extension, with_value};
@@ -115,7 +115,7 @@ impl Banks {
         locality: Locality,
         digests: &DigestValues,
     ) -> Result<(), ChangeFault>
-        ensures { Changes
+        ensures { ChangesBanks
             (extend_of pcr (locality_number locality) digests.now.values.items self.old)
             self.old result self.new }
     {
@@ -137,7 +137,7 @@ impl Banks {
         locality: Locality,
         event: &[u8],
     ) -> Result<DigestValues, ChangeFault>
-        ensures { Answers (event_digests event.now)
+        ensures { AnswersDigests (event_digests event.now)
             (extend_of pcr (locality_number locality) (event_digests event.now) self.old)
             self.old result self.new }
     {
@@ -150,7 +150,7 @@ impl Banks {
     /// then Failure where the updates could not be counted.
     #[tactic(auto, unfolding(crate::specs::Changes::reset_of))]
     pub fn reset(&mut self, pcr: PcrIndex, locality: Locality) -> Result<(), ChangeFault>
-        ensures { Changes (reset_of pcr (locality_number locality) self.old)
+        ensures { ChangesBanks (reset_of pcr (locality_number locality) self.old)
             self.old result self.new }
     {
         check(self, PcrUse::of(pcr).may_reset(locality), 2)?;
@@ -163,7 +163,7 @@ impl Banks {
     /// counted.
     #[tactic(auto, unfolding(crate::specs::Changes::clear_counted))]
     pub fn count_clear(&mut self) -> Result<(), ChangeFault>
-        ensures { Changes (clear_counted self.old) self.old result self.new }
+        ensures { ChangesBanks (clear_counted self.old) self.old result self.new }
     {
         check(self, true, 1)?;
         self.count_update();

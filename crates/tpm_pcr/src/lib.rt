@@ -10,6 +10,7 @@
 
 pub mod banks;
 pub mod changes;
+pub mod laws;
 pub mod saved;
 
 pub use banks::{Banks, PcrReading};

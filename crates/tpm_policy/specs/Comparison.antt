@@ -47,6 +47,6 @@ holds UnsignedLessOrEqual bytes operand = nat_le (unsigned_number bytes) (unsign
 holds BitSet bytes operand = has_set bytes operand
 holds BitClear bytes operand = has_clear bytes operand
 
--- whether they do, and have its size
+-- whether the bytes of the index have the operand's size and compare so with it
 unfoldable pub compares : Operation → (bytes operand : List ℕ) → Bool
 compares operation bytes operand = length bytes == length operand && holds operation bytes operand

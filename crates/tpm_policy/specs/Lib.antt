@@ -1,6 +1,7 @@
 pub mod State
 pub mod Comparison
 pub mod Assertion
+pub mod Made
 pub mod Use
 pub use Rattle.tpm_name.specs.Name
 pub use Rattle.tpm_types_command.specs.CommandCode

@@ -11,6 +11,7 @@
 
 pub mod assertions;
 mod comparison;
+pub mod laws;
 pub mod nv;
 pub mod pcr;
 pub mod policy_use;

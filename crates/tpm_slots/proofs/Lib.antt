@@ -1,3 +1,4 @@
 pub mod Padding
 pub mod SlotLaws
 pub mod NumberedLaws
+pub mod FoundNumbers

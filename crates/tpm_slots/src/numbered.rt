@@ -1,11 +1,11 @@
 //! Values in slots, found by numbers that name a kind and a place, as a TPM's handles do; with the
 //! laws that make this a map.
 
-ghost use Rattle.std.specs.Prelude.{◌≡◌, ◌<◌, ℕ, is_some, length, option_copied};
+ghost use Rattle.std.specs.Prelude.{◌≡◌, ◌<◌, ◌⊎◌, ℕ, List, None, Option, is_some, length, option_copied};
 ghost use Rattle.std.specs.Borrow.{LendsIf, sem};
 ghost use Rattle.std.specs.Option.{option_copied_mut};
 ghost use Rattle.tpm_slots.specs.Numbered.{MapLaws, at_number, number_of, place_of, without_number};
-ghost use Rattle.tpm_slots.specs.Slots.{AreAll};
+ghost use Rattle.tpm_slots.specs.Slots.{AreAll, free};
 
 use crate::slots::Slots;
 
@@ -107,4 +107,16 @@ pub fn read_sizes<T: Sizes, const N: usize, P: Slots<T, N>>(places: &P)
 #[tactic(auto, using(crate::proofs::NumberedLaws::is_map))]
 pub fn numbered_laws<T: Kinded>()
     ensures { MapLaws T.kind }
+{}
+
+/// What is found under any number: once one is removed, what was found before or nothing; and
+/// nothing where all places are free. It does nothing.
+#[inline(always)]
+#[tactic(auto, using(crate::proofs::FoundNumbers::removed_or_same, crate::proofs::FoundNumbers::free_found))]
+pub fn found_laws<T: Kinded>()
+    ensures removed { (places : List (Option T)) (number other : ℕ)
+        → (at_number T.kind (without_number T.kind places number) other
+        ≡ at_number T.kind places other)
+        ⊎ (at_number T.kind (without_number T.kind places number) other ≡ None) }
+    ensures free { (count number : ℕ) → at_number T.kind (free count) number ≡ None }
 {}

@@ -1,2 +1,3 @@
 pub mod SortedMapLaws
+pub mod FoundKeys
 pub mod KeyIndex

@@ -13,7 +13,7 @@ use Rattle.tpm_types_command.specs.declared.tag.Tag.{Tag}
 use Rattle.tpm_types_command.specs.declared.tag.Tag.TheVariants.{Sessions}
 use Rattle.tpm_types_command.specs.AuthArea.{entries_text}
 use Rattle.tpm_types_command.specs.AuthEntry.{Entry}
-use Rattle.tpm_types_command.specs.Command.{body_text, command_size, command_text, handles_text, sessions_text, tag_for}
+use Rattle.tpm_types_command.specs.Command.{command_body_text, command_size, command_text, handles_text, sessions_text, tag_for}
 use Rattle.tpm_types_command.specs.CommandCode.{handle_count, shape_of}
 use Rattle.tpm_types_command.specs.Header.{header_text}
 use Rattle.tpm_text.specs.declared.fault.AsmFault.{AsmFault}
@@ -149,7 +149,7 @@ module _ (line : List ℕ) (code : CommandCode) (one : List Token) (n : name_in 
         body = handles_text handles ++ sessions_text entries ++ parameters
 
         whole : ended four ≡ Ok tt → assembled line ≡ (refused_if (nat_lt buffer_limit (10 + length body)) TooLong >>= λ fits. Ok (header_text (tag_for entries) (10 + length body) code ++ body))
-        unfolding assembled spelled command_size command_text body_text body
+        unfolding assembled spelled command_size command_text command_body_text body
         whole e = rw (n, h, s, p, e) refl
 
         -- the text of the command, after ten bytes

@@ -12,7 +12,7 @@ use Rattle.tpm_types_command.specs.declared.tag.Tag.TheVariants.{NoSessions, Ses
 use Rattle.tpm_types_command.specs.declared.command.Command.{Command}
 use Rattle.tpm_types_command.specs.AuthArea.{area_text, entries_text}
 use Rattle.tpm_types_command.specs.AuthEntry.{Entry, IsEntry}
-use Rattle.tpm_types_command.specs.Command.{IsCommand, Whole, body_text, command_at, command_size, command_text, handle_text, handles_at, handles_text, header_or_rc, sessions_at, sessions_text, tag_for, whole_of}
+use Rattle.tpm_types_command.specs.Command.{IsCommand, Whole, command_body_text, command_at, command_size, command_text, handle_text, handles_at, handles_text, header_or_rc, sessions_at, sessions_text, tag_for, whole_of}
 use Rattle.tpm_types_command.specs.Header.{header_at, header_text}
 use Rattle.tpm_types_command.specs.CommandCode.{handle_count}
 use Rattle.tpm_types_command.proofs.EntryLaws.{area_again, area_takes}
@@ -46,15 +46,15 @@ sessions_again (entry ∷ entries) rest few each small = area_again (entry ∷ e
 
 -- ---- a command
 
-pub command_text-is : (c : Whole) → command_text c ≡ header_text (tag_for c.entries) (command_size c) c.code ++ body_text c
+pub command_text-is : (c : Whole) → command_text c ≡ header_text (tag_for c.entries) (command_size c) c.code ++ command_body_text c
 unfolding command_text
 command_text-is c = refl
 
-pub body_text-is : (c : Whole) → body_text c ≡ flat_map handle_text c.handles ++ sessions_text c.entries ++ c.parameters
-unfolding body_text
-body_text-is c = ap (λ (l : List ℕ). l ++ sessions_text c.entries ++ c.parameters) (handles_text-is c.handles)
+pub command_body_text-is : (c : Whole) → command_body_text c ≡ flat_map handle_text c.handles ++ sessions_text c.entries ++ c.parameters
+unfolding command_body_text
+command_body_text-is c = ap (λ (l : List ℕ). l ++ sessions_text c.entries ++ c.parameters) (handles_text-is c.handles)
 
-pub command_size-is : (c : Whole) → command_size c ≡ 10 + length (body_text c)
+pub command_size-is : (c : Whole) → command_size c ≡ 10 + length (command_body_text c)
 unfolding command_size
 command_size-is c = refl
 
@@ -62,10 +62,10 @@ length-header_text : (tag : Tag) (size : ℕ) (code : _) → length (header_text
 unfolding header_text
 length-header_text tag size code = refl
 
-pub length-body : (c : Whole) → length (body_text c) ≡ 4 * length c.handles + length (sessions_text c.entries) + length c.parameters
+pub length-body : (c : Whole) → length (command_body_text c) ≡ 4 * length c.handles + length (sessions_text c.entries) + length c.parameters
 length-body c =
     let handles = flat_map handle_text c.handles in
-    ap length (body_text-is c) ∙ omega (arith, length-append (handles ++ sessions_text c.entries) c.parameters, length-append handles (sessions_text c.entries), length-handles c.handles)
+    ap length (command_body_text-is c) ∙ omega (arith, length-append (handles ++ sessions_text c.entries) c.parameters, length-append handles (sessions_text c.entries), length-handles c.handles)
 
 pub command_takes : (bytes : List ℕ) (x : Whole × List ℕ) → AreBytes bytes → command_at bytes ≡ Ok x → IsCommand x.0 × (bytes ≡ command_text x.0) × (x.1 ≡ [])
 unfolding command_at
@@ -77,13 +77,13 @@ command_takes bytes x fits e =
     let t1 = handles_take (handle_count a.0.0.code) 1 a.0.1 b.0 h.text.rest_fits b.1 in
     let t2 = sessions_take a.0.0.tag b.0.1 d.0 t1.0.rest_fits d.1 in
     let whole : Whole = record { code = a.0.0.code; handles = b.0.0; entries = d.0.0; parameters = d.0.1 } in
-    let body : a.0.1 ≡ body_text whole = (Takes-then a.0.1 (flat_map handle_text b.0.0) b.0.1 (sessions_text d.0.0) d.0.1 t1.0 t2.text).parts ∙ sym (body_text-is whole) in
+    let body : a.0.1 ≡ command_body_text whole = (Takes-then a.0.1 (flat_map handle_text b.0.0) b.0.1 (sessions_text d.0.0) d.0.1 t1.0 t2.text).parts ∙ sym (command_body_text-is whole) in
     let size : length bytes ≡ command_size whole = ap length h.text.parts ∙ length-append (header_text a.0.0.tag (length bytes) a.0.0.code) a.0.1 ∙ ap (λ n. n + length a.0.1) (length-header_text a.0.0.tag (length bytes) a.0.0.code) ∙ ap (λ (l : List ℕ). 10 + length l) body ∙ sym (command_size-is whole) in
     let spelled : bytes ≡ command_text whole =
     h.text.parts
     ∙ ap (λ (l : List ℕ). header_text a.0.0.tag (length bytes) a.0.0.code ++ l) body
-    ∙ ap (λ n. header_text a.0.0.tag n a.0.0.code ++ body_text whole) size
-    ∙ ap (λ (t : Tag). header_text t (command_size whole) a.0.0.code ++ body_text whole) (sym t2.tag_is)
+    ∙ ap (λ n. header_text a.0.0.tag n a.0.0.code ++ command_body_text whole) size
+    ∙ ap (λ (t : Tag). header_text t (command_size whole) a.0.0.code ++ command_body_text whole) (sym t2.tag_is)
     ∙ sym (command_text-is whole) in
     let most = h.most in
     let made : Whole × List ℕ = (whole, []) in
@@ -95,10 +95,10 @@ command_again c is =
     let small = is.size in
     let size-is = command_size-is c in
     let length-is = length-body c in
-    let header = header_again (tag_for c.entries) (command_size c) c.code (body_text c) size-is small in
-    let regrouped : body_text c ≡ flat_map handle_text c.handles ++ (sessions_text c.entries ++ c.parameters) = body_text-is c ∙ append_assoc (flat_map handle_text c.handles) (sessions_text c.entries) c.parameters in
-    let handles : handles_at 1 (handle_count c.code) (body_text c) ≡ Ok (c.handles, sessions_text c.entries ++ c.parameters) =
-    ap (λ n. handles_at 1 n (body_text c)) (sym is.handle_count)
+    let header = header_again (tag_for c.entries) (command_size c) c.code (command_body_text c) size-is small in
+    let regrouped : command_body_text c ≡ flat_map handle_text c.handles ++ (sessions_text c.entries ++ c.parameters) = command_body_text-is c ∙ append_assoc (flat_map handle_text c.handles) (sessions_text c.entries) c.parameters in
+    let handles : handles_at 1 (handle_count c.code) (command_body_text c) ≡ Ok (c.handles, sessions_text c.entries ++ c.parameters) =
+    ap (λ n. handles_at 1 n (command_body_text c)) (sym is.handle_count)
     ∙ ap (handles_at 1 (length c.handles)) regrouped
     ∙ handles_again c.handles 1 (sessions_text c.entries ++ c.parameters) is.handles in
     let sessions = sessions_again c.entries c.parameters is.entry_count is.entries (omega arith) in
@@ -129,7 +129,7 @@ command_written c size tag old one two three new size-is tag-is e1 e2 e3 e4 =
     let handles = handles_text c.handles in
     let sessions = sessions_text c.entries in
     let first : one ≡ old ++ header = e1 ∙ ap (λ (t : Tag). old ++ header_text t size c.code) tag-is ∙ ap (λ n. old ++ header_text (tag_for c.entries) n c.code) size-is in
-    let body : (handles ++ sessions) ++ c.parameters ≡ body_text c = ap (λ (l : List ℕ). l ++ sessions ++ c.parameters) (handles_text-is c.handles) ∙ sym (body_text-is c) in
+    let body : (handles ++ sessions) ++ c.parameters ≡ command_body_text c = ap (λ (l : List ℕ). l ++ sessions ++ c.parameters) (handles_text-is c.handles) ∙ sym (command_body_text-is c) in
     e4
     ∙ ap (λ (l : List ℕ). l ++ c.parameters) e3
     ∙ ap (λ (l : List ℕ). (l ++ sessions) ++ c.parameters) e2

@@ -54,15 +54,15 @@ sessions_text [] = []
 sessions_text (entry ∷ entries) = area_text (entry ∷ entries)
 
 -- what stands after the header
-unfoldable pub body_text : Whole → List ℕ
-body_text c = handles_text c.handles ++ sessions_text c.entries ++ c.parameters
+unfoldable pub command_body_text : Whole → List ℕ
+command_body_text c = handles_text c.handles ++ sessions_text c.entries ++ c.parameters
 
 -- commandSize: the whole length
 unfoldable pub command_size : Whole → ℕ
-command_size c = 10 + length (body_text c)
+command_size c = 10 + length (command_body_text c)
 
 unfoldable pub command_text : Whole → List ℕ
-command_text c = header_text (tag_for c.entries) (command_size c) c.code ++ body_text c
+command_text c = header_text (tag_for c.entries) (command_size c) c.code ++ command_body_text c
 
 -- what has a text: a length that each size can say
 pub record HasText (c : Whole) : Type 0 where

@@ -3,3 +3,4 @@ pub mod Exchanging
 pub mod Filling
 pub mod Living
 pub mod Pieces
+pub mod Histories

@@ -12,3 +12,4 @@ pub use Rattle.tpm_machine_step.specs.Step
 pub use Rattle.tpm_slots.specs.Slots
 pub use Rattle.tpm_record.specs.Cycle
 pub use Rattle.tpm_record.specs.Record
+pub mod History

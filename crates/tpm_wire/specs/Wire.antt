@@ -72,17 +72,17 @@ Waits s old result new = (result ≡ Ok (if s.ended then Ended else Wants)) × (
 
 -- The buffer that was cut was executed with what the host says, and the stream after it is left;
 -- can says whether memory can be refused.
-abbrev pub Answers : Bool → Cut → Wire → ℕ → Host → Result Turn NoConnection → Wire → Type 0
-Answers can c old number host (Ok (Answer outcome)) new =
+abbrev pub AnswersTurn : Bool → Cut → Wire → ℕ → Host → Result Turn NoConnection → Wire → Type 0
+AnswersTurn can c old number host (Ok (Answer outcome)) new =
     Executes can old.machine (given c.buffer host) (outcome_step new.machine outcome)
     × (new.streams ≡ slice_set old.streams number (Some c.after))
-Answers can c old number host result new = ⊥
+AnswersTurn can c old number host result new = ⊥
 
 -- The next buffer was executed, if one is whole.
 abbrev pub TurnsBy : Bool → Option Cut → Stream
     → Wire → ℕ → Host → Result Turn NoConnection → Wire → Type 0
 TurnsBy can None s old number host result new = Waits s old result new
-TurnsBy can (Some c) s old number host result new = Answers can c old number host result new
+TurnsBy can (Some c) s old number host result new = AnswersTurn can c old number host result new
 
 abbrev pub TurnsAt : Bool → Option Stream
     → Wire → ℕ → Host → Result Turn NoConnection → Wire → Type 0

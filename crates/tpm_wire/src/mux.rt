@@ -1,11 +1,14 @@
 //! A machine with up to eight connections, which take turns as the caller wants.
 
-ghost use Rattle.std.specs.Prelude.{◌≡◌, ◌<◌, ◌≤◌, IfSome, None, if◌then◌else◌, length, take};
+ghost use Rattle.std.specs.Prelude.{◌≡◌, ◌<◌, ◌≤◌, ◌∷◌, IfSome, None, if◌then◌else◌, length, take};
 ghost use Rattle.tpm_machine.specs.State.{state_of};
 ghost use Rattle.tpm_machine_step.specs.Execution.{Executes};
 ghost use Rattle.tpm_machine_step.specs.Step.{outcome_step};
 ghost use Rattle.tpm_slots.specs.Slots.{lowest_free};
 ghost use Rattle.tpm_record.specs.Cycle.{cycled};
+ghost use Rattle.tpm_machine_history.specs.Follows.{Follows};
+ghost use Rattle.tpm_machine_history.specs.History.{History, PowerCycled};
+ghost use Rattle.tpm_wire.specs.History.{turn_history};
 ghost use Rattle.tpm_wire.specs.Number.{number_of};
 ghost use Rattle.tpm_wire.specs.Stream.{cut_at};
 ghost use Rattle.tpm_wire.specs.Wire.{Closes, Feeds, Opens, Turns, given, new_wire, wire_of};
@@ -86,6 +89,22 @@ impl<K: Keep> Mux<K> {
     /// Executes the connection's next buffer with what the host says, if that is whole, and no
     /// other.
     pub fn turn(&mut self, connection: ConnectionNumber, host: Host) -> Result<Turn, NoConnection>
+        ensures turns { Turns K.can_refuse (wire_of K.record_of self.old) (number_of connection)
+            host result (wire_of K.record_of self.new) }
+
+        // Where the machine followed a history, it follows the history with that buffer, if one was
+        // executed and accepted.
+        ensures history { (history : History)
+            → Follows (wire_of K.record_of self.old).machine history
+            → Follows (wire_of K.record_of self.new).machine (turn_history
+            (wire_of K.record_of self.old) (number_of connection) host result history) }
+    {
+        self.take_turn(connection, host)
+    }
+
+    /// The same, without what is said of histories.
+    #[inline(always)]
+    fn take_turn(&mut self, connection: ConnectionNumber, host: Host) -> Result<Turn, NoConnection>
         ensures { Turns K.can_refuse (wire_of K.record_of self.old) (number_of connection) host
             result (wire_of K.record_of self.new) }
     {
@@ -109,8 +128,13 @@ impl<K: Keep> Mux<K> {
 
     /// Power goes off and on again; the connections keep their bytes.
     pub fn power_cycle(&mut self)
-        ensures { wire_of K.record_of self.new ≡ record (wire_of K.record_of self.old)
+        ensures cycled { wire_of K.record_of self.new ≡ record (wire_of K.record_of self.old)
             { machine = cycled (wire_of K.record_of self.old).machine } }
+
+        // Where the machine followed a history, it follows that with one power cycle more.
+        ensures history { (history : History)
+            → Follows (wire_of K.record_of self.old).machine history
+            → Follows (wire_of K.record_of self.new).machine (PowerCycled ∷ history) }
     {
         let _ = self.machine.execute(&Event::PowerCycle);
     }

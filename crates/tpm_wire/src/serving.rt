@@ -6,6 +6,9 @@ ghost use Rattle.std.specs.Prelude.{◌≡◌, ◌≢◌, ◌+◌, ◌≤◌, Er
 ghost use Rattle.std.specs.List.{FoldsTo};
 ghost use Rattle.tpm_bytes.specs.Tap.{device_of, marks_of, unmarked};
 ghost use Rattle.tpm_machine.specs.State.{state_of};
+ghost use Rattle.tpm_machine_history.specs.Follows.{Follows};
+ghost use Rattle.tpm_machine_history.specs.History.{History};
+ghost use Rattle.tpm_wire.specs.History.{ServeFollows};
 ghost use Rattle.tpm_slots.specs.Slots.{lowest_free};
 ghost use Rattle.tpm_wire.specs.Serve.{Exchanges, Finishes, Serves, Serving, started};
 ghost use Rattle.tpm_wire.specs.Stream.{CutsTo};
@@ -50,6 +53,14 @@ pub fn serve<K: Keep, R: Read, W: Write, H: FnMut() -> Result<Host, HostFault>>(
         (marks_of reader.new) (marks_of writer.new)
         (wire_of K.record_of mux.old).machine host.old
         result (wire_of K.record_of mux.new).machine host.new }
+
+    // Where the machine followed a history, it follows the history with those of the buffers that
+    // were accepted.
+    ensures history { lowest_free (wire_of K.record_of mux.old).streams ≢ None
+        → (history : History) → Follows (wire_of K.record_of mux.old).machine history
+        → ServeFollows K.can_refuse
+        (R.remaining (device_of reader.old)) (R.remaining (device_of reader.new))
+        (wire_of K.record_of mux.old).machine (wire_of K.record_of mux.new).machine history }
 {
     if free_place(&mux.connections).is_none() {
         return Err(ServeFault::Full);

@@ -1,6 +1,7 @@
 use Rattle.std.specs.Prelude.{◌||◌}
 use Rattle.tpm_bytes.proofs.Fields.{AreBytes}
 use Rattle.tpm_machine.specs.State.{state_of}
+use Rattle.tpm_image.proofs.Histories.{opened_follows}
 use Rattle.tpm_image.proofs.RecordLaws.{opened_found, opened_only}
 use Rattle.tpm_image.proofs.image.open.Goals as goal
 
@@ -12,3 +13,8 @@ returns-clause-found g c =
 pub returns-clause-only : goal.returns-clause-only
 returns-clause-only g c = λ r is same.
     opened_only (state_of {K = g.row.K.Denot} {S = g.row.K-SessionSlots.Denot} {O = g.row.K-ObjectSlots.Denot} {P = g.row.K-PersistentMap.Denot} {N = g.row.K-NvIndices.Denot} g.K.Keep.record_of) (g.K.Keep.empty_can_refuse || g.K.Keep.can_refuse) c.args.text.now r c.open_device.result is same c.open_device.ensures
+
+pub returns-clause-history : goal.returns-clause-history
+returns-clause-history g c = λ r history is follows same.
+    opened_follows (state_of {K = g.row.K.Denot} {S = g.row.K-SessionSlots.Denot} {O = g.row.K-ObjectSlots.Denot} {P = g.row.K-PersistentMap.Denot} {N = g.row.K-NvIndices.Denot} g.K.Keep.record_of) (g.K.Keep.empty_can_refuse || g.K.Keep.can_refuse) r history c.open_device.result
+    (opened_only (state_of {K = g.row.K.Denot} {S = g.row.K-SessionSlots.Denot} {O = g.row.K-ObjectSlots.Denot} {P = g.row.K-PersistentMap.Denot} {N = g.row.K-NvIndices.Denot} g.K.Keep.record_of) (g.K.Keep.empty_can_refuse || g.K.Keep.can_refuse) c.args.text.now r c.open_device.result is same c.open_device.ensures) follows

@@ -1,8 +1,10 @@
 use Rattle.tpm_machine_step.specs.Events.{plain_event}
 use Rattle.tpm_machine.specs.State.{state_of}
+use Rattle.tpm_machine.proofs.Histories.{execution_tells}
 use Rattle.tpm_machine.proofs.Modesty.{accepts_modestly}
 use Rattle.tpm_machine.proofs.Refusals.{steps_harmless}
 use Rattle.tpm_machine.proofs.Running.{exactly}
+use Rattle.tpm_machine_step.specs.Execution.{Executes}
 use Rattle.tpm_machine_step.specs.Step.{Stepped}
 use Rattle.tpm_machine.proofs.machine.Machine.execute_into.Goals as goal
 
@@ -15,14 +17,21 @@ returns g c =
     let done = c.advance-outcome in
     let x : Stepped = record { response = done.new.text.items; row = done.result; after = state done.new.self } in
     let steps = done.ensures.steps in
+    let executes : Executes can old event x = record {
+      happens = done.ensures.event;
+      steps = steps;
+      exactly = λ cannot. exactly can old event x cannot steps;
+      is_record = c.read_widths.ensures;
+      harmless = steps_harmless can old event x steps;
+      modest = λ zero. accepts_modestly can old event x steps zero (done.ensures.modest zero);
+      fits = done.ensures.fits;
+    } in
+    let tells = execution_tells can old event x executes in
     record {
-      executes = record {
-        happens = done.ensures.event;
-        steps = steps;
-        exactly = λ cannot. exactly can old event x cannot steps;
-        is_record = c.read_widths.ensures;
-        harmless = steps_harmless can old event x steps;
-        modest = λ zero. accepts_modestly can old event x steps zero (done.ensures.modest zero);
-        fits = done.ensures.fits;
-      };
+      executes = executes;
+      history = tells.history;
+      counters = tells.counters;
+      pcrs = tells.pcrs;
+      auth_values = tells.auth_values;
+      sessions = tells.sessions;
     }

@@ -7,7 +7,7 @@ use Rattle.tpm_nv.specs.Bytes.{put_over}
 use Rattle.tpm_nv.specs.Head.{index_with, size_of}
 use Rattle.tpm_nv.specs.Index.{NvContents, changed_index}
 use Rattle.tpm_nv.specs.declared.fault.NvFault.{NvFault}
-use Rattle.tpm_nv.specs.declared.place.Place.{Place}
+use Rattle.tpm_nv.specs.declared.place.DataPlace.{DataPlace}
 use Rattle.tpm_nv.proofs.AreaLaws.{written_is}
 use Rattle.tpm_nv.proofs.stored_indices.StoredIndicesIndices.write.Goals as goal
 
@@ -18,9 +18,9 @@ returns g c =
     let bytes = c.args.bytes.now in
     let index = index_with h t.0 in
     let place = c.place-place.ensures in
-    let inside : c.args.offset + length bytes ≤ size_of h = omega (arith, c.from-offset.ensures, ap (λ (p : Place). p.size) place, c.if-offset-bytes.false) in
+    let inside : c.args.offset + length bytes ≤ size_of h = omega (arith, c.from-offset.ensures, ap (λ (p : DataPlace). p.size) place, c.if-offset-bytes.false) in
     let whole : (has h.public.attributes attribute.WriteAll && not (length bytes == size_of h)) ≡ false =
-    ap (λ (p : Place). has p.attributes attribute.WriteAll && not (length bytes == p.size)) (sym place)
+    ap (λ (p : DataPlace). has p.attributes attribute.WriteAll && not (length bytes == p.size)) (sym place)
     ∙ sym c.is_part.ensures
     ∙ c.if-is_part.false in
     let put : c.put_data.new.self ≡ changed_index c.args.self.now c.args.handle (with_data index (put_over c.args.offset bytes (data_or 0xff index))) =

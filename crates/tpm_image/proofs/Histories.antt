@@ -1,0 +1,14 @@
+-- What is opened from an image of a device follows the device's history, and one power cycle.
+use Rattle.std.proofs.Common.{◌≡◌, Bool, ◌∷◌, Result, Ok, Err, IfOk, sym, subst}
+use Rattle.tpm_record.specs.Cycle.{cycled}
+use Rattle.tpm_record.specs.Record.{Record}
+use Rattle.tpm_machine_history.specs.Follows.{Follows}
+use Rattle.tpm_machine_history.specs.History.{History, PowerCycled}
+use Rattle.tpm_machine_history.proofs.Following.{cycled_follows}
+use Rattle.tpm_image.specs.Opening.{OpensAgain}
+use Rattle.tpm_image.specs.declared.fault.ImageFault.{ImageFault}
+
+pub opened_follows : {M : Type 0} (record_of : M → Record) (can : Bool) (r : Record) (history : History) (result : Result M ImageFault) → OpensAgain record_of can r result → Follows r history → IfOk result (λ machine. Follows (record_of machine) (PowerCycled ∷ history))
+opened_follows record_of can r history (Ok machine) opens follows =
+    subst (λ (x : Record). Follows x (PowerCycled ∷ history)) (sym opens) (cycled_follows r history follows)
+opened_follows record_of can r history (Err fault) opens follows = tt

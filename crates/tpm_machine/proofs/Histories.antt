@@ -1,0 +1,41 @@
+-- What an execution and a run do to a device that follows a history.
+use Rattle.std.proofs.Common.{◌≡◌, Bool, List, [], Bor, ℕ, subst, sym}
+use Rattle.std.specs.Fn.{Mut}
+use Rattle.tpm_record.specs.Record.{Record, manufactured}
+use Rattle.tpm_machine_step.specs.Events.{PlainEvent}
+use Rattle.tpm_machine_step.specs.Execution.{Executes}
+use Rattle.tpm_machine_step.specs.Run.{Runs}
+use Rattle.tpm_machine_step.specs.Step.{Stepped}
+use Rattle.tpm_machine_step.specs.declared.event.Outcome.{Outcome}
+use Rattle.tpm_machine_history.specs.DeviceAuthValues.{HasAuthValues}
+use Rattle.tpm_machine_history.specs.DeviceCounters.{HasCounters}
+use Rattle.tpm_machine_history.specs.DevicePcrs.{HasPcrs}
+use Rattle.tpm_machine_history.specs.DeviceSessions.{HasSessions}
+use Rattle.tpm_machine_history.specs.Follows.{After, Follows, RunFollows}
+use Rattle.tpm_machine_history.specs.History.{History}
+use Rattle.tpm_machine_history.proofs.Following.{execution_follows, manufactured_follows, run_follows}
+
+pub new_follows : (r : Record) (random : List ℕ) → r ≡ manufactured random → Follows r []
+new_follows r random is = subst (λ (x : Record). Follows x []) (sym is) (manufactured_follows random)
+
+-- what is promised of an execution
+pub record TellsHistory (old : Record) (event : PlainEvent) (x : Stepped) : Type 0 where
+  pub history : After Follows old event x
+  pub counters : After HasCounters old event x
+  pub pcrs : After HasPcrs old event x
+  pub auth_values : After HasAuthValues old event x
+  pub sessions : After HasSessions old event x
+
+pub execution_tells : (can : Bool) (old : Record) (event : PlainEvent) (x : Stepped) → Executes can old event x → TellsHistory old event x
+execution_tells can old event x executes =
+    let next : After Follows old event x = λ history follows. execution_follows can old event x history executes follows in
+    record {
+      history = next;
+      counters = λ history follows. (next history follows).counters;
+      pcrs = λ history follows. (next history follows).pcrs;
+      auth_values = λ history follows. (next history follows).auth_values;
+      sessions = λ history follows. (next history follows).sessions;
+    }
+
+pub runs_follow : {F : Type 0} (g : Mut F (Bor Outcome × Unit {0}) (Unit {0})) (can : Bool) (old : Record) (p : F) (events : List PlainEvent) (new : Record) (q : F) → Runs g can old p events new q → (history : History) → Follows old history → RunFollows g can old p events new q history
+runs_follow g can old p events new q run history follows = run_follows g can old p events new q history run follows

@@ -1,0 +1,181 @@
+-- Every event leads from a history to the history with that event.
+use Rattle.std.proofs.Common.{◌≡◌, ℕ, Bool, true, false, cond, List, [], ◌∷◌, map, Result, Ok, Err, IfOk, Bor, refl, ap, sym, subst, ◌∙◌}
+use Rattle.std.specs.Fn.{Mut}
+use Rattle.tpm_mac.specs.declared.algorithm.HashAlg.TheVariants as alg
+use Rattle.tpm_nv.specs.Index.{NvIndex}
+use Rattle.tpm_pcr.specs.Banks.{HaveAll}
+use Rattle.tpm_pcr.specs.Values.{BankValues, IsBanks}
+use Rattle.tpm_types.specs.declared.handle.Handle.{Handle}
+use Rattle.tpm_types.specs.declared.refused.Counted.{Counted}
+use Rattle.tpm_types_command.specs.CommandCode.{shape_of}
+use Rattle.tpm_record.specs.Cycle.{cycled}
+use Rattle.tpm_record.specs.Entity.{auth_value_of}
+use Rattle.tpm_record.specs.IsRecord.{IsRecord}
+use Rattle.tpm_record.specs.Record.{Record, manufactured}
+use Rattle.tpm_record.specs.Tick.{ticked}
+use Rattle.tpm_actions_base.specs.Refusals.{memory_refusal}
+use Rattle.tpm_machine_step.specs.Events.{PlainEvent, Given, Cycled}
+use Rattle.tpm_machine_step.specs.Execution.{Executes}
+use Rattle.tpm_machine_step.specs.Run.{Runs}
+use Rattle.tpm_machine_step.specs.Step.{Accepted, Stepped, Steps, accepted, answer_where, counted_in, outcome_step, refusal_without_memory, step_where, success_step}
+use Rattle.tpm_machine_step.specs.declared.event.Outcome.{Outcome}
+use Rattle.tpm_machine_step.specs.declared.refused_command.RefusedCommand.{RefusedCommand}
+use Rattle.tpm_machine_laws.specs.Acceptance.{IsAcceptance}
+use Rattle.tpm_machine_laws.specs.Sizes.{AreSized}
+use Rattle.tpm_machine_laws.proofs.Acceptance.{accepted_is}
+use Rattle.tpm_machine_laws.proofs.SizedSteps.{cycled_sized, execution_sized, manufactured_sized}
+use Rattle.tpm_machine_history.specs.AuthValues.{auth_of}
+use Rattle.tpm_machine_history.specs.Executions.{Execution, Leads, history_after, with_execution}
+use Rattle.tpm_machine_history.specs.Follows.{Follows, RunFollows, Shape, Tells}
+use Rattle.tpm_machine_history.specs.History.{Done, History, PowerCycled, command_of, recorded, with_command}
+use Rattle.tpm_machine_history.proofs.DeviceAuthValues.{auth_values_done, cycled_auth_values, handles_auth_values, manufactured_auth_values}
+use Rattle.tpm_machine_history.proofs.DeviceCounters.{begins_above, counters_done, keeps_counter, manufactured_counters}
+use Rattle.tpm_machine_history.proofs.DevicePcrs.{cycled_pcrs, manufactured_pcrs, pcrs_done}
+use Rattle.tpm_machine_history.proofs.DeviceSessions.{cycled_sessions, manufactured_sessions, sessions_done}
+use Rattle.tpm_machine_history.proofs.Forgiving.{forgives_counted, forgives_cycled, forgives_done, forgives_ticked, manufactured_forgives}
+use Rattle.tpm_machine_history.proofs.Leading.{history_apart, leads_keep}
+use Rattle.tpm_machine_history.proofs.FewTries.{fails_few, fails_within}
+
+abbrev HasShape : Record → Type 0
+HasShape r = Shape r.sessions r.objects r.persistent r.nv.indices
+
+-- what is known of every record after an event
+record IsSound (r : Record) : Type 0 where
+  shape : HasShape r
+  sized : AreSized r
+  all : HaveAll r.fixed.banks
+
+all_values : (banks : BankValues) → IsBanks banks → HaveAll banks
+all_values banks is alg.Sha1 = is.sha1.0
+all_values banks is alg.Sha256 = is.sha256.0
+
+record_shape : (r : Record) → IsRecord r → HasShape r
+record_shape r is = record { sessions_many = is.sessions; objects_many = is.objects; persistent_ascend = is.persistent.ascends; indices_ascend = is.nv.ascends }
+
+-- ---- an accepted command
+
+command_follows : (r : Record) (a : Accepted) (locality : ℕ) (random : List ℕ) (history : History) → IsAcceptance r locality random a → IsSound (success_step a random).after → Follows r history → Follows (success_step a random).after (Done (command_of r a) ∷ history)
+command_follows r a locality random history is sound follows =
+    let values : map (auth_value_of r) a.command.handles ≡ map (auth_of history) a.command.handles =
+    handles_auth_values r history (shape_of a.command.code).handles a.command.handles follows.auth_values is.fits in
+    record {
+      counters = counters_done r a locality random history is follows.shape.indices_ascend follows.counters;
+      forgiving = forgives_done r a locality random is follows.forgiving;
+      pcrs = pcrs_done r a locality random history is follows.pcrs sound.all;
+      auth_values = auth_values_done r a locality random history is follows.shape.objects_many follows.shape.indices_ascend follows.shape.persistent_ascend follows.auth_values;
+      sessions = sessions_done r a locality random history is follows.shape.sessions_many values follows.pcrs follows.sessions;
+      shape = sound.shape;
+      sized = sound.sized;
+    }
+
+-- ---- time, and what a refusal counts
+
+ticked_follows : (r : Record) (elapsed : ℕ) (history : History) → Follows r history → Follows (ticked r elapsed) history
+ticked_follows r elapsed history follows = record {
+  counters = follows.counters;
+  forgiving = forgives_ticked r elapsed follows.forgiving;
+  pcrs = follows.pcrs;
+  auth_values = follows.auth_values;
+  sessions = follows.sessions;
+  shape = follows.shape;
+  sized = follows.sized;
+}
+
+refusal_follows : (r : Record) (counted : Counted) (history : History) → Follows r history → Follows (counted_in counted r) history
+refusal_follows r counted history follows = record {
+  counters = follows.counters;
+  forgiving = forgives_counted r counted follows.forgiving;
+  pcrs = follows.pcrs;
+  auth_values = follows.auth_values;
+  sessions = follows.sessions;
+  shape = follows.shape;
+  sized = follows.sized;
+}
+
+-- ---- power
+
+pub cycled_follows : (r : Record) (history : History) → Follows r history → Follows (cycled r) (PowerCycled ∷ history)
+cycled_follows r history follows = record {
+  counters = follows.counters;
+  forgiving = forgives_cycled r follows.forgiving;
+  pcrs = cycled_pcrs r history follows.pcrs;
+  auth_values = cycled_auth_values r history follows.auth_values;
+  sessions = cycled_sessions r history;
+  shape = record { sessions_many = refl; objects_many = refl; persistent_ascend = follows.shape.persistent_ascend; indices_ascend = follows.shape.indices_ascend };
+  sized = cycled_sized r;
+}
+
+pub manufactured_follows : (random : List ℕ) → Follows (manufactured random) []
+manufactured_follows random = record {
+  counters = manufactured_counters random;
+  forgiving = manufactured_forgives random;
+  pcrs = manufactured_pcrs random;
+  auth_values = manufactured_auth_values random;
+  sessions = manufactured_sessions random;
+  shape = record { sessions_many = refl; objects_many = refl; persistent_ascend = tt; indices_ascend = tt };
+  sized = manufactured_sized random;
+}
+
+-- ---- an event
+
+answer_follows : (refused : Bool) (r : Record) (locality : ℕ) (random : List ℕ) (x : Result Accepted RefusedCommand) (history : History) → IfOk x (IsAcceptance r locality random) → IsSound (answer_where refused r random x).after → Follows r history → Follows (answer_where refused r random x).after (with_command r x (answer_where refused r random x).row.check history)
+answer_follows false r locality random (Ok a) history is sound follows = command_follows r a locality random history is sound follows
+answer_follows false r locality random (Err e) history is sound follows = refusal_follows r e.refused.counted history follows
+answer_follows true r locality random (Err e) history is sound follows = refusal_follows r e.refused.counted history follows
+answer_follows true r locality random (Ok a) history is sound follows = by (shape_of a.command.code).grows sound
+  where
+    by : (grows : Bool) → IsSound (cond grows (refusal_without_memory r a.command) (success_step a random)).after → Follows (cond grows (refusal_without_memory r a.command) (success_step a random)).after (with_command r (Ok a) (cond grows (refusal_without_memory r a.command) (success_step a random)).row.check history)
+    by true sound = refusal_follows r memory_refusal.counted history follows
+    by false sound = command_follows r a locality random history is sound follows
+
+step_follows : (refused : Bool) (r : Record) (event : PlainEvent) (history : History) → IsSound (step_where refused r event).after → Follows r history → Follows (step_where refused r event).after (recorded r event (step_where refused r event).row.check history)
+step_follows refused r (Given buffer locality elapsed random) history sound follows =
+    let t = ticked r elapsed in
+    answer_follows refused t locality random (accepted t buffer locality random) history (accepted_is t buffer locality random) sound (ticked_follows r elapsed history follows)
+step_follows refused r Cycled history sound follows = cycled_follows r history follows
+
+pub execution_follows : (can : Bool) (old : Record) (event : PlainEvent) (x : Stepped) (history : History) → Executes can old event x → Follows old history → Follows x.after (recorded old event x.row.check history)
+execution_follows can old event x history executes follows =
+    by executes.steps (record {
+      shape = record_shape x.after executes.is_record;
+      sized = execution_sized can old event x executes follows.sized;
+      all = all_values x.after.fixed.banks executes.is_record.banks;
+    })
+  where
+    by : Steps can old event x → IsSound x.after → Follows x.after (recorded old event x.row.check history)
+    by (refused, only, same) sound =
+        subst (λ (y : Stepped). Follows y.after (recorded old event y.row.check history)) (sym same)
+        (step_follows refused old event history (subst (λ (y : Stepped). IsSound y.after) same sound) follows)
+
+-- ---- a run
+
+-- the executions of a run, told to its closure
+abbrev RunLeads : {F : Type 0} → Mut F (Bor Outcome × Unit {0}) (Unit {0}) → Bool → Record → F → List PlainEvent → Record → F → Type 0
+RunLeads g can old p events new q =
+    (executions : List Execution) × (map (λ (one : Execution). one.event) executions ≡ events)
+    × Leads can old executions new × Tells g p executions q
+
+pub run_leads : {F : Type 0} (g : Mut F (Bor Outcome × Unit {0}) (Unit {0})) (can : Bool) (old : Record) (p : F) (events : List PlainEvent) (new : Record) (q : F) → Runs g can old p events new q → RunLeads g can old p events new q
+run_leads g can old p [] new q run = ([], refl, run.0, run.1)
+run_leads g can old p (event ∷ events) new q (outcome, mid, next, executes, called, rest) =
+    let (executions, are, leads, told) = run_leads g can mid next events new q rest in
+    let one : Execution = record { before = old; event = event; seen = outcome_step mid outcome } in
+    (one ∷ executions, ap (λ (l : List PlainEvent). event ∷ l) are, (refl, executes, leads), (outcome, next, refl, called, told))
+
+pub run_follows : {F : Type 0} (g : Mut F (Bor Outcome × Unit {0}) (Unit {0})) (can : Bool) (old : Record) (p : F) (events : List PlainEvent) (new : Record) (q : F) (history : History) → Runs g can old p events new q → Follows old history → RunFollows g can old p events new q history
+run_follows g can old p events new q history run follows =
+    let (executions, are, leads, told) = run_leads g can old p events new q run in
+    let meanwhile : History = history_after [] executions in
+    let now : Follows new (history_after history executions) = leads_keep Follows execution_follows can old executions new history leads follows in
+    let apart = subst (Follows new) (history_apart executions history) now in
+    record {
+      executions = executions;
+      events_are = are;
+      leads = leads;
+      told = told;
+      follows = now;
+      counters_stay = λ handle before after. keeps_counter old new history meanwhile handle before after follows.counters apart.counters;
+      counters_exceed = λ handle before after. begins_above old new history meanwhile handle before after follows.counters apart.counters;
+      few_fail = fails_few can old executions new follows.forgiving;
+      fail_within = fails_within can old executions new follows.forgiving;
+    }

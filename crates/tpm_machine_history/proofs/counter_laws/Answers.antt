@@ -1,0 +1,8 @@
+use Rattle.tpm_machine_history.proofs.DeviceCounters.{begins_above, keeps_counter}
+use Rattle.tpm_machine_history.proofs.counter_laws.Goals as goal
+
+pub returns-clause-keeps : goal.returns-clause-keeps
+returns-clause-keeps c = keeps_counter
+
+pub returns-clause-begins : goal.returns-clause-begins
+returns-clause-begins c = begins_above

@@ -1,0 +1,17 @@
+-- Something for each handle.
+use Rattle.std.specs.Prelude.{◌==◌, if◌then◌else◌, Result, Ok, Err}
+use Rattle.tpm_types.specs.declared.handle.Handle.{Handle}
+use Rattle.tpm_types.specs.declared.refused.Refused.{Refused}
+
+-- what stands for each handle, but this for this one
+abbrev pub with_at : {X : Type 0} → Handle → X → (Handle → X) → Handle → X
+with_at handle x all other = if other.number == handle.number then x else all other
+
+-- and for this one what is made of what stood for it
+abbrev pub changed_at : {X : Type 0} → Handle → (X → X) → (Handle → X) → Handle → X
+changed_at handle change all = with_at handle (change (all handle)) all
+
+-- what a handle that a command names changes, if it names one
+abbrev pub by_handle : {X : Type 0} → Result Handle Refused → (Handle → X → X) → X → X
+by_handle (Ok handle) change x = change handle x
+by_handle (Err e) change x = x

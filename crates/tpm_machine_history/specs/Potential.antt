@@ -1,0 +1,26 @@
+-- What failed tries and time come to, as one sum. TPM 2.0 Library, Part 1, section 19.8.4
+-- (failedTries, maxTries, recoveryTime).
+use Rattle.std.specs.Prelude.{◌≡◌, ◌≢◌, ◌⊎◌, ◌≤◌, ◌<◌, ◌+◌, ◌*◌, ◌==◌, ℕ, if◌then◌else◌}
+use Rattle.tpm_lockout.specs.Lockout.{LockoutState, milliseconds}
+
+-- the milliseconds that forgive one try
+abbrev pub period : LockoutState → ℕ
+period s = milliseconds s.fields.recovery_time
+
+-- those of them that have passed already for the next try to be forgiven, if there is one
+abbrev pub credit : LockoutState → ℕ
+credit s = if s.fields.failed_tries == 0 then 0 else s.forgiving_time
+
+-- Where tries are counted, the time since one was counted or forgiven does not forgive another yet.
+abbrev pub IsForgiving : LockoutState → Type 0
+IsForgiving s = s.fields.recovery_time ≢ 0 → s.forgiving_time < period s
+
+-- So many tries failed while so many milliseconds passed, and the parameters stayed. Each try that
+-- was there or failed is there still, or time has forgiven it: what had passed before, or these.
+-- And where one failed, those that are there now are no more than may be.
+pub record Pays (old new : LockoutState) (failed elapsed : ℕ) : Type 0 where
+  pub recovery_time : new.fields.recovery_time ≡ old.fields.recovery_time
+  pub max_tries : new.fields.max_tries ≡ old.fields.max_tries
+  pub balance : period old * old.fields.failed_tries + period old * failed + credit new
+      ≤ period old * new.fields.failed_tries + credit old + elapsed
+  pub within : (failed ≡ 0) ⊎ (new.fields.failed_tries ≤ old.fields.max_tries)

@@ -1,0 +1,149 @@
+#![tactic(auto)]
+
+//! What a device has accepted, and that this decides what the device is: its PCRs, its sessions
+//! and their policies, its authorization values and its counters; and how many tries may fail.
+//!
+//! Each law stands on the contract of a function that does nothing. They stand on the definitions
+//! of tpm_machine_step and on the laws over rows of tpm_machine_laws, and open no row but those that
+//! set what a history tells. The calls of tpm_machine, and of tpm_image and tpm_wire above it, carry
+//! them.
+
+ghost use Rattle.std.specs.Prelude.{◌≡◌, ◌↔◌, ◌++◌, ℕ, Bool, true, false, List, [], ◌∷◌, None, Some, map};
+ghost use Rattle.tpm_mac.specs.declared.algorithm.HashAlg.{HashAlg};
+ghost use Rattle.tpm_nv.specs.Index.{NvIndex};
+ghost use Rattle.tpm_session.specs.Sessions.{session_at};
+ghost use Rattle.tpm_session.specs.declared.session.Session.{Session};
+ghost use Rattle.tpm_types.specs.AuthValue.{trimmed};
+ghost use Rattle.tpm_types.specs.Handle.{hierarchy_auth_of};
+ghost use Rattle.tpm_types.specs.declared.handle.Handle.{Handle};
+ghost use Rattle.tpm_record.specs.Cycle.{cycled};
+ghost use Rattle.tpm_record.specs.Entity.{auth_value_of, is_present, names_kept};
+ghost use Rattle.tpm_record.specs.Record.{Record, manufactured};
+ghost use Rattle.tpm_machine_step.specs.Events.{PlainEvent};
+ghost use Rattle.tpm_machine_step.specs.Execution.{Executes};
+ghost use Rattle.tpm_machine_step.specs.Run.{Runs};
+ghost use Rattle.tpm_machine_step.specs.Step.{Stepped};
+ghost use Rattle.tpm_machine_history.specs.AuthValues.{auth_of};
+ghost use Rattle.tpm_machine_history.specs.Counters.{CountLaws};
+ghost use Rattle.tpm_machine_history.specs.DeviceAuthValues.{HasAuthValues};
+ghost use Rattle.tpm_machine_history.specs.DeviceCounters.{BeginsAbove, HasCounters, KeepsCounter};
+ghost use Rattle.tpm_machine_history.specs.DeviceSessions.{HasSessions, IsLive};
+ghost use Rattle.tpm_machine_history.specs.Executions.{Execution, Leads};
+ghost use Rattle.tpm_machine_history.specs.Follows.{After, Follows, RunFollows};
+ghost use Rattle.tpm_machine_history.specs.History.{AcceptedCommand, Done, History, PowerCycled};
+ghost use Rattle.tpm_machine_history.specs.History.{recorded};
+ghost use Rattle.tpm_machine_history.specs.Pcrs.{before_shutdown, pcr_of, pcrs_after};
+ghost use Rattle.tpm_machine_history.specs.Potential.{IsForgiving};
+ghost use Rattle.tpm_machine_history.specs.Tries.{FailsFew, FailsWithin, IsAnsweredTry};
+ghost use Rattle.tpm_machine_history.specs.Tries.{IsRefusedTry, fails_try};
+ghost use Rattle.tpm_machine_history.specs.View.{view_of};
+ghost use Rattle.tpm_machine_history.specs.Views.{TellsOf};
+
+use tpm_machine_step::event::Outcome;
+
+/// A manufactured device follows the empty history; every execution of an event leads from a
+/// history to that with the event, if it was accepted; and so does a power cycle.
+#[inline(always)]
+pub fn following_laws()
+    ensures manufactured { (random : List ℕ) → Follows (manufactured random) [] }
+    ensures executed { (can : Bool) (old : Record) (event : PlainEvent) (x : Stepped)
+        → Executes can old event x → After Follows old event x }
+    ensures cycled { (r : Record) (history : History)
+        → Follows r history → Follows (cycled r) (PowerCycled ∷ history) }
+{}
+
+/// A run executes its events one after another, and leads to the history with all of them that
+/// were accepted.
+#[inline(always)]
+pub fn run_history_laws<F: FnMut(&Outcome)>()
+    ensures { (can : Bool) (old : Record) (p : F) (events : List PlainEvent) (new : Record) (q : F)
+        (history : History) → Runs F.FnMut can old p events new q → Follows old history
+        → RunFollows F.FnMut can old p events new q history }
+{}
+
+/// What everybody may read of a handle tells what the record has: the Name, the policy, the
+/// protection, and what authorizes it; and what is recorded of a command is what was so before it.
+#[inline(always)]
+pub fn view_laws()
+    ensures tell { (r : Record) (handle : Handle) → TellsOf (view_of r handle) r handle }
+    ensures recorded { (r : Record) (event : PlainEvent) (check : ℕ) (history : History)
+        (c : AcceptedCommand) → recorded r event check history ≡ Done c ∷ history
+        → c.views ≡ map (view_of r) c.command.handles }
+{}
+
+/// What a startup restores is what the PCRs were at the last shutdown.
+#[inline(always)]
+#[tactic(auto, using(crate::proofs::DevicePcrs::saved_are))]
+pub fn shutdown_laws()
+    ensures { (history : History) (bank : HashAlg) (pcr : ℕ)
+        → (pcrs_after history).saved bank pcr ≡ pcr_of (before_shutdown history) bank pcr }
+{}
+
+/// A session of a device has the start, the key, the nonceTPM and the policy that the history gives
+/// its handle.
+#[inline(always)]
+#[tactic(auto, using(crate::proofs::DeviceSessions::live_sessions))]
+pub fn live_session_laws()
+    ensures { (r : Record) (history : History) (handle : Handle) (s : Session)
+        → HasSessions r history → session_at r.sessions handle ≡ Some s
+        → IsLive history handle s }
+{}
+
+/// What is there has the authorization value that the history gives its handle. What is neither a
+/// hierarchy nor lockout, nor an NV index or an object, has the empty one: a PCR and TPM_RH_NULL.
+/// And no value ends in a zero.
+#[inline(always)]
+#[tactic(auto, using(crate::proofs::DeviceAuthValues::present_auth_value, crate::proofs::TrimmedValues::told_values_are_trimmed))]
+pub fn auth_value_laws()
+    ensures present { (r : Record) (history : History) (handle : Handle) → HasAuthValues r history
+        → is_present r handle ≡ true → auth_value_of r handle ≡ auth_of history handle }
+    ensures others { (r : Record) (history : History) (handle : Handle) → HasAuthValues r history
+        → names_kept handle ≡ false → hierarchy_auth_of handle ≡ None
+        → auth_of history handle ≡ [] }
+    ensures trimmed { (history : History) (handle : Handle)
+        → trimmed (auth_of history handle) ≡ auth_of history handle }
+{}
+
+/// By the history alone the first value of a counter exceeds all that any counter had before it,
+/// and a counter does not go down as long as it stays defined.
+#[inline(always)]
+#[tactic(auto, using(crate::proofs::CountLaws::count_laws))]
+pub fn count_laws()
+    ensures { CountLaws }
+{}
+
+/// So no counter of a device goes down as long as it stays defined, and one that has no value yet
+/// begins above all that any counter had.
+#[inline(always)]
+pub fn counter_laws()
+    ensures keeps { (old new : Record) (history meanwhile : History) (handle : Handle)
+        (before after : NvIndex) → HasCounters old history
+        → HasCounters new (meanwhile ++ history)
+        → KeepsCounter old new meanwhile handle before after }
+    ensures begins { (old new : Record) (history meanwhile : History) (handle : Handle)
+        (before after : NvIndex) → HasCounters old history
+        → HasCounters new (meanwhile ++ history)
+        → BeginsAbove old new history meanwhile handle before after }
+{}
+
+/// An event counts a failed try exactly where its authorization is refused with AUTH_FAIL for an
+/// entry that touches a protected entity other than LOCKOUT, and it is answered so.
+#[inline(always)]
+pub fn failed_try_laws()
+    ensures exactly { (old : Record) (event : PlainEvent)
+        → (fails_try old event ≡ true ↔ IsRefusedTry old event) }
+    ensures answered { (can : Bool) (old : Record) (event : PlainEvent) (x : Stepped)
+        → Executes can old event x → fails_try old event ≡ true → IsAnsweredTry old event x }
+{}
+
+/// In a stretch of events in which no TPM2_DictionaryAttackLockReset, no
+/// TPM2_DictionaryAttackParameters and no TPM2_Clear is accepted, where recoveryTime is not 0, at
+/// most maxTries tries fail, and one for each recoveryTime that passes; so at most one more than
+/// these.
+#[inline(always)]
+pub fn few_tries_laws()
+    ensures sharply { (can : Bool) (old : Record) (executions : List Execution) (new : Record)
+        → IsForgiving old.fixed.lockout → FailsWithin can old executions new }
+    ensures few { (can : Bool) (old : Record) (executions : List Execution) (new : Record)
+        → IsForgiving old.fixed.lockout → FailsFew can old executions new }
+{}

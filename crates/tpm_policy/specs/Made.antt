@@ -1,0 +1,33 @@
+-- What each assertion makes of a policy, where it passes its checks. TPM 2.0 Library, Part 3,
+-- section 23, and Part 1, section 19.7.
+use Rattle.std.specs.Prelude.{◌++◌, bit_and, Bool, [], ◌∷◌, Some, if◌then◌else◌}
+use Rattle.std.specs.Int.{w32, to_be_bytes}
+use Rattle.tpm_mac.specs.declared.algorithm.HashAlg.{HashAlg}
+use Rattle.tpm_policy.specs.Assertion.{Assertion, Pcr, Or, AuthValue, Password, CommandCode, Locality, Secret, Nv, auth_value_asserted, extended, nv_arguments, or_digest, password_asserted, secret_digest, taken_digest}
+use Rattle.tpm_policy.specs.State.{Policy}
+use Rattle.tpm_types.specs.Buffer.{is_given}
+use Rattle.tpm_types_command.specs.declared.command_code.CommandCode.TheVariants as command
+
+-- the policy after an assertion
+abbrev pub policy_with : HashAlg → (trial : Bool) → Assertion → Policy → Policy
+policy_with hash trial (Pcr pcr) policy =
+    record (extended hash command.PolicyPcr (pcr.selection ++ taken_digest trial pcr) policy) {
+      update_count = Some pcr.update_count;
+    }
+policy_with hash trial (Or digests) policy = record policy { digest = or_digest hash digests }
+policy_with hash trial AuthValue policy = auth_value_asserted hash policy
+policy_with hash trial Password policy = password_asserted hash policy
+policy_with hash trial (CommandCode number) policy =
+    record (extended hash command.PolicyCommandCode (to_be_bytes w32 number) policy) {
+      command = Some number;
+    }
+policy_with hash trial (Locality localities) policy =
+    record (extended hash command.PolicyLocality (localities ∷ []) policy) {
+      localities = bit_and policy.localities localities;
+    }
+policy_with hash trial (Secret secret) policy = record policy {
+  digest = secret_digest hash policy.digest secret.name secret.reference;
+  cp_hash = if is_given secret.cp_hash then Some secret.cp_hash else policy.cp_hash;
+}
+policy_with hash trial (Nv nv) policy =
+    extended hash command.PolicyNv (nv_arguments hash nv ++ nv.name) policy

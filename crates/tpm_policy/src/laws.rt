@@ -1,0 +1,16 @@
+//! What holds of assertions by their definition.
+
+ghost use Rattle.std.specs.Prelude.{◌≡◌, Bool, Ok};
+ghost use Rattle.tpm_mac.specs.declared.algorithm.HashAlg.{HashAlg};
+ghost use Rattle.tpm_policy.specs.Assertion.{Assertion, asserted};
+ghost use Rattle.tpm_policy.specs.Made.{policy_with};
+ghost use Rattle.tpm_policy.specs.State.{Policy};
+
+/// An assertion that passes its checks makes of a policy what is said of it without them. The
+/// function does nothing.
+#[inline(always)]
+#[tactic(auto, using(crate::proofs::Made::policy_made))]
+pub fn assertion_laws()
+    ensures { (hash : HashAlg) (trial : Bool) (a : Assertion) (old new : Policy)
+        → asserted hash trial a old ≡ Ok new → new ≡ policy_with hash trial a old }
+{}
