@@ -9,6 +9,7 @@ import aes
 import capability
 import frames
 import general
+import history
 import nv
 import object_commands
 import pcrs
@@ -125,7 +126,8 @@ class Device(
 ):
     """The PCRs in both banks and how often a value was written, the hierarchies' authorization
     values, seeds and proofs, dictionary attack protection, the NV indices, the objects, transient
-    and persistent ones, the sessions, the times, and what was saved for the next start.
+    and persistent ones, the sessions, the times, and what was saved for the next start. `tell` is
+    called with each event that is accepted.
     """
 
     def __init__(self):
@@ -141,6 +143,7 @@ class Device(
         self.power_cycle()
 
     def power_cycle(self):
+        self.tell(history.PowerCycle())
         self.started = False
         self.banks = pcrs.starting_banks()
         self.update_counter = 0
@@ -163,7 +166,8 @@ class Device(
                 buffer, self.started, self.sessions, self.objects, self.indices
             )
             self.authorize(command, locality)
-            parameters = Parameters(self.plain_parameters(command))
+            plain, names = self.plain_parameters(command), self.names(command)
+            parameters = Parameters(plain)
             answer = ROWS[command.code](self, command.handles, parameters, locality, random)
         except Refusal as refusal:
             self.lockout.count(refusal.touched)
@@ -171,7 +175,28 @@ class Device(
             return Outcome(response, Row.of(buffer, refusal.check), refusal.name)
         if command.code not in KEEPING_SAVED:
             self.saved = state.Saved.NONE
+        self.tell(self.accepted(command, names, plain, answer, random))
         return Outcome(self.success(command, answer, random), Row(command.code, "ok"))
+
+    @staticmethod
+    def tell(event):
+        """Nobody listens at first."""
+
+    def accepted(self, command, names, plain, answer, random):
+        """What is told of a command, once its row has acted: the Names are those before it."""
+        uses = [
+            history.Use(
+                entry.handle, bool(entry.attributes & frames.CONTINUE_SESSION), handle is not None
+            )
+            for _, entry, handle in command.places()
+        ]
+        answered = int.from_bytes(answer.handle, "big") if answer.handle else None
+        is_loaded = command.code == frames.LOAD
+        loaded = self.objects[answered].sensitive.auth_value if is_loaded else None
+        return history.Accepted(
+            *(command.code, command.handles, names, uses, plain),
+            *(random, answer.drawn, answered, loaded),
+        )
 
     # Entities.
 

@@ -1,0 +1,393 @@
+"""What a device has accepted, and what that alone tells of it: the values of its PCRs, its
+counters, its authorization values, and the start, key, nonce and policy of each session.
+
+Each of them is a fold over the accepted events, the first one first. It reads nothing of the device
+but what an event shows; its rules are those of docs/THEOREMS.md.
+"""
+
+from dataclasses import dataclass, field, replace
+
+import frames
+import nv
+import objects
+import pcrs
+import policy
+import sessions
+import state
+from frames import RH_ENDORSEMENT, RH_LOCKOUT, RH_NULL, RH_OWNER, RH_PLATFORM, RS_PW, SHA1, SHA256
+from frames import number
+from general import PCRS
+from parameters import DIGEST_BYTES, Parameters
+from sessions import digest, digest_bytes, trimmed
+
+
+@dataclass(frozen=True)
+class Use:
+    """An entry of a command: its session, whether that goes on, and whether the entry authorizes a
+    handle.
+    """
+
+    handle: int
+    continues: bool
+    authorizes: bool
+
+
+@dataclass(frozen=True)
+class Accepted:
+    """An accepted command: its handles and their Names before it, its entries, its parameters in
+    plain, the event's random bytes and how many of them the command itself drew, the handle that it
+    answered, if any, and for TPM2_Load the authorization value of the sensitive area.
+    """
+
+    code: int
+    handles: list
+    names: list
+    uses: list
+    parameters: bytes
+    random: bytes
+    drawn: int
+    answered: int = None
+    loaded: bytes = None
+
+    def read(self):
+        return Parameters(self.parameters)
+
+
+@dataclass(frozen=True)
+class PowerCycle:
+    """Power goes off and on again."""
+
+
+# PCRs: a value for each bank and number, and those that the last shutdown found.
+
+
+def started_values():
+    return {(bank, pcr): pcrs.starting_value(bank, pcr) for bank in (SHA1, SHA256) for pcr in PCRS}
+
+
+@dataclass
+class Pcrs:
+    """The values, how many were written and TPM2_Clear accepted since the last startup, and what
+    the last shutdown found.
+    """
+
+    values: dict = field(default_factory=started_values)
+    updates: int = 0
+    saved: dict = field(default_factory=started_values)
+
+    def set(self, bank, pcr, value):
+        self.values[bank, pcr] = value
+        self.updates += 1
+
+    def extend(self, pcr, values):
+        for bank, value in values:
+            self.set(bank, pcr, digest(bank, self.values[bank, pcr] + value))
+
+    def power_cycle(self):
+        self.values, self.updates = started_values(), 0
+
+    def command(self, it):
+        pcr = it.handles[0] if it.handles else None
+        if it.code == frames.STARTUP:
+            self.updates = 0
+            if it.read().next().number(2) == state.STATE:
+                self.values |= {at: was for at, was in self.saved.items() if at[1] < 16}
+        elif it.code == frames.SHUTDOWN:
+            self.saved = dict(self.values)
+        elif it.code == frames.CLEAR:
+            self.updates += 1
+        elif pcr == RH_NULL:
+            pass
+        elif it.code == frames.PCR_EXTEND:
+            self.extend(pcr, self.digests(it.read().next()))
+        elif it.code == frames.PCR_EVENT:
+            data = it.read().next().sized(pcrs.EVENT_BYTES)
+            self.extend(pcr, [(bank, digest(bank, data)) for bank in (SHA1, SHA256)])
+        elif it.code == frames.PCR_RESET:
+            for bank in (SHA1, SHA256):
+                self.set(bank, pcr, bytes(digest_bytes(bank)))
+
+    @staticmethod
+    def digests(fields):
+        """Each with the hash algorithm of its bank."""
+        count = fields.number(4)
+        banks = []
+        for _ in range(count):
+            bank = fields.number(2)
+            banks.append((bank, fields.take(digest_bytes(bank))))
+        return banks
+
+    def digest(self, algorithm, selection):
+        values = [self.values[bank, pcr] for bank, numbers in selection for pcr in numbers]
+        return digest(algorithm, b"".join(values))
+
+
+# Authorization values: the one that was set last for each handle.
+
+
+@dataclass
+class AuthValues:
+    values: dict = field(default_factory=dict)
+
+    def of(self, handle):
+        return self.values.get(handle, b"")
+
+    def power_cycle(self):
+        pass
+
+    def command(self, it):
+        fields = it.read().next()
+        if it.code in (frames.HIERARCHY_CHANGE_AUTH, frames.NV_CHANGE_AUTH):
+            self.values[it.handles[0]] = trimmed(fields.sized(DIGEST_BYTES))
+        elif it.code == frames.NV_DEFINE_SPACE:
+            auth_value = trimmed(fields.sized(DIGEST_BYTES))
+            self.values[defined_index(it)] = auth_value
+        elif it.code == frames.CREATE_PRIMARY:
+            self.values[it.answered] = trimmed(objects.read_template(it.read()).user_auth)
+        elif it.code == frames.LOAD:
+            self.values[it.answered] = trimmed(it.loaded)
+        elif it.code == frames.EVICT_CONTROL:
+            self.values[fields.number(4)] = self.of(it.handles[1])
+        elif it.code == frames.STARTUP and fields.number(2) == state.CLEAR:
+            self.values[RH_PLATFORM] = b""
+        elif it.code == frames.CLEAR:
+            self.values |= {it: b"" for it in (RH_OWNER, RH_ENDORSEMENT, RH_LOCKOUT)}
+
+
+def defined_index(it):
+    """The handle of the index that TPM2_NV_DefineSpace defines."""
+    fields = it.read().next()
+    fields.sized(DIGEST_BYTES)
+    return fields.next().structure(nv.read_public).index
+
+
+# Counters: the value of each since its definition, and all that any ever had.
+
+
+@dataclass
+class Counters:
+    values: dict = field(default_factory=dict)
+    all: list = field(default_factory=list)
+
+    def power_cycle(self):
+        pass
+
+    def command(self, it):
+        if it.code == frames.NV_DEFINE_SPACE:
+            self.values.pop(defined_index(it), None)
+        elif it.code == frames.NV_INCREMENT:
+            before = self.values.get(it.handles[1], max(self.all, default=0))
+            self.values[it.handles[1]] = before + 1
+            self.all.append(before + 1)
+
+
+# Sessions, with their policies.
+
+
+@dataclass(frozen=True)
+class LiveSession:
+    """A session's start: its type, its hash, whether it has a cipher, and the Name and the
+    authorization value to which it is bound; its key; its latest nonce; and its policy.
+    """
+
+    kind: int
+    algorithm: int
+    has_cipher: bool
+    bound: tuple
+    key: bytes
+    nonce_tpm: bytes
+    policy: policy.State
+
+
+@dataclass
+class Sessions:
+    """The sessions that live. What they need of PCRs and authorization values is as it was before
+    the command.
+    """
+
+    live: dict = field(default_factory=dict)
+
+    def power_cycle(self):
+        self.live = {}
+
+    def command(self, it, values, auth_values):
+        if it.code == frames.START_AUTH_SESSION:
+            self.live[it.answered] = self.started(it, auth_values)
+        elif it.code == frames.FLUSH_CONTEXT:
+            self.live.pop(it.read().next().number(4), None)
+        elif it.code == frames.POLICY_RESTART:
+            self.change(it.handles[0], restarted)
+        elif it.code in ASSERTIONS:
+            self.change(it.handles[-1], lambda session: asserted(it, session, values))
+        self.roll(it)
+        for use in it.uses:
+            self.end(use)
+
+    def change(self, handle, change):
+        self.live[handle] = change(self.live[handle])
+
+    def started(self, it, auth_values):
+        fields = it.read()
+        nonce_caller = fields.next().sized(DIGEST_BYTES)
+        fields.next().sized(DIGEST_BYTES)
+        kind = fields.next().number(1)
+        has_cipher, algorithm = fields.next().symmetric(), fields.next().hash()
+        nonce_tpm, bind = it.random[: len(nonce_caller)], it.handles[1]
+        bound, key = None, b""
+        if bind != RH_NULL:
+            bound = it.names[1], auth_values.of(bind)
+            key = sessions.session_key(algorithm, bound[1], nonce_tpm, nonce_caller)
+        starting = policy.starting_state(algorithm)
+        return LiveSession(kind, algorithm, has_cipher, bound, key, nonce_tpm, starting)
+
+    def roll(self, it):
+        """A new nonce of its size for the session of each entry, in order."""
+        left = it.random[it.drawn :]
+        for use in it.uses:
+            if use.handle != RS_PW:
+                session = self.live[use.handle]
+                size = len(session.nonce_tpm)
+                self.live[use.handle] = replace(session, nonce_tpm=left[:size])
+                left = left[size:]
+
+    def end(self, use):
+        if use.handle == RS_PW:
+            return
+        if not use.continues:
+            del self.live[use.handle]
+        elif use.authorizes and self.live[use.handle].kind == frames.SE_POLICY:
+            self.change(use.handle, restarted)
+
+
+def restarted(session):
+    return replace(session, policy=policy.starting_state(session.algorithm))
+
+
+def asserted(it, session, values):
+    """The session with what an assertion makes of its policy."""
+    was = session.policy
+    made = ASSERTIONS[it.code](it, session.algorithm, session.kind, was.digest, values)
+    cp_hash = made.pop("cp_hash", None) or was.cp_hash
+    localities = was.localities & made.pop("localities", policy.ALL_LOCALITIES)
+    return replace(
+        session, policy=replace(was, cp_hash=cp_hash, localities=localities, **made)
+    )
+
+
+def pcr_asserted(it, algorithm, kind, old, values):
+    fields = it.read()
+    given, selection = fields.next().sized(DIGEST_BYTES), fields.next().selection()
+    found = values.digest(algorithm, selection)
+    taken = given if kind == frames.SE_TRIAL and given else found
+    made = policy.after_pcr(algorithm, old, frames.selection(*selection), taken)
+    return {"digest": made, "update_counter": values.updates}
+
+
+def or_asserted(it, algorithm, kind, old, values):
+    branches = it.read().next().sized_list(policy.LEAST_BRANCHES, policy.MOST_BRANCHES)
+    return {"digest": policy.after_or(algorithm, branches)}
+
+
+def demand_asserted(it, algorithm, kind, old, values):
+    wants_password = it.code == frames.POLICY_PASSWORD
+    demand = policy.PASSWORD if wants_password else policy.AUTH_VALUE
+    return {"digest": policy.after_auth_value(algorithm, old), "demand": demand}
+
+
+def command_code_asserted(it, algorithm, kind, old, values):
+    code = it.read().next().number(4)
+    return {"digest": policy.after_command_code(algorithm, old, code), "code": code}
+
+
+def locality_asserted(it, algorithm, kind, old, values):
+    localities = it.read().next().number(1)
+    made = policy.after_locality(algorithm, old, localities)
+    return {"digest": made, "localities": localities}
+
+
+def secret_asserted(it, algorithm, kind, old, values):
+    fields = it.read()
+    _, cp_hash, policy_ref = (fields.next().sized(DIGEST_BYTES) for _ in range(3))
+    made = policy.after_secret(algorithm, old, it.names[0], policy_ref)
+    return {"digest": made, "cp_hash": cp_hash}
+
+
+def nv_asserted(it, algorithm, kind, old, values):
+    operand, offset, operation = nv.read_policy_nv(it.read())
+    arguments = operand + number(offset, 2) + number(operation, 2)
+    return {"digest": policy.after_nv(algorithm, old, arguments, it.names[1])}
+
+
+ASSERTIONS = {
+    frames.POLICY_PCR: pcr_asserted,
+    frames.POLICY_OR: or_asserted,
+    frames.POLICY_AUTH_VALUE: demand_asserted,
+    frames.POLICY_PASSWORD: demand_asserted,
+    frames.POLICY_COMMAND_CODE: command_code_asserted,
+    frames.POLICY_LOCALITY: locality_asserted,
+    frames.POLICY_SECRET: secret_asserted,
+    frames.POLICY_NV: nv_asserted,
+}
+
+
+# All of it, and a device that is compared with it.
+
+
+@dataclass
+class History:
+    pcrs: Pcrs = field(default_factory=Pcrs)
+    auth_values: AuthValues = field(default_factory=AuthValues)
+    counters: Counters = field(default_factory=Counters)
+    sessions: Sessions = field(default_factory=Sessions)
+
+    def add(self, event):
+        if isinstance(event, PowerCycle):
+            for fold in (self.pcrs, self.auth_values, self.counters, self.sessions):
+                fold.power_cycle()
+        else:
+            self.sessions.command(event, self.pcrs, self.auth_values)
+            for fold in (self.pcrs, self.auth_values, self.counters):
+                fold.command(event)
+
+    def differences(self, device):
+        """What a device has that its history does not tell, each with its name."""
+        yield from self.pcr_differences(device)
+        yield from self.auth_differences(device)
+        yield from self.counter_differences(device)
+        yield from self.session_differences(device)
+
+    def pcr_differences(self, device):
+        for bank, values in device.banks.items():
+            for pcr, value in enumerate(values):
+                if value != self.pcrs.values[bank, pcr]:
+                    yield f"PCR {pcr} of bank {bank:04x}"
+        if device.update_counter != self.pcrs.updates:
+            yield "the count of updates"
+
+    def auth_differences(self, device):
+        hierarchies = RH_OWNER, RH_ENDORSEMENT, RH_PLATFORM, RH_LOCKOUT, RH_NULL, *PCRS
+        for handle in (*hierarchies, *device.objects, *device.indices):
+            if device.auth_value(handle) != self.auth_values.of(handle):
+                yield f"the authorization value of {handle:08x}"
+
+    def counter_differences(self, device):
+        for handle, index in device.indices.items():
+            if index.public.kind == nv.Type.COUNTER:
+                stored = int.from_bytes(index.data, "big") if index.data else None
+                if stored != self.counters.values.get(handle):
+                    yield f"the counter {handle:08x}"
+        if device.largest_counter != max(self.counters.all, default=0):
+            yield "the largest value of any counter"
+
+    def session_differences(self, device):
+        if device.sessions.keys() != self.sessions.live.keys():
+            yield "which sessions live"
+        for handle, session in device.sessions.items():
+            told = self.sessions.live.get(handle)
+            bound = (session.bind, session.bind_auth) if told and told.bound else None
+            has = LiveSession(
+                *(session.kind, session.algorithm, session.aes, bound),
+                *(session.key, session.nonce_tpm, session.policy),
+            )
+            if has != told:
+                yield f"the session {handle:08x}"
