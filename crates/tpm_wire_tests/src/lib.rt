@@ -12,6 +12,8 @@ mod device;
 #[cfg(test)]
 mod failing;
 #[cfg(test)]
+mod histories;
+#[cfg(test)]
 mod serving;
 #[cfg(test)]
 mod socket;

@@ -1,0 +1,167 @@
+//! Three connections that measure into PCRs, in several orders: what TPM2_PCR_Read then answers is
+//! the fold of what was accepted.
+
+use super::device::{STARTUP, host, mux};
+use std::alloc::Global;
+use std::process::Abort;
+use std::test::Fail;
+use tpm_mac::{Digest, HashAlg, digest_parts};
+use tpm_machine_step::Outcome;
+use tpm_record::{Keep, ListKeep, SlotKeep};
+use tpm_wire::{ConnectionNumber, Mux, Turn};
+
+/// What a command measures into PCR 16, in the bank of SHA-256.
+#[derive(Clone, Copy)]
+enum Measurement {
+    /// TPM2_PCR_Extend by a digest of 32 bytes, each this one.
+    Extend(u8),
+    /// TPM2_PCR_Event of this byte.
+    Event(u8),
+    /// TPM2_PCR_Reset.
+    Reset,
+}
+
+/// What stands before the parameters of a command on PCR 16: its header, the handle, and the area
+/// of an empty password.
+fn header(size: u8, code: u8) -> [u8; 27] {
+    [
+        0x80, 2, 0, 0, 0, size, 0, 0, 1, code, 0, 0, 0, 16, 0, 0, 0, 9, 0x40, 0, 0, 9, 0, 0, 1, 0,
+        0,
+    ]
+}
+
+impl Measurement {
+    /// The value of the PCR after it, by the definition.
+    fn fold(self, old: Digest) -> Digest {
+        let hash = HashAlg::Sha256;
+        match self {
+            Measurement::Extend(byte) => digest_parts(hash, &[old.as_slice(), &[byte; 32]]),
+            Measurement::Event(byte) => {
+                let event = digest_parts(hash, &[&[byte]]);
+                digest_parts(hash, &[old.as_slice(), event.as_slice()])
+            }
+            Measurement::Reset => zeros(),
+        }
+    }
+
+    /// Feeds its command.
+    fn feed<K: Keep>(self, mux: &mut Mux<K>, connection: ConnectionNumber) -> Result<(), Fail> {
+        match self {
+            Measurement::Extend(byte) => {
+                mux.feed(connection, &header(65, 0x82))?;
+                mux.feed(connection, &[0, 0, 0, 1, 0, 0x0b])?;
+                mux.feed(connection, &[byte; 32])?;
+            }
+            Measurement::Event(byte) => {
+                mux.feed(connection, &header(30, 0x3c))?;
+                mux.feed(connection, &[0, 1, byte])?;
+            }
+            Measurement::Reset => {
+                mux.feed(connection, &header(27, 0x3d))?;
+            }
+        }
+        Ok(())
+    }
+}
+
+/// The value of PCR 16 at first.
+fn zeros() -> Digest {
+    let mut value = Digest::new();
+    let _ = value.try_extend_from_slice(&[0; 32]);
+    value
+}
+
+/// A connection of the three.
+#[derive(Clone, Copy)]
+enum Sender {
+    First,
+    Second,
+    Third,
+}
+
+/// What each sends, in turn.
+const IN_TURN: &[(Sender, Measurement)] = &[
+    (Sender::First, Measurement::Extend(1)),
+    (Sender::Second, Measurement::Event(3)),
+    (Sender::Third, Measurement::Extend(4)),
+    (Sender::First, Measurement::Event(2)),
+    (Sender::Second, Measurement::Reset),
+    (Sender::Third, Measurement::Extend(5)),
+];
+
+/// The same, in reverse turn.
+const IN_REVERSE_TURN: &[(Sender, Measurement)] = &[
+    (Sender::Third, Measurement::Extend(4)),
+    (Sender::Second, Measurement::Event(3)),
+    (Sender::First, Measurement::Extend(1)),
+    (Sender::Third, Measurement::Extend(5)),
+    (Sender::Second, Measurement::Reset),
+    (Sender::First, Measurement::Event(2)),
+];
+
+/// The same, one after another.
+const ONE_AFTER_ANOTHER: &[(Sender, Measurement)] = &[
+    (Sender::First, Measurement::Extend(1)),
+    (Sender::First, Measurement::Event(2)),
+    (Sender::Second, Measurement::Event(3)),
+    (Sender::Second, Measurement::Reset),
+    (Sender::Third, Measurement::Extend(4)),
+    (Sender::Third, Measurement::Extend(5)),
+];
+
+/// TPM2_PCR_Read of PCR 16 in the bank of SHA-256.
+const READ: &[u8] = &[
+    0x80, 1, 0, 0, 0, 20, 0, 0, 1, 0x7e, 0, 0, 0, 1, 0, 0x0b, 3, 0, 0, 1,
+];
+
+/// What stands before the value in its answer.
+const BEFORE_VALUE: usize = 30;
+
+/// The response to what a connection was fed, and whether it was accepted.
+fn answer<K: Keep>(mux: &mut Mux<K>, connection: ConnectionNumber) -> Result<Outcome, Fail> {
+    match mux.turn(connection, host())? {
+        Turn::Answer(outcome) => Ok(outcome),
+        _ => Err(Fail::new("no answer")),
+    }
+}
+
+fn measure<K: Keep, R: Abort>(
+    rt: &R,
+    alloc: Global,
+    order: &[(Sender, Measurement)],
+) -> Result<(), Fail> {
+    let mut mux: Mux<K> = mux(alloc)?;
+    let first = mux.open()?;
+    let second = mux.open()?;
+    let third = mux.open()?;
+    mux.feed(first, STARTUP)?;
+    answer(&mut mux, first)?;
+    let mut value = zeros();
+    for (sender, measurement) in order {
+        let connection = match sender {
+            Sender::First => first,
+            Sender::Second => second,
+            Sender::Third => third,
+        };
+        measurement.feed(&mut mux, connection)?;
+        if answer(&mut mux, connection)?.row.check == 0 {
+            value = measurement.fold(value);
+        }
+    }
+    mux.feed(third, READ)?;
+    let read = answer(&mut mux, third)?;
+    assert!(rt; read.response.as_slice().get(BEFORE_VALUE..) == Some(value.as_slice()));
+    Ok(())
+}
+
+fn measure_in_all_orders<K: Keep, R: Abort>(rt: &R, alloc: Global) -> Result<(), Fail> {
+    measure::<K, R>(rt, alloc, IN_TURN)?;
+    measure::<K, R>(rt, alloc, IN_REVERSE_TURN)?;
+    measure::<K, R>(rt, alloc, ONE_AFTER_ANOTHER)
+}
+
+#[test]
+fn a_read_is_the_fold_of_what_three_connections_measured(rt: HostRuntime) -> Result<(), Fail> {
+    measure_in_all_orders::<ListKeep, HostRuntime>(&rt, rt.alloc())?;
+    measure_in_all_orders::<SlotKeep, HostRuntime>(&rt, rt.alloc())
+}
