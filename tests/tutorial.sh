@@ -3,6 +3,7 @@
 page=$(cd "$(dirname "$0")/../docs" && pwd -P)/TUTORIAL.md
 . "$(dirname "$0")/common/cases.sh"
 ln -s "$program" tpmsim
+ln -s "${page%/*/*}/tools" tools
 
 # N.typed is the line number N, and N.wanted what it is to print.
 awk -v room="$room" '

@@ -12,7 +12,9 @@ use Rattle.tpm_machine_history.specs.DeviceCounters.{HasCounters}
 use Rattle.tpm_machine_history.specs.DevicePcrs.{HasPcrs}
 use Rattle.tpm_machine_history.specs.DeviceSessions.{HasSessions}
 use Rattle.tpm_machine_history.specs.Follows.{After, Follows, RunFollows}
+use Rattle.tpm_machine_history.specs.Grounds.{AllHaveGrounds}
 use Rattle.tpm_machine_history.specs.History.{History}
+use Rattle.tpm_machine_history.specs.Replays.{ReplaysRepeat}
 use Rattle.tpm_machine_history.proofs.Following.{execution_follows, manufactured_follows, run_follows}
 
 pub new_follows : (r : Record) (random : List ℕ) → r ≡ manufactured random → Follows r []
@@ -25,6 +27,8 @@ pub record TellsHistory (old : Record) (event : PlainEvent) (x : Stepped) : Type
   pub pcrs : After HasPcrs old event x
   pub auth_values : After HasAuthValues old event x
   pub sessions : After HasSessions old event x
+  pub replays : After (λ r. ReplaysRepeat) old event x
+  pub grounds : After (λ r. AllHaveGrounds) old event x
 
 pub execution_tells : (can : Bool) (old : Record) (event : PlainEvent) (x : Stepped) → Executes can old event x → TellsHistory old event x
 execution_tells can old event x executes =
@@ -35,6 +39,8 @@ execution_tells can old event x executes =
       pcrs = λ history follows. (next history follows).pcrs;
       auth_values = λ history follows. (next history follows).auth_values;
       sessions = λ history follows. (next history follows).sessions;
+      replays = λ history follows. (next history follows).replays;
+      grounds = λ history follows. (next history follows).grounds;
     }
 
 pub runs_follow : {F : Type 0} (g : Mut F (Bor Outcome × Unit {0}) (Unit {0})) (can : Bool) (old : Record) (p : F) (events : List PlainEvent) (new : Record) (q : F) → Runs g can old p events new q → (history : History) → Follows old history → RunFollows g can old p events new q history

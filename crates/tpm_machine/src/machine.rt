@@ -16,7 +16,9 @@ ghost use Rattle.tpm_machine_history.specs.DeviceCounters.{HasCounters};
 ghost use Rattle.tpm_machine_history.specs.DevicePcrs.{HasPcrs};
 ghost use Rattle.tpm_machine_history.specs.DeviceSessions.{HasSessions};
 ghost use Rattle.tpm_machine_history.specs.Follows.{After, Follows, RunFollows};
+ghost use Rattle.tpm_machine_history.specs.Grounds.{AllHaveGrounds};
 ghost use Rattle.tpm_machine_history.specs.History.{History};
+ghost use Rattle.tpm_machine_history.specs.Replays.{ReplaysRepeat};
 
 use crate::decoding::decode;
 use crate::response::{write_refusal, write_success};
@@ -85,7 +87,8 @@ impl<K: Keep> Machine<K> {
             (plain_event event.now) (outcome_step (state_of K.record_of self.new) result) }
 
         // Where the device followed a history, it follows the history with this event, if that was
-        // accepted: counters, PCRs, authorization values and sessions are what that tells.
+        // accepted: counters, PCRs, authorization values and sessions are what that tells. Every
+        // replay in it repeats a nonce or an HMAC, and each use had its grounds.
         ensures history { After Follows (state_of K.record_of self.old) (plain_event event.now)
             (outcome_step (state_of K.record_of self.new) result) }
         ensures counters { After HasCounters (state_of K.record_of self.old)
@@ -95,6 +98,10 @@ impl<K: Keep> Machine<K> {
         ensures auth_values { After HasAuthValues (state_of K.record_of self.old)
             (plain_event event.now) (outcome_step (state_of K.record_of self.new) result) }
         ensures sessions { After HasSessions (state_of K.record_of self.old)
+            (plain_event event.now) (outcome_step (state_of K.record_of self.new) result) }
+        ensures replays { After (λ r. ReplaysRepeat) (state_of K.record_of self.old)
+            (plain_event event.now) (outcome_step (state_of K.record_of self.new) result) }
+        ensures grounds { After (λ r. AllHaveGrounds) (state_of K.record_of self.old)
             (plain_event event.now) (outcome_step (state_of K.record_of self.new) result) }
     {
         let mut outcome = Outcome::empty();
@@ -109,7 +116,8 @@ impl<K: Keep> Machine<K> {
             (plain_event event.now) (outcome_step (state_of K.record_of self.new) outcome.new) }
 
         // Where the device followed a history, it follows the history with this event, if that was
-        // accepted: counters, PCRs, authorization values and sessions are what that tells.
+        // accepted: counters, PCRs, authorization values and sessions are what that tells. Every
+        // replay in it repeats a nonce or an HMAC, and each use had its grounds.
         ensures history { After Follows (state_of K.record_of self.old) (plain_event event.now)
             (outcome_step (state_of K.record_of self.new) outcome.new) }
         ensures counters { After HasCounters (state_of K.record_of self.old)
@@ -119,6 +127,10 @@ impl<K: Keep> Machine<K> {
         ensures auth_values { After HasAuthValues (state_of K.record_of self.old)
             (plain_event event.now) (outcome_step (state_of K.record_of self.new) outcome.new) }
         ensures sessions { After HasSessions (state_of K.record_of self.old)
+            (plain_event event.now) (outcome_step (state_of K.record_of self.new) outcome.new) }
+        ensures replays { After (λ r. ReplaysRepeat) (state_of K.record_of self.old)
+            (plain_event event.now) (outcome_step (state_of K.record_of self.new) outcome.new) }
+        ensures grounds { After (λ r. AllHaveGrounds) (state_of K.record_of self.old)
             (plain_event event.now) (outcome_step (state_of K.record_of self.new) outcome.new) }
     {
         outcome.response.clear();
@@ -171,7 +183,8 @@ impl<K: Keep> Machine<K> {
             ≡ after_all (state_of K.record_of self.old) (map plain_event events.now) }
 
         // Where the device followed a history, it follows the history with those of the events
-        // that were accepted. No counter went down that stayed defined, and few tries failed.
+        // that were accepted. No counter went down that stayed defined, few tries failed, and
+        // every replay repeats a nonce or an HMAC.
         ensures history { (history : History) → Follows (state_of K.record_of self.old) history
             → RunFollows F.FnMut K.can_refuse (state_of K.record_of self.old) tell.old
             (map plain_event events.now) (state_of K.record_of self.new) tell.new history }

@@ -19,7 +19,7 @@ use Rattle.tpm_types.specs.declared.rc.ResponseCode.TheVariants as code
 use Rattle.tpm_types.specs.declared.refused.Refused.{Refused}
 use Rattle.tpm_types_command.specs.declared.command_code.CommandCode.{CommandCode as Code}
 use Rattle.tpm_types_command.specs.declared.command_code.CommandCode.TheVariants as command
-use Rattle.tpm_record.specs.Entity.{AnIndex, AnObject, Entity, Permanent, entity_at, entity_name, name_of}
+use Rattle.tpm_record.specs.Entity.{name_of}
 use Rattle.tpm_record.specs.Record.{Record}
 use Rattle.tpm_actions_base.specs.Refusals.{fault_refusal, or_refusal}
 use Rattle.tpm_actions_base.specs.Request.{Request, first_handle, second_handle}
@@ -36,29 +36,21 @@ use Rattle.tpm_machine_history.specs.DeviceSessions.{SessionFacts, facts_of, ses
 use Rattle.tpm_machine_history.specs.History.{AcceptedCommand, History}
 use Rattle.tpm_machine_history.specs.Policies.{assertion_by, pcr_parts_in, with_assertion}
 use Rattle.tpm_machine_history.specs.Sessions.{asserted_by}
-use Rattle.tpm_machine_history.specs.View.{View, entity_view, name_in, view_name, view_of}
+use Rattle.tpm_machine_history.specs.View.{View, name_in, view_of}
 use Rattle.tpm_machine_history.proofs.Digests.{digest_same}
 use Rattle.tpm_machine_history.proofs.LiveSessions.{ChangesAs}
+use Rattle.tpm_machine_history.proofs.Views.{view_named}
 
 -- ---- Names
 
-pub name_viewed : (r : Record) (handle : Handle) → view_name (view_of r handle) ≡ name_of r handle
-unfolding view_of name_of
-name_viewed r handle = by (entity_at r handle)
-  where
-    by : (entity : Entity) → view_name (entity_view handle entity) ≡ entity_name handle entity
-    by (AnObject object) = refl
-    by (AnIndex index) = refl
-    by Permanent = refl
-
 first_name : (r : Record) (handles : List Handle) (handle : Handle) → first_handle handles ≡ Ok handle → name_in (map (view_of r) handles) 0 ≡ name_of r handle
 first_name r [] handle is = absurd cc
-first_name r (first ∷ handles) handle is = name_viewed r first ∙ ap (name_of r) (ok_is {E = Refused} first handle is)
+first_name r (first ∷ handles) handle is = view_named r first ∙ ap (name_of r) (ok_is {E = Refused} first handle is)
 
 second_name : (r : Record) (handles : List Handle) (handle : Handle) → second_handle handles ≡ Ok handle → name_in (map (view_of r) handles) 1 ≡ name_of r handle
 second_name r [] handle is = absurd cc
 second_name r (first ∷ []) handle is = absurd cc
-second_name r (first ∷ second ∷ handles) handle is = name_viewed r second ∙ ap (name_of r) (ok_is {E = Refused} second handle is)
+second_name r (first ∷ second ∷ handles) handle is = view_named r second ∙ ap (name_of r) (ok_is {E = Refused} second handle is)
 
 -- ---- what a command asserts
 
@@ -159,9 +151,9 @@ module _ (r : Record) (c : AcceptedCommand) (history : History) (viewed : c.view
 
 -- ---- what it makes of a session
 
-passed : (x : Result Policy ActionFault) (policy : Policy) → or_refusal fault_refusal x ≡ Ok policy → x ≡ Ok policy
-passed (Ok made) policy is = ap (λ (p : Policy). Ok p) (ok_is {E = Refused} made policy is)
-passed (Err fault) policy is = absurd cc
+pub policy_passed : (x : Result Policy ActionFault) (policy : Policy) → or_refusal fault_refusal x ≡ Ok policy → x ≡ Ok policy
+policy_passed (Ok made) policy is = ap (λ (p : Policy). Ok p) (ok_is {E = Refused} made policy is)
+policy_passed (Err fault) policy is = absurd cc
 
 -- what a session is after it
 abbrev asserted_facts : Assertion → SessionFacts → SessionFacts
@@ -172,6 +164,6 @@ asserted_as c history code assertion s policy is made l same =
     let trial : Bool = is_trial s.kind in
     let it : Tells c history code s (assertion s) = is s in
     let told : assertion_by code c history l.hash l.nonce_tpm ≡ Ok it.told = ap (λ (f : SessionFacts). assertion_by code c history f.start.hash f.nonce_tpm) (sym same) ∙ it.is in
-    ap (λ (p : Policy). session_facts (with_policy s p)) (policy_made s.hash trial (assertion s) s.policy policy (passed (asserted s.hash trial (assertion s) s.policy) policy made) ∙ it.makes trial s.policy)
+    ap (λ (p : Policy). session_facts (with_policy s p)) (policy_made s.hash trial (assertion s) s.policy policy (policy_passed (asserted s.hash trial (assertion s) s.policy) policy made) ∙ it.makes trial s.policy)
     ∙ ap (asserted_facts it.told) same
     ∙ sym (ap (λ (x : Result Assertion Refused). facts_of (record l { assertions = with_assertion x l.assertions })) told)

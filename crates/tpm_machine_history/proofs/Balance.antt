@@ -50,7 +50,7 @@ same_pays old new same = record {
   within = inl refl;
 }
 
--- what a time forgives of so many tries, each for n milliseconds, where some of these had passed
+-- what a time forgives of these tries, each for n milliseconds, some of which had passed before
 forgiven : (n tries passed elapsed : ℕ) → n * tries + cond ((tries - (passed + elapsed) / n) == 0) 0 (cond ((tries - (passed + elapsed) / n) == 0) 0 ((passed + elapsed) % n)) ≤ n * (tries - (passed + elapsed) / n) + cond (tries == 0) 0 passed + elapsed
 forgiven n tries passed elapsed = by (cases_eq tries 0) (cases_lt (time / n) tries)
   where
@@ -133,8 +133,8 @@ refusal_pays s counted.Lockout counts unlocked = same_pays s (closed_by_failure 
 
 -- ---- all of them
 
--- So many tries failed from a state on, while so many milliseconds passed: none, or as many as are
--- paid for by maxTries and that time.
+-- The tries that failed from a state on, while this number of milliseconds passed, are none, or no
+-- more than maxTries and that time pay for.
 abbrev pub IsPaid : LockoutState → (failed elapsed : ℕ) → Type 0
 IsPaid s failed elapsed =
     (failed ≡ 0)

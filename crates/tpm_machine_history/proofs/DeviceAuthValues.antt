@@ -1,5 +1,5 @@
 -- The authorization values of a device are those that its history tells.
-use Rattle.std.proofs.Common.{arith, ◌≡◌, ℕ, Bool, true, false, cond, List, [], ◌∷◌, length, map, not, ◌||◌, ◌==◌, Option, Some, None, option_map, option_and_then, refl, sym, ap, ap₂, subst, ◌∙◌, inr}
+use Rattle.std.proofs.Common.{arith, ◌≡◌, ℕ, Bool, true, false, cond, List, [], ◌∷◌, length, map, not, ◌||◌, ◌==◌, Option, Some, None, option_map, option_and_then, refl, sym, ap, ap₂, subst, ◌∙◌, inr, zero, suc, slice_get}
 use Rattle.std.specs.Option.{option_map_or}
 use Rattle.std.proofs.lemmas.Bool.{cond-false, false≢true, or_parts}
 use Rattle.std.proofs.lemmas.Bool.Decides.{nat_tests}
@@ -86,7 +86,7 @@ no_session t kept = grind (arith, nat_tests)
 
 module _ (r : Record) (h : Handle) where
   -- so what a handle of its type names is there
-  kept_there : is_present r h ≡ true → names_kept h ≡ true → is_kept (entity_at r h) ≡ true
+  pub kept_there : is_present r h ≡ true → names_kept h ≡ true → is_kept (entity_at r h) ≡ true
   unfolding is_present
   kept_there present kept =
       either (is_kept (entity_at r h))
@@ -135,6 +135,13 @@ handles_auth_values r history rules [] has fits = refl
 handles_auth_values r history [] (h ∷ handles) has fits = absurd fits
 handles_auth_values r history (rule ∷ rules) (h ∷ handles) has fits =
     ap₂ (λ (value : List ℕ) (values : List (List ℕ)). value ∷ values) (present_auth_value r history h has fits.0.1) (handles_auth_values r history rules handles has fits.1)
+
+-- and what a command's handles name is there
+pub handles_present : (r : Record) (rules : List HandleRule) (handles : List Handle) → HandlesFit r rules handles → (place : ℕ) (handle : Handle) → slice_get handles place ≡ Some handle → is_present r handle ≡ true
+handles_present r rules [] fits place handle at = absurd cc
+handles_present r [] (h ∷ handles) fits place handle at = absurd fits
+handles_present r (rule ∷ rules) (h ∷ handles) fits zero handle at = let same : h ≡ handle = cc in subst (λ (x : Handle). is_present r x ≡ true) same fits.0.1
+handles_present r (rule ∷ rules) (h ∷ handles) fits (suc place) handle at = handles_present r rules handles fits.1 place handle at
 
 -- ---- what is neither a hierarchy nor lockout, nor an index or an object
 

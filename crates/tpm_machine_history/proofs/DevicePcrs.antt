@@ -1,5 +1,5 @@
 -- The PCRs of a device are those of its history.
-use Rattle.std.proofs.Common.{arith, ◌≡◌, ℕ, ◌<◌, Bool, true, false, cond, List, [], ◌∷◌, length, take, get_or, Ok, IfOk, refl, ap, sym, subst, ◌∙◌}
+use Rattle.std.proofs.Common.{arith, ◌≡◌, ℕ, ◌<◌, Bool, true, false, cond, List, [], ◌∷◌, length, IfOk, refl, ap, sym, subst, ◌∙◌}
 use Rattle.std.specs.Prelude.{slice_index_or}
 use Rattle.std.proofs.lemmas.List.{get_or-take, length-take}
 use Rattle.tpm_mac.specs.declared.algorithm.HashAlg.{HashAlg}
@@ -23,7 +23,7 @@ use Rattle.tpm_machine_step.specs.Answer.{answer_to, written_of}
 use Rattle.tpm_machine_step.specs.Step.{Accepted, success_step}
 use Rattle.tpm_machine_step.specs.Table.{row_of}
 use Rattle.tpm_machine_laws.specs.Acceptance.{IsAcceptance}
-use Rattle.tpm_machine_laws.specs.Footprint.{Part, Nothing as Untouched, Sessions, Objects, SessionsAndObjects, Persistent, Nv, AuthValues, Lockout, Banks, Beginning, Saved, DisableClear, Cleared, Touches, part_of}
+use Rattle.tpm_machine_laws.specs.Footprint.{Part, AuthValues, Beginning, Saved, Touches, part_of}
 use Rattle.tpm_machine_laws.proofs.Binding.{ok_at, ok_bind, ok_weaker}
 use Rattle.tpm_machine_laws.proofs.Footprint.{row_touches}
 use Rattle.tpm_machine_laws.proofs.Leaving.{answered_only, success_leaves}

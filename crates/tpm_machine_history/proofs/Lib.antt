@@ -25,3 +25,12 @@ pub mod FailedTries
 pub mod Forgiving
 pub mod FewTries
 pub mod Following
+pub mod LivingOn
+pub mod UseGrounds
+pub mod EntryHmacs
+pub mod EntryGrounds
+pub mod RecordedUpdates
+pub mod Replays
+pub mod RunReplays
+pub mod QuietValues
+pub mod PolicyLaws

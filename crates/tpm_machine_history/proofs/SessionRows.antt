@@ -6,6 +6,7 @@ use Rattle.tpm_policy.specs.State.{starting}
 use Rattle.tpm_session.specs.Key.{session_key}
 use Rattle.tpm_session.specs.Sessions.{with_session_policy}
 use Rattle.tpm_session.specs.declared.session.Binding.{Binding}
+use Rattle.tpm_session.specs.declared.session.Protection.{Protection}
 use Rattle.tpm_session.specs.declared.session.Session.{Session}
 use Rattle.tpm_types.specs.Handle.{is_session, null_handle}
 use Rattle.tpm_types.specs.Limits.{session_limit}
@@ -34,8 +35,10 @@ use Rattle.tpm_machine_history.specs.HandleMap.{by_handle, with_at}
 use Rattle.tpm_machine_history.specs.History.{AcceptedCommand, History}
 use Rattle.tpm_machine_history.specs.Sessions.{Bound, LiveSession, LiveSessions, asserted_by, bound_in, changed_session, restarted, sessions_by, start_key, started, started_by, started_with, with_asserted, without_session}
 use Rattle.tpm_machine_history.specs.View.{View, view_name, view_of}
-use Rattle.tpm_machine_history.proofs.Asserted.{IsAsserted, asserted_as, is_asserted, name_viewed}
+use Rattle.tpm_machine_history.specs.Views.{view_protection}
+use Rattle.tpm_machine_history.proofs.Asserted.{IsAsserted, asserted_as, is_asserted}
 use Rattle.tpm_machine_history.proofs.LiveSessions.{ended_live, none_ended_live, policy_live, started_live}
+use Rattle.tpm_machine_history.proofs.Views.{views_tell}
 
 -- ---- what a session starts with
 
@@ -47,9 +50,12 @@ bound_is r (key ∷ handle ∷ handles) bind is =
     let same : handle ≡ bind = cc in
     by (handle.number == null_handle.number) ∙ ap (λ (h : Handle). option_map bound_of (binding_of r h)) same
   where
-    by : (b : Bool) → cond b None (Some (let bound : Bound = record { name = view_name (view_of r handle); auth_value = auth_value_of r handle } in bound)) ≡ option_map bound_of (cond b None (Some (let binding : Binding = record { name = name_of r handle; auth_value = auth_value_of r handle; protection = protection_of r handle } in binding)))
+    by : (b : Bool) → cond b None (Some (let bound : Bound = record { name = view_name (view_of r handle); auth_value = auth_value_of r handle; protection = view_protection (view_of r handle) } in bound)) ≡ option_map bound_of (cond b None (Some (let binding : Binding = record { name = name_of r handle; auth_value = auth_value_of r handle; protection = protection_of r handle } in binding)))
     by true = refl
-    by false = ap (λ (name : List ℕ). let bound : Bound = record { name = name; auth_value = auth_value_of r handle } in Some bound) (name_viewed r handle)
+    by false =
+        let tells = views_tell r handle in
+        let bound : List ℕ → Protection → Option Bound = λ name protection. let b : Bound = record { name = name; auth_value = auth_value_of r handle; protection = protection } in Some b in
+        ap (λ name. bound name (view_protection (view_of r handle))) tells.name ∙ ap (bound (name_of r handle)) tells.protection
 
 start_told : (p : Parameters) (binding : Option Binding) (nonce : List ℕ) → session_facts (session_with p binding nonce) ≡ facts_of (started_with p (option_map bound_of binding) nonce)
 unfolding start_key session_key

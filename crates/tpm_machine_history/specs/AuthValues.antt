@@ -27,27 +27,28 @@ AuthValues = Handle → List ℕ
 
 -- ---- which value a command sets, and for which handle
 
--- TPM2_HierarchyChangeAuth and TPM2_NV_ChangeAuth: newAuth, for the handle that they name
+-- TPM2_HierarchyChangeAuth and TPM2_NV_ChangeAuth: newAuth without the zeros at its end, for the
+-- handle that they name
 abbrev pub changed_value : Request → Result (Handle × List ℕ) Refused
 changed_value q = do
   handle ← first_handle q.handles
   value ← only (auth_value_at q.parameters)
   Ok (handle, value)
 
--- TPM2_NV_DefineSpace: auth, for the index of the public area
+-- TPM2_NV_DefineSpace: auth, also without the zeros at its end, for the index of the public area
 abbrev pub defined_value : Request → Result (Handle × List ℕ) Refused
 defined_value q = do
   p ← definition.parameters_in q.parameters
   Ok (p.public.nv_index, p.auth_value)
 
--- TPM2_CreatePrimary: userAuth without the zeros at its end, for the handle that it answers
+-- TPM2_CreatePrimary: userAuth without these zeros, for the handle that it answers
 abbrev pub created_value : Request → (made : Option Handle) → Result (Handle × List ℕ) Refused
 created_value q made = do
   handle ← ok_or made handle_refusal
   p ← creation.parameters_in q.parameters
   Ok (handle, trimmed p.given.user_auth)
 
--- TPM2_Load: that of the sensitive area, so too
+-- TPM2_Load: that of the sensitive area without them, for the handle that it answers
 abbrev pub loaded_value : Option Sensitive → (made : Option Handle)
     → Result (Handle × List ℕ) Refused
 loaded_value area made = do

@@ -27,7 +27,7 @@ abbrev pub object_auth : Option Object → Option (List ℕ)
 object_auth found = option_map (λ (object : Object). object.auth_value) found
 
 -- the authorization value of what a handle names, if that is there; what is neither an index nor an
--- object always is
+-- object counts as there
 abbrev pub auth_seen : Record → Handle → Option (List ℕ)
 auth_seen r handle =
     by_type handle (index_auth (index_at r.nv handle))

@@ -25,7 +25,7 @@ facts_of s = record {
 }
 
 abbrev pub bound_of : Binding → Bound
-bound_of b = record { name = b.name; auth_value = b.auth_value }
+bound_of b = record { name = b.name; auth_value = b.auth_value; protection = b.protection }
 
 -- and of a session of the device
 abbrev pub session_start : Session → Start

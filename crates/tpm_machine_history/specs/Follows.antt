@@ -17,6 +17,11 @@ use Rattle.tpm_machine_history.specs.DeviceAuthValues.{HasAuthValues}
 use Rattle.tpm_machine_history.specs.DeviceCounters.{BeginsAbove, HasCounters, KeepsCounter}
 use Rattle.tpm_machine_history.specs.DevicePcrs.{HasPcrs}
 use Rattle.tpm_machine_history.specs.DeviceSessions.{HasSessions}
+use Rattle.tpm_machine_history.specs.EntryHmacs.{AllShowHmacs}
+use Rattle.tpm_machine_history.specs.Grounds.{AllHaveGrounds}
+use Rattle.tpm_machine_history.specs.QuietPcrs.{AllRecordUpdates}
+use Rattle.tpm_machine_history.specs.Replays.{ReplaysRepeat}
+use Rattle.tpm_machine_history.specs.RunReplays.{RunReplaysRepeat}
 use Rattle.tpm_machine_history.specs.Executions.{Execution, Leads, history_after}
 use Rattle.tpm_machine_history.specs.History.{History, recorded}
 use Rattle.tpm_machine_history.specs.Potential.{IsForgiving}
@@ -32,14 +37,19 @@ pub record Shape (sessions : List (Option Session)) (objects : List (Option Obje
   pub indices_ascend : Ascends indices
 
 -- A device follows a history: its counters, its PCRs, its authorization values and its sessions are
--- those of the history. A counted try is forgiven in time; and the record has the shape and the
--- sizes of every record.
+-- those of the history. In the history each entry of an HMAC session had its HMAC, and so every
+-- replay repeats; the update counters that policies record hold, and each use had its grounds. No
+-- forgiving of a try is overdue; and the record has the shape and the sizes of every record.
 pub record Follows (r : Record) (history : History) : Type 0 where
   pub counters : HasCounters r history
   pub forgiving : IsForgiving r.fixed.lockout
   pub pcrs : HasPcrs r history
   pub auth_values : HasAuthValues r history
   pub sessions : HasSessions r history
+  pub hmacs : AllShowHmacs history
+  pub replays : ReplaysRepeat history
+  pub updates : AllRecordUpdates history
+  pub grounds : AllHaveGrounds history
   pub shape : Shape r.sessions r.objects r.persistent r.nv.indices
   pub sized : AreSized r
 
@@ -64,8 +74,8 @@ Tells {F} g p (one ∷ executions) q =
     × CalledAt g p outcome tt next × Tells g next executions q
 
 -- The events ran from a device that follows a history to one that follows the history after them.
--- No counter went down that stayed defined, one that had no value begins above all values before,
--- and few tries failed.
+-- No counter went down that stayed defined, one that had no value begins above all values before;
+-- few tries failed; and every replay repeats a nonce or an HMAC.
 pub record RunFollows {F : Type 0} (g : Mut F (Bor Outcome × Unit {0}) (Unit {0})) (can : Bool)
     (old : Record) (p : F) (events : List PlainEvent) (new : Record) (q : F) (history : History)
     : Type 0
@@ -81,3 +91,4 @@ pub record RunFollows {F : Type 0} (g : Mut F (Bor Outcome × Unit {0}) (Unit {0
         → BeginsAbove old new history (history_after [] executions) handle before after
     pub few_fail : FailsFew can old executions new
     pub fail_within : FailsWithin can old executions new
+    pub replays : RunReplaysRepeat history executions

@@ -3,11 +3,11 @@ use Rattle.std.specs.Prelude.{◌==◌, if◌then◌else◌, Result, Ok, Err}
 use Rattle.tpm_types.specs.declared.handle.Handle.{Handle}
 use Rattle.tpm_types.specs.declared.refused.Refused.{Refused}
 
--- what stands for each handle, but this for this one
+-- the map with x at this handle; every other handle keeps what it has
 abbrev pub with_at : {X : Type 0} → Handle → X → (Handle → X) → Handle → X
 with_at handle x all other = if other.number == handle.number then x else all other
 
--- and for this one what is made of what stood for it
+-- the map with what stands at this handle changed
 abbrev pub changed_at : {X : Type 0} → Handle → (X → X) → (Handle → X) → Handle → X
 changed_at handle change all = with_at handle (change (all handle)) all
 

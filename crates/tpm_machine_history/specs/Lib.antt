@@ -12,6 +12,12 @@ pub mod DevicePcrs
 pub mod Policies
 pub mod Sessions
 pub mod DeviceSessions
+pub mod EntryHmacs
+pub mod QuietPcrs
+pub mod Grounds
+pub mod Replays
+pub mod RunReplays
 pub mod Potential
 pub mod Tries
 pub mod Follows
+pub mod PolicyLaws

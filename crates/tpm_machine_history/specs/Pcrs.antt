@@ -106,7 +106,7 @@ digest_in history hash selection = hash_of hash (concat (flat_map (values_in his
 
 -- ---- updates
 
--- where the first handle of a command is a PCR's, so many; for TPM_RH_NULL none
+-- this count where the first handle of a command is a PCR's, and 0 for TPM_RH_NULL
 abbrev pub if_pcr : List Handle → ℕ → ℕ
 if_pcr [] count = 0
 if_pcr (handle ∷ handles) count = if nat_lt handle.number 24 then count else 0

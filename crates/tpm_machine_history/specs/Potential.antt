@@ -15,9 +15,10 @@ credit s = if s.fields.failed_tries == 0 then 0 else s.forgiving_time
 abbrev pub IsForgiving : LockoutState → Type 0
 IsForgiving s = s.fields.recovery_time ≢ 0 → s.forgiving_time < period s
 
--- So many tries failed while so many milliseconds passed, and the parameters stayed. Each try that
--- was there or failed is there still, or time has forgiven it: what had passed before, or these.
--- And where one failed, those that are there now are no more than may be.
+-- From the old state to the new one this number of tries failed, this number of milliseconds passed,
+-- and the parameters stayed. Each try that was counted before, or failed since, is still counted or
+-- was forgiven, and forgiving took from the time that had passed before and from these milliseconds.
+-- And where a try failed, no more than maxTries are counted now.
 pub record Pays (old new : LockoutState) (failed elapsed : ℕ) : Type 0 where
   pub recovery_time : new.fields.recovery_time ≡ old.fields.recovery_time
   pub max_tries : new.fields.max_tries ≡ old.fields.max_tries

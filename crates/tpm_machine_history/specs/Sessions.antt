@@ -1,5 +1,5 @@
 -- Sessions by the history alone. TPM 2.0 Library, Part 1, sections 19.6 (session nonces and keys,
--- bound sessions) and 19.7 (policies).
+-- bound sessions) and 19.7 (policies). No session is salted: tpmKey is TPM_RH_NULL.
 use Rattle.std.specs.Prelude.{ℕ, ◌==◌, is_some, List, [], ◌∷◌, length, take, drop, fold, map, if◌then◌else◌, Option, Some, None, option_map, Result, Ok, Err, ok_or}
 use Rattle.std.specs.List.{zip}
 use Rattle.std.specs.Option.{option_map_or}
@@ -9,6 +9,7 @@ use Rattle.tpm_mac.specs.declared.algorithm.HashAlg.{HashAlg}
 use Rattle.tpm_policy.specs.Assertion.{Assertion}
 use Rattle.tpm_policy.specs.State.{Policy}
 use Rattle.tpm_session.specs.Key.{key_label}
+use Rattle.tpm_session.specs.declared.session.Protection.{Protection}
 use Rattle.tpm_types.specs.Handle.{null_handle}
 use Rattle.tpm_types.specs.SessionAttributes.{continues_session}
 use Rattle.tpm_types.specs.SessionType.{is_trial}
@@ -31,15 +32,19 @@ use Rattle.tpm_machine_history.specs.HandleMap.{by_handle, changed_at, with_at}
 use Rattle.tpm_machine_history.specs.History.{AcceptedCommand, Done, History, PowerCycled}
 use Rattle.tpm_machine_history.specs.Policies.{assertion_by, evaluated, with_assertion}
 use Rattle.tpm_machine_history.specs.View.{View, view_name}
+use Rattle.tpm_machine_history.specs.Views.{view_protection}
 
--- what a session is bound to, as it was at the start
+-- what a session is bound to, as it was at the start: its Name, its authorization value, and how
+-- these were protected against dictionary attacks
 pub record Bound : Type 0 where
   pub name : List ℕ
   pub auth_value : List ℕ
+  pub protection : Protection
 
 -- a session that lives: of its start the type, the hash, the symmetric algorithm, what it is bound
--- to, and its key; its latest nonceTPM; and what was asserted on it, the latest first, since the
--- latest of its start, a TPM2_PolicyRestart, and a use for authorization
+-- to, and its key; its latest nonceTPM, and those that it had before, the latest first; and what was
+-- asserted on it, the latest first, since the latest of its start, a TPM2_PolicyRestart, and a use for
+-- authorization
 pub record LiveSession : Type 0 where
   pub kind : SessionType
   pub hash : HashAlg
@@ -47,6 +52,7 @@ pub record LiveSession : Type 0 where
   pub bound : Option Bound
   pub key : List ℕ
   pub nonce_tpm : List ℕ
+  pub earlier_nonces : List (List ℕ)
   pub assertions : List Assertion
 
 -- its policy: the digest, and what is compared when it authorizes
@@ -70,7 +76,11 @@ without_session handle live = with_at handle None live
 abbrev pub bound_in : List Handle → List View → (auth_values : List (List ℕ)) → Option Bound
 bound_in (key ∷ bind ∷ handles) (key_view ∷ view ∷ views) (key_value ∷ value ∷ values) =
     if bind.number == null_handle.number then None
-    else Some (record { name = view_name view; auth_value = value })
+    else Some (record {
+      name = view_name view;
+      auth_value = value;
+      protection = view_protection view;
+    })
 bound_in handles views values = None
 
 -- KDFa(authHash, bind.authValue, "ATH", nonceTPM, nonceCaller, bits of a digest), and the empty key
@@ -88,6 +98,7 @@ started_with p bound nonce_tpm = record {
   bound = bound;
   key = start_key p.hash bound nonce_tpm p.nonce_caller;
   nonce_tpm = nonce_tpm;
+  earlier_nonces = [];
   assertions = [];
 }
 
@@ -155,7 +166,8 @@ pub record Rolled : Type 0 where
   pub left : List ℕ
 
 abbrev pub with_nonce : List ℕ → LiveSession → LiveSession
-with_nonce nonce s = record s { nonce_tpm = nonce }
+with_nonce nonce s =
+    record s { nonce_tpm = nonce; earlier_nonces = s.nonce_tpm ∷ s.earlier_nonces }
 
 -- its next nonceTPM has as many bytes as the latest one; where no session lives none is drawn
 abbrev pub nonce_size : Option LiveSession → ℕ

@@ -27,13 +27,14 @@ use Rattle.tpm_record.specs.Record.{Record}
 use Rattle.tpm_record.specs.Tick.{ticked}
 use Rattle.tpm_auth.specs.Comparison.{failure}
 use Rattle.tpm_auth.specs.Entries.{session_of}
-use Rattle.tpm_auth.specs.Grant.{authorize, authorized, used_protection}
+use Rattle.tpm_auth.specs.Grant.{authorize, used_protection}
 use Rattle.tpm_auth.specs.SessionGrant.{demanded, entry_protection}
 use Rattle.tpm_machine_step.specs.Answer.{refusal_text}
 use Rattle.tpm_machine_step.specs.Events.{PlainEvent, Given, Cycled}
 use Rattle.tpm_machine_step.specs.General.{general}
 use Rattle.tpm_machine_step.specs.Step.{Accepted, Stepped, accepted}
 use Rattle.tpm_machine_step.specs.declared.refused_command.RefusedCommand.{RefusedCommand}
+use Rattle.tpm_machine_history.specs.EntryHmacs.{used_in}
 use Rattle.tpm_machine_history.specs.Executions.{Execution, Leads, history_after}
 use Rattle.tpm_machine_history.specs.History.{Done, History, PastEvent, PowerCycled}
 use Rattle.tpm_machine_history.specs.Potential.{period}
@@ -81,10 +82,6 @@ touched_by kind.Other r c locality n used e = protection.None
 
 abbrev pub touched : Record → Whole → (locality n : ℕ) → Option Handle → Entry → Protection
 touched r c locality n used e = touched_by (session_kind e.session) r c locality n used e
-
--- the handle that the entry in a place, counted from 0, is to authorize, if there is one
-abbrev pub used_in : Whole → ℕ → Option Handle
-used_in c place = slice_get (authorized c) place
 
 -- A command's authorization is refused with AUTH_FAIL for the entry in this place, counted from 0,
 -- and that entry touches a protected entity other than LOCKOUT.

@@ -2,7 +2,7 @@
 -- authorization value is protected, and by what it can be authorized. TPM 2.0 Library, Part 1,
 -- sections 16 (Names), 19.2 (roles), 19.7 (policies) and 19.8 (dictionary attacks), and Part 2,
 -- section 13.4 (TPMA_NV).
-use Rattle.std.specs.Prelude.{◌≡◌, ℕ, ◌==◌, ◌&&◌, not, Bool, false, List, length, if◌then◌else◌, Option, Some, None}
+use Rattle.std.specs.Prelude.{◌≡◌, ℕ, ◌==◌, ◌&&◌, not, Bool, true, false, List, length, if◌then◌else◌, Option, Some, None}
 use Rattle.tpm_policy.specs.Use.{EntityParts}
 use Rattle.tpm_session.specs.declared.session.Protection.{Protection}
 use Rattle.tpm_session.specs.declared.session.Protection.TheVariants as protection
@@ -15,7 +15,7 @@ use Rattle.tpm_types_nv.specs.declared.nv_public.NvPublic.{NvPublic}
 use Rattle.tpm_types_object.specs.ObjectAttributes.{has}
 use Rattle.tpm_types_object.specs.declared.object_attributes.ObjectAttribute.TheVariants as attribute
 use Rattle.tpm_types_object.specs.declared.public.Public.{Public}
-use Rattle.tpm_record.specs.Entity.{is_available, name_of, permanent_is_available, permanent_protection, policy_of, protection_of}
+use Rattle.tpm_record.specs.Entity.{is_available, name_of, names_kept, permanent_is_available, permanent_protection, policy_of, protection_of}
 use Rattle.tpm_record.specs.Record.{Record}
 use Rattle.tpm_record.specs.declared.entity.Means.{Means}
 use Rattle.tpm_record.specs.declared.entity.Means.TheVariants as means
@@ -41,12 +41,13 @@ view_protection (OfHandle handle) = permanent_protection handle
 abbrev pub is_policy : List ℕ → Bool
 is_policy digest = not (length digest == 0)
 
--- whether this authorizes an object: its value where it has userWithAuth, its policy if it has one
+-- whether this authorizes an object: its authValue where it has userWithAuth, its policy where
+-- authPolicy is not empty
 abbrev pub object_takes : Means → Public → Bool
 object_takes means.AuthValue public = has public.attributes attribute.UserWithAuth
 object_takes means.Policy public = is_policy public.auth_policy
 
--- and an index, for a command that does this to it: its value where it has AUTHREAD or AUTHWRITE,
+-- and an index, for a command that does this to it: its authValue where it has AUTHREAD or AUTHWRITE,
 -- and never in the role ADMIN; its policy where it has POLICYREAD or POLICYWRITE, and in the role
 -- ADMIN always, if it has one
 abbrev pub index_takes : Means → NvUse → NvPublic → Bool
@@ -64,6 +65,12 @@ abbrev pub view_takes : Means → NvUse → View → Bool
 view_takes means nv_use (OfObject public) = object_takes means public
 view_takes means nv_use (OfIndex public) = index_takes means nv_use public
 view_takes means nv_use (OfHandle handle) = permanent_is_available means
+
+-- whether what is viewed is there: a handle that names an object or an index that is not has no
+-- public area
+abbrev pub is_there : View → Bool
+is_there (OfHandle handle) = not (names_kept handle)
+is_there _ = true
 
 -- A view tells of a handle what the record has of it.
 pub record TellsOf (view : View) (r : Record) (handle : Handle) : Type 0 where

@@ -1,7 +1,8 @@
 #![tactic(auto)]
 
 //! What a device has accepted, and that this decides what the device is: its PCRs, its sessions
-//! and their policies, its authorization values and its counters; and how many tries may fail.
+//! and their policies, its authorization values and its counters. On what it let itself be used,
+//! what a replay repeats, and how many tries may fail.
 //!
 //! Each law stands on the contract of a function that does nothing. They stand on the definitions
 //! of tpm_machine_step and on the laws over rows of tpm_machine_laws, and open no row but those that
@@ -19,7 +20,7 @@ ghost use Rattle.tpm_types.specs.declared.handle.Handle.{Handle};
 ghost use Rattle.tpm_record.specs.Cycle.{cycled};
 ghost use Rattle.tpm_record.specs.Entity.{auth_value_of, is_present, names_kept};
 ghost use Rattle.tpm_record.specs.Record.{Record, manufactured};
-ghost use Rattle.tpm_machine_step.specs.Events.{PlainEvent};
+ghost use Rattle.tpm_machine_step.specs.Events.{Given, PlainEvent};
 ghost use Rattle.tpm_machine_step.specs.Execution.{Executes};
 ghost use Rattle.tpm_machine_step.specs.Run.{Runs};
 ghost use Rattle.tpm_machine_step.specs.Step.{Stepped};
@@ -28,12 +29,16 @@ ghost use Rattle.tpm_machine_history.specs.Counters.{CountLaws};
 ghost use Rattle.tpm_machine_history.specs.DeviceAuthValues.{HasAuthValues};
 ghost use Rattle.tpm_machine_history.specs.DeviceCounters.{BeginsAbove, HasCounters, KeepsCounter};
 ghost use Rattle.tpm_machine_history.specs.DeviceSessions.{HasSessions, IsLive};
-ghost use Rattle.tpm_machine_history.specs.Executions.{Execution, Leads};
+ghost use Rattle.tpm_machine_history.specs.Executions.{Execution, Leads, history_after};
 ghost use Rattle.tpm_machine_history.specs.Follows.{After, Follows, RunFollows};
+ghost use Rattle.tpm_machine_history.specs.Grounds.{AllHaveGrounds};
 ghost use Rattle.tpm_machine_history.specs.History.{AcceptedCommand, Done, History, PowerCycled};
 ghost use Rattle.tpm_machine_history.specs.History.{recorded};
 ghost use Rattle.tpm_machine_history.specs.Pcrs.{before_shutdown, pcr_of, pcrs_after};
+ghost use Rattle.tpm_machine_history.specs.PolicyLaws.{KeepsQuietValues, UsesItsCommand};
+ghost use Rattle.tpm_machine_history.specs.PolicyLaws.{UsesPcrsAsTheyAre};
 ghost use Rattle.tpm_machine_history.specs.Potential.{IsForgiving};
+ghost use Rattle.tpm_machine_history.specs.RunReplays.{IsRecorded, RunReplaysRepeat};
 ghost use Rattle.tpm_machine_history.specs.Tries.{FailsFew, FailsWithin, IsAnsweredTry};
 ghost use Rattle.tpm_machine_history.specs.Tries.{IsRefusedTry, fails_try};
 ghost use Rattle.tpm_machine_history.specs.View.{view_of};
@@ -126,8 +131,46 @@ pub fn counter_laws()
         → BeginsAbove old new history meanwhile handle before after }
 {}
 
-/// An event counts a failed try exactly where its authorization is refused with AUTH_FAIL for an
-/// entry that touches a protected entity other than LOCKOUT, and it is answered so.
+/// What an execution with check 0 accepted is recorded, and the event's buffer spells it.
+#[inline(always)]
+pub fn recorded_laws()
+    ensures { (can : Bool) (old : Record) (buffer : List ℕ) (locality elapsed : ℕ)
+        (random : List ℕ) (x : Stepped)
+        → Executes can old (Given buffer locality elapsed random) x → x.row.check ≡ 0
+        → IsRecorded old (Given buffer locality elapsed random) x buffer }
+{}
+
+/// In every history of a device each use of what it has was authorized on one of three grounds, by
+/// the history before the use: a password, an HMAC session, or a policy session each of whose
+/// conditions is true.
+#[inline(always)]
+pub fn grounds_laws()
+    ensures { (can : Bool) (random : List ℕ) (executions : List Execution) (new : Record)
+        → Leads can (manufactured random) executions new
+        → AllHaveGrounds (history_after [] executions) }
+{}
+
+/// And a buffer that is accepted twice, with an HMAC for an HMAC session that lives all the while,
+/// finds the nonceTPM of the first event again; or two texts have one HMAC, each under the key of its
+/// event.
+#[inline(always)]
+pub fn replay_laws()
+    ensures { (can : Bool) (random : List ℕ) (executions : List Execution) (new : Record)
+        → Leads can (manufactured random) executions new → RunReplaysRepeat [] executions }
+{}
+
+/// What is used by a policy session of which TPM2_PolicyPCR alone is asserted has the policy of PCRs
+/// with the values that they have at the use; they had them since the first TPM2_PolicyPCR. By one of
+/// which TPM2_PolicyCommandCode alone is asserted it has the policy of the command that uses it.
+#[inline(always)]
+pub fn policy_laws()
+    ensures pcrs { UsesPcrsAsTheyAre }
+    ensures quiet { KeepsQuietValues }
+    ensures command { UsesItsCommand }
+{}
+
+/// An event fails a try exactly where its authorization is refused with AUTH_FAIL for an entry that
+/// touches a protected entity other than LOCKOUT; and it is answered so.
 #[inline(always)]
 pub fn failed_try_laws()
     ensures exactly { (old : Record) (event : PlainEvent)

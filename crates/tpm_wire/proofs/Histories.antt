@@ -10,6 +10,7 @@ use Rattle.tpm_machine_history.specs.Follows.{Follows}
 use Rattle.tpm_machine_history.specs.History.{History}
 use Rattle.tpm_machine_history.proofs.Following.{execution_follows}
 use Rattle.tpm_machine_history.proofs.Leading.{leads_keep}
+use Rattle.tpm_machine_history.proofs.RunReplays.{run_replays_repeat}
 use Rattle.tpm_wire.specs.History.{AreServed, ServeFollows, answered_history, cut_history, stream_history, turn_history}
 use Rattle.tpm_wire.specs.Serve.{AreFirst, Asking, Ends, Exchanges, Serves, Serving, started}
 use Rattle.tpm_wire.specs.Stream.{Cut, Cutting, Stream, cut_of, next_of}
@@ -73,6 +74,7 @@ pub serve_follows : {F : Type 0} (g : Asking F) (can : Bool) (had has held holds
 serve_follows g can had has held holds reader writer old asked result new asking (pieces, read, done, end, folds, reads, few, consumed, exchanges, same, ends) history follows =
     let (executions, served, leads) = exchanged g can (started old asked) done end exchanges in
     let led : Leads can old executions new = subst (Leads can old executions) (sym same) leads in
+    let now : Follows new (history_after history executions) = leads_keep Follows execution_follows can old executions new history led follows in
     record {
       read = read;
       consumed = consumed;
@@ -81,5 +83,6 @@ serve_follows g can had has held holds reader writer old asked result new asking
       executions = executions;
       served = served;
       leads = led;
-      follows = leads_keep Follows execution_follows can old executions new history led follows;
+      follows = now;
+      replays = run_replays_repeat can old executions new history led now.hmacs;
     }

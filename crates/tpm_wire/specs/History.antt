@@ -7,6 +7,7 @@ use Rattle.tpm_record.specs.Record.{Record}
 use Rattle.tpm_machine_history.specs.Executions.{Execution, Leads, history_after}
 use Rattle.tpm_machine_history.specs.Follows.{Follows}
 use Rattle.tpm_machine_history.specs.History.{History, recorded}
+use Rattle.tpm_machine_history.specs.RunReplays.{RunReplaysRepeat}
 use Rattle.tpm_wire.specs.Serve.{AreFirst}
 use Rattle.tpm_wire.specs.Stream.{Cut, Stream, cut_of, next_of}
 use Rattle.tpm_wire.specs.Wire.{Wire, given}
@@ -44,7 +45,8 @@ AreServed buffers executions =
     executions
 
 -- A connection was served: of the buffers that were read the first ones were executed, and lead a
--- machine that follows a history to one that follows the history after them.
+-- machine that follows a history to one that follows the history after them. Every replay among them
+-- repeats a nonce or an HMAC.
 pub record ServeFollows (can : Bool) (had has : Option (List ℕ)) (old new : Record)
     (history : History) : Type 0 where
   pub read : List ℕ
@@ -55,3 +57,4 @@ pub record ServeFollows (can : Bool) (had has : Option (List ℕ)) (old new : Re
   pub served : AreServed done executions
   pub leads : Leads can old executions new
   pub follows : Follows new (history_after history executions)
+  pub replays : RunReplaysRepeat history executions

@@ -161,13 +161,14 @@ def defined_index(it):
     return fields.next().structure(nv.read_public).index
 
 
-# Counters: the value of each since its definition, and all that any ever had.
+# Counters: the value of each since its definition, all that any ever had, and the largest of these.
 
 
 @dataclass
 class Counters:
     values: dict = field(default_factory=dict)
     all: list = field(default_factory=list)
+    largest: int = 0
 
     def power_cycle(self):
         pass
@@ -176,9 +177,10 @@ class Counters:
         if it.code == frames.NV_DEFINE_SPACE:
             self.values.pop(defined_index(it), None)
         elif it.code == frames.NV_INCREMENT:
-            before = self.values.get(it.handles[1], max(self.all, default=0))
-            self.values[it.handles[1]] = before + 1
-            self.all.append(before + 1)
+            value = self.values.get(it.handles[1], self.largest) + 1
+            self.values[it.handles[1]] = value
+            self.all.append(value)
+            self.largest = max(self.largest, value)
 
 
 # Sessions, with their policies.
@@ -376,7 +378,7 @@ class History:
                 stored = int.from_bytes(index.data, "big") if index.data else None
                 if stored != self.counters.values.get(handle):
                     yield f"the counter {handle:08x}"
-        if device.largest_counter != max(self.counters.all, default=0):
+        if device.largest_counter != self.counters.largest:
             yield "the largest value of any counter"
 
     def session_differences(self, device):

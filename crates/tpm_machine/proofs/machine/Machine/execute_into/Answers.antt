@@ -34,4 +34,6 @@ returns g c =
       pcrs = tells.pcrs;
       auth_values = tells.auth_values;
       sessions = tells.sessions;
+      replays = tells.replays;
+      grounds = tells.grounds;
     }

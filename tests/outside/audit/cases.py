@@ -1,0 +1,36 @@
+"""Runs tools/audit.py many times, each time with other words, in one process:
+
+    cases.py <CASES
+
+A line of CASES has a label and then the words, with a tab before each. It prints the status of each
+case, what it says on standard error, and the last line of what it prints.
+"""
+
+import contextlib
+import io
+import pathlib
+import sys
+
+TOP = pathlib.Path(__file__).resolve().parent.parent.parent.parent
+sys.path.append(str(TOP / "tools"))
+
+import audit
+
+
+def run(label, *words):
+    printed, said = io.StringIO(), io.StringIO()
+    with contextlib.redirect_stdout(printed), contextlib.redirect_stderr(said):
+        status = audit.main(*words)
+    yield f"{label}: status {status}"
+    yield from (f"    error: {it}" for it in said.getvalue().splitlines())
+    yield from (f"    last line: {it}" for it in printed.getvalue().splitlines()[-1:])
+
+
+def main():
+    for line in sys.stdin:
+        label, *words = line.rstrip("\n").split("\t")
+        print(label) if not words else print(*run(label, *words), sep="\n")
+
+
+if __name__ == "__main__":
+    main()

@@ -1,0 +1,24 @@
+"""The image of the device behind a script, as `tpmsim serve --image` would leave it:
+
+    image_after.py SCRIPT IMAGE
+"""
+
+import pathlib
+import sys
+
+OUTSIDE = pathlib.Path(__file__).resolve().parent.parent
+sys.path += [str(OUTSIDE / "device")]
+
+from image import image
+from player import Player
+
+
+def main(script, name):
+    player = Player()
+    for line in pathlib.Path(script).read_bytes().splitlines():
+        player.play(line)
+    pathlib.Path(name).write_bytes(image(player.device))
+
+
+if __name__ == "__main__":
+    main(*sys.argv[1:])

@@ -1,0 +1,56 @@
+"""What was printed of a script, line by line, held against what is to come."""
+
+SHOWN, BEFORE = 96, 24
+
+
+class Disagreement(Exception):
+    """Where a log is not what it ought to be, in words."""
+
+
+def shown(text, first):
+    """A text in quotation marks; of a long one, what stands around a place."""
+    plain = "".join(it if it.isprintable() else "?" for it in text)
+    begin = max(0, first - BEFORE) if len(plain) > SHOWN else 0
+    cut = plain[begin : begin + SHOWN]
+    return f'"{".." if begin else ""}{cut}{".." if begin + SHOWN < len(plain) else ""}"'
+
+
+def both(given, wanted):
+    """Two texts that differ, in words."""
+    pairs = zip(given, wanted)
+    first = next((at for at, (a, b) in enumerate(pairs) if a != b), min(len(given), len(wanted)))
+    said, due = shown(given, first), shown(wanted, first)
+    return f"the log says {said}, and a device of this start answers {due}"
+
+
+class Log:
+    """The lines of an output, each ended by a newline but the last one, which may be cut."""
+
+    def __init__(self, text):
+        self.lines = text.decode("latin-1").split("\n")
+        self.is_whole = self.lines[-1] == ""
+        if self.is_whole:
+            self.lines.pop()
+        self.at = 0
+
+    @property
+    def left(self):
+        return len(self.lines) - self.at
+
+    def check(self, printed):
+        """Compares the next lines with those that are due; Disagreement where they differ."""
+        for wanted in printed:
+            if not self.left:
+                raise Disagreement("the log is cut: what is printed of this line is not there")
+            given = self.lines[self.at]
+            self.at += 1
+            if given != wanted:
+                if not self.left and not self.is_whole and wanted.startswith(given):
+                    raise Disagreement("the log is cut: what is printed of this line is not whole")
+                raise Disagreement(both(given, wanted))
+
+    def end(self):
+        """Nothing may be left once the script has ended."""
+        if self.left:
+            lines = "a line" if self.left == 1 else f"{self.left} lines"
+            raise Disagreement(f"the log has {lines} more than is printed of the script")

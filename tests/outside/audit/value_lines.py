@@ -1,0 +1,40 @@
+"""Which line of the script set each authorization value."""
+
+import frames
+import state
+from frames import RH_ENDORSEMENT, RH_LOCKOUT, RH_OWNER, RH_PLATFORM
+from history import defined_index
+
+
+class ValueLines:
+    """The line that set the value of each handle; what no line set is the start's."""
+
+    def __init__(self, has_image):
+        self.set_by, self.at_first = {}, "that the image has" if has_image else "of a new device"
+
+    def note(self, seen):
+        if not seen.is_power_cycle:
+            self.set_by |= dict.fromkeys(handles_set(seen.event), f"that line {seen.line} set")
+
+    def words(self, handle, value):
+        """The value of a handle, in words."""
+        if not value:
+            return "the empty value"
+        return f"the value {self.set_by.get(handle, self.at_first)}"
+
+
+def handles_set(event):
+    """The handles whose values a command sets."""
+    if event.code in (frames.HIERARCHY_CHANGE_AUTH, frames.NV_CHANGE_AUTH):
+        return event.handles[:1]
+    if event.code == frames.NV_DEFINE_SPACE:
+        return [defined_index(event)]
+    if event.code in (frames.CREATE_PRIMARY, frames.LOAD):
+        return [event.answered]
+    if event.code == frames.EVICT_CONTROL:
+        return [event.read().next().number(4)]
+    if event.code == frames.STARTUP and event.read().next().number(2) == state.CLEAR:
+        return [RH_PLATFORM]
+    if event.code == frames.CLEAR:
+        return [RH_OWNER, RH_ENDORSEMENT, RH_LOCKOUT]
+    return []

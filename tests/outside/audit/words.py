@@ -1,0 +1,71 @@
+"""Words for handles, commands and what they ask for, as docs/LINES.md has them."""
+
+import frames
+import general
+import lines
+import nv
+from frames import KEYEDHASH, SHA1, SHA256
+from general import Fields
+from objects import Attribute
+
+HASHES = {SHA1: "sha1", SHA256: "sha256"}
+KINDS = {
+    frames.SE_HMAC: "HMAC session",
+    frames.SE_POLICY: "policy session",
+    frames.SE_TRIAL: "trial session",
+}
+
+
+def command_name(code):
+    return lines.NAMES.get(code, f"{code:08x}")
+
+
+def entity_words(handle):
+    """What has no public area."""
+    if general.is_pcr(handle):
+        return f"PCR {handle}"
+    return lines.handle_word(handle)
+
+
+def plural(count, word):
+    return f"{count} {word}" if count == 1 else f"{count} {word}s"
+
+
+def asserted_words(event):
+    """An assertion as its line has it, without its session and entries."""
+    _, *kinds = lines.COMMANDS[command_name(event.code)]
+    fields = Fields(event.parameters)
+    handles = [entity_words(it) for it in event.handles[:-1]]
+    said = [command_name(event.code), *handles, *(kind.word(fields) for kind in kinds)]
+    if event.code == frames.POLICY_COMMAND_CODE:
+        code = int.from_bytes(event.parameters, "big")
+        said.append(f"({command_name(code)})")
+    return " ".join(said)
+
+
+def object_words(public):
+    if public.kind == KEYEDHASH:
+        return "an HMAC key" if public.has(Attribute.SIGN) else "sealed data"
+    return "a storage key" if public.is_parent else "an AES key"
+
+
+def index_words(public):
+    kinds = {
+        nv.Type.ORDINARY: "an NV index of bytes",
+        nv.Type.COUNTER: "an NV counter",
+        nv.Type.BITS: "an NV index of bits",
+        nv.Type.EXTEND: "an extended NV index",
+    }
+    return kinds[public.kind]
+
+
+def means_words(public):
+    """By what an object or an index may be authorized."""
+    policy = f"the policy {public.auth_policy.hex()}" if public.auth_policy else ""
+    if isinstance(public, nv.Public):
+        accesses = nv.WRITES | nv.READS
+        names = [it.name for it in nv.Attribute if it & accesses & public.attributes]
+        return ", ".join([*names, policy] if policy else names)
+    if not public.has(Attribute.USER_WITH_AUTH):
+        return f"by {policy} alone" if policy else "by nothing"
+    return f"by its value or {policy}" if policy else "by its value"

@@ -1,0 +1,164 @@
+"""Devices in Python that are wrong in one thing each, with a script that shows it: what such a
+device prints of the script is audited beside that same device, so that the history alone can find
+it.
+
+    wrong_devices.py
+
+It prints what is found of each, and status 1 where it finds nothing of one.
+"""
+
+import pathlib
+import sys
+from unittest import mock
+
+OUTSIDE = pathlib.Path(__file__).resolve().parent.parent
+TESTS = OUTSIDE.parent
+sys.path += [str(OUTSIDE / it) for it in ("device", "audit")]
+
+import device
+import frames
+import player
+import policy
+import start
+from auditor import Auditor
+from device import Device
+from general import Refusal
+from log import Disagreement, Log
+from protection import Lockout
+
+check_use, accepts, nv_increment = policy.check_use, Device.accepts, Device.nv_increment
+restore_pcrs, start_session = Device.restore_pcrs, Device.start_auth_session
+
+
+def unless(refused):
+    """A policy's use that passes over one refusal."""
+
+    def checked(session, entity, use, place):
+        try:
+            check_use(session, entity, use, place)
+        except Refusal as refusal:
+            if refusal.name.partition("/")[0] != refused:
+                raise
+
+    return checked
+
+
+def takes_any_password(self, command, place, entry, handle):
+    is_password = entry.handle == frames.RS_PW or entry.demand == policy.PASSWORD
+    return is_password or accepts(self, command, place, entry, handle)
+
+
+def takes_no_hmac(self, command, place, entry, handle):
+    is_empty = entry.handle != frames.RS_PW and not entry.hmac
+    return is_empty or accepts(self, command, place, entry, handle)
+
+
+def keeps_policy(self, entry, handle):
+    if entry.handle != frames.RS_PW and not entry.attributes & frames.CONTINUE_SESSION:
+        del self.sessions[entry.handle]
+
+
+def restores_16_too(self):
+    restore_pcrs(self)
+    for bank in self.banks.values():
+        bank[16] = max(bank[:16])
+
+
+def counts_from_1(self, handles, parameters, locality, random):
+    if not self.indices[handles[1]].data:
+        self.largest_counter = 0
+    return nv_increment(self, handles, parameters, locality, random)
+
+
+def keeps_a_digest(self, handles, parameters, locality, random):
+    """A new session has the digest of one that lives."""
+    was = next((it.policy.digest for it in self.sessions.values()), None)
+    answer = start_session(self, handles, parameters, locality, random)
+    session = self.sessions[int.from_bytes(answer.handle, "big")]
+    session.policy.digest = was or session.policy.digest
+    return answer
+
+
+def in_rows(code, row):
+    """A command that does something else."""
+    return mock.patch.dict(device.ROWS, {code: row})
+
+
+def in_device(name, method):
+    return mock.patch.object(Device, name, method)
+
+
+def in_policies(refused):
+    return mock.patch.object(policy, "check_use", unless(refused))
+
+
+def in_lockout(name, method):
+    return mock.patch.object(Lockout, name, method)
+
+
+WRONG = (
+    ("a trial session authorizes", "object_policies", in_policies("ATTRIBUTES")),
+    ("PCRs may change after TPM2_PolicyPCR", "callers_in_turn", in_policies("PCR_CHANGED")),
+    ("any command code will do", "nv_policies", in_policies("POLICY_CC")),
+    ("any locality will do", "object_policies", in_policies("LOCALITY")),
+    ("any digest will do", "object_policies", in_policies("POLICY_FAIL")),
+    ("what has no policy is authorized by one", "clear", in_policies("AUTH_UNAVAILABLE")),
+    ("any password will do", "passwords", in_device("accepts", takes_any_password)),
+    ("an empty hmac will do", "hmac_sessions", in_device("accepts", takes_no_hmac)),
+    (
+        "a value authorizes what has no userWithAuth",
+        "nv_access",
+        in_device("takes_auth_value", lambda self, handle, code: True),
+    ),
+    (
+        "a session is bound whatever the value is",
+        "hmac_sessions",
+        in_device("is_bound", lambda self, session, handle: session.bind == self.name(handle)),
+    ),
+    (
+        "nonces stay",
+        "callers_in_turn",
+        in_device("draw_nonces", lambda self, command, random: None),
+    ),
+    ("a policy stays when it was used", "nv_policies", in_device("end_use", keeps_policy)),
+    (
+        "a session begins with a digest",
+        "policy_sessions",
+        in_rows(frames.START_AUTH_SESSION, keeps_a_digest),
+    ),
+    ("PCR 16 is saved too", "startup_state", in_device("restore_pcrs", restores_16_too)),
+    ("a counter begins at 1", "nv_counters", in_rows(frames.NV_INCREMENT, counts_from_1)),
+    ("guesses are not counted", "lockout", in_lockout("count", lambda self, touched: None)),
+    (
+        "guesses are no guesses",
+        "lockout",
+        in_device("touched", lambda self, entry, handle: None),
+    ),
+)
+
+
+def fault_of(name):
+    """What is found of a device as it is now, by the script of a name."""
+    script = (TESTS / f"{name}.tpm").read_bytes()
+    printed, _ = player.played(script)
+    auditor = Auditor(start.new(), Log("".join(f"{it}\n" for _, it in printed).encode()))
+    try:
+        auditor.read(script)
+    except Disagreement as fault:
+        return str(fault)
+    return None
+
+
+def main():
+    missed = 0
+    for words, name, patch in WRONG:
+        assert fault_of(name) is None
+        with patch:
+            fault = fault_of(name)
+        missed += fault is None
+        print(f"{words}, {name}.tpm: {fault or 'nothing is found'}")
+    return 1 if missed else 0
+
+
+if __name__ == "__main__":
+    sys.exit(main())

@@ -1,0 +1,527 @@
+#!/usr/bin/env python3
+"""Writes tests/lost_grounds.tpm: each way in which a ground of tests/grounds.tpm is lost."""
+
+import paths
+
+import frames
+import policy
+from caller import Use, flipped
+from frames import NV_CHANGE_AUTH, NV_INCREMENT, NV_READ, NV_WRITE, RH_ENDORSEMENT, RH_LOCKOUT
+from frames import RH_NULL, RH_OWNER, RH_PLATFORM, SHA1, SHA256, UNSEAL, digests
+from grounds_caller import AFTER_AUTH_VALUE, AFTER_LOCALITY_1, AFTER_PCR_16, AT_LOCALITY_1, DATA
+from grounds_caller import OWNER, PCR_16, PIN, SECRET, ZEROS, GroundsCaller, after_code
+from grounds_caller import after_equal_data, after_secret
+from nv import Attribute
+from nv_caller import BY_OWNER, BY_POLICY, BY_VALUE
+from object_caller import HERE, sealed
+from objects import Attribute as ObjectAttribute
+from policy import ALL_LOCALITIES, AUTH_VALUE, PASSWORD
+from script import Script
+from sessions import name_of
+
+USER = ObjectAttribute.USER_WITH_AUTH
+ENDS = 0x00
+AFTER_UNSEAL = after_code(UNSEAL)
+EQUAL, AT_LEAST = 0, 7  # operations of TPM2_PolicyNV
+AT_LOCALITY_0_OR_1 = 0b11
+
+script = Script(
+    "tests/lost_grounds.tpm",
+    "How the grounds of tests/grounds.tpm are lost: each way is refused, by G9 where nothing else "
+    "is said, and beside it stands the same with the condition met. How a session itself is lost "
+    "shows tests/replays.tpm.",
+)
+caller = GroundsCaller(script)
+lost = caller.lost
+
+
+# Passwords and HMAC sessions.
+
+
+def wrong_passwords(handle):
+    script.chapter("PASSWORDS. The password is not the value. Protected is what has no noDA.")
+    lost("A hierarchy", "BAD_AUTH/s1", caller.change_auth(RH_OWNER, OWNER, b"other"))
+    caller.does("By the value", caller.change_auth(RH_OWNER, OWNER, OWNER))
+    lost("A PCR, whose value is empty", "BAD_AUTH/s1", caller.reset(b"other"))
+    caller.does("By the empty one", caller.reset(b""))
+    lost(
+        "A protected object: another password, a part of the value, more than it, and none",
+        "AUTH_FAIL/s1",
+        *(caller.unsealing(handle, it) for it in (b"other", PIN[:-1], PIN + b"1", b"")),
+    )
+    caller.unseal("By the value", handle, SECRET, PIN)
+    for words, attributes, outcome in (
+        ("A protected index", BY_VALUE, "AUTH_FAIL/s1"),
+        ("An index with NO_DA", BY_VALUE | Attribute.NO_DA, "BAD_AUTH/s1"),
+    ):
+        index = caller.index(words, attributes)
+        lost("By another password", outcome, caller.writing(index, DATA, b"other"))
+        caller.does("By the value", caller.writing(index, DATA))
+
+
+def value_of_no_use(hmac):
+    script.chapter("THE VALUE IS OF NO USE. It is right, in a password and in an HMAC session.")
+    closed = caller.sealed_object("An object without userWithAuth", AFTER_UNSEAL)
+    lost(
+        "TPM2_Unseal",
+        "AUTH_UNAVAILABLE",
+        caller.unsealing(closed, PIN),
+        caller.unsealing(closed, hmac),
+    )
+    usable = caller.sealed_object("The same with userWithAuth", AFTER_UNSEAL, HERE | USER)
+    caller.unseal("TPM2_Unseal by the password", usable, SECRET, PIN)
+    caller.unseal("And by the HMAC session", usable, SECRET, hmac)
+    caller.flushed(closed, usable)
+    to_write = caller.written_index(
+        "An index with AUTHWRITE and without AUTHREAD", Attribute.AUTHWRITE | BY_OWNER
+    )
+    lost(
+        "TPM2_NV_Read",
+        "AUTH_UNAVAILABLE",
+        caller.reading(to_write, 8, PIN),
+        caller.reading(to_write, 8, hmac),
+    )
+    caller.does("TPM2_NV_Write", caller.writing(to_write, DATA, PIN))
+    to_read = caller.written_index(
+        "One with AUTHREAD and without AUTHWRITE", Attribute.AUTHREAD | BY_OWNER
+    )
+    lost(
+        "TPM2_NV_Write",
+        "AUTH_UNAVAILABLE",
+        caller.writing(to_read, DATA, PIN),
+        caller.writing(to_read, DATA, hmac),
+    )
+    caller.read("TPM2_NV_Read", to_read, DATA, PIN)
+    admin = caller.index(
+        "One whose policy is the command TPM2_NV_ChangeAuth", BY_VALUE, after_code(NV_CHANGE_AUTH)
+    )
+    lost(
+        "TPM2_NV_ChangeAuth, which is in the ADMIN role",
+        "AUTH_UNAVAILABLE",
+        caller.changing_auth(admin, PIN, PIN),
+        caller.changing_auth(admin, PIN, hmac),
+    )
+    caller.does("TPM2_NV_Write, in the USER role", caller.writing(admin, DATA, PIN))
+    caller.refused_by(
+        "A1",
+        "The owner, for this index without OWNERREAD, is refused by the command",
+        "NV_AUTHORIZATION",
+        caller.reading(admin, 8, by=RH_OWNER),
+    )
+    caller.read("And not for one that has it", to_read, DATA, by=RH_OWNER)
+    return to_write
+
+
+def with_key(key, prepare, *arguments):
+    """A command with an hmac under another key than the rule gives."""
+    with caller.breaking(key=lambda *_: key):
+        return prepare(*arguments)
+
+
+def by_key(key, handle, session):
+    return with_key(key, caller.unsealing, handle, Use(session, shows_empty_key=True))
+
+
+def other_texts(index, unbound):
+    script.chapter("AN HMAC. It is of another text: here TPM2_NV_Write of a protected index.")
+    old = caller.writing(index, DATA, unbound)
+    caller.does("Right, and the nonceTPM is new", old)
+    lost("With the nonceTPM of before", "AUTH_FAIL/s1", old)
+    other = caller.written_index("Another index, with the same attributes", BY_OWNER | BY_VALUE)
+    right = caller.writing(index, DATA, unbound)
+    entry = right.entries[0]
+    for what, *bent in (
+        (
+            "Another hmac: by its last bit, by its first byte, and half of it",
+            right.but_entry(1, hmac=flipped(entry.hmac)),
+            right.but_entry(1, hmac=flipped(entry.hmac, 0)),
+            right.but_entry(1, hmac=entry.hmac[:16]),
+        ),
+        (
+            "Another nonceCaller, and none",
+            right.but_entry(1, nonce=flipped(entry.nonce)),
+            right.but_entry(1, nonce=b""),
+        ),
+        ("Other attributes: the session ends", right.but_entry(1, attributes=ENDS)),
+        ("Other parameters", right.but(parameters=frames.nv_write(DATA[::-1]))),
+        ("Another handle, which has another Name", right.but(handles=[other, other])),
+        ("Another command, TPM2_NV_Increment", right.but(code=NV_INCREMENT)),
+    ):
+        lost(what, "AUTH_FAIL/s1", *bent)
+    caller.does("Right, by the nonceTPM that is the same since the first", right)
+
+
+def other_keys(handle, unbound):
+    script.chapter("One under another key: here TPM2_Unseal of a protected object.")
+    bound = caller.start("A session bound to the object", handle)
+    other = caller.start("One bound to TPM_RH_ENDORSEMENT", RH_ENDORSEMENT)
+    lost(
+        "Unbound, with another value in the key, and with none",
+        "AUTH_FAIL/s1",
+        by_key(b"other", handle, unbound),
+        by_key(b"", handle, unbound),
+    )
+    caller.unseal("With the value", handle, SECRET, unbound)
+    lost(
+        "Bound to the object, with the value in the key all the same, and by another session's key",
+        "AUTH_FAIL/s1",
+        by_key(bound.key + PIN, handle, bound),
+        by_key(other.key, handle, bound),
+    )
+    caller.unseal("By the session key alone", handle, SECRET, bound)
+    lost("Bound to another, without the value", "AUTH_FAIL/s1", by_key(other.key, handle, other))
+    caller.unseal("With it", handle, SECRET, other)
+
+    script.chapter("An empty one, where there is a key.")
+    for session, words in ((unbound, "the value"), (bound, "the session key")):
+        empty = caller.unsealing(handle, session).but_entry(1, hmac=b"")
+        lost(f"The key is {words}", "AUTH_FAIL/s1", empty)
+    caller.flushed(bound, other)
+
+
+def lapsed_bindings():
+    script.chapter("A binding that has lapsed, by another value or by another Name.")
+    bound = caller.start("A session bound to the owner", RH_OWNER)
+    caller.does("ownerAuth is another", caller.change_auth(RH_OWNER, b"other", OWNER))
+    changing = caller.change_auth, RH_OWNER, OWNER, bound
+    lost("Without the value in the key", "BAD_AUTH/s1", with_key(bound.key, *changing))
+    caller.does("With it, and ownerAuth is as it was", caller.change_auth(RH_OWNER, OWNER, bound))
+    caller.does("Without it, as it holds again", caller.change_auth(RH_OWNER, OWNER, bound))
+    index = caller.index("An index that is not written", BY_VALUE)
+    to_index = caller.start("A session bound to it", index)
+    caller.does("TPM2_NV_Write gives it another Name", caller.writing(index, DATA))
+    writing = caller.writing, index, DATA, to_index
+    lost("Without the value in the key", "AUTH_FAIL/s1", with_key(to_index.key, *writing))
+    caller.does("With it", caller.writing(index, DATA, to_index))
+    caller.flushed(bound, to_index)
+
+
+# Policy sessions: the conditions of a use, in the order of docs/table/policies.md.
+
+
+def trial_sessions(handle, session):
+    script.chapter("A POLICY. The session is a trial session (condition 1).")
+    trial = caller.trial("It is started")
+    caller.asserts_code(trial)
+    lost("TPM2_Unseal by it", "ATTRIBUTES/s1", caller.unsealing(handle, trial))
+    caller.asserts_code(session)
+    caller.unseal("By a policy session", handle, SECRET, session)
+    caller.flushed(trial)
+
+
+def no_policy(openly, session):
+    script.chapter("The entity cannot have a policy (condition 2). No policy is asserted here.")
+    lost(
+        "An object with an empty authPolicy", "AUTH_UNAVAILABLE", caller.unsealing(openly, session)
+    )
+    hierarchies = RH_OWNER, RH_ENDORSEMENT, RH_PLATFORM, RH_LOCKOUT
+    lost(
+        "The hierarchies, TPM_RH_NULL and a PCR",
+        "AUTH_UNAVAILABLE",
+        *(caller.change_auth(it, OWNER, session) for it in hierarchies),
+        caller.primary(RH_NULL, sealed(), session, data=SECRET),
+        caller.reset(session),
+    )
+    for words, attributes, auth_policy, authorized in (
+        ("An index with an empty authPolicy", BY_POLICY, b"", None),
+        ("One of 32 zeros, without POLICYREAD", Attribute.POLICYWRITE, ZEROS, NV_WRITE),
+        ("One of 32 zeros, without POLICYWRITE", Attribute.POLICYREAD, ZEROS, NV_READ),
+    ):
+        index = caller.written_index(words, attributes | BY_OWNER, auth_policy)
+        for code, name, prepare in (
+            (NV_WRITE, "TPM2_NV_Write", lambda: caller.writing(index, DATA, session)),
+            (NV_READ, "TPM2_NV_Read", lambda: caller.reading(index, 8, session)),
+        ):
+            if code == authorized:
+                caller.does(name, prepare())
+            else:
+                lost(name, "AUTH_UNAVAILABLE", prepare())
+
+
+def extending(pcr, *values):
+    return caller.prepare(frames.PCR_EXTEND, [pcr], digests(*values), b"")
+
+
+def changed_pcrs(session):
+    script.chapter("A PCR was written behind TPM2_PolicyPCR (condition 3), here of PCR 16.")
+    handle = caller.sealed_object("An object whose policy is that PCR 16 is zeros", AFTER_PCR_16)
+    value = SHA256, b"\1" * 32
+
+    def told(words):
+        caller.asserts(
+            f"TPM2_PolicyRestart, TPM2_PolicyPCR, and {words}",
+            caller.restart(session),
+            caller.pcrs(session, PCR_16),
+        )
+
+    def is_lost(words, write):
+        told(words)
+        caller.does("", write)
+        lost("TPM2_Unseal", "PCR_CHANGED", caller.unsealing(handle, session))
+
+    is_lost("TPM2_PCR_Extend of PCR 16", extending(16, value))
+    told("no more")
+    other = caller.unsealing(handle, session)
+    lost("TPM2_Unseal|as the digest is another", "POLICY_FAIL/s1", other)
+    caller.does("TPM2_PCR_Reset of PCR 16 makes it zeros", caller.reset(b""))
+    is_lost("TPM2_PCR_Reset of PCR 16, which is zeros already", caller.reset(b""))
+    is_lost("TPM2_PCR_Event of PCR 23, which is not selected", caller.event(b"event", b"", pcr=23))
+    is_lost("TPM2_Clear, which writes none", caller.clearing(RH_PLATFORM))
+    caller.does('ownerAuth is "owner" again', caller.change_auth(RH_OWNER, OWNER, b""))
+    told("what neither writes one nor clears")
+    caller.says("", "SUCCESS", extending(16), caller.event(b"event", b"", pcr=RH_NULL))
+    caller.unseal("TPM2_Unseal", handle, SECRET, session)
+
+    script.chapter("And behind TPM2_PolicyOR, which leaves of the branch the condition.")
+    branches = AFTER_PCR_16, AFTER_UNSEAL
+    either = caller.sealed_object("An object with its policy", policy.after_or(SHA256, branches))
+    both = caller.pcrs(session, PCR_16), caller.branches(session, *branches)
+    caller.asserts("TPM2_PolicyPCR and TPM2_PolicyOR", *both)
+    caller.does("TPM2_PCR_Event of PCR 23", caller.event(b"event", b"", pcr=23))
+    lost("TPM2_Unseal", "PCR_CHANGED", caller.unsealing(either, session))
+    caller.asserts("Both from the start", caller.restart(session), *both)
+    caller.unseal("TPM2_Unseal", either, SECRET, session)
+    caller.flushed(handle, either)
+
+
+def other_commands(session):
+    script.chapter("The command is another than the one recorded (condition 4).")
+    index = caller.written_index(
+        "An index whose policy is TPM2_NV_Read", BY_POLICY | BY_OWNER, after_code(NV_READ)
+    )
+    caller.asserts_code(session, NV_READ, "TPM2_NV_Read")
+    lost("TPM2_NV_Write", "POLICY_CC/s1", caller.writing(index, DATA, session))
+    caller.read("TPM2_NV_Read", index, DATA, session)
+
+
+def admin_role(session):
+    script.chapter("The ADMIN role, and no command is recorded (condition 5), or another.")
+    index = caller.index("An index whose authPolicy is 32 zeros", BY_POLICY, ZEROS)
+    lost("TPM2_NV_ChangeAuth", "POLICY_FAIL/s1", caller.changing_auth(index, PIN, session))
+    caller.does("TPM2_NV_Write, in the USER role", caller.writing(index, DATA, session))
+    admin = caller.index(
+        "One whose policy is TPM2_NV_ChangeAuth", BY_POLICY, after_code(NV_CHANGE_AUTH)
+    )
+    caller.asserts_code(session, NV_READ, "TPM2_NV_Read")
+    lost("TPM2_NV_ChangeAuth", "POLICY_CC/s1", caller.changing_auth(admin, PIN, session))
+    caller.restarts(session)
+    caller.asserts_code(session, NV_CHANGE_AUTH, "TPM2_NV_ChangeAuth")
+    caller.does("TPM2_NV_ChangeAuth", caller.changing_auth(admin, PIN, session))
+
+
+def other_cp_hashes(session):
+    script.chapter(
+        "The command has another cpHash than TPM2_PolicySecret has recorded (condition 5). The "
+        "policy digest is the same for each."
+    )
+    auth_policy = after_secret(name_of(RH_OWNER))
+    first = caller.index("An index with this policy", BY_POLICY, auth_policy)
+    second = caller.index("Another one", BY_POLICY, auth_policy)
+    writing = lambda: caller.writing(first, DATA, session)
+    before = caller.cp_hash(writing())
+
+    def asserts(words, cp_hash):
+        told = caller.secret(session, OWNER, of=RH_OWNER, cp_hash=cp_hash)
+        caller.does(f"TPM2_PolicySecret with the cpHash of {words}", told)
+
+    asserts("TPM2_NV_Write of the first one", before)
+    lost("Other parameters", "POLICY_FAIL/s1", caller.writing(first, DATA[::-1], session))
+    lost("Another handle", "POLICY_FAIL/s1", caller.writing(second, DATA, session))
+    lost("Another command", "POLICY_FAIL/s1", caller.reading(first, 8, session))
+    caller.does("TPM2_NV_Write of the first one", writing())
+    asserts("before", before)
+    lost("The same, of the Name that the first write gave it", "POLICY_FAIL/s1", writing())
+    caller.restarts(session)
+    asserts("now", caller.cp_hash(writing()))
+    caller.does("TPM2_NV_Write", writing())
+
+
+def other_localities(session):
+    script.chapter("The command comes from a locality that is not named (condition 6).")
+    handle = caller.sealed_object("An object whose policy is locality 1", AFTER_LOCALITY_1)
+    caller.asserts("TPM2_PolicyLocality of 1", caller.locality(session, AT_LOCALITY_1))
+    lost("TPM2_Unseal from locality 0", "LOCALITY", caller.unsealing(handle, session))
+    script.locality_is(2)
+    lost("From locality 2", "LOCALITY", caller.unsealing(handle, session))
+    script.locality_is(1)
+    caller.unseal("From locality 1", handle, SECRET, session)
+    script.locality_is(0)
+    caller.flushed(handle)
+
+
+def other_hashes(handle, session):
+    script.chapter("The hash of the session is not the nameAlg of the entity (condition 7).")
+    by_sha1 = caller.policy("A policy session of SHA-1", algorithm=SHA1)
+    caller.asserts_code(by_sha1)
+    lost("The nameAlg is SHA-256", "POLICY_FAIL/s1", caller.unsealing(handle, by_sha1))
+    of_sha1 = caller.sealed_object(
+        "An object with nameAlg SHA-1", after_code(UNSEAL, SHA1), algorithm=SHA1
+    )
+    caller.unseal("It is authorized", of_sha1, SECRET, by_sha1)
+    caller.asserts_code(session)
+    lost("And not by a session of SHA-256", "POLICY_FAIL/s1", caller.unsealing(of_sha1, session))
+    caller.unseal("Which authorizes what has its hash", handle, SECRET, session)
+    caller.flushed(by_sha1, of_sha1)
+
+
+def other_digests(session):
+    """A policy of four assertions, of which one at a time is another."""
+    script.chapter("The policy digest is not the authPolicy (condition 7): an assertion differs.")
+    compared = caller.written_index("An index that TPM2_PolicyNV looks at", BY_OWNER)
+    auth_policy = policy.after_locality(SHA256, AFTER_PCR_16, AT_LOCALITY_0_OR_1)
+    auth_policy = policy.after_secret(SHA256, auth_policy, name_of(RH_OWNER), b"disk")
+    auth_policy = after_equal_data(caller.name(compared), auth_policy)
+    handle = caller.sealed_object("An object with a policy of four assertions", auth_policy)
+    use = lambda: caller.unsealing(handle, session)
+    restart = caller.restart(session)
+
+    def secret(of=RH_OWNER, policy_ref=b"disk"):
+        value = caller.auth_value(of)
+        return caller.secret(session, value, of=of, policy_ref=policy_ref)
+
+    def nv(operation=EQUAL):
+        return caller.comparing(session, compared, DATA, operation=operation, by=RH_OWNER)
+
+    pcrs, localities = caller.pcrs(session, PCR_16), caller.locality(session, AT_LOCALITY_0_OR_1)
+    all_localities = caller.locality(session, ALL_LOCALITIES)
+    lost("Nothing is asserted", "POLICY_FAIL/s1", use())
+    for what, *told in (
+        (
+            "PCR 23 in place of PCR 16, both zeros",
+            caller.pcrs(session, [(SHA256, [23])]),
+            localities,
+            secret(),
+            nv(),
+        ),
+        ("All localities in place of two", pcrs, all_localities, secret(), nv()),
+        ("The value of another entity", pcrs, localities, secret(of=RH_ENDORSEMENT), nv()),
+        ("Another policyRef", pcrs, localities, secret(policy_ref=b"tape"), nv()),
+        ("At least the data, in place of just them", pcrs, localities, secret(), nv(AT_LEAST)),
+        ("One assertion less", pcrs, localities, secret()),
+        ("One more", pcrs, localities, secret(), nv(), all_localities),
+        ("Another order", localities, pcrs, secret(), nv()),
+        ("Just the policy, and TPM2_PolicyRestart", pcrs, localities, secret(), nv(), restart),
+    ):
+        caller.asserts(what, restart, *told)
+        lost("TPM2_Unseal", "POLICY_FAIL/s1", use())
+    caller.asserts("Just the policy", pcrs, localities, secret(), nv())
+    caller.does("TPM2_Unseal", use())
+    lost("Once more|as it has counted for one command", "POLICY_FAIL/s1", use())
+    caller.flushed(handle)
+    return compared
+
+
+def session_keys(session):
+    script.chapter("THE HMAC OF A POLICY SESSION. Nothing is demanded: the key is the session key.")
+    handle = caller.sealed_object("An object whose authPolicy is 32 zeros", ZEROS)
+    bound = caller.policy("A policy session bound to TPM_RH_OWNER, which has a key", bind=RH_OWNER)
+    right = caller.unsealing(handle, bound)
+    lost("By no hmac", "BAD_AUTH/s1", right.but_entry(1, hmac=b""))
+    with_value = by_key(bound.key + PIN, handle, bound)
+    lost("With the value of the object in the key", "BAD_AUTH/s1", with_value)
+    caller.unseal("By its key", handle, SECRET, bound)
+    lost("With the nonceTPM of before", "BAD_AUTH/s1", right)
+    caller.unseal("With that of now", handle, SECRET, bound)
+    shown = by_key(b"other", handle, session)
+    lost("An unbound session, whose key is empty: by another key", "BAD_AUTH/s1", shown)
+    caller.unseal("By none", handle, SECRET, session)
+    caller.flushed(bound)
+    return handle
+
+
+def demands(session):
+    script.chapter("TPM2_PolicyPassword: the hmac is not the value in plain.")
+    handle = caller.sealed_object(
+        "An object with its policy, which is that of TPM2_PolicyAuthValue, too", AFTER_AUTH_VALUE
+    )
+    by_password = lambda: caller.unsealing(handle, Use(session, demand=PASSWORD))
+    by_value = lambda: caller.unsealing(handle, Use(session, demand=AUTH_VALUE))
+    by_nothing = lambda: caller.unsealing(handle, Use(session, shows_empty_key=True))
+    caller.asserts_password(session)
+    lost("It is empty", "AUTH_FAIL/s1", by_password().but_entry(1, hmac=b""))
+    lost("It is another value", "AUTH_FAIL/s1", by_password().but_entry(1, hmac=b"other"))
+    lost("It is an hmac, with the value in its key", "AUTH_FAIL/s1", by_value())
+    caller.does("It is the value", by_password())
+
+    script.chapter("TPM2_PolicyAuthValue: the value is not in the key of the hmac.")
+    caller.asserts_value(session)
+    lost("There is no hmac", "AUTH_FAIL/s1", by_value().but_entry(1, hmac=b""))
+    lost("The hmac is by the session key alone, which is empty", "AUTH_FAIL/s1", by_nothing())
+    lost("Another value is in the key", "AUTH_FAIL/s1", by_key(b"other", handle, session))
+    lost("The value is there in plain", "AUTH_FAIL/s1", by_password())
+    caller.does("The value is in the key", by_value())
+    return handle
+
+
+def locked(openly, demanding, undemanding, hmac, session):
+    """What is right, and refused, as the failed tries of this script lock."""
+    script.chapter("LOCKOUT. Who would compare the value of a protected entity is refused.")
+    bound = caller.start("A session bound to the object", openly)
+    caller.set_protection("maxTries is 1, and there were more", 1, 1000, 1)
+    lost(
+        "By the password, by an unbound session and by the bound one",
+        "LOCKOUT",
+        *(caller.unsealing(openly, it) for it in (PIN, hmac, bound)),
+    )
+    use = lambda: caller.unsealing(demanding, Use(session, demand=AUTH_VALUE))
+    caller.asserts_value(session)
+    lost("By a policy that demands the value", "LOCKOUT", use())
+    caller.asserts("TPM2_PolicyRestart", caller.restart(session))
+    caller.unseal("By a policy that demands none", undemanding, SECRET, session)
+    caller.does("TPM2_DictionaryAttackLockReset", caller.lock_reset())
+    for what, by in (("By the password, and by both sessions", PIN), ("", hmac), ("", bound)):
+        caller.unseal(what, openly, SECRET, by)
+    caller.asserts_value(session)
+    caller.does("By the policy that demands the value", use())
+    caller.flushed(bound, demanding, undemanding)
+
+
+def asked_once(session, compared):
+    script.chapter(
+        "WHAT IS ASKED ONCE. TPM2_PolicyNV and TPM2_PolicySecret look at data and at a value as "
+        "they are told, and not as the command comes."
+    )
+    handle = caller.sealed_object(
+        "An object whose policy is what an index holds", after_equal_data(caller.name(compared))
+    )
+    told = caller.comparing(session, compared, DATA, by=RH_OWNER)
+    caller.does("TPM2_PolicyNV", told)
+    caller.does("Other data are written", caller.writing(compared, DATA[::-1], by=RH_OWNER))
+    caller.unseal("TPM2_Unseal", handle, SECRET, session)
+    caller.refused_by("A5", "TPM2_PolicyNV once more", "POLICY", told)
+    handle = caller.sealed_object(
+        "An object whose policy is the owner's value", after_secret(name_of(RH_OWNER))
+    )
+    told = caller.secret(session, OWNER, of=RH_OWNER)
+    caller.does("TPM2_PolicySecret", told)
+    caller.does("ownerAuth is another", caller.change_auth(RH_OWNER, b"other", OWNER))
+    caller.unseal("TPM2_Unseal", handle, SECRET, session)
+    lost("TPM2_PolicySecret once more", "BAD_AUTH/s1", told)
+
+
+script.startup()
+script.allow_tries()
+caller.does('ownerAuth is "owner" from here on', caller.change_auth(RH_OWNER, OWNER, b""))
+openly = caller.sealed_object("A protected object with userWithAuth", attributes=HERE | USER)
+hmac = caller.start("An HMAC session, which is unbound")
+wrong_passwords(openly)
+to_write = value_of_no_use(hmac)
+other_texts(to_write, hmac)
+other_keys(openly, hmac)
+lapsed_bindings()
+named = caller.sealed_object("An object whose policy is the command TPM2_Unseal", AFTER_UNSEAL)
+session = caller.policy("A policy session, which is unbound")
+trial_sessions(named, session)
+no_policy(openly, session)
+changed_pcrs(session)
+other_commands(session)
+admin_role(session)
+other_cp_hashes(session)
+other_localities(session)
+other_hashes(named, session)
+compared = other_digests(session)
+undemanding = session_keys(session)
+demanding = demands(session)
+locked(openly, demanding, undemanding, hmac, session)
+asked_once(session, compared)
+script.write()

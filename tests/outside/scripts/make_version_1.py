@@ -1,0 +1,154 @@
+#!/usr/bin/env python3
+"""Writes images of version 1 that are not there yet, and compares those that are:
+
+    python3 tests/outside/scripts/make_version_1.py PROGRAM
+
+PROGRAM is one that writes this version. It serves the device of each script NAME.tpm in
+tests/version_1: a run up to each `power` line, of the script's random bytes and at its times, by
+Debian's `faketime`. The image that it saves at the end, and that of the device in Python behind the
+same commands, have to be the same. Where there is no NAME.hex, they are written there; where there
+is one, they have to be those of it.
+"""
+
+import datetime
+import os
+import pathlib
+import shutil
+import subprocess
+import sys
+import tempfile
+from dataclasses import dataclass
+
+import paths  # first: it finds the device
+
+import expected
+import serving
+import version_1
+from device import MANUFACTURED, Device
+from image import image
+
+RANDOM_BYTES = 256
+FIRST_TIME = datetime.datetime(2026, 1, 1)
+
+# What else passes before each command but the first, so that no millisecond is missed by rounding.
+MARGIN = datetime.timedelta(microseconds=400)
+
+
+@dataclass(frozen=True)
+class Event:
+    """A command, of these random bytes, and the milliseconds since the one before."""
+
+    buffer: bytes
+    random: bytes
+    elapsed: int
+
+
+def runs_of(script):
+    """The commands of each run."""
+    runs, random, elapsed = [[]], bytes(RANDOM_BYTES), 0
+    for line in script.splitlines():
+        word, _, argument = line.partition(" ")
+        buffer = expected.buffer_of(line)
+        if buffer is not None:
+            runs[-1].append(Event(buffer, random, elapsed))
+            elapsed = 0
+        elif word == "power":
+            runs.append([])
+        elif word == "entropy":
+            random = (bytes.fromhex(argument) * RANDOM_BYTES)[:RANDOM_BYTES]
+        elif word == "wait":
+            elapsed += int(argument)
+        elif word and not word.startswith("#"):
+            sys.exit(f"a line that is not played here: {line}")
+    if any(run and run[0].elapsed for run in runs):
+        sys.exit("a run's first command comes at once")
+    return runs
+
+
+def played(runs):
+    """The responses of the device in Python, and its image."""
+    device, answers = Device(), []
+    for number, run in enumerate(runs):
+        if number:
+            device.power_cycle()
+        for event in run:
+            outcome = device.execute(event.buffer, 0, event.random, event.elapsed)
+            answers.append(outcome.response)
+    return answers, image(device)
+
+
+class Served:
+    """A device that a program serves in a folder, at times that stand in a file of it."""
+
+    WORDS = "serve --socket socket --image image --entropy entropy --locality 0 --connections 1"
+
+    def __init__(self, program, path):
+        self.program, self.path = os.path.abspath(program), pathlib.Path(path)
+
+    def is_now(self, time):
+        """The host's clock stands there until it is told another time."""
+        (self.path / "clock.new").write_text(time.isoformat(" ", "microseconds") + "\n", "ascii")
+        (self.path / "clock.new").replace(self.path / "clock")
+
+    def began(self):
+        times = ["env", "-u", "FAKETIME", "FAKETIME_NO_CACHE=1"]
+        times.append(f"FAKETIME_TIMESTAMP_FILE={self.path / 'clock'}")
+        return subprocess.Popen(
+            ["faketime", "-f", str(FIRST_TIME), *times, self.program, *self.WORDS.split()],
+            cwd=self.path,
+            env={**os.environ, "TZ": "UTC"},
+        )
+
+    def serve(self, run):
+        """The responses in a run, one connection of it."""
+        random = b"" if (self.path / "image").exists() else MANUFACTURED
+        (self.path / "entropy").write_bytes(random + b"".join(it.random for it in run))
+        time = FIRST_TIME
+        self.is_now(time)
+        process = self.began()
+        try:
+            with serving.connected(str(self.path / "socket"), process) as client:
+                answers = []
+                for event in run:
+                    time += datetime.timedelta(milliseconds=event.elapsed)
+                    self.is_now(time + MARGIN if answers else time)
+                    client.sendall(event.buffer)
+                    answers.append(client.recv(4096))
+            if process.wait(serving.SECONDS):
+                sys.exit("the program failed")
+            return answers
+        finally:
+            process.kill()
+            process.wait()
+
+
+def served(program, runs):
+    """The responses of the program, and the image that it leaves."""
+    with tempfile.TemporaryDirectory() as path:
+        device = Served(program, path)
+        answers = [answer for run in runs for answer in device.serve(run)]
+        return answers, (device.path / "image").read_bytes()
+
+
+def main(program):
+    if not shutil.which("faketime"):
+        sys.exit("faketime is not there")
+    for name in version_1.NAMES:
+        runs = runs_of(version_1.script(name))
+        wanted, given = played(runs), served(program, runs)
+        text = wanted[1]
+        if wanted != given:
+            sys.exit(f"{name}: the program and the device in Python differ")
+        if text != version_1.image_of(version_1.device_of(name)):
+            sys.exit(f"{name}: this is no image of version 1")
+        if not version_1.hex_file(name).exists():
+            version_1.hex_file(name).write_text(version_1.spelled(text), "ascii")
+            print(f"{name}: {len(text):,} bytes are written")
+        elif text != version_1.kept(name):
+            sys.exit(f"{name}: these are not the bytes that are kept")
+        else:
+            print(f"{name}: the {len(text):,} bytes that are kept")
+
+
+if __name__ == "__main__":
+    main(*sys.argv[1:])

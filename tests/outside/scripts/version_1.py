@@ -1,0 +1,57 @@
+"""Images of version 1, as bytes that are kept in tests/version_1: NAME.hex has one of them, which a
+program of that version saved, and NAME.tpm the script of its device. Neither is ever written anew.
+"""
+
+import paths
+
+import image_fields
+from device import Device
+from expected import played_by
+from frames import SHA256, number
+from sessions import digest
+
+FOLDER = paths.TESTS / "version_1"
+NAMES = "new", "saved", "changed", "locked", "full"
+BYTES_OF_LINE = 32
+
+# An image of this version has its body between so many bytes, and the limits of its two lists.
+BEFORE, BEHIND = 10, 32
+INDICES, BYTES_OF_INDICES = 32, 8192
+
+
+def hex_file(name):
+    return FOLDER / f"{name}.hex"
+
+
+def script(name):
+    return (FOLDER / f"{name}.tpm").read_text("ascii")
+
+
+def kept(name):
+    return bytes.fromhex(hex_file(name).read_text("ascii"))
+
+
+def spelled(text):
+    """The lines of NAME.hex."""
+    pieces = (text[at : at + BYTES_OF_LINE] for at in range(0, len(text), BYTES_OF_LINE))
+    return "".join(f"{it.hex()}\n" for it in pieces)
+
+
+def device_of(name):
+    """The device behind the script, each of whose comments names what must come."""
+    device = Device()
+    for _ in played_by(script(name), device):
+        pass
+    return device
+
+
+def framed(fields):
+    """The image of this version that has these fields as its body."""
+    body = image_fields.text_of(fields)
+    text = b"TPMI" + number(1, 2) + number(BEFORE + len(body) + BEHIND, 4) + body
+    return text + digest(SHA256, text)
+
+
+def image_of(device):
+    """The image of this version that a device has."""
+    return framed(image_fields.body_of(device))

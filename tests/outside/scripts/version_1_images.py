@@ -1,0 +1,283 @@
+#!/usr/bin/env python3
+"""Has a program open the images of version 1 that are kept in tests/version_1:
+
+    python3 tests/outside/scripts/version_1_images.py PROGRAM
+
+What it answers to commands that look at the device, and use what it has, and what it saves
+afterwards, has to be what the device in Python answers and saves. It says of each image what was
+tried; the last line is `N agree, M differ`.
+"""
+
+import collections
+import hashlib
+import os
+import sys
+import tempfile
+
+import paths  # first: it finds the device
+
+import frames
+import image
+import image_fields
+import lines
+import nv
+import serving
+import streams
+import version_1
+from capability import HANDLES, PROPERTIES
+from frames import ALG_NULL, NV, PERSISTENT, RH_ENDORSEMENT, RH_LOCKOUT, RH_NULL, RH_OWNER
+from frames import RH_PLATFORM, SHA256, SYMCIPHER, TRANSIENT
+from general import first_byte
+from nv_caller import BY_OWNER, area, counter
+from object_caller import sealed, storage_key
+from objects import Attribute
+from state_caller import CLEAR, STATE
+
+PRIMARY = RH_OWNER, RH_ENDORSEMENT, RH_PLATFORM, RH_NULL
+WITH_VALUES = RH_OWNER, RH_ENDORSEMENT, RH_PLATFORM
+AT_ONCE = 1024
+FIRST_TRANSIENT, NEW_COUNTER, LAST_INDEX = 0x8000_0000, 0x0111_1111, 0x01FF_FFFE
+
+# Where TPM2_ReadClock answers the milliseconds since the device has power.
+TIME = slice(10, 18)
+
+# Where an image has its version, and what is changed there.
+VERSION = 5
+
+
+# Commands, for a device as it is.
+
+
+def line(*words):
+    return lines.assemble(" ".join(words).encode("ascii"))
+
+
+def handles(first):
+    return line("GetCapability", str(HANDLES), hex(first << 24), "64")
+
+
+def by(device, handle):
+    """The entry that gives a handle's authorization value."""
+    return [frames.entry(hmac=device.auth_value(handle))]
+
+
+def primary(device, hierarchy):
+    creation = frames.creation(frames.sensitive_create(), frames.sized(storage_key().text))
+    return frames.on_handle(frames.CREATE_PRIMARY, hierarchy, creation, by(device, hierarchy))
+
+
+def flush(handle):
+    return frames.command(frames.FLUSH_CONTEXT, frames.number(handle, 4))
+
+
+def use(device, handle):
+    """A command that needs the sensitive area of an object: a child of it, a MAC, or its data."""
+    public, entries = device.objects[handle].public, by(device, handle)
+    if public.kind == SYMCIPHER:
+        sensitive = frames.sensitive_create(b"auth", b"data")
+        creation = frames.creation(sensitive, frames.sized(sealed().text))
+        return frames.on_handle(frames.CREATE, handle, creation, entries)
+    if public.has(Attribute.SIGN):
+        algorithm = SHA256 if public.scheme == ALG_NULL else public.scheme
+        parameters = frames.sized(b"data") + frames.number(algorithm, 2)
+        return frames.on_handle(frames.HMAC, handle, parameters, entries)
+    return frames.on_handle(frames.UNSEAL, handle, entries=entries)
+
+
+def asker(device, index):
+    """Who reads an index and writes it."""
+    public = device.indices[index].public
+    if public.has(nv.Attribute.OWNERREAD):
+        return RH_OWNER
+    return RH_PLATFORM if public.has(nv.Attribute.PPREAD) else index
+
+
+def on_index(device, code, index, parameters=b""):
+    who = asker(device, index)
+    return frames.on_handles(code, [who, index], parameters, by(device, who))
+
+
+def looks(device):
+    """All that can be seen, and a use of each secret."""
+    for first in (NV, frames.HMAC_SESSION, TRANSIENT, PERSISTENT):
+        yield handles(first)
+    yield line("GetCapability", str(PROPERTIES), "0x100", "64")
+    for bank in ("sha1", "sha256"):
+        for pcrs in ("0,1,2,3,4,5,6,7", "8,9,10,11,12,13,14,15", "16,17,18,19,20,21,22,23"):
+            yield line("PCR_Read", f"{bank}:{pcrs}")
+    for handle in sorted(it for it in device.objects if first_byte(it) == PERSISTENT):
+        yield line("ReadPublic", f"{handle:08x}")
+        yield use(device, handle)
+    for index, held in sorted(device.indices.items()):
+        yield line("NV_ReadPublic", f"{index:08x}")
+        size = held.public.data_size
+        for offset in range(0, max(size, 1), AT_ONCE):
+            reading = frames.nv_read(min(AT_ONCE, size - offset), offset)
+            yield on_index(device, frames.NV_READ, index, reading)
+    for hierarchy in PRIMARY:
+        yield primary(device, hierarchy)
+        yield flush(FIRST_TRANSIENT)
+
+
+def changes(device):
+    """What hangs on the largest value of a counter, and on authorization values; and wrong ones."""
+    for index, held in sorted(device.indices.items()):
+        if held.public.kind == nv.Type.COUNTER:
+            yield on_index(device, frames.NV_INCREMENT, index)
+            yield on_index(device, frames.NV_READ, index, frames.nv_read(nv.NUMBER_BYTES, 0))
+    if len(device.indices) < version_1.INDICES:
+        define = frames.nv_define_space(counter(NEW_COUNTER, BY_OWNER).text)
+        yield frames.on_handle(frames.NV_DEFINE_SPACE, RH_OWNER, define, by(device, RH_OWNER))
+        used = [RH_OWNER, NEW_COUNTER]
+        yield frames.on_handles(frames.NV_INCREMENT, used, entries=by(device, RH_OWNER))
+        reading = frames.nv_read(nv.NUMBER_BYTES, 0)
+        yield frames.on_handles(frames.NV_READ, used, reading, by(device, RH_OWNER))
+    yield line("PCR_Event", "00000005", "pw:-", "6576656e74")
+    for hierarchy in WITH_VALUES:
+        entries = by(device, hierarchy)
+        yield frames.on_handle(
+            frames.HIERARCHY_CHANGE_AUTH, hierarchy, frames.sized(b"new"), entries
+        )
+    for handle in sorted(it for it in device.objects if first_byte(it) == PERSISTENT):
+        yield line("Unseal", f"{handle:08x}", "pw:77726f6e67")
+    yield frames.on_handle(
+        frames.DICTIONARY_ATTACK_LOCK_RESET, RH_LOCKOUT, entries=by(device, RH_LOCKOUT)
+    )
+    yield line("DictionaryAttackLockReset", "LOCKOUT", "pw:77726f6e67")
+
+
+def starting(kind):
+    return line("Startup", str(kind))
+
+
+def resumed(device):
+    """A start by what was saved, and by no other where there is one; and all of the above."""
+    yield starting(STATE)
+    yield starting(CLEAR)
+    yield from looks(device)
+    yield from changes(device)
+    yield line("Shutdown", str(STATE))
+
+
+def restarted(device):
+    """A start that may be a restart; then what is the owner's goes, where nothing forbids it."""
+    yield starting(CLEAR)
+    yield frames.on_handle(frames.CLEAR, RH_PLATFORM, entries=by(device, RH_PLATFORM))
+    yield from looks(device)
+
+
+# Comparing.
+
+
+def told(answered):
+    """What came of each command, by their names."""
+    counts = {}
+    for outcome in answered:
+        code, refused = outcome.row.code, outcome.refused or "SUCCESS"
+        counts.setdefault(lines.NAMES[code], collections.Counter())[refused] += 1
+    names = (
+        (name, ", ".join(f"{count} {it}" for it, count in sorted(came.items())))
+        for name, came in counts.items()
+    )
+    return "; ".join(f"{name} {came}" for name, came in names)
+
+
+class Comparison:
+    def __init__(self, program, path):
+        self.folder = serving.Folder(program, path)
+        self.agree, self.differ = 0, 0
+
+    def check(self, holds, words):
+        """Says what was tried, or what differs."""
+        self.agree, self.differ = self.agree + holds, self.differ + (not holds)
+        print(f"    {words}" if holds else f"    DIFFERS: {words}", flush=True)
+
+    def run(self, text, buffers, connections=1):
+        """What the program answers in a run on an image, what it says, and what it saves."""
+        run = streams.Run(0, 0, text, True)
+        run.random = b"".join(map(streams.random_of, buffers))
+        run.connections = [streams.Connection(AT_ONCE) for _ in range(connections)]
+        for connection in run.connections:
+            connection.sent = b"".join(buffers)
+        answers, error, _ = self.folder.serve(run)
+        return answers, error, self.folder.image.read_bytes()
+
+    def opened(self, text, words, commands):
+        """The device in Python takes the commands as they come, and TPM2_ReadClock at the end, which
+        says how many milliseconds passed for the program.
+        """
+        device, buffers, outcomes = image.open_image(text), [], []
+        for buffer in commands(device):
+            buffers.append(buffer)
+            outcomes.append(device.execute(buffer, 0, streams.random_of(buffer)))
+        buffers.append(line("ReadClock"))
+        (answers,), error, saved = self.run(text, buffers)
+        elapsed = int.from_bytes(answers[-1][TIME], "big") if answers else 0
+        outcomes.append(device.execute(buffers[-1], 0, bytes(256), elapsed))
+        for buffer, outcome, answer in zip(buffers, outcomes, answers):
+            if outcome.response != answer:
+                wanted, given = outcome.response.hex(), answer.hex()
+                print(f"    {lines.line_of(buffer)}: {wanted} is wanted, {given} is given")
+        wanted = [it.response for it in outcomes], "", image.image(device)
+        self.check((answers, error, saved) == wanted, f"{words}: {told(outcomes)}")
+
+    def refused(self, text, fault, words):
+        """A text that is no image."""
+        _, error, left = self.run(text, [], connections=0)
+        holds = image.fault_of(text) == fault and error == f"tpmsim: image {fault}"
+        self.check(holds and left == text, f"{words}: {fault}")
+
+
+def damaged(text):
+    changed = lambda at, byte: text[:at] + bytes([byte]) + text[at + 1 :]
+    yield "Short", text[:41], "its first 41 bytes"
+    yield "Magic", changed(0, text[0] ^ 1), "its first byte changed"
+    yield "Version", changed(VERSION, 3), "version 3"
+    yield "Length", text[:-1], "without its last byte"
+    yield "Length", text + b"\0", "with a byte behind it"
+    last = len(text) - 1
+    yield "Digest", changed(last, text[last] ^ 1), "its last byte changed"
+
+
+def beyond_limits(text):
+    """A full device has as much as an image of this version can have."""
+    device = image.open_image(text)
+    device.indices[LAST_INDEX] = nv.Index(area(LAST_INDEX, BY_OWNER, size=0), b"", b"")
+    assert len(device.indices) == version_1.INDICES + 1
+    yield "Body", version_1.image_of(device), "with an index more, of no bytes"
+
+    device = image.open_image(text)
+    index, held = next(it for it in device.indices.items() if it[1].public.data_size == 0)
+    public = area(index, held.public.attributes & ~nv.Attribute.WRITTEN, size=1)
+    device.indices[index] = nv.Index(public, held.auth_value, b"")
+    taken = sum(it.public.data_size for it in device.indices.values())
+    assert taken == version_1.BYTES_OF_INDICES + 1
+    yield "Body", version_1.image_of(device), "with a byte of data more"
+
+
+def main(program):
+    with tempfile.TemporaryDirectory() as path:
+        comparison = Comparison(os.path.abspath(program), path)
+        for name in version_1.NAMES:
+            text = version_1.kept(name)
+            print(f"{name}: {len(text):,} bytes, whose SHA-256 is {hashlib.sha256(text).hexdigest()}")
+            device = image.open_image(text)
+            again = version_1.image_of(device)
+            comparison.check(again == text, "opened by the device in Python and written again")
+            of_script = version_1.image_of(version_1.device_of(name))
+            comparison.check(of_script == text, "of the device behind its script")
+            answers, error, saved = comparison.run(text, [])
+            same = (answers, error, saved) == ([[]], "", image.image(device))
+            comparison.check(same, "opened by the program and saved again")
+            comparison.opened(text, "resumed", resumed)
+            comparison.opened(text, "restarted", restarted)
+            for fault, near, words in damaged(text):
+                comparison.refused(near, fault, words)
+        for fault, near, words in beyond_limits(text):
+            comparison.refused(near, fault, words)
+    print(f"{comparison.agree:,} agree, {comparison.differ:,} differ")
+    sys.exit(comparison.differ > 0)
+
+
+if __name__ == "__main__":
+    main(*sys.argv[1:])
