@@ -18,7 +18,6 @@ import paths  # first: it finds the device
 
 import frames
 import image
-import image_fields
 import lines
 import nv
 import serving
@@ -38,10 +37,10 @@ WITH_VALUES = RH_OWNER, RH_ENDORSEMENT, RH_PLATFORM
 AT_ONCE = 1024
 FIRST_TRANSIENT, NEW_COUNTER, LAST_INDEX = 0x8000_0000, 0x0111_1111, 0x01FF_FFFE
 
-# Where TPM2_ReadClock answers the milliseconds since the device has power.
-TIME = slice(10, 18)
+# Where TPM2_ReadClock answers the milliseconds since the device has power, and Clock.
+TIME, CLOCK = slice(10, 18), slice(18, 26)
 
-# Where an image has its version, and what is changed there.
+# Where an image has the lower byte of its version.
 VERSION = 5
 
 
@@ -98,9 +97,10 @@ def on_index(device, code, index, parameters=b""):
 
 
 def looks(device):
-    """All that can be seen, and a use of each secret."""
+    """All that can be seen, a session that was lost, and a use of each secret."""
     for first in (NV, frames.HMAC_SESSION, TRANSIENT, PERSISTENT):
         yield handles(first)
+    yield line("PolicyGetDigest", "03000000")
     yield line("GetCapability", str(PROPERTIES), "0x100", "64")
     for bank in ("sha1", "sha256"):
         for pcrs in ("0,1,2,3,4,5,6,7", "8,9,10,11,12,13,14,15", "16,17,18,19,20,21,22,23"):
@@ -151,7 +151,7 @@ def starting(kind):
 
 
 def resumed(device):
-    """A start by what was saved, and by no other where there is one; and all of the above."""
+    """A start by a saved state, or another where nothing is saved; and all of the above."""
     yield starting(STATE)
     yield starting(CLEAR)
     yield from looks(device)
@@ -169,17 +169,41 @@ def restarted(device):
 # Comparing.
 
 
-def told(answered):
-    """What came of each command, by their names."""
+def taken(text, commands):
+    """The commands, each for the device as it is behind those before."""
+    device = image.open_image(text)
+    for buffer in commands(device):
+        yield buffer
+        device.execute(buffer, 0, streams.random_of(buffer))
+
+
+def executed(device, buffers, clock):
+    """What comes of commands in as many milliseconds as passed for the program, which the answer to
+    the last one tells. They pass before that one, but for those that passed before TPM2_Clear: it
+    sets Clock back, which so tells less than Time.
+    """
+    time, clock = int.from_bytes(clock[TIME], "big"), int.from_bytes(clock[CLOCK], "big")
+    before_clear = max(time - clock, 0)
+    elapsed = [before_clear if is_clear(it) else 0 for it in buffers]
+    elapsed[-1] = time - sum(elapsed)
+    return [
+        device.execute(buffer, 0, streams.random_of(buffer), it)
+        for buffer, it in zip(buffers, elapsed)
+    ]
+
+
+def is_clear(buffer):
+    return buffer[6:10] == frames.number(frames.CLEAR, 4)
+
+
+def told(outcomes):
+    """What came of the commands of each name, in a line each."""
     counts = {}
-    for outcome in answered:
-        code, refused = outcome.row.code, outcome.refused or "SUCCESS"
-        counts.setdefault(lines.NAMES[code], collections.Counter())[refused] += 1
-    names = (
-        (name, ", ".join(f"{count} {it}" for it, count in sorted(came.items())))
-        for name, came in counts.items()
-    )
-    return "; ".join(f"{name} {came}" for name, came in names)
+    for outcome in outcomes:
+        refused = outcome.refused or "SUCCESS"
+        counts.setdefault(lines.NAMES[outcome.row.code], collections.Counter())[refused] += 1
+    for name, came in counts.items():
+        yield f"{name}: " + ", ".join(f"{count} {it}" for it, count in sorted(came.items()))
 
 
 class Comparison:
@@ -202,41 +226,50 @@ class Comparison:
         answers, error, _ = self.folder.serve(run)
         return answers, error, self.folder.image.read_bytes()
 
-    def opened(self, text, words, commands):
-        """The device in Python takes the commands as they come, and TPM2_ReadClock at the end, which
-        says how many milliseconds passed for the program.
-        """
-        device, buffers, outcomes = image.open_image(text), [], []
-        for buffer in commands(device):
-            buffers.append(buffer)
-            outcomes.append(device.execute(buffer, 0, streams.random_of(buffer)))
-        buffers.append(line("ReadClock"))
-        (answers,), error, saved = self.run(text, buffers)
-        elapsed = int.from_bytes(answers[-1][TIME], "big") if answers else 0
-        outcomes.append(device.execute(buffers[-1], 0, bytes(256), elapsed))
-        for buffer, outcome, answer in zip(buffers, outcomes, answers):
-            if outcome.response != answer:
-                wanted, given = outcome.response.hex(), answer.hex()
-                print(f"    {lines.line_of(buffer)}: {wanted} is wanted, {given} is given")
-        wanted = [it.response for it in outcomes], "", image.image(device)
-        self.check((answers, error, saved) == wanted, f"{words}: {told(outcomes)}")
+    def kept(self, text, device):
+        """An image that is kept; the device in Python that its script gives has it, too."""
+        opened = image.open_image(text)
+        again, of_script = version_1.image_of(opened), version_1.image_of(device)
+        self.check(again == text, "the device in Python opens it, and has this image")
+        self.check(of_script == text, "the one behind its script has this image")
+        given = self.run(text, [])
+        self.check(given == ([[]], "", image.image(opened)), "the program opens it, and saves it")
 
-    def refused(self, text, fault, words):
+    def opened(self, text, words, commands):
+        """Commands, and TPM2_ReadClock behind them, to the device that an image is of."""
+        buffers = [*taken(text, commands), line("ReadClock")]
+        (answers,), error, saved = self.run(text, buffers)
+        device = image.open_image(text)
+        outcomes = executed(device, buffers, answers[-1] if answers else b"")
+        wanted = [it.response for it in outcomes]
+        self.check((answers, error) == (wanted, ""), f"{words}, it answers the same")
+        for buffer, response, answer in zip(buffers, wanted, answers):
+            if response != answer:
+                shown = lines.line_of(buffer) or buffer.hex()
+                print(f"        {shown}: {response.hex()} is wanted, {answer.hex()} is given")
+        for it in told(outcomes):
+            print(f"        {it}")
+        self.check(saved == image.image(device), f"{words}, it saves the same")
+
+    def refused(self, fault, text, words):
         """A text that is no image."""
         _, error, left = self.run(text, [], connections=0)
         holds = image.fault_of(text) == fault and error == f"tpmsim: image {fault}"
         self.check(holds and left == text, f"{words}: {fault}")
 
 
+def changed(text, at, byte):
+    return text[:at] + bytes([byte]) + text[at + 1 :]
+
+
 def damaged(text):
-    changed = lambda at, byte: text[:at] + bytes([byte]) + text[at + 1 :]
+    last = len(text) - 1
     yield "Short", text[:41], "its first 41 bytes"
-    yield "Magic", changed(0, text[0] ^ 1), "its first byte changed"
-    yield "Version", changed(VERSION, 3), "version 3"
+    yield "Magic", changed(text, 0, text[0] ^ 1), "with its first byte changed"
+    yield "Version", changed(text, VERSION, 3), "with version 3"
     yield "Length", text[:-1], "without its last byte"
     yield "Length", text + b"\0", "with a byte behind it"
-    last = len(text) - 1
-    yield "Digest", changed(last, text[last] ^ 1), "its last byte changed"
+    yield "Digest", changed(text, last, text[last] ^ 1), "with its last byte changed"
 
 
 def beyond_limits(text):
@@ -260,21 +293,15 @@ def main(program):
         comparison = Comparison(os.path.abspath(program), path)
         for name in version_1.NAMES:
             text = version_1.kept(name)
-            print(f"{name}: {len(text):,} bytes, whose SHA-256 is {hashlib.sha256(text).hexdigest()}")
-            device = image.open_image(text)
-            again = version_1.image_of(device)
-            comparison.check(again == text, "opened by the device in Python and written again")
-            of_script = version_1.image_of(version_1.device_of(name))
-            comparison.check(of_script == text, "of the device behind its script")
-            answers, error, saved = comparison.run(text, [])
-            same = (answers, error, saved) == ([[]], "", image.image(device))
-            comparison.check(same, "opened by the program and saved again")
+            digest = hashlib.sha256(text).hexdigest()
+            print(f"{name}: {len(text):,} bytes, whose SHA-256 is {digest}")
+            comparison.kept(text, version_1.device_of(name))
             comparison.opened(text, "resumed", resumed)
             comparison.opened(text, "restarted", restarted)
-            for fault, near, words in damaged(text):
-                comparison.refused(near, fault, words)
-        for fault, near, words in beyond_limits(text):
-            comparison.refused(near, fault, words)
+            for refused in damaged(text):
+                comparison.refused(*refused)
+        for refused in beyond_limits(version_1.kept("full")):
+            comparison.refused(*refused)
     print(f"{comparison.agree:,} agree, {comparison.differ:,} differ")
     sys.exit(comparison.differ > 0)
 
