@@ -44,13 +44,19 @@ class Use:
         return self.entry.handle == RS_PW
 
     @property
+    def is_bound(self):
+        """Whether its session is bound to what it authorizes."""
+        bound = self.session.bound
+        return bound is not None and bound[:2] == (self.view.name, self.value)
+
+    @property
     def takes_value(self):
         """Whether the value of what it authorizes is the password, or in the key of the hmac."""
         if self.handle is None:
             return False
         if self.session is None or general.is_policy(self.entry.handle):
             return self.is_password or self.demand is not None
-        return self.session.bound != (self.view.name, self.value)
+        return not self.is_bound
 
 
 class Grounds:

@@ -166,7 +166,7 @@ class Device(
                 buffer, self.started, self.sessions, self.objects, self.indices
             )
             self.authorize(command, locality)
-            plain, names = self.plain_parameters(command), self.names(command)
+            plain, shown = self.plain_parameters(command), self.shown(command)
             parameters = Parameters(plain)
             answer = ROWS[command.code](self, command.handles, parameters, locality, random)
         except Refusal as refusal:
@@ -175,14 +175,14 @@ class Device(
             return Outcome(response, Row.of(buffer, refusal.check), refusal.name)
         if command.code not in KEEPING_SAVED:
             self.saved = state.Saved.NONE
-        self.tell(self.accepted(command, names, plain, answer, random))
+        self.tell(self.accepted(command, shown, plain, answer, random))
         return Outcome(self.success(command, answer, random), Row(command.code, "ok"))
 
     @staticmethod
     def tell(event):
         """Nobody listens at first."""
 
-    def accepted(self, command, names, plain, answer, random):
+    def accepted(self, command, shown, plain, answer, random):
         """What is told of a command, once its row has acted: the Names are those before it."""
         uses = [
             history.Use(
@@ -194,7 +194,7 @@ class Device(
         is_loaded = command.code == frames.LOAD
         loaded = self.objects[answered].sensitive.auth_value if is_loaded else None
         return history.Accepted(
-            *(command.code, command.handles, names, uses, plain),
+            *(command.code, command.handles, *shown, uses, plain),
             *(random, answer.drawn, answered, loaded),
         )
 
@@ -206,6 +206,10 @@ class Device(
         if handle in self.indices:
             return self.indices[handle].public.name
         return sessions.name_of(handle)
+
+    def shown(self, command):
+        """The Names of its handles, and how what they name is protected."""
+        return self.names(command), [self.protection(it) for it in command.handles]
 
     def names(self, command):
         return [self.name(it) for it in command.handles]

@@ -34,14 +34,15 @@ class Use:
 
 @dataclass(frozen=True)
 class Accepted:
-    """An accepted command: its handles and their Names before it, its entries, its parameters in
-    plain, the event's random bytes and how many of them the command itself drew, the handle that it
-    answered, if any, and for TPM2_Load the authorization value of the sensitive area.
+    """An accepted command: its handles, with their Names and protections before it, its entries, its
+    parameters in plain, the event's random bytes and how many of them the command itself drew, the
+    handle that it answered, if any, and for TPM2_Load the authorization value of the sensitive area.
     """
 
     code: int
     handles: list
     names: list
+    protections: list
     uses: list
     parameters: bytes
     random: bytes
@@ -188,8 +189,8 @@ class Counters:
 
 @dataclass(frozen=True)
 class LiveSession:
-    """A session's start: its type, its hash, whether it has a cipher, and the Name and the
-    authorization value to which it is bound; its key; its latest nonce; and its policy.
+    """A session's start: its type, its hash, whether it has a cipher, and the Name, the
+    authorization value and the protection to which it is bound; its key; its latest nonce; and its policy.
     """
 
     kind: int
@@ -237,7 +238,7 @@ class Sessions:
         nonce_tpm, bind = it.random[: len(nonce_caller)], it.handles[1]
         bound, key = None, b""
         if bind != RH_NULL:
-            bound = it.names[1], auth_values.of(bind)
+            bound = it.names[1], auth_values.of(bind), it.protections[1]
             key = sessions.session_key(algorithm, bound[1], nonce_tpm, nonce_caller)
         starting = policy.starting_state(algorithm)
         return LiveSession(kind, algorithm, has_cipher, bound, key, nonce_tpm, starting)
@@ -386,7 +387,8 @@ class History:
             yield "which sessions live"
         for handle, session in device.sessions.items():
             told = self.sessions.live.get(handle)
-            bound = (session.bind, session.bind_auth) if told and told.bound else None
+            binding = session.bind, session.bind_auth, session.bind_protection
+            bound = binding if told and told.bound else None
             has = LiveSession(
                 *(session.kind, session.algorithm, session.aes, bound),
                 *(session.key, session.nonce_tpm, session.policy),
