@@ -56,6 +56,7 @@ REPLACEMENTS = {
     "a hash": b"sha256",
     "null": b"null",
     "aes": b"aes",
+    "xor-sha256": b"xor-sha256",
     "a letter of two bytes": b"\xc3\xa9",
     "a tab": b"\t",
     "a byte that is no UTF-8": b"\xff",

@@ -1,6 +1,6 @@
 -- TPM2_StartAuthSession. TPM 2.0 Library, Part 3, section 11.1, and Part 1, section 19.6.
 use Rattle.tpm_types.specs.declared.action_check.ActionCheck.TheVariants as action
-use Rattle.std.specs.Prelude.{◌≡◌, ℕ, ◌==◌, not, List, length, take, Option, Some, None, if◌then◌else◌, Result, Ok, Err, ok_or, slice_set}
+use Rattle.std.specs.Prelude.{◌≡◌, ℕ, ◌==◌, not, Bool, false, List, length, take, Option, Some, None, if◌then◌else◌, Result, Ok, Err, ok_or, slice_set}
 use Rattle.tpm_bytes.specs.Reading.{◌>>=◌, refused_if}
 use Rattle.tpm_mac.specs.declared.algorithm.HashAlg.{HashAlg}
 use Rattle.tpm_slots.specs.Slots.{lowest_free}
@@ -12,12 +12,13 @@ use Rattle.tpm_session.specs.Sessions.{handle_of, new_session}
 use Rattle.tpm_types.specs.declared.handle.Handle.{Handle}
 use Rattle.tpm_types.specs.declared.rc.ResponseCode.TheVariants as code
 use Rattle.tpm_types.specs.declared.symmetric.SymmetricDefinition.{SymmetricDefinition}
-use Rattle.tpm_types.specs.Algorithm.{hash_at}
 use Rattle.tpm_types.specs.Buffer.{buffer_at}
 use Rattle.tpm_types.specs.Handle.{null_handle}
 use Rattle.tpm_types.specs.Rc.{plain}
 use Rattle.tpm_types.specs.SessionType.{session_type_at}
+use Rattle.tpm_types.specs.Algorithm.{hash_at, hash_number}
 use Rattle.tpm_types.specs.Symmetric.{symmetric_at}
+use Rattle.tpm_types.specs.declared.symmetric.SymmetricDefinition.TheVariants as symmetric
 use Rattle.tpm_record.specs.Entity.{auth_value_of, name_of, protection_of}
 use Rattle.tpm_record.specs.Record.{Record}
 use Rattle.tpm_types.specs.declared.refused.Refused.{Refused}
@@ -60,13 +61,19 @@ parameters_in text = do
     hash = hash.0;
   })
 
+-- whether a session that encrypts by XOR would make its masks by another hash than its own
+abbrev pub has_other_mask : SymmetricDefinition → HashAlg → Bool
+has_other_mask (symmetric.Xor mask) hash = not (hash_number mask == hash_number hash)
+has_other_mask other hash = false
+
 -- A1: nonceCaller has fewer than 16 bytes, or more than a digest; A2: there is a salt, and no key
--- to decrypt it
+-- to decrypt it; A3: the hash of XOR is not authHash
 unfoldable pub parameters_pass : Parameters → Result (Unit {0}) Refused
 parameters_pass p = do
   a1 ← refused_if (not (is_nonce_size p.hash (length p.nonce_caller)))
       (parameter_refusal action.First 1 code.Size)
-  refused_if (not (length p.salt == 0)) (parameter_refusal action.Second 2 code.Value)
+  a2 ← refused_if (not (length p.salt == 0)) (parameter_refusal action.Second 2 code.Value)
+  refused_if (has_other_mask p.symmetric p.hash) (parameter_refusal action.Third 4 code.Hash)
 
 -- what a session is bound to: the entity as it is now, and none for TPM_RH_NULL
 unfoldable pub binding_of : Record → Handle → Option Binding
@@ -82,10 +89,10 @@ binding_of r bind =
 abbrev pub session_with : Parameters → Option Binding → List ℕ → Session
 session_with p binding nonce = new_session p.kind p.hash p.symmetric binding nonce p.nonce_caller
 
--- the place that a session takes, or A3: there is none
+-- the place that a session takes, or A4: there is none
 abbrev pub session_place : List (Option Session) → Result ℕ Refused
 session_place sessions =
-    ok_or (lowest_free sessions) (action_refusal action.Third (plain code.SessionMemory))
+    ok_or (lowest_free sessions) (action_refusal action.Fourth (plain code.SessionMemory))
 
 -- the handle of a session in its place, and its nonce, which was drawn
 abbrev pub start_answer : Parameters → Session → ℕ → AnswerParts

@@ -7,7 +7,7 @@ ghost use Rattle.tpm_session.specs.Key.{is_nonce_size};
 ghost use Rattle.tpm_actions_base.specs.Answer.{IsEmpty};
 ghost use Rattle.tpm_actions_base.specs.Request.{request_of};
 ghost use Rattle.tpm_actions_base.specs.Rows.{ActsIfRoom};
-ghost use Rattle.tpm_actions_device.specs.StartAuthSession.{binding_of, parameters_in, parameters_of, parameters_pass, start_auth_session_row};
+ghost use Rattle.tpm_actions_device.specs.StartAuthSession.{binding_of, has_other_mask, parameters_in, parameters_of, parameters_pass, start_auth_session_row};
 
 use tpm_actions_base::answer::Answer;
 use tpm_actions_base::call::Call;
@@ -19,7 +19,7 @@ use tpm_record::{Keep, copied_auth_value, name_of, protection_of};
 use tpm_session::{Binding, Nonce, Start, StartFault, is_nonce_size};
 use tpm_types::{
     ActionCheck, DIGEST_LIMIT, Handle, Rc, Refused, ResponseCode, SessionType, SymmetricDefinition,
-    read_buffer, read_hash,
+    hash_number, read_buffer, read_hash,
 };
 
 /// What is asked for.
@@ -53,6 +53,16 @@ fn read_parameters(parameters: &[u8]) -> Result<SessionParameters, Refused>
     })
 }
 
+/// Whether a session that encrypts by XOR would make its masks by another hash than its own.
+fn has_other_mask(symmetric: SymmetricDefinition, hash: HashAlg) -> bool
+    ensures { result ≡ has_other_mask symmetric hash }
+{
+    match symmetric {
+        SymmetricDefinition::Xor(mask) => hash_number(mask) != hash_number(hash),
+        SymmetricDefinition::Null | SymmetricDefinition::Aes128Cfb => false,
+    }
+}
+
 #[tactic(auto, unfolding(crate::specs::StartAuthSession::parameters_pass))]
 fn check_parameters(asked: &SessionParameters) -> Result<(), Refused>
     ensures passed { result ≡ parameters_pass (parameters_of asked.now) }
@@ -64,6 +74,9 @@ fn check_parameters(asked: &SessionParameters) -> Result<(), Refused>
     }
     if !asked.salt.is_empty() {
         return Err(parameter_refusal(ActionCheck::Second, 2, ResponseCode::Value));
+    }
+    if has_other_mask(asked.symmetric, asked.hash) {
+        return Err(parameter_refusal(ActionCheck::Third, 4, ResponseCode::Hash));
     }
     Ok(())
 }
@@ -115,6 +128,6 @@ pub fn start_auth_session<K: Keep>(
             Ok(())
         }
         Err(StartFault::Memory) => Err(memory_refusal()),
-        Err(_) => Err(action_refusal(ActionCheck::Third, ResponseCode::SessionMemory.anywhere())),
+        Err(_) => Err(action_refusal(ActionCheck::Fourth, ResponseCode::SessionMemory.anywhere())),
     }
 }

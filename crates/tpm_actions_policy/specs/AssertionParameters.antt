@@ -43,6 +43,8 @@ assertion_of r (asked.Or digests) s = assertion.Or (digests_of digests.now.diges
 assertion_of r asked.AuthValue s = assertion.AuthValue
 assertion_of r asked.Password s = assertion.Password
 assertion_of r (asked.CommandCode number) s = assertion.CommandCode number
+assertion_of r (asked.CpHash cp_hash) s = assertion.CpHash cp_hash.now
+assertion_of r (asked.NvWritten is_written) s = assertion.NvWritten is_written
 assertion_of r (asked.Locality localities) s = assertion.Locality localities
 assertion_of r (asked.Secret secret) s =
     assertion.Secret (secret_of (secret_asked secret) (name_of r secret.entity) s)

@@ -19,6 +19,8 @@ use Rattle.tpm_actions_base.specs.Request.{Request, first_handle, second_handle,
 use Rattle.tpm_actions_base.specs.Rows.{Success}
 use Rattle.tpm_actions_policy.specs.PolicyAuthValue.{auth_value_assertion}
 use Rattle.tpm_actions_policy.specs.PolicyCommandCode.{command_code_assertion}
+use Rattle.tpm_actions_policy.specs.PolicyCpHash.{cp_hash_assertion}
+use Rattle.tpm_actions_policy.specs.PolicyNvWritten.{nv_written_assertion}
 use Rattle.tpm_actions_policy.specs.PolicyLocality.{locality_assertion}
 use Rattle.tpm_actions_policy.specs.PolicyNv.{nv_assertion}
 use Rattle.tpm_actions_policy.specs.PolicyOr.{or_assertion}
@@ -33,6 +35,8 @@ asserts command.PolicyOr = true
 asserts command.PolicyAuthValue = true
 asserts command.PolicyPassword = true
 asserts command.PolicyCommandCode = true
+asserts command.PolicyCpHash = true
+asserts command.PolicyNvWritten = true
 asserts command.PolicyLocality = true
 asserts command.PolicySecret = true
 asserts command.PolicyNv = true
@@ -53,6 +57,8 @@ assertion_in command.PolicyOr r q = or_assertion q.parameters
 assertion_in command.PolicyAuthValue r q = auth_value_assertion q.parameters
 assertion_in command.PolicyPassword r q = password_assertion q.parameters
 assertion_in command.PolicyCommandCode r q = command_code_assertion q.parameters
+assertion_in command.PolicyCpHash r q = cp_hash_assertion q.parameters
+assertion_in command.PolicyNvWritten r q = nv_written_assertion q.parameters
 assertion_in command.PolicyLocality r q = locality_assertion q.parameters
 assertion_in command.PolicySecret r q = secret_assertion r q
 assertion_in command.PolicyNv r q = nv_assertion r q

@@ -3,6 +3,8 @@ pub mod PolicyOr
 pub mod PolicyAuthValue
 pub mod PolicyPassword
 pub mod PolicyCommandCode
+pub mod PolicyCpHash
+pub mod PolicyNvWritten
 pub mod PolicyLocality
 pub mod PolicySecret
 pub mod PolicyNv

@@ -26,6 +26,8 @@ pub enum AssertionParameters<'a> {
     AuthValue,
     Password,
     CommandCode(u32),
+    CpHash(&'a [u8]),
+    NvWritten(bool),
     Locality(u8),
     Secret(ShownSecret<'a>),
     Nv(ComparedIndex<'a>),
@@ -57,6 +59,8 @@ impl AssertionParameters<'_> {
                 Ok(())
             }
             AssertionParameters::CommandCode(number) => policy.command_code(hash, number),
+            AssertionParameters::CpHash(cp_hash) => policy.cp_hash(hash, cp_hash),
+            AssertionParameters::NvWritten(is_written) => policy.nv_written(hash, is_written),
             AssertionParameters::Locality(localities) => policy.locality(hash, localities),
             AssertionParameters::Secret(secret) => secret.assert_on(keep, session, policy),
             AssertionParameters::Nv(index) => index.assert_on(keep, session, policy),

@@ -2,7 +2,7 @@
 
 //! What each policy command does: a file a command (TPM 2.0 Library, Part 3, section 23).
 //!
-//! Eight commands assert something. Each reads what, and `assertions::make_assertion` asserts it on
+//! Ten commands assert something. Each reads what, and `assertions::make_assertion` asserts it on
 //! a copy of the session's policy, which the session takes where the assertion is not refused. What
 //! an assertion is stands in `tpm_policy`.
 //!
@@ -14,9 +14,11 @@ mod assertions;
 mod compared_index;
 pub mod policy_auth_value;
 pub mod policy_command_code;
+pub mod policy_cp_hash;
 pub mod policy_get_digest;
 pub mod policy_locality;
 pub mod policy_nv;
+pub mod policy_nv_written;
 pub mod policy_or;
 pub mod policy_password;
 pub mod policy_pcr;

@@ -52,8 +52,8 @@ pub(crate) fn block_of(words: Words) -> Block
     ]
 }
 
-/// Adds the front of `other` to the bytes.
-pub(crate) fn xor_with(bytes: &mut [u8], other: &[u8])
+/// Combines the bytes with the front of `other` by exclusive or.
+pub fn xor_with(bytes: &mut [u8], other: &[u8])
     requires { length bytes.old ≤ length other.now }
     ensures { bytes.new ≡ xor_of bytes.old other.now }
 {

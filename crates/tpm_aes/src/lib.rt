@@ -15,5 +15,6 @@ mod key_schedule;
 mod rounds;
 mod tables;
 
+pub use bytes::xor_with;
 pub use cipher::Aes128;
 pub use tables::table_laws;

@@ -23,7 +23,7 @@ use Rattle.tpm_types_command.specs.Command.{Whole}
 use Rattle.tpm_types_command.specs.CommandCode.{authorized_handles, code_number, nv_use_at, role_at}
 use Rattle.tpm_types.specs.Rc.{plain}
 use Rattle.tpm_record.specs.declared.entity.Means.TheVariants as means
-use Rattle.tpm_record.specs.Entity.{auth_value_of, is_available, name_of, policy_of, protection_of}
+use Rattle.tpm_record.specs.Entity.{auth_value_of, is_available, name_of, policy_of, protection_of, written_of}
 use Rattle.tpm_record.specs.Record.{Record}
 use Rattle.tpm_auth.specs.Comparison.{check_of, failure, is_password_of, may_be_tried}
 use Rattle.tpm_auth.specs.Entries.{decrypts, encrypts, session_of}
@@ -154,6 +154,7 @@ use_of r c locality n handle s = record {
   command = code_number c.code;
   role = role_at c.code (n - 1);
   cp_hash = parameter_hash_of s.hash (hashed_command r c);
+  written = written_of r handle;
   locality = locality;
   entity = policy_of r handle;
 }

@@ -16,7 +16,9 @@ use crate::comparison::{check_of, failure, is_locked_out, is_password_of, lockou
 use crate::entries::{decrypts, encrypts};
 use tpm_bytes::is_equal;
 use tpm_policy::{Demand, Use};
-use tpm_record::{Keep, Means, auth_value_of, is_available, name_of, policy_of, protection_of};
+use tpm_record::{
+    Keep, Means, auth_value_of, is_available, name_of, policy_of, protection_of, written_of,
+};
 use tpm_session::{CommandText, ParameterHashes, Protection, Session};
 use tpm_types::{Check, Handle, Locality, Refused, ResponseCode, SessionType};
 use tpm_types_command::{AuthEntry, Command};
@@ -228,6 +230,7 @@ fn use_of<'a, K: Keep>(
         command: code.number(),
         role: code.role_at(place),
         cp_hash,
+        written: written_of(keep, handle),
         locality: sent.locality,
         entity: policy_of(keep, handle),
     }

@@ -5,6 +5,7 @@ ghost use Rattle.std.specs.Prelude.{◌≡◌, ◌≤◌, length, map};
 ghost use Rattle.std.specs.List.{zip};
 ghost use Rattle.tpm_session.specs.Encryption.{encrypted_parameter, plain_parameter};
 ghost use Rattle.tpm_session.specs.FirstBuffer.{with_first_buffer};
+ghost use Rattle.tpm_types.specs.Limits.{buffer_limit};
 ghost use Rattle.tpm_types_command.specs.AuthEntry.{entry_of};
 ghost use Rattle.tpm_machine_step.specs.Parameters.{asks_for, entry_parameters, session_bytes, session_parameters};
 
@@ -17,7 +18,8 @@ use tpm_types_command::AuthEntry;
 /// Decrypts the buffer at the front of a text.
 #[tactic(auto, unfolding(tpm_session::specs::FirstBuffer::with_first_buffer))]
 fn decrypt_first(session: &Session, value: &[u8], newer: &[u8], older: &[u8], text: &mut [u8])
-    requires { length value.now ≤ 32 }
+    requires value { length value.now ≤ 32 }
+    requires size { length text.old ≤ buffer_limit }
     ensures { text.new
         ≡ with_first_buffer (plain_parameter session.now value.now newer.now older.now) text.old }
 {
@@ -29,7 +31,8 @@ fn decrypt_first(session: &Session, value: &[u8], newer: &[u8], older: &[u8], te
 /// Encrypts the buffer at the front of a text.
 #[tactic(auto, unfolding(tpm_session::specs::FirstBuffer::with_first_buffer))]
 fn encrypt_first(session: &Session, value: &[u8], newer: &[u8], older: &[u8], text: &mut [u8])
-    requires { length value.now ≤ 32 }
+    requires value { length value.now ≤ 32 }
+    requires size { length text.old ≤ buffer_limit }
     ensures { text.new
         ≡ with_first_buffer (encrypted_parameter session.now value.now newer.now older.now) text.old }
 {
@@ -55,7 +58,8 @@ fn pass_first(
     entry: &AuthEntry,
     text: &mut [u8],
 )
-    requires { length value.now ≤ 32 }
+    requires value { length value.now ≤ 32 }
+    requires size { length text.old ≤ buffer_limit }
     ensures { text.new ≡ with_first_buffer
         (session_bytes direction session.now value.now (entry_of entry.now)) text.old }
 {
@@ -74,6 +78,7 @@ fn pass_by<K: Keep>(
     entry: &AuthEntry,
     text: &mut [u8],
 )
+    requires { length text.old ≤ buffer_limit }
     ensures { text.new
         ≡ entry_parameters direction (K.record_of keep.now) grant (entry_of entry.now) text.old }
 {
@@ -91,6 +96,7 @@ pub fn pass_parameters<K: Keep>(
     grants: &[Option<Grant>],
     text: &mut [u8],
 )
+    requires { length text.old ≤ buffer_limit }
     ensures { text.new ≡ session_parameters direction (K.record_of keep.now)
         (zip (map entry_of entries.now) grants.now) text.old }
 {

@@ -128,6 +128,8 @@ fn encrypt_answer<K: Keep>(
     ensures { parameters.new ≡ encrypted_answer (K.record_of keep.now)
         (zip (map entry_of entries.now) grants.now) parameters.old }
 {
+    // They have no room for more than an answer has.
+    let _length = parameters.len();
     let text = parameters.as_mut_slice();
     pass_parameters(Direction::Encrypt, keep, entries, grants, text);
 }

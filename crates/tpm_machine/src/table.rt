@@ -77,6 +77,8 @@ fn act<K: Keep>(
         CommandCode::NvReadPublic => tpm_actions::nv_read_public(keep, call, answer),
         CommandCode::PolicyAuthValue => tpm_actions::policy_auth_value(keep, call, answer),
         CommandCode::PolicyCommandCode => tpm_actions::policy_command_code(keep, call, answer),
+        CommandCode::PolicyCpHash => tpm_actions::policy_cp_hash(keep, call, answer),
+        CommandCode::PolicyNvWritten => tpm_actions::policy_nv_written(keep, call, answer),
         CommandCode::PolicyLocality => tpm_actions::policy_locality(keep, call, answer),
         CommandCode::PolicyOr => tpm_actions::policy_or(keep, call, answer),
         CommandCode::ReadPublic => tpm_actions::read_public(keep, call, answer),

@@ -6,13 +6,15 @@ use Rattle.tpm_bytes.proofs.Fields.{ok_is}
 use Rattle.tpm_mac.specs.declared.algorithm.HashAlg.{HashAlg}
 use Rattle.tpm_policy.proofs.Made.{policy_made}
 use Rattle.tpm_policy.specs.Made.{policy_with}
-use Rattle.tpm_policy.specs.Assertion.{Assertion, Pcr, Or, AuthValue, Password, CommandCode, Locality, Secret, Nv, PcrParts, asserted}
+use Rattle.tpm_policy.specs.Assertion.{Assertion, Pcr, Or, AuthValue, Password, CommandCode, CpHash, NvWritten, Locality, Secret, Nv, PcrParts, asserted}
 use Rattle.tpm_policy.specs.State.{Policy}
 use Rattle.tpm_session.specs.Session.{with_policy}
 use Rattle.tpm_session.specs.declared.session.Session.{Session}
+use Rattle.tpm_types.specs.Buffer.{buffer_at}
 use Rattle.tpm_types.specs.DigestList.{digest_list_at}
 use Rattle.tpm_types.specs.Rc.{plain}
 use Rattle.tpm_types.specs.SessionType.{is_trial}
+use Rattle.tpm_types.specs.YesNo.{yes_no_at}
 use Rattle.tpm_types.specs.declared.action_fault.ActionFault.{ActionFault}
 use Rattle.tpm_types.specs.declared.handle.Handle.{Handle}
 use Rattle.tpm_types.specs.declared.rc.ResponseCode.TheVariants as code
@@ -85,29 +87,29 @@ module _ (r : Record) (c : AcceptedCommand) (history : History) (viewed : c.view
         makes = λ trial policy. ap (λ (parts : PcrParts). policy_with s.hash trial (Pcr parts) policy) (pcr_same p s);
       })
 
-  by_or : IfOk (assertion_in command.PolicyOr r q) (IsAsserted c history command.PolicyOr)
-  by_or =
-      ok_bind_is _ (only (digest_list_at q.parameters)) _ (λ digests read. λ s. record {
-        told = Or digests;
-        is = ap (λ (x : Result (List (List ℕ)) Refused). x >>= λ digests. Ok (Or digests)) read;
+  -- by what is read of its parameters alone
+  by_reading : (X : Type 0) (code : Code) (read : Result X Refused) (make : X → Assertion) → ((s : Session) → assertion_by code c history s.hash s.nonce_tpm ≡ (read >>= λ x. Ok (make x))) → IfOk (read >>= λ x. Ok (λ (s : Session). make x)) (IsAsserted c history code)
+  by_reading X code read make told =
+      ok_bind_is _ read _ (λ x found. λ s. record {
+        told = make x;
+        is = told s ∙ ap (λ (y : Result X Refused). y >>= λ x. Ok (make x)) found;
         makes = λ trial policy. refl;
       })
+
+  by_or : IfOk (assertion_in command.PolicyOr r q) (IsAsserted c history command.PolicyOr)
+  by_or = by_reading (List (List ℕ)) command.PolicyOr (only (digest_list_at q.parameters)) Or (λ s. refl)
 
   by_code : IfOk (assertion_in command.PolicyCommandCode r q) (IsAsserted c history command.PolicyCommandCode)
-  by_code =
-      ok_bind_is _ (only (or_fault (number_at w32 q.parameters) (plain code.Insufficient))) _ (λ number read. λ s. record {
-        told = CommandCode number;
-        is = ap (λ (x : Result ℕ Refused). x >>= λ number. Ok (CommandCode number)) read;
-        makes = λ trial policy. refl;
-      })
+  by_code = by_reading ℕ command.PolicyCommandCode (only (or_fault (number_at w32 q.parameters) (plain code.Insufficient))) CommandCode (λ s. refl)
+
+  by_cp_hash : IfOk (assertion_in command.PolicyCpHash r q) (IsAsserted c history command.PolicyCpHash)
+  by_cp_hash = by_reading (List ℕ) command.PolicyCpHash (only (buffer_at 32 q.parameters)) CpHash (λ s. refl)
+
+  by_written : IfOk (assertion_in command.PolicyNvWritten r q) (IsAsserted c history command.PolicyNvWritten)
+  by_written = by_reading Bool command.PolicyNvWritten (only (yes_no_at q.parameters)) NvWritten (λ s. refl)
 
   by_locality : IfOk (assertion_in command.PolicyLocality r q) (IsAsserted c history command.PolicyLocality)
-  by_locality =
-      ok_bind_is _ (only (or_fault (number_at w8 q.parameters) (plain code.Insufficient))) _ (λ localities read. λ s. record {
-        told = Locality localities;
-        is = ap (λ (x : Result ℕ Refused). x >>= λ localities. Ok (Locality localities)) read;
-        makes = λ trial policy. refl;
-      })
+  by_locality = by_reading ℕ command.PolicyLocality (only (or_fault (number_at w8 q.parameters) (plain code.Insufficient))) Locality (λ s. refl)
 
   by_secret : IfOk (assertion_in command.PolicySecret r q) (IsAsserted c history command.PolicySecret)
   by_secret =
@@ -144,6 +146,8 @@ module _ (r : Record) (c : AcceptedCommand) (history : History) (viewed : c.view
   is_asserted command.PolicyAuthValue = ok_bind _ (all_read q.parameters) _ (λ ended. λ s. record { told = AuthValue; is = refl; makes = λ trial policy. refl })
   is_asserted command.PolicyPassword = ok_bind _ (all_read q.parameters) _ (λ ended. λ s. record { told = Password; is = refl; makes = λ trial policy. refl })
   is_asserted command.PolicyCommandCode = by_code
+  is_asserted command.PolicyCpHash = by_cp_hash
+  is_asserted command.PolicyNvWritten = by_written
   is_asserted command.PolicyLocality = by_locality
   is_asserted command.PolicySecret = by_secret
   is_asserted command.PolicyNv = by_nv

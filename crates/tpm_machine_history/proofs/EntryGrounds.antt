@@ -28,7 +28,7 @@ use Rattle.tpm_types.specs.declared.nv_use.NvUse.{NvUse}
 use Rattle.tpm_types_command.specs.AuthEntry.{Entry}
 use Rattle.tpm_types_command.specs.Command.{Whole}
 use Rattle.tpm_types_command.specs.CommandCode.{authorized_handles, code_number, nv_use_at, role_at}
-use Rattle.tpm_record.specs.Entity.{AnIndex, AnObject, Entity, Permanent, auth_value_of, entity_at, is_available, is_kept, is_present, name_of, names_kept, policy_of, protection_of}
+use Rattle.tpm_record.specs.Entity.{AnIndex, AnObject, Entity, Permanent, auth_value_of, entity_at, is_available, is_kept, is_present, name_of, names_kept, policy_of, protection_of, written_of}
 use Rattle.tpm_record.specs.Record.{Record}
 use Rattle.tpm_record.specs.declared.entity.Means.{Means}
 use Rattle.tpm_record.specs.declared.entity.Means.TheVariants as means
@@ -43,15 +43,15 @@ use Rattle.tpm_machine_history.specs.AuthValues.{auth_of}
 use Rattle.tpm_machine_history.specs.DevicePcrs.{HasPcrs}
 use Rattle.tpm_machine_history.specs.DeviceSessions.{AreLive, SessionFacts, facts_of, session_facts}
 use Rattle.tpm_machine_history.specs.EntryHmacs.{HasHmac, cp_hash_in, used_in, value_in_key}
-use Rattle.tpm_machine_history.specs.Grounds.{ByHmac, ByPassword, ByPolicy, Ground, HasDemanded, MeetsPolicy, NamesCommand, UsesHaveGrounds, allows, allows_in, policy_at}
+use Rattle.tpm_machine_history.specs.Grounds.{ByHmac, ByPassword, ByPolicy, Ground, HasDemanded, MeetsPolicy, NamesCommand, UsesHaveGrounds, allows, allows_in, policy_at, written_at}
 use Rattle.tpm_machine_history.specs.History.{AcceptedCommand, History}
 use Rattle.tpm_machine_history.specs.QuietPcrs.{AllRecordUpdates, HoldsPcrs, RecordsUpdates}
 use Rattle.tpm_machine_history.specs.Sessions.{LiveSession, policy_in, sessions_of}
 use Rattle.tpm_machine_history.specs.View.{View, entity_view, view_of}
-use Rattle.tpm_machine_history.specs.Views.{is_there, view_policy, view_takes}
+use Rattle.tpm_machine_history.specs.Views.{is_there, view_policy, view_takes, view_written}
 use Rattle.tpm_machine_history.proofs.DeviceAuthValues.{kept_there}
 use Rattle.tpm_machine_history.proofs.EntryHmacs.{authentic_told, cp_hash_told, handle_there, password_told, value_told, viewed_there}
-use Rattle.tpm_machine_history.proofs.UseGrounds.{Passes, is_its_policy, names_command, one_bit, recorded_hash, recorded_is, takes_some, use_passed}
+use Rattle.tpm_machine_history.proofs.UseGrounds.{Passes, is_its_policy, names_command, one_bit, recorded_hash, recorded_is, takes_some, use_passed, recorded_written}
 use Rattle.tpm_machine_history.proofs.Views.{views_tell}
 
 -- ---- what was compared
@@ -146,6 +146,11 @@ module _ (r : Record) (c : AcceptedCommand) (history : History) (locality : ℕ)
         ap (λ (found : Option View). option_and_then view_policy found) (viewed_there r c history viewed valued live place handle at)
         ∙ (views_tell r handle).policy
 
+    written_there : written_at c place ≡ written_of r handle
+    written_there =
+        ap (λ (found : Option View). option_and_then view_written found) (viewed_there r c history viewed valued live place handle at)
+        ∙ (views_tell r handle).written
+
     some_policy : is_available r handle means.Policy (nv_use_at c.command.code (place + 1 - 1)) ≡ true → (entity : EntityParts) → policy_at c place ≡ Some entity → entity.digest ≢ []
     some_policy available entity is =
         let nv_use : NvUse = nv_use_at c.command.code (place + 1 - 1) in
@@ -177,6 +182,8 @@ module _ (r : Record) (c : AcceptedCommand) (history : History) (locality : ℕ)
           cp_hash = subst (λ (h : List ℕ). IfSome (policy_in l).cp_hash (λ recorded. recorded ≡ h)) (sym hash)
               (subst (λ (p : Policy). IfSome p.cp_hash (λ recorded. recorded ≡ command_hash_of s.hash (code_number c.command.code) (map (name_of r) c.command.handles) c.command.parameters)) policy_same
               (recorded_hash s.policy.cp_hash _ call.1));
+          written = subst (λ (p : Policy). IfSome p.nv_written (λ is_written. written_at c place ≡ Some is_written)) policy_same
+              (subst (λ (found : Option Bool). IfSome s.policy.nv_written (λ is_written. found ≡ Some is_written)) (sym written_there) (recorded_written s.policy.nv_written (written_of r handle) passes.written));
           locality = subst (λ (n : ℕ). bit_at (policy_in l).localities n ≡ 1) (sym from)
               (subst (λ (p : Policy). bit_at p.localities locality ≡ 1) policy_same (one_bit s.policy.localities locality passes.locality));
         }

@@ -1,6 +1,8 @@
 -- Every event leads from a history to the history with that event.
 use Rattle.std.proofs.Common.{arith, ◌≡◌, ◌≤◌, ℕ, Bool, true, false, cond, List, [], ◌∷◌, length, drop, map, Result, Ok, Err, IfOk, Bor, refl, ap, sym, subst, ◌∙◌}
 use Rattle.std.specs.Fn.{Mut}
+use Rattle.tpm_lockout.specs.Lockout.{LockoutState}
+use Rattle.tpm_lockout.specs.Recovery.{lockout_ticked}
 use Rattle.tpm_mac.specs.declared.algorithm.HashAlg.TheVariants as alg
 use Rattle.tpm_pcr.specs.Banks.{HaveAll}
 use Rattle.tpm_pcr.specs.Values.{BankValues, IsBanks}
@@ -10,7 +12,7 @@ use Rattle.tpm_record.specs.Cycle.{cycled}
 use Rattle.tpm_record.specs.Entity.{auth_value_of}
 use Rattle.tpm_record.specs.IsRecord.{IsRecord}
 use Rattle.tpm_record.specs.Record.{Record, manufactured}
-use Rattle.tpm_record.specs.Tick.{ticked}
+use Rattle.tpm_record.specs.Tick.{later, ticked}
 use Rattle.tpm_actions_base.specs.Refusals.{memory_refusal}
 use Rattle.tpm_auth.specs.Grant.{authorize}
 use Rattle.tpm_auth.specs.Granting.{IsGranting}
@@ -21,7 +23,7 @@ use Rattle.tpm_machine_step.specs.Safe.{AcceptsModestly, IsModest}
 use Rattle.tpm_machine_step.specs.Events.{PlainEvent, Given, Cycled, IsEvent}
 use Rattle.tpm_machine_step.specs.Execution.{Executes}
 use Rattle.tpm_machine_step.specs.Run.{Runs}
-use Rattle.tpm_machine_step.specs.Step.{Accepted, Stepped, Steps, accepted, answer_where, counted_in, outcome_step, refusal_without_memory, step_where, success_step}
+use Rattle.tpm_machine_step.specs.Step.{Accepted, Stepped, Steps, accepted, answer_where, counted_in, lockout_counted, outcome_step, refusal_without_memory, step_where, success_step}
 use Rattle.tpm_machine_step.specs.declared.event.Outcome.{Outcome}
 use Rattle.tpm_machine_step.specs.declared.refused_command.RefusedCommand.{RefusedCommand}
 use Rattle.tpm_machine_laws.specs.Acceptance.{IsAcceptance}
@@ -45,6 +47,7 @@ use Rattle.tpm_machine_history.proofs.EntryGrounds.{hmacs_shown, uses_have_groun
 use Rattle.tpm_machine_history.proofs.RecordedUpdates.{no_updates, updates_done}
 use Rattle.tpm_machine_history.specs.EntryHmacs.{ShowsHmacs}
 use Rattle.tpm_machine_history.specs.Grounds.{AllHaveGrounds}
+use Rattle.tpm_machine_history.specs.Potential.{IsForgiving}
 use Rattle.tpm_machine_history.specs.RunReplays.{RunReplaysRepeat}
 use Rattle.tpm_machine_history.proofs.Replays.{replays_repeat}
 use Rattle.tpm_machine_history.proofs.RunReplays.{run_replays_repeat}
@@ -97,10 +100,10 @@ command_follows r a locality random history is some sound follows =
 
 -- ---- time, and what a refusal counts
 
-ticked_follows : (r : Record) (elapsed : ℕ) (history : History) → Follows r history → Follows (ticked r elapsed) history
-ticked_follows r elapsed history follows = record {
+timed_follows : (r : Record) (lockout : LockoutState) (time clock : ℕ) (history : History) → IsForgiving lockout → Follows r history → Follows (record r { fixed = record r.fixed { lockout = lockout; time = time; clock = clock } }) history
+timed_follows r lockout time clock history forgives follows = record {
   counters = follows.counters;
-  forgiving = forgives_ticked r elapsed follows.forgiving;
+  forgiving = forgives;
   pcrs = follows.pcrs;
   auth_values = follows.auth_values;
   sessions = follows.sessions;
@@ -112,20 +115,13 @@ ticked_follows r elapsed history follows = record {
   sized = follows.sized;
 }
 
+ticked_follows : (r : Record) (elapsed : ℕ) (history : History) → Follows r history → Follows (ticked r elapsed) history
+ticked_follows r elapsed history follows =
+    timed_follows r (lockout_ticked elapsed r.fixed.lockout) (later r.fixed.time elapsed) (later r.fixed.clock elapsed) history (forgives_ticked r elapsed follows.forgiving) follows
+
 refusal_follows : (r : Record) (counted : Counted) (history : History) → Follows r history → Follows (counted_in counted r) history
-refusal_follows r counted history follows = record {
-  counters = follows.counters;
-  forgiving = forgives_counted r counted follows.forgiving;
-  pcrs = follows.pcrs;
-  auth_values = follows.auth_values;
-  sessions = follows.sessions;
-  hmacs = follows.hmacs;
-  replays = follows.replays;
-  updates = follows.updates;
-  grounds = follows.grounds;
-  shape = follows.shape;
-  sized = follows.sized;
-}
+refusal_follows r counted history follows =
+    timed_follows r (lockout_counted counted r.fixed.lockout) r.fixed.time r.fixed.clock history (forgives_counted r counted follows.forgiving) follows
 
 -- ---- power
 

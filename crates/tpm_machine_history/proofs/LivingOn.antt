@@ -306,6 +306,8 @@ module _ (c : AcceptedCommand) (history : History) (live : LiveSessions) (handle
   row_came command.PolicyAuthValue is = asserted_came command.PolicyAuthValue refl is
   row_came command.PolicyPassword is = asserted_came command.PolicyPassword refl is
   row_came command.PolicyCommandCode is = asserted_came command.PolicyCommandCode refl is
+  row_came command.PolicyCpHash is = asserted_came command.PolicyCpHash refl is
+  row_came command.PolicyNvWritten is = asserted_came command.PolicyNvWritten refl is
   row_came command.PolicyLocality is = asserted_came command.PolicyLocality refl is
   row_came command.PolicySecret is = asserted_came command.PolicySecret refl is
   row_came command.PolicyNv is = asserted_came command.PolicyNv refl is

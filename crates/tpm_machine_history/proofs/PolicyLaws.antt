@@ -1,17 +1,17 @@
 -- Policies of one assertion.
-use Rattle.std.proofs.Common.{◌≡◌, ℕ, false, List, [], ◌∷◌, Option, Some, None, ap, sym, subst, ◌∙◌}
+use Rattle.std.proofs.Common.{◌≡◌, ℕ, Bool, false, List, [], ◌∷◌, Option, Some, None, ap, sym, subst, ◌∙◌}
 use Rattle.std.specs.Prelude.{IfSome}
 use Rattle.std.specs.List.{AllByRecursion, list_any}
 use Rattle.tpm_mac.specs.declared.algorithm.HashAlg.{HashAlg}
-use Rattle.tpm_policy.specs.Assertion.{Assertion, CommandCode, Pcr, PcrParts}
+use Rattle.tpm_policy.specs.Assertion.{Assertion, CommandCode, NvWritten, Pcr, PcrParts}
 use Rattle.tpm_policy.specs.State.{Policy}
 use Rattle.tpm_policy.specs.Use.{EntityParts}
 use Rattle.tpm_types.specs.SessionType.{is_trial}
 use Rattle.tpm_types.specs.declared.session_type.SessionType.{SessionType}
 use Rattle.tpm_types.specs.declared.session_type.SessionType.TheVariants as type
 use Rattle.tpm_types_command.specs.CommandCode.{code_number}
-use Rattle.tpm_machine_history.specs.Grounds.{IsPolicyOf, policy_at}
-use Rattle.tpm_machine_history.specs.PolicyLaws.{HasPolicyOf, KeepsQuietValues, UsesItsCommand, UsesPcrsAsTheyAre, pcrs_as_in}
+use Rattle.tpm_machine_history.specs.Grounds.{IsPolicyOf, policy_at, written_at}
+use Rattle.tpm_machine_history.specs.PolicyLaws.{HasPolicyOf, KeepsQuietValues, UsesItsCommand, UsesPcrsAsTheyAre, pcrs_as_in, UsesAsWritten}
 use Rattle.tpm_machine_history.specs.Policies.{evaluated}
 use Rattle.tpm_machine_history.specs.QuietPcrs.{HoldsOf, is_pcr}
 use Rattle.tpm_machine_history.specs.Sessions.{LiveSession, policy_in}
@@ -44,6 +44,14 @@ its_command history c place e s number meets kind are =
     ap (λ (l : List Assertion). (evaluated s.hash (is_trial s.kind) l).command) are in
     let same : number ≡ code_number c.command.code = subst (λ (x : Option ℕ). IfSome x (λ n. n ≡ code_number c.command.code)) recorded meets.command in
     subst (λ (n : ℕ). HasPolicyOf s.hash (CommandCode n ∷ []) (policy_at c place)) same (its_assertions s (policy_at c place) (CommandCode number ∷ []) kind are meets.policy)
+
+pub as_written : UsesAsWritten
+as_written history c place e s is_written meets kind are =
+    let recorded : (policy_in s).nv_written ≡ Some is_written =
+    ap (λ (l : List Assertion). (evaluated s.hash (is_trial s.kind) l).nv_written) are in (
+      subst (λ (x : Option Bool). IfSome x (λ b. written_at c place ≡ Some b)) recorded meets.written,
+      its_assertions s (policy_at c place) (NvWritten is_written ∷ []) kind are meets.policy,
+    )
 
 pub quiet_values : KeepsQuietValues
 quiet_values history handle quiet bank pcr below = quiet_since handle history quiet bank pcr below

@@ -1,5 +1,6 @@
 -- The update counter that a policy records holds by the history: it is not above that of the
 -- history, and where it is the same, PCRs hold.
+use Rattle.tpm_types.specs.YesNo.{yes_no_at}
 use Rattle.std.proofs.Common.{◌≡◌, ◌≢◌, ◌⊎◌, ℕ, ◌+◌, ◌≤◌, arith, Bool, true, false, List, [], ◌∷◌, ◌++◌, append_assoc, length, Option, Some, None, option_map, Result, Ok, Err, IfOk, refl, ap, sym, subst, ◌∙◌, inl, inr}
 use Rattle.std.specs.Prelude.{not, ◌&&◌, ◌||◌}
 use Rattle.std.specs.Int.{w8, w32}
@@ -11,12 +12,12 @@ use Rattle.std.proofs.lemmas.Option.{same_Some}
 use Rattle.tpm_bytes.specs.Reading.{◌>>=◌, number_at, or_fault, refused_if}
 use Rattle.tpm_bytes.proofs.Fields.{ok_is, passed}
 use Rattle.tpm_mac.specs.declared.algorithm.HashAlg.{HashAlg}
-use Rattle.tpm_policy.specs.Assertion.{Assertion, Pcr, Or, AuthValue, Password, CommandCode, Locality, Secret, Nv, PcrParts, asserted, auth_value_asserted, is_other, password_asserted, pcr_asserted}
+use Rattle.tpm_policy.specs.Assertion.{Assertion, Pcr, Or, AuthValue, Password, CommandCode, Locality, Secret, Nv, PcrParts, asserted, auth_value_asserted, is_other, password_asserted, pcr_asserted, CpHash, NvWritten}
 use Rattle.tpm_policy.specs.Made.{policy_with}
 use Rattle.tpm_policy.specs.State.{Policy}
 use Rattle.tpm_session.specs.Sessions.{session_at}
 use Rattle.tpm_session.specs.declared.session.Session.{Session}
-use Rattle.tpm_types.specs.Buffer.{is_given}
+use Rattle.tpm_types.specs.Buffer.{is_given, buffer_at}
 use Rattle.tpm_types.specs.DigestList.{digest_list_at}
 use Rattle.tpm_types.specs.Rc.{plain}
 use Rattle.tpm_types.specs.SessionType.{is_trial}
@@ -105,6 +106,8 @@ other_told command.PolicyOr c history hash nonce is = made_other (only (digest_l
 other_told command.PolicyAuthValue c history hash nonce is = refl
 other_told command.PolicyPassword c history hash nonce is = refl
 other_told command.PolicyCommandCode c history hash nonce is = made_other (only (or_fault (number_at w32 c.request.parameters) (plain code.Insufficient))) (λ number. CommandCode number) (λ a. refl)
+other_told command.PolicyCpHash c history hash nonce is = made_other (only (buffer_at 32 c.request.parameters)) (λ cp_hash. CpHash cp_hash) (λ a. refl)
+other_told command.PolicyNvWritten c history hash nonce is = made_other (only (yes_no_at c.request.parameters)) (λ is_written. NvWritten is_written) (λ a. refl)
 other_told command.PolicyLocality c history hash nonce is = made_other (only (or_fault (number_at w8 c.request.parameters) (plain code.Insufficient))) (λ localities. Locality localities) (λ a. refl)
 other_told command.PolicySecret c history hash nonce is = made_other (secret_parameters c.request.parameters) _ (λ a. refl)
 other_told command.PolicyNv c history hash nonce is = made_other (nv_parameters c.request.parameters) _ (λ a. refl)
@@ -117,6 +120,8 @@ count_stays hash trial (Or digests) p is = refl
 count_stays hash trial AuthValue p is = refl
 count_stays hash trial Password p is = refl
 count_stays hash trial (CommandCode number) p is = refl
+count_stays hash trial (CpHash cp_hash) p is = refl
+count_stays hash trial (NvWritten is_written) p is = refl
 count_stays hash trial (Locality localities) p is = refl
 count_stays hash trial (Secret secret) p is = refl
 count_stays hash trial (Nv nv) p is = refl

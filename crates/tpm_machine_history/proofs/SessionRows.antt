@@ -151,6 +151,8 @@ module _ (r : Record) (c : AcceptedCommand) (history : History) (live : LiveSess
   asserted_row command.PolicyAuthValue is = asserted_live command.PolicyAuthValue
   asserted_row command.PolicyPassword is = asserted_live command.PolicyPassword
   asserted_row command.PolicyCommandCode is = asserted_live command.PolicyCommandCode
+  asserted_row command.PolicyCpHash is = asserted_live command.PolicyCpHash
+  asserted_row command.PolicyNvWritten is = asserted_live command.PolicyNvWritten
   asserted_row command.PolicyLocality is = asserted_live command.PolicyLocality
   asserted_row command.PolicySecret is = asserted_live command.PolicySecret
   asserted_row command.PolicyNv is = asserted_live command.PolicyNv
@@ -172,6 +174,8 @@ module _ (r : Record) (c : AcceptedCommand) (history : History) (live : LiveSess
   row_told command.PolicyAuthValue = asserted_row command.PolicyAuthValue refl
   row_told command.PolicyPassword = asserted_row command.PolicyPassword refl
   row_told command.PolicyCommandCode = asserted_row command.PolicyCommandCode refl
+  row_told command.PolicyCpHash = asserted_row command.PolicyCpHash refl
+  row_told command.PolicyNvWritten = asserted_row command.PolicyNvWritten refl
   row_told command.PolicyLocality = asserted_row command.PolicyLocality refl
   row_told command.PolicySecret = asserted_row command.PolicySecret refl
   row_told command.PolicyNv = asserted_row command.PolicyNv refl

@@ -10,7 +10,7 @@ use Rattle.tpm_bytes.specs.Reading.{refused_if}
 use Rattle.tpm_bytes.proofs.Fields.{passed}
 use Rattle.tpm_mac.specs.declared.algorithm.HashAlg.{HashAlg}
 use Rattle.tpm_mac.specs.declared.algorithm.HashAlg.TheVariants as alg
-use Rattle.tpm_policy.specs.Assertion.{is_other, is_other_hash}
+use Rattle.tpm_policy.specs.Assertion.{is_other, is_other_hash, is_other_written}
 use Rattle.tpm_policy.specs.State.{Policy}
 use Rattle.tpm_policy.specs.Use.{EntityParts, UseParts, is_policy_of, lacks_command, use_passes}
 use Rattle.tpm_policy.specs.declared.state.Demand.{Demand}
@@ -37,6 +37,7 @@ pub record Passes (policy : Policy) (u : UseParts) (demand : Demand) : Type 0 wh
   pub counter : is_other policy.update_count u.update_count ≡ false
   pub command : is_other policy.command u.command ≡ false
   pub call : (lacks_command u.role policy.command || is_other_hash policy.cp_hash u.cp_hash) ≡ false
+  pub written : is_other_written policy.nv_written u.written ≡ false
   pub locality : (bit_at policy.localities u.locality == 0) ≡ false
   pub digest : is_policy_of u.hash policy.digest u.entity ≡ true
   pub demanded : demand ≡ policy.demand
@@ -49,6 +50,7 @@ use_passed policy u =
     ok_bind_is _ (refused_if (is_other policy.update_count u.update_count) (plain code.PcrChanged)) _ (λ d counter.
     ok_bind_is _ (refused_if (is_other policy.command u.command) (entry_fault u.entry code.PolicyCc)) _ (λ f command.
     ok_bind_is _ (refused_if (lacks_command u.role policy.command || is_other_hash policy.cp_hash u.cp_hash) (entry_fault u.entry code.PolicyFail)) _ (λ g call.
+    ok_bind_is _ (refused_if (is_other_written policy.nv_written u.written) (entry_fault u.entry code.PolicyFail)) _ (λ m written.
     ok_bind_is _ (refused_if (bit_at policy.localities u.locality == 0) (plain code.Locality)) _ (λ h locality.
     ok_bind_is _ (refused_if (not (is_policy_of u.hash policy.digest u.entity)) (entry_fault u.entry code.PolicyFail)) _ (λ k digest.
     record {
@@ -57,10 +59,11 @@ use_passed policy u =
       counter = passed _ _ d counter;
       command = passed _ _ f command;
       call = passed _ _ g call;
+      written = passed _ _ m written;
       locality = passed _ _ h locality;
       digest = asked _ _ k digest;
       demanded = refl;
-    })))))))
+    }))))))))
 
 -- ---- what that says
 
@@ -71,6 +74,15 @@ recorded_is (Some n) number is = eqb-true n number (not-false (n == number) is)
 pub recorded_hash : (recorded : Option (List ℕ)) (hash : List ℕ) → is_other_hash recorded hash ≡ false → IfSome recorded (λ h. h ≡ hash)
 recorded_hash None hash is = tt
 recorded_hash (Some h) hash is = (bytes_eq-Decides h hash).0 (not-false (bytes_eq h hash) is)
+
+pub recorded_written : (recorded found : Option Bool) → is_other_written recorded found ≡ false → IfSome recorded (λ is_written. found ≡ Some is_written)
+recorded_written None found is = tt
+recorded_written (Some true) None is = absurd cc
+recorded_written (Some false) None is = absurd cc
+recorded_written (Some true) (Some true) is = refl
+recorded_written (Some true) (Some false) is = absurd cc
+recorded_written (Some false) (Some true) is = absurd cc
+recorded_written (Some false) (Some false) is = refl
 
 pub names_command : (r : Role) (command : Option ℕ) → lacks_command r command ≡ false → NamesCommand r command
 names_command role.User command is = tt

@@ -3,7 +3,7 @@ use Rattle.std.proofs.Common.{◌≡◌, ℕ, List, ◌∷◌, map, refl}
 use Rattle.tpm_types.specs.declared.handle.Handle.{Handle}
 use Rattle.tpm_types.specs.declared.nv_use.NvUse.{NvUse}
 use Rattle.tpm_types.specs.declared.nv_use.NvUse.TheVariants as does
-use Rattle.tpm_record.specs.Entity.{AnIndex, AnObject, Entity, entity_at, entity_is_available, entity_name, entity_policy, entity_protection, is_available, name_of, object_of, policy_of, protection_of}
+use Rattle.tpm_record.specs.Entity.{AnIndex, AnObject, Entity, entity_at, entity_is_available, entity_name, entity_policy, entity_protection, is_available, name_of, object_of, policy_of, protection_of, entity_written, written_of}
 use Rattle.tpm_record.specs.Record.{Record}
 use Rattle.tpm_record.specs.Tick.{ticked}
 use Rattle.tpm_record.specs.declared.entity.Means.{Means}
@@ -11,7 +11,7 @@ use Rattle.tpm_record.specs.declared.entity.Means.TheVariants as means
 use Rattle.tpm_machine_step.specs.Events.{PlainEvent}
 use Rattle.tpm_machine_history.specs.History.{AcceptedCommand, Done, History, recorded}
 use Rattle.tpm_machine_history.specs.View.{entity_view, view_name, view_of}
-use Rattle.tpm_machine_history.specs.Views.{TellsOf, view_policy, view_protection, view_takes}
+use Rattle.tpm_machine_history.specs.Views.{TellsOf, view_policy, view_protection, view_takes, view_written}
 use Rattle.tpm_machine_history.proofs.Recorded.{recorded_is}
 
 name_told : (h : Handle) (entity : Entity) → view_name (entity_view h entity) ≡ entity_name h entity
@@ -26,6 +26,10 @@ protection_told : (h : Handle) (entity : Entity) → view_protection (entity_vie
 protection_told h (AnObject object) = refl
 protection_told h _ = refl
 
+written_told : (h : Handle) (entity : Entity) → view_written (entity_view h entity) ≡ entity_written entity
+written_told h (AnObject object) = refl
+written_told h _ = refl
+
 available_told : (h : Handle) (entity : Entity) (m : Means) (nv_use : NvUse) → view_takes m nv_use (entity_view h entity) ≡ entity_is_available m nv_use entity
 available_told h (AnObject object) means.AuthValue nv_use = refl
 available_told h (AnIndex index) means.AuthValue does.Read = refl
@@ -33,11 +37,12 @@ available_told h (AnIndex index) means.Policy does.Read = refl
 available_told h _ _ _ = refl
 
 pub views_tell : (r : Record) (handle : Handle) → TellsOf (view_of r handle) r handle
-unfolding view_of name_of policy_of protection_of is_available
+unfolding view_of name_of policy_of protection_of written_of is_available
 views_tell r handle = record {
   name = name_told handle (entity_at r handle);
   policy = policy_told handle (entity_at r handle);
   protection = protection_told handle (entity_at r handle);
+  written = written_told handle (entity_at r handle);
   available = available_told handle (entity_at r handle);
 }
 

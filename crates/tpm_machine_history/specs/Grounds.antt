@@ -21,7 +21,7 @@ use Rattle.tpm_machine_history.specs.History.{AcceptedCommand, Done, History, Po
 use Rattle.tpm_machine_history.specs.QuietPcrs.{HoldsPcrs, asserts_pcrs}
 use Rattle.tpm_machine_history.specs.Sessions.{LiveSession, policy_in, sessions_of}
 use Rattle.tpm_machine_history.specs.View.{View}
-use Rattle.tpm_machine_history.specs.Views.{is_there, view_policy, view_takes}
+use Rattle.tpm_machine_history.specs.Views.{is_there, view_policy, view_takes, view_written}
 
 -- whether what is viewed is there, and may be authorized by this, for a command that does this to it
 abbrev pub allows : Means → NvUse → View → Bool
@@ -46,6 +46,10 @@ IsPolicyOf s None = ⊥
 IsPolicyOf s (Some entity) =
     (entity.hash ≡ s.hash) × ((policy_in s).digest ≡ entity.digest) × (entity.digest ≢ [])
 
+-- whether what stands in a place is written, where it is an NV index
+abbrev pub written_at : AcceptedCommand → ℕ → Option Bool
+written_at c place = option_and_then view_written (slice_get c.views place)
+
 -- In the role ADMIN a policy names a command.
 abbrev pub NamesCommand : Role → Option ℕ → Type 0
 NamesCommand role.User number = Unit {0}
@@ -54,7 +58,8 @@ NamesCommand role.Admin number = is_some number ≡ true
 -- A policy session may authorize what stands in a place of a command. That allows a policy, and this
 -- is its policy. Since the first TPM2_PolicyPCR no PCR was written and no TPM2_Clear accepted, and so
 -- all that was asserted of PCRs holds. A recorded command code is this command's, and the role ADMIN
--- requires one; a recorded cpHash is this command's; and its locality is allowed.
+-- requires one; a recorded cpHash is this command's; a recorded written value is that of this NV
+-- index; and the command's locality is allowed.
 pub record MeetsPolicy (history : History) (c : AcceptedCommand) (place : ℕ) (e : Entry)
     (s : LiveSession) : Type 0 where
   pub allowed : allows_in means.Policy c place ≡ true
@@ -63,6 +68,7 @@ pub record MeetsPolicy (history : History) (c : AcceptedCommand) (place : ℕ) (
   pub command : IfSome (policy_in s).command (λ number. number ≡ code_number c.command.code)
   pub named : NamesCommand (role_at c.command.code place) (policy_in s).command
   pub cp_hash : IfSome (policy_in s).cp_hash (λ hash. hash ≡ cp_hash_in c s.hash)
+  pub written : IfSome (policy_in s).nv_written (λ is_written. written_at c place ≡ Some is_written)
   pub locality : bit_at (policy_in s).localities c.request.locality ≡ 1
 
 -- The entry of a policy session has the password where its policy demands one, and else its HMAC.

@@ -4,12 +4,14 @@ use Rattle.std.specs.Prelude.{ℕ, Bool, List, [], ◌∷◌, Result, Ok, Err}
 use Rattle.std.specs.Int.{w8, w32}
 use Rattle.tpm_bytes.specs.Reading.{◌>>=◌, number_at, or_fault}
 use Rattle.tpm_mac.specs.declared.algorithm.HashAlg.{HashAlg}
-use Rattle.tpm_policy.specs.Assertion.{Assertion, Pcr, Or, AuthValue, Password, CommandCode, Locality, Secret, Nv, PcrParts}
+use Rattle.tpm_policy.specs.Assertion.{Assertion, Pcr, Or, AuthValue, Password, CommandCode, CpHash, NvWritten, Locality, Secret, Nv, PcrParts}
 use Rattle.tpm_policy.specs.Made.{policy_with}
 use Rattle.tpm_policy.specs.State.{Policy, starting}
+use Rattle.tpm_types.specs.Buffer.{buffer_at}
 use Rattle.tpm_types.specs.DigestList.{digest_list_at}
 use Rattle.tpm_types.specs.PcrSelection.{selection_text}
 use Rattle.tpm_types.specs.Rc.{plain}
+use Rattle.tpm_types.specs.YesNo.{yes_no_at}
 use Rattle.tpm_types.specs.declared.rc.ResponseCode.TheVariants as code
 use Rattle.tpm_types.specs.declared.refused.Refused.{Refused}
 use Rattle.tpm_types_command.specs.declared.command_code.CommandCode.{CommandCode as Code}
@@ -57,6 +59,12 @@ assertion_by command.PolicyPassword c history hash nonce_tpm = Ok Password
 assertion_by command.PolicyCommandCode c history hash nonce_tpm = do
   number ← only (or_fault (number_at w32 c.request.parameters) (plain code.Insufficient))
   Ok (CommandCode number)
+assertion_by command.PolicyCpHash c history hash nonce_tpm = do
+  cp_hash ← only (buffer_at 32 c.request.parameters)
+  Ok (CpHash cp_hash)
+assertion_by command.PolicyNvWritten c history hash nonce_tpm = do
+  is_written ← only (yes_no_at c.request.parameters)
+  Ok (NvWritten is_written)
 assertion_by command.PolicyLocality c history hash nonce_tpm = do
   localities ← only (or_fault (number_at w8 c.request.parameters) (plain code.Insufficient))
   Ok (Locality localities)

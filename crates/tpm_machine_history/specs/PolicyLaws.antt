@@ -1,8 +1,8 @@
 -- What a policy of one assertion says of the uses of what has it. TPM 2.0 Library, Part 3, sections
--- 23.7 (TPM2_PolicyPCR) and 23.11 (TPM2_PolicyCommandCode).
-use Rattle.std.specs.Prelude.{◌≡◌, ◌<◌, ℕ, false, List, [], ◌∷◌, Option, Some, None}
+-- 23.7 (TPM2_PolicyPCR), 23.11 (TPM2_PolicyCommandCode) and 23.20 (TPM2_PolicyNvWritten).
+use Rattle.std.specs.Prelude.{◌≡◌, ◌<◌, ℕ, Bool, false, List, [], ◌∷◌, Option, Some, None}
 use Rattle.tpm_mac.specs.declared.algorithm.HashAlg.{HashAlg}
-use Rattle.tpm_policy.specs.Assertion.{Assertion, CommandCode, Pcr, PcrParts}
+use Rattle.tpm_policy.specs.Assertion.{Assertion, CommandCode, NvWritten, Pcr, PcrParts}
 use Rattle.tpm_policy.specs.Use.{EntityParts}
 use Rattle.tpm_types.specs.PcrSelection.{selection_text}
 use Rattle.tpm_types.specs.declared.handle.Handle.{Handle}
@@ -10,7 +10,7 @@ use Rattle.tpm_types.specs.declared.pcr_selection.BankSelection.{BankSelection}
 use Rattle.tpm_types.specs.declared.session_type.SessionType.TheVariants as type
 use Rattle.tpm_types_command.specs.AuthEntry.{Entry}
 use Rattle.tpm_types_command.specs.CommandCode.{code_number}
-use Rattle.tpm_machine_history.specs.Grounds.{MeetsPolicy, policy_at}
+use Rattle.tpm_machine_history.specs.Grounds.{MeetsPolicy, policy_at, written_at}
 use Rattle.tpm_machine_history.specs.History.{AcceptedCommand, History}
 use Rattle.tpm_machine_history.specs.Pcrs.{digest_in, pcr_of}
 use Rattle.tpm_machine_history.specs.Policies.{evaluated}
@@ -50,6 +50,17 @@ UsesItsCommand =
     → MeetsPolicy history c place e s → s.kind ≡ type.Policy
     → s.assertions ≡ CommandCode number ∷ []
     → HasPolicyOf s.hash (CommandCode (code_number c.command.code) ∷ []) (policy_at c place)
+
+-- What is used by a session of which TPM2_PolicyNvWritten is asserted alone is an NV index that is
+-- written, or is not, as its policy wants it: one whose policy wants it unwritten has no WRITTEN as it
+-- is used.
+abbrev pub UsesAsWritten : Type 0
+UsesAsWritten =
+    (history : History) (c : AcceptedCommand) (place : ℕ) (e : Entry) (s : LiveSession)
+    (is_written : Bool) → MeetsPolicy history c place e s → s.kind ≡ type.Policy
+    → s.assertions ≡ NvWritten is_written ∷ []
+    → (written_at c place ≡ Some is_written)
+    × HasPolicyOf s.hash (NvWritten is_written ∷ []) (policy_at c place)
 
 -- Since the first TPM2_PolicyPCR of a session no PCR has another value.
 abbrev pub KeepsQuietValues : Type 0

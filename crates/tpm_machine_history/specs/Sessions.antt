@@ -152,6 +152,9 @@ sessions_by command.PolicyPassword c history live =
     with_asserted command.PolicyPassword c history live
 sessions_by command.PolicyCommandCode c history live =
     with_asserted command.PolicyCommandCode c history live
+sessions_by command.PolicyCpHash c history live = with_asserted command.PolicyCpHash c history live
+sessions_by command.PolicyNvWritten c history live =
+    with_asserted command.PolicyNvWritten c history live
 sessions_by command.PolicyLocality c history live =
     with_asserted command.PolicyLocality c history live
 sessions_by command.PolicySecret c history live = with_asserted command.PolicySecret c history live

@@ -1,7 +1,7 @@
--- What the view of a handle tells of what the handle names: its Name, its policy, how its
--- authorization value is protected, and by what it can be authorized. TPM 2.0 Library, Part 1,
--- sections 16 (Names), 19.2 (roles), 19.7 (policies) and 19.8 (dictionary attacks), and Part 2,
--- section 13.4 (TPMA_NV).
+-- What the view of a handle tells of what the handle names: its Name, its policy, whether it is
+-- written, how its authorization value is protected, and by what it can be authorized. TPM 2.0
+-- Library, Part 1, sections 16 (Names), 19.2 (roles), 19.7 (policies) and 19.8 (dictionary attacks),
+-- and Part 2, section 13.4 (TPMA_NV).
 use Rattle.std.specs.Prelude.{◌≡◌, ℕ, ◌==◌, ◌&&◌, not, Bool, true, false, List, length, if◌then◌else◌, Option, Some, None}
 use Rattle.tpm_policy.specs.Use.{EntityParts}
 use Rattle.tpm_session.specs.declared.session.Protection.{Protection}
@@ -15,7 +15,7 @@ use Rattle.tpm_types_nv.specs.declared.nv_public.NvPublic.{NvPublic}
 use Rattle.tpm_types_object.specs.ObjectAttributes.{has}
 use Rattle.tpm_types_object.specs.declared.object_attributes.ObjectAttribute.TheVariants as attribute
 use Rattle.tpm_types_object.specs.declared.public.Public.{Public}
-use Rattle.tpm_record.specs.Entity.{is_available, name_of, names_kept, permanent_is_available, permanent_protection, policy_of, protection_of}
+use Rattle.tpm_record.specs.Entity.{is_available, name_of, names_kept, permanent_is_available, permanent_protection, policy_of, protection_of, written_of}
 use Rattle.tpm_record.specs.Record.{Record}
 use Rattle.tpm_record.specs.declared.entity.Means.{Means}
 use Rattle.tpm_record.specs.declared.entity.Means.TheVariants as means
@@ -66,6 +66,11 @@ view_takes means nv_use (OfObject public) = object_takes means public
 view_takes means nv_use (OfIndex public) = index_takes means nv_use public
 view_takes means nv_use (OfHandle handle) = permanent_is_available means
 
+-- whether it is written, where it is an index
+abbrev pub view_written : View → Option Bool
+view_written (OfIndex public) = Some (index_has public.attributes mark.Written)
+view_written other = None
+
 -- whether what is viewed is there: a handle that names an object or an index that is not has no
 -- public area
 abbrev pub is_there : View → Bool
@@ -77,5 +82,6 @@ pub record TellsOf (view : View) (r : Record) (handle : Handle) : Type 0 where
   pub name : view_name view ≡ name_of r handle
   pub policy : view_policy view ≡ policy_of r handle
   pub protection : view_protection view ≡ protection_of r handle
+  pub written : view_written view ≡ written_of r handle
   pub available : (means : Means) (nv_use : NvUse)
       → view_takes means nv_use view ≡ is_available r handle means nv_use

@@ -36,7 +36,7 @@ ghost use Rattle.tpm_machine_history.specs.History.{AcceptedCommand, Done, Histo
 ghost use Rattle.tpm_machine_history.specs.History.{recorded};
 ghost use Rattle.tpm_machine_history.specs.Pcrs.{before_shutdown, pcr_of, pcrs_after};
 ghost use Rattle.tpm_machine_history.specs.PolicyLaws.{KeepsQuietValues, UsesItsCommand};
-ghost use Rattle.tpm_machine_history.specs.PolicyLaws.{UsesPcrsAsTheyAre};
+ghost use Rattle.tpm_machine_history.specs.PolicyLaws.{UsesAsWritten, UsesPcrsAsTheyAre};
 ghost use Rattle.tpm_machine_history.specs.Potential.{IsForgiving};
 ghost use Rattle.tpm_machine_history.specs.RunReplays.{IsRecorded, RunReplaysRepeat};
 ghost use Rattle.tpm_machine_history.specs.Tries.{FailsFew, FailsWithin, IsAnsweredTry};
@@ -161,11 +161,13 @@ pub fn replay_laws()
 
 /// What is used by a policy session of which TPM2_PolicyPCR alone is asserted has the policy of PCRs
 /// with the values that they have at the use; they had them since the first TPM2_PolicyPCR. By one of
-/// which TPM2_PolicyCommandCode alone is asserted it has the policy of the command that uses it.
+/// which TPM2_PolicyCommandCode alone is asserted it has the policy of the command that uses it; by one
+/// of which TPM2_PolicyNvWritten alone is asserted it is an NV index, written or not as that says.
 #[inline(always)]
 pub fn policy_laws()
     ensures pcrs { UsesPcrsAsTheyAre }
     ensures quiet { KeepsQuietValues }
+    ensures written { UsesAsWritten }
     ensures command { UsesItsCommand }
 {}
 

@@ -9,7 +9,7 @@ use Rattle.tpm_mac.specs.Kdf.{kdfa_of}
 use Rattle.tpm_mac.specs.declared.algorithm.HashAlg.{HashAlg}
 use Rattle.tpm_mac.specs.declared.algorithm.HashAlg.TheVariants.{Sha1, Sha256}
 use Rattle.tpm_mac.proofs.DigestSize.{length-hash_of, length-hmac_of}
-use Rattle.tpm_policy.specs.Assertion.{Assertion, Pcr, Or, AuthValue, Password, CommandCode, Locality, Secret, Nv, asserted, auth_value_asserted, command_code_asserted, locality_asserted, nv_asserted, or_asserted, or_digest, password_asserted, pcr_asserted, secret_asserted}
+use Rattle.tpm_policy.specs.Assertion.{Assertion, Pcr, Or, AuthValue, Password, CommandCode, CpHash, NvWritten, Locality, Secret, Nv, asserted, auth_value_asserted, command_code_asserted, cp_hash_asserted, locality_asserted, nv_asserted, nv_written_asserted, or_asserted, or_digest, password_asserted, pcr_asserted, secret_asserted}
 use Rattle.tpm_policy.specs.State.{Policy, starting}
 use Rattle.tpm_session.specs.Key.{is_nonce_size, session_key}
 use Rattle.tpm_session.specs.declared.session.Binding.{Binding}
@@ -38,12 +38,14 @@ starting_sized hash = length-replicate (digest_size hash) 0
 
 -- every assertion makes a digest
 pub asserted_sized : (hash : HashAlg) (trial : Bool) (assertion : Assertion) (policy : Policy) → IfOk (asserted hash trial assertion policy) (λ new. length new.digest ≡ digest_size hash)
-unfolding pcr_asserted or_asserted or_digest auth_value_asserted password_asserted command_code_asserted locality_asserted secret_asserted nv_asserted
+unfolding pcr_asserted or_asserted or_digest auth_value_asserted password_asserted command_code_asserted cp_hash_asserted nv_written_asserted locality_asserted secret_asserted nv_asserted
 asserted_sized hash trial (Pcr pcr) policy = search (rules, ok_bind, length-hash_of)
 asserted_sized hash trial (Or digests) policy = search (rules, ok_bind, length-hash_of)
 asserted_sized hash trial AuthValue policy = length-hash_of hash _
 asserted_sized hash trial Password policy = length-hash_of hash _
 asserted_sized hash trial (CommandCode number) policy = search (rules, ok_bind, length-hash_of)
+asserted_sized hash trial (CpHash cp_hash) policy = search (rules, ok_bind, length-hash_of)
+asserted_sized hash trial (NvWritten is_written) policy = search (rules, ok_bind, length-hash_of)
 asserted_sized hash trial (Locality localities) policy = search (rules, ok_bind, length-hash_of)
 asserted_sized hash trial (Secret secret) policy = search (rules, ok_bind, length-hash_of)
 asserted_sized hash trial (Nv nv) policy = search (rules, ok_bind, length-hash_of)

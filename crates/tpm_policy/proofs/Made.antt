@@ -2,7 +2,7 @@
 use Rattle.std.proofs.Common.{rules, ◌≡◌, Bool, Result, Ok, Err, IfOk, refl, subst}
 use Rattle.tpm_bytes.specs.Reading.{◌>>=◌}
 use Rattle.tpm_mac.specs.declared.algorithm.HashAlg.{HashAlg}
-use Rattle.tpm_policy.specs.Assertion.{Assertion, AuthValue, Password, asserted, command_code_asserted, locality_asserted, nv_asserted, or_asserted, pcr_asserted, secret_asserted}
+use Rattle.tpm_policy.specs.Assertion.{Assertion, AuthValue, Password, asserted, command_code_asserted, cp_hash_asserted, locality_asserted, nv_asserted, nv_written_asserted, or_asserted, pcr_asserted, secret_asserted}
 use Rattle.tpm_policy.specs.Made.{policy_with}
 use Rattle.tpm_policy.specs.State.{Policy}
 
@@ -11,7 +11,7 @@ ok_bind Q (Ok a) f h = h a
 ok_bind Q (Err e) f h = tt
 
 makes : (hash : HashAlg) (trial : Bool) (a : Assertion) (old : Policy) → IfOk (asserted hash trial a old) (λ new. new ≡ policy_with hash trial a old)
-unfolding pcr_asserted or_asserted command_code_asserted locality_asserted secret_asserted nv_asserted
+unfolding pcr_asserted or_asserted command_code_asserted cp_hash_asserted nv_written_asserted locality_asserted secret_asserted nv_asserted
 makes hash trial AuthValue old = refl
 makes hash trial Password old = refl
 makes hash trial _ old = search (rules, ok_bind)

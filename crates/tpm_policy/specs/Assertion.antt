@@ -99,6 +99,8 @@ pub data Assertion : Type 0 where
   Password : Assertion
   CommandCode : (number : ℕ) → Assertion
   Locality : (localities : ℕ) → Assertion
+  CpHash : (cp_hash : List ℕ) → Assertion
+  NvWritten : (is_written : Bool) → Assertion
   Secret : SecretParts → Assertion
   Nv : NvParts → Assertion
 
@@ -110,6 +112,14 @@ is_other (Some recorded) number = not (recorded == number)
 abbrev pub is_other_hash : Option (List ℕ) → List ℕ → Bool
 is_other_hash None hash = false
 is_other_hash (Some recorded) hash = not (bytes_eq recorded hash)
+
+-- whether it is recorded that an index is to be written, or is not to be, and this is not so; no value
+-- is found where there is no index
+abbrev pub is_other_written : Option Bool → Option Bool → Bool
+is_other_written None found = false
+is_other_written (Some recorded) None = true
+is_other_written (Some true) (Some found) = not found
+is_other_written (Some false) (Some found) = found
 
 -- policyDigest := H(policyDigest || commandCode || what the assertion is about)
 abbrev pub extended : HashAlg → ServedCommand → (about : List ℕ) → Policy → Policy
@@ -179,6 +189,31 @@ locality_asserted hash localities policy = do
     localities = bit_and policy.localities localities;
   })
 
+-- TPM2_PolicyCpHash (section 23.13): only the command with this cpHash. Its size is checked, and that
+-- no other is recorded, in a trial session too (this device's own)
+unfoldable pub cp_hash_asserted : HashAlg → (cp_hash : List ℕ)
+    → Policy → Result Policy ActionFault
+cp_hash_asserted hash cp_hash policy = do
+  a1 ← refused_if (not (length cp_hash == digest_size hash)) (parameter_fault action.First 1 code.Size)
+  a2 ← refused_if (is_other_hash policy.cp_hash cp_hash) (plain_fault action.Second code.Cphash)
+  Ok (record (extended hash served.PolicyCpHash cp_hash policy) { cp_hash = Some cp_hash })
+
+-- 1 for yes, 0 for no (Part 2, section 9.2, TPMI_YES_NO)
+abbrev pub yes_no_text : Bool → List ℕ
+yes_no_text true = 1 ∷ []
+yes_no_text false = 0 ∷ []
+
+-- TPM2_PolicyNvWritten (section 23.20): only an index that is written, or one that is not. That the
+-- other is not recorded is checked in a trial session too (this device's own)
+unfoldable pub nv_written_asserted : HashAlg → (is_written : Bool)
+    → Policy → Result Policy ActionFault
+nv_written_asserted hash is_written policy = do
+  a1 ← refused_if (is_other_written policy.nv_written (Some is_written))
+      (parameter_fault action.First 1 code.Value)
+  Ok (record (extended hash served.PolicyNvWritten (yes_no_text is_written) policy) {
+    nv_written = Some is_written;
+  })
+
 -- TPM2_PolicySecret (section 23.4): policyRef is hashed after the rest, also where it is empty. No
 -- policy expires: expiration must be 0, in a trial session too, and cpHashA is checked for its size
 -- in one too (this device's own)
@@ -229,6 +264,8 @@ asserted hash trial AuthValue policy = Ok (auth_value_asserted hash policy)
 asserted hash trial Password policy = Ok (password_asserted hash policy)
 asserted hash trial (CommandCode number) policy = command_code_asserted hash number policy
 asserted hash trial (Locality localities) policy = locality_asserted hash localities policy
+asserted hash trial (CpHash cp_hash) policy = cp_hash_asserted hash cp_hash policy
+asserted hash trial (NvWritten is_written) policy = nv_written_asserted hash is_written policy
 asserted hash trial (Secret secret) policy = secret_asserted hash trial secret policy
 asserted hash trial (Nv nv) policy = nv_asserted hash trial nv policy
 

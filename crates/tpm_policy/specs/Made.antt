@@ -3,7 +3,7 @@
 use Rattle.std.specs.Prelude.{◌++◌, bit_and, Bool, [], ◌∷◌, Some, if◌then◌else◌}
 use Rattle.std.specs.Int.{w32, to_be_bytes}
 use Rattle.tpm_mac.specs.declared.algorithm.HashAlg.{HashAlg}
-use Rattle.tpm_policy.specs.Assertion.{Assertion, Pcr, Or, AuthValue, Password, CommandCode, Locality, Secret, Nv, auth_value_asserted, extended, nv_arguments, or_digest, password_asserted, secret_digest, taken_digest}
+use Rattle.tpm_policy.specs.Assertion.{Assertion, Pcr, Or, AuthValue, Password, CommandCode, Locality, Secret, Nv, auth_value_asserted, extended, nv_arguments, or_digest, password_asserted, secret_digest, taken_digest, CpHash, NvWritten, yes_no_text}
 use Rattle.tpm_policy.specs.State.{Policy}
 use Rattle.tpm_types.specs.Buffer.{is_given}
 use Rattle.tpm_types_command.specs.declared.command_code.CommandCode.TheVariants as command
@@ -24,6 +24,12 @@ policy_with hash trial (CommandCode number) policy =
 policy_with hash trial (Locality localities) policy =
     record (extended hash command.PolicyLocality (localities ∷ []) policy) {
       localities = bit_and policy.localities localities;
+    }
+policy_with hash trial (CpHash cp_hash) policy =
+    record (extended hash command.PolicyCpHash cp_hash policy) { cp_hash = Some cp_hash }
+policy_with hash trial (NvWritten is_written) policy =
+    record (extended hash command.PolicyNvWritten (yes_no_text is_written) policy) {
+      nv_written = Some is_written;
     }
 policy_with hash trial (Secret secret) policy = record policy {
   digest = secret_digest hash policy.digest secret.name secret.reference;

@@ -1,21 +1,22 @@
 -- The state of a policy session. TPM 2.0 Library, Part 1, section 19.7 (enhanced authorization):
 -- the policy digest, and beside it what assertions record, which is compared when the session
 -- authorizes.
-use Rattle.std.specs.Prelude.{ℕ, ◌<◌, ◌≤◌, ◌^◌, IfSome, List, length, Option, None, replicate}
+use Rattle.std.specs.Prelude.{ℕ, ◌<◌, ◌≤◌, ◌^◌, IfSome, List, length, Option, None, replicate, Bool}
 use Rattle.tpm_mac.specs.Digest.{digest_size}
 use Rattle.tpm_mac.specs.declared.algorithm.HashAlg.{HashAlg}
 use Rattle.tpm_policy.specs.declared.state.Demand.{Demand}
 use Rattle.tpm_policy.specs.declared.state.Demand.TheVariants as demand
 
 -- the policy digest; the update counter of PCRs at the last TPM2_PolicyPCR, the number of the one
--- command that is allowed, and its cpHash, each where an assertion recorded it; the localities that
--- are allowed, bit n for locality n; and what is demanded in addition to the digest. Timeouts, name
--- hashes, physical presence and written indices are not served
+-- command that is allowed, its cpHash, and whether the index is to be written already, each where an
+-- assertion recorded it; the localities that are allowed, bit n for locality n; and what is demanded
+-- in addition to the digest. Timeouts, name hashes and physical presence are not served
 pub record Policy : Type 0 where
   pub digest : List ℕ
   pub update_count : Option ℕ
   pub command : Option ℕ
   pub cp_hash : Option (List ℕ)
+  pub nv_written : Option Bool
   pub localities : ℕ
   pub demand : Demand
 
@@ -35,6 +36,7 @@ starting hash = record {
   update_count = None;
   command = None;
   cp_hash = None;
+  nv_written = None;
   localities = 0x1f;
   demand = demand.None;
 }

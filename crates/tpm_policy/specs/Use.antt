@@ -15,7 +15,7 @@ use Rattle.tpm_types.specs.declared.rc.ResponseCode.TheVariants as code
 use Rattle.tpm_types.specs.declared.session_type.SessionType.{SessionType}
 use Rattle.tpm_types.specs.declared.role.Role.{Role}
 use Rattle.tpm_types.specs.declared.role.Role.TheVariants as role
-use Rattle.tpm_policy.specs.Assertion.{is_other, is_other_hash}
+use Rattle.tpm_policy.specs.Assertion.{is_other, is_other_hash, is_other_written}
 use Rattle.tpm_policy.specs.State.{Policy}
 use Rattle.tpm_policy.specs.declared.policy_use.EntityPolicy.{EntityPolicy}
 use Rattle.tpm_policy.specs.declared.policy_use.Use.{Use}
@@ -28,8 +28,8 @@ pub record EntityParts : Type 0 where
 
 -- what a use is about, wherever its bytes lie in memory: the number of the entry, the session's
 -- type and hash, whether the entity is available, how often PCRs have been changed, the command's
--- number, the role in which it is authorized, its cpHash, where it comes from, and the entity's
--- policy, if it has one
+-- number, the role in which it is authorized, its cpHash, whether the entity is written where it is an
+-- NV index, where the command comes from, and the entity's policy, if it has one
 pub record UseParts : Type 0 where
   pub entry : ℕ
   pub kind : SessionType
@@ -39,6 +39,7 @@ pub record UseParts : Type 0 where
   pub command : ℕ
   pub role : Role
   pub cp_hash : List ℕ
+  pub written : Option Bool
   pub locality : ℕ
   pub entity : Option EntityParts
 
@@ -55,6 +56,7 @@ parts_of u = record {
   command = u.command;
   role = u.role;
   cp_hash = u.cp_hash.now;
+  written = u.written;
   locality = locality_number u.locality;
   entity = option_map entity_parts u.entity;
 }
@@ -78,6 +80,8 @@ use_passes policy u = do
   counter ← refused_if (is_other policy.update_count u.update_count) (plain code.PcrChanged)
   command ← refused_if (is_other policy.command u.command) (entry_fault u.entry code.PolicyCc)
   call ← refused_if (lacks_command u.role policy.command || is_other_hash policy.cp_hash u.cp_hash)
+      (entry_fault u.entry code.PolicyFail)
+  written ← refused_if (is_other_written policy.nv_written u.written)
       (entry_fault u.entry code.PolicyFail)
   locality ← refused_if (bit_at policy.localities u.locality == 0) (plain code.Locality)
   digest ← refused_if (not (is_policy_of u.hash policy.digest u.entity))

@@ -1,5 +1,5 @@
 //! The assertions of a policy that speak of no other part of the device: PolicyOR, PolicyAuthValue,
-//! PolicyPassword, PolicyCommandCode and PolicyLocality.
+//! PolicyPassword, PolicyCommandCode, PolicyCpHash, PolicyNvWritten and PolicyLocality.
 
 ghost use Rattle.tpm_types_command.specs.CommandCode.{code_number};
 ghost use Rattle.std.specs.Prelude.{◌≡◌, ◌++◌, ◌≤◌, length, map};
@@ -9,10 +9,11 @@ ghost use Rattle.std.specs.Str.{bytes_eq};
 ghost use Rattle.tpm_mac.specs.Digest.{digest_size, hash_of};
 ghost use Rattle.tpm_types.specs.DigestList.{digests_of};
 ghost use Rattle.tpm_policy.specs.Assertion.{Asserts, auth_value_asserted, command_code_asserted, extended, is_other, locality_asserted, or_asserted, or_digest, password_asserted};
+ghost use Rattle.tpm_policy.specs.Assertion.{cp_hash_asserted, nv_written_asserted};
 
 use crate::state::{Demand, PolicyState};
 use arrayvec::ArrayVec;
-use tpm_bytes::is_equal;
+use tpm_bytes::{copied, is_equal};
 use tpm_mac::{Digest, HashAlg, digest_parts};
 use tpm_types::{ActionCheck, ActionFault, DigestList, ResponseCode};
 use tpm_types_command::CommandCode;
@@ -119,6 +120,38 @@ impl PolicyState {
         }
         self.extend(hash, CommandCode::PolicyCommandCode, &number.to_be_bytes());
         self.command = Some(number);
+        Ok(())
+    }
+
+    /// TPM2_PolicyCpHash: SIZE where the hash is none of the session's algorithm, CPHASH where that of
+    /// another command is recorded.
+    #[tactic(auto, unfolding(crate::specs::Assertion::cp_hash_asserted))]
+    pub fn cp_hash(&mut self, hash: HashAlg, cp_hash: &[u8]) -> Result<(), ActionFault>
+        ensures { Asserts (cp_hash_asserted hash cp_hash.now self.old) self.old result self.new }
+    {
+        if cp_hash.len() != hash.size() {
+            let check = ActionCheck::First;
+            return Err(ActionFault::in_parameter(check, 1, ResponseCode::Size));
+        }
+        if self.records_other_hash(cp_hash) {
+            return Err(ActionFault::plain(ActionCheck::Second, ResponseCode::Cphash));
+        }
+        self.extend(hash, CommandCode::PolicyCpHash, cp_hash);
+        self.cp_hash = Some(copied(cp_hash));
+        Ok(())
+    }
+
+    /// TPM2_PolicyNvWritten: VALUE where the other value is recorded.
+    #[tactic(auto, unfolding(crate::specs::Assertion::nv_written_asserted))]
+    pub fn nv_written(&mut self, hash: HashAlg, is_written: bool) -> Result<(), ActionFault>
+        ensures { Asserts (nv_written_asserted hash is_written self.old) self.old result self.new }
+    {
+        if self.records_other_written(Some(is_written)) {
+            let check = ActionCheck::First;
+            return Err(ActionFault::in_parameter(check, 1, ResponseCode::Value));
+        }
+        self.extend(hash, CommandCode::PolicyNvWritten, &[u8::from(is_written)]);
+        self.nv_written = Some(is_written);
         Ok(())
     }
 

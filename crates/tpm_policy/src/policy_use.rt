@@ -4,6 +4,7 @@
 ghost use Rattle.std.specs.Prelude.{◌≡◌, ◌==◌, option_map};
 ghost use Rattle.std.specs.Int.{bit_at};
 ghost use Rattle.tpm_types.specs.Locality.{locality_number};
+ghost use Rattle.tpm_policy.specs.Assertion.{is_other_written};
 ghost use Rattle.tpm_policy.specs.Use.{entity_parts, is_policy_of, lacks_command, parts_of, use_passes};
 
 use crate::state::{Demand, PolicyState};
@@ -39,6 +40,8 @@ pub struct Use<'a> {
     pub role: Role,
     /// The hash of the command.
     pub cp_hash: &'a [u8],
+    /// Whether the entity is written, where it is an NV index.
+    pub written: Option<bool>,
     pub locality: Locality,
     /// The policy of the entity, if it has one.
     pub entity: Option<EntityPolicy<'a>>,
@@ -52,6 +55,17 @@ impl PolicyState {
         match role {
             Role::User => false,
             Role::Admin => self.command.is_none(),
+        }
+    }
+
+    /// Whether the entity is to be an NV index that is written, or one that is not, and is none such.
+    pub(crate) fn records_other_written(&self, found: Option<bool>) -> bool
+        ensures { result ≡ is_other_written self.now.nv_written found }
+    {
+        match (self.nv_written, found) {
+            (None, _) => false,
+            (Some(_), None) => true,
+            (Some(recorded), Some(found)) => recorded != found,
         }
     }
 
@@ -79,8 +93,8 @@ impl PolicyState {
 
     /// Whether the policy authorizes this, and what it demands in addition. The first that does
     /// not hold refuses: ATTRIBUTES for a trial session, AUTH_UNAVAILABLE, PCR_CHANGED, POLICY_CC
-    /// for another command, POLICY_FAIL for the role or another cpHash, LOCALITY, and POLICY_FAIL
-    /// for another policy than the entity's.
+    /// for another command, POLICY_FAIL for the role, another cpHash, or an entity that is not written
+    /// as it is to be, LOCALITY, and POLICY_FAIL for another policy than the entity's.
     #[tactic(auto, unfolding(crate::specs::Use::use_passes))]
     pub fn check_use(&self, asked: &Use) -> Result<Demand, Rc>
         ensures { result ≡ use_passes self.now (parts_of asked.now) }
@@ -99,6 +113,9 @@ impl PolicyState {
             return Err(ResponseCode::PolicyCc.anywhere().at_session(number));
         }
         if self.lacks_command(asked.role) || self.records_other_hash(asked.cp_hash) {
+            return Err(ResponseCode::PolicyFail.anywhere().at_session(number));
+        }
+        if self.records_other_written(asked.written) {
             return Err(ResponseCode::PolicyFail.anywhere().at_session(number));
         }
         if self.forbids(asked.locality) {

@@ -31,6 +31,8 @@ pub struct PolicyState {
     pub(crate) command: Option<u32>,
     /// The hash of the one command that is allowed.
     pub(crate) cp_hash: Option<Digest>,
+    /// Whether the NV index is to be written already.
+    pub(crate) nv_written: Option<bool>,
     /// The localities that are allowed, bit n for locality n.
     pub(crate) localities: u8,
     pub(crate) demand: Demand,
@@ -47,6 +49,7 @@ impl Model for PolicyState {
       update_count = s.update_count;
       command = s.command;
       cp_hash = option_map (λ hash. hash.items) s.cp_hash;
+      nv_written = s.nv_written;
       localities = s.localities;
       demand = s.demand;
     } };
@@ -78,6 +81,7 @@ impl PolicyState {
             update_count: None,
             command: None,
             cp_hash: None,
+            nv_written: None,
             localities: ALL_LOCALITIES,
             demand: Demand::None,
         }
@@ -114,6 +118,7 @@ impl PolicyState {
             update_count: self.update_count,
             command: self.command,
             cp_hash: self.cp_hash.as_ref().map(|hash| copied(hash.as_slice())),
+            nv_written: self.nv_written,
             localities: self.localities,
             demand: self.demand,
         }

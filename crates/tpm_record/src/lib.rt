@@ -33,7 +33,7 @@ pub use any_object::{add_object, add_persistent, remove_object};
 pub use cycle::power_cycle;
 pub use entity::{
     Means, absence_rc, auth_value_of, copied_auth_value, is_available, is_present, name_of,
-    object_of, policy_of, protection_of,
+    object_of, policy_of, protection_of, written_of,
 };
 pub use fixed::Fixed;
 pub use hierarchy::{Hierarchies, Secrets};

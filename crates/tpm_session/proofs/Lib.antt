@@ -1,2 +1,3 @@
 pub mod EntryTexts
 pub mod KeySizes
+pub mod Masks

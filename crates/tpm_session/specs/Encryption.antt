@@ -1,10 +1,11 @@
--- Encryption of a parameter by a session. TPM 2.0 Library, Part 1, sections 21.1 and 21.3 (CFB mode
--- parameter encryption).
-use Rattle.std.specs.Prelude.{ℕ, List, [], ◌∷◌, ◌++◌, take, drop}
+-- Encryption of a parameter by a session. TPM 2.0 Library, Part 1, sections 21.1, 21.2 (XOR
+-- parameter obfuscation) and 21.3 (CFB mode parameter encryption).
+use Rattle.std.specs.Prelude.{ℕ, List, [], ◌∷◌, ◌++◌, length, take, drop}
 use Rattle.tpm_aes.specs.Cfb.{cfb_decrypt_of, cfb_encrypt_of}
+use Rattle.tpm_aes.specs.Cipher.{xor_of}
 use Rattle.tpm_mac.specs.Kdf.{kdfa_of}
 use Rattle.tpm_types.specs.declared.symmetric.SymmetricDefinition.{SymmetricDefinition}
-use Rattle.tpm_types.specs.declared.symmetric.SymmetricDefinition.TheVariants.{Null, Aes128Cfb}
+use Rattle.tpm_types.specs.declared.symmetric.SymmetricDefinition.TheVariants.{Null, Aes128Cfb, Xor}
 use Rattle.tpm_session.specs.declared.session.Session.{Session}
 
 -- "CFB"
@@ -23,20 +24,45 @@ cipher_key bytes = take 16 bytes
 abbrev pub cipher_iv : List ℕ → List ℕ
 cipher_iv bytes = drop 16 bytes
 
-abbrev encrypted_by : SymmetricDefinition → (bytes plain : List ℕ) → List ℕ
-encrypted_by Null bytes plain = plain
-encrypted_by Aes128Cfb bytes plain = cfb_encrypt_of (cipher_key bytes) (cipher_iv bytes) plain
+-- "XOR"
+abbrev pub mask_label : List ℕ
+mask_label = 0x58 ∷ 0x4f ∷ 0x52 ∷ []
 
-abbrev decrypted_by : SymmetricDefinition → (bytes cipher : List ℕ) → List ℕ
-decrypted_by Null bytes cipher = cipher
-decrypted_by Aes128Cfb bytes cipher = cfb_decrypt_of (cipher_key bytes) (cipher_iv bytes) cipher
+-- KDFa(authHash, sessionKey || authValue, "XOR", nonceNewer, nonceOlder, as many bits as a parameter
+-- of this size has)
+unfoldable pub mask_bytes : Session → (auth_value newer older : List ℕ) → (size : ℕ) → List ℕ
+mask_bytes session auth_value newer older size =
+    kdfa_of session.hash (session.key ++ auth_value) mask_label newer older size
+
+-- a parameter with its mask on it, or with it taken off again
+abbrev pub masked : Session → (auth_value newer older bytes : List ℕ) → List ℕ
+masked session auth_value newer older bytes =
+    xor_of bytes (mask_bytes session auth_value newer older (length bytes))
+
+abbrev encrypted_by : SymmetricDefinition → Session → (auth_value newer older plain : List ℕ)
+    → List ℕ
+encrypted_by Null session auth_value newer older plain = plain
+encrypted_by Aes128Cfb session auth_value newer older plain =
+    let bytes : List ℕ = cipher_bytes session auth_value newer older in
+    cfb_encrypt_of (cipher_key bytes) (cipher_iv bytes) plain
+encrypted_by (Xor hash) session auth_value newer older plain =
+    masked session auth_value newer older plain
+
+abbrev decrypted_by : SymmetricDefinition → Session → (auth_value newer older cipher : List ℕ)
+    → List ℕ
+decrypted_by Null session auth_value newer older cipher = cipher
+decrypted_by Aes128Cfb session auth_value newer older cipher =
+    let bytes : List ℕ = cipher_bytes session auth_value newer older in
+    cfb_decrypt_of (cipher_key bytes) (cipher_iv bytes) cipher
+decrypted_by (Xor hash) session auth_value newer older cipher =
+    masked session auth_value newer older cipher
 
 -- the bytes of a parameter encrypted; the same bytes where the session has no symmetric algorithm
 unfoldable pub encrypted_parameter : Session → (auth_value newer older plain : List ℕ) → List ℕ
 encrypted_parameter session auth_value newer older plain =
-    encrypted_by session.symmetric (cipher_bytes session auth_value newer older) plain
+    encrypted_by session.symmetric session auth_value newer older plain
 
 -- and decrypted
 unfoldable pub plain_parameter : Session → (auth_value newer older cipher : List ℕ) → List ℕ
 plain_parameter session auth_value newer older cipher =
-    decrypted_by session.symmetric (cipher_bytes session auth_value newer older) cipher
+    decrypted_by session.symmetric session auth_value newer older cipher

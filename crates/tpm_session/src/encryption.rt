@@ -1,14 +1,16 @@
-//! The encryption of a first parameter by a session, in place (TPM 2.0 Library, Part 1, section
-//! 21.3). Decryption undoes it.
+//! The encryption of a first parameter by a session, in place (TPM 2.0 Library, Part 1, sections 21.2
+//! and 21.3). Decryption undoes it.
 
-ghost use Rattle.std.specs.Prelude.{◌≡◌, ◌≤◌, ◌↔◌, IsOk, OnOk, OnErr, length};
-ghost use Rattle.tpm_types.specs.declared.symmetric.SymmetricDefinition.TheVariants.{Aes128Cfb};
-ghost use Rattle.tpm_session.specs.Encryption.{cipher_bytes, cipher_iv, cipher_key, cipher_label, encrypted_parameter, plain_parameter};
+ghost use Rattle.std.specs.Prelude.{◌≡◌, ◌≤◌, ◌↔◌, false, IsOk, OnErr, length};
+ghost use Rattle.tpm_types.specs.Limits.{buffer_limit};
+ghost use Rattle.tpm_types.specs.Symmetric.{is_null};
+ghost use Rattle.tpm_session.specs.Encryption.{cipher_bytes, cipher_iv, cipher_key, cipher_label};
+ghost use Rattle.tpm_session.specs.Encryption.{encrypted_parameter, mask_bytes, masked, plain_parameter};
 
 use crate::session::Session;
-use tpm_aes::Aes128;
+use tpm_aes::{Aes128, xor_with};
 use tpm_mac::kdfa;
-use tpm_types::SymmetricDefinition;
+use tpm_types::{BUFFER_LIMIT, SymmetricDefinition};
 
 /// The session has no symmetric algorithm.
 #[derive(Clone, Copy, Debug, PartialEq, Eq)]
@@ -16,6 +18,9 @@ pub struct SymmetricFault;
 
 /// The label of the keys of parameters.
 const CIPHER_LABEL: &[u8] = b"CFB";
+
+/// The label of the masks of parameters.
+const MASK_LABEL: &[u8] = b"XOR";
 
 /// A cipher and the IV with which it starts.
 #[derive(Drop)]
@@ -62,6 +67,25 @@ impl Session {
         cipher_from(&bytes)
     }
 
+    /// Puts the mask of a parameter on it, or takes it off, between two nonces.
+    #[tactic(auto, unfolding(crate::specs::Encryption::mask_bytes))]
+    fn mask(&self, auth_value: &[u8], newer: &[u8], older: &[u8], bytes: &mut [u8])
+        requires auth_value { length auth_value.now ≤ 32 }
+        requires size { length bytes.old ≤ buffer_limit }
+        ensures value { bytes.new
+            ≡ masked self.now auth_value.now newer.now older.now bytes.old }
+        // There is a byte of the mask for each.
+        ensures whole { length
+            (mask_bytes self.now auth_value.now newer.now older.now (length bytes.old))
+            ≡ length bytes.old }
+    {
+        let key = self.key_with(auth_value);
+        let mut room = [0; BUFFER_LIMIT];
+        let mask = &mut room[..bytes.len()];
+        kdfa(self.hash, key.as_slice(), MASK_LABEL, newer, older, mask);
+        xor_with(bytes, mask);
+    }
+
     /// Decrypts a parameter in place, or refuses and leaves it where the session has no symmetric
     /// algorithm. The authorization value is that of the entity that the session authorizes too, or
     /// empty (TPM 2.0 Library, Part 1, section 21.3).
@@ -73,8 +97,9 @@ impl Session {
         older: &[u8],
         bytes: &mut [u8],
     ) -> Result<(), SymmetricFault>
-        requires { length auth_value.now ≤ 32 }
-        ensures served { IsOk result ↔ (self.now.symmetric ≡ Aes128Cfb) }
+        requires value { length auth_value.now ≤ 32 }
+        requires size { length bytes.old ≤ buffer_limit }
+        ensures served { IsOk result ↔ (is_null self.now.symmetric ≡ false) }
         ensures value { bytes.new
             ≡ plain_parameter self.now auth_value.now newer.now older.now bytes.old }
         ensures refused { OnErr result (bytes.new ≡ bytes.old) }
@@ -86,12 +111,16 @@ impl Session {
                 by.cipher.cfb_decrypt(&by.iv, bytes);
                 Ok(())
             }
+            SymmetricDefinition::Xor(_) => {
+                self.mask(auth_value, newer, older, bytes);
+                Ok(())
+            }
         }
     }
 
     /// Encrypts a parameter in place, or refuses and leaves it where the session has no symmetric
     /// algorithm.
-    #[tactic(auto, unfolding(crate::specs::Encryption::encrypted_parameter, crate::specs::Encryption::plain_parameter))]
+    #[tactic(auto, unfolding(crate::specs::Encryption::encrypted_parameter, crate::specs::Encryption::plain_parameter), using(crate::proofs::Masks::unmasked))]
     pub fn close_parameter(
         &self,
         auth_value: &[u8],
@@ -99,8 +128,9 @@ impl Session {
         older: &[u8],
         bytes: &mut [u8],
     ) -> Result<(), SymmetricFault>
-        requires { length auth_value.now ≤ 32 }
-        ensures served { IsOk result ↔ (self.now.symmetric ≡ Aes128Cfb) }
+        requires value { length auth_value.now ≤ 32 }
+        requires size { length bytes.old ≤ buffer_limit }
+        ensures served { IsOk result ↔ (is_null self.now.symmetric ≡ false) }
         ensures value { bytes.new
             ≡ encrypted_parameter self.now auth_value.now newer.now older.now bytes.old }
         ensures refused { OnErr result (bytes.new ≡ bytes.old) }
@@ -113,6 +143,10 @@ impl Session {
             SymmetricDefinition::Aes128Cfb => {
                 let by = self.parameter_cipher(auth_value, newer, older);
                 by.cipher.cfb_encrypt(&by.iv, bytes);
+                Ok(())
+            }
+            SymmetricDefinition::Xor(_) => {
+                self.mask(auth_value, newer, older, bytes);
                 Ok(())
             }
         }

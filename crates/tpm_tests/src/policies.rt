@@ -114,12 +114,15 @@ fn either_branch_leads_to_one_digest(rt: HostRuntime) {
     check(&rt, state.digest(), OR);
 }
 
-/// Takes PCR 0, which had been changed 7 times, GetRandom, its cpHash and locality 0.
+/// Takes PCR 0, which had been changed 7 times, GetRandom, its cpHash, an index that is written, and
+/// locality 0.
 fn assert_all(state: &mut PolicyState, selection: &PcrSelection) -> Result<(), ActionFault> {
     let name = Name::of_handle(Handle::ENDORSEMENT);
     state.pcr(HashAlg::Sha256, false, &pcr(selection))?;
     state.command_code(HashAlg::Sha256, GET_RANDOM)?;
     state.secret(HashAlg::Sha256, false, &secret(&name, CP_HASH))?;
+    state.cp_hash(HashAlg::Sha256, CP_HASH)?;
+    state.nv_written(HashAlg::Sha256, true)?;
     state.locality(HashAlg::Sha256, 0x01)
 }
 
@@ -146,13 +149,18 @@ fn spoiled_from(condition: u8, digest: &[u8], locality: Locality) -> Use<'_> {
         },
         role: Role::Admin,
         cp_hash: if condition <= 5 { &[] } else { CP_HASH },
+        written: if condition <= 6 {
+            Some(false)
+        } else {
+            Some(true)
+        },
         locality,
-        entity: if condition <= 7 { None } else { Some(entity) },
+        entity: if condition <= 8 { None } else { Some(entity) },
     }
 }
 
 /// What refuses where every condition from this number on does not hold.
-fn refusals() -> [(u8, Rc); 7] {
+fn refusals() -> [(u8, Rc); 8] {
     let policy_fail = ResponseCode::PolicyFail.anywhere().at_session(1);
     [
         (1, ResponseCode::Attributes.anywhere().at_session(1)),
@@ -160,8 +168,9 @@ fn refusals() -> [(u8, Rc); 7] {
         (3, ResponseCode::PcrChanged.anywhere()),
         (4, ResponseCode::PolicyCc.anywhere().at_session(1)),
         (5, policy_fail),
-        (6, ResponseCode::Locality.anywhere()),
-        (7, policy_fail),
+        (6, policy_fail),
+        (7, ResponseCode::Locality.anywhere()),
+        (8, policy_fail),
     ]
 }
 
@@ -173,7 +182,7 @@ fn the_first_condition_that_does_not_hold_refuses(rt: HostRuntime) {
     let here = Locality::new(0).expect(&rt, "locality 0");
     let elsewhere = Locality::new(1).expect(&rt, "locality 1");
     for (condition, rc) in refusals() {
-        let locality = if condition <= 6 { elsewhere } else { here };
+        let locality = if condition <= 7 { elsewhere } else { here };
         let asked = spoiled_from(condition, state.digest(), locality);
         check(
             &rt,
@@ -181,6 +190,6 @@ fn the_first_condition_that_does_not_hold_refuses(rt: HostRuntime) {
             (condition, Err(rc)),
         );
     }
-    let asked = spoiled_from(8, state.digest(), here);
+    let asked = spoiled_from(9, state.digest(), here);
     check(&rt, state.check_use(&asked), Ok(Demand::None));
 }

@@ -49,6 +49,10 @@ const PLAIN: &[u8] = b"a parameter of 25 bytes..";
 const ENCRYPTED: &[u8] = b"\xa2\x50\xc0\xbe\x24\xaf\x83\xc1\xd4\x33\x10\xe8\x13\x7b\x2c\x2f\
     \xe5\x90\xfe\x91\xcb\x85\x69\xf0\x12";
 
+/// By the exclusive or with KDFa's bytes for "XOR".
+const MASKED: &[u8] = b"\xb9\xa7\x60\x5e\xe4\x00\x34\x4b\xa2\xa5\x9c\x4f\x9c\x9d\xc9\x93\
+    \x3c\xd9\x6c\x50\x40\xb3\xcc\x47\x08";
+
 /// The same bytes, of which the prover then knows their number alone, and so computes nothing of
 /// them.
 fn short(bytes: &[u8]) -> &[u8]
@@ -246,17 +250,25 @@ fn an_entry_s_text_is_written(rt: HostRuntime) {
     check(&rt, short.len(), 0);
 }
 
-#[test]
-fn a_parameter_is_encrypted(rt: HostRuntime) {
-    let session = bound_session(SymmetricDefinition::Aes128Cfb);
+/// Closes the plain parameter, which then is this one, and opens it again.
+fn close_and_open<R: Abort>(rt: &R, symmetric: SymmetricDefinition, encrypted: &[u8]) {
+    let session = bound_session(symmetric);
     let mut parameter = [0; 25];
     parameter.copy_from_slice(PLAIN);
     let closed = session.close_parameter(b"entity", NONCE_CALLER, NONCE_TPM, &mut parameter);
-    check(&rt, closed, Ok(()));
-    check(&rt, parameter.as_slice(), ENCRYPTED);
+    check(rt, closed, Ok(()));
+    check(rt, parameter.as_slice(), encrypted);
     let opened = session.open_parameter(b"entity", NONCE_CALLER, NONCE_TPM, &mut parameter);
-    check(&rt, opened, Ok(()));
-    check(&rt, parameter.as_slice(), PLAIN);
+    check(rt, opened, Ok(()));
+    check(rt, parameter.as_slice(), PLAIN);
+}
+
+#[test]
+fn a_parameter_is_encrypted(rt: HostRuntime) {
+    close_and_open(&rt, SymmetricDefinition::Aes128Cfb, ENCRYPTED);
+    close_and_open(&rt, SymmetricDefinition::Xor(HashAlg::Sha256), MASKED);
+    let mut parameter = [0; 25];
+    parameter.copy_from_slice(PLAIN);
     let bare = bound_session(SymmetricDefinition::Null);
     let refused = bare.close_parameter(b"", b"", b"", &mut parameter);
     check(&rt, refused, Err(SymmetricFault));

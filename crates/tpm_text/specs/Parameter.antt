@@ -38,7 +38,10 @@ hash_text word = do
 abbrev pub symmetric_in : List ℕ → Result SymmetricDefinition TokenFault
 symmetric_in word =
     if is_word (codes "null") word then Ok symmetric.Null
-    else (if is_word (codes "aes") word then Ok symmetric.Aes128Cfb else Err Bad)
+    else (if is_word (codes "aes") word then Ok symmetric.Aes128Cfb
+    else (if is_word (codes "xor-sha1") word then Ok (symmetric.Xor Sha1)
+    else (if is_word (codes "xor-sha256") word then Ok (symmetric.Xor Sha256)
+    else Err Bad)))
 
 -- how a session encrypts parameters
 unfoldable pub symmetric_word_text : List ℕ → Result (List ℕ) TokenFault

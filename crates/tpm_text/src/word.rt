@@ -47,6 +47,10 @@ fn symmetric_in(word: &[u8]) -> Result<SymmetricDefinition, TokenFault>
         Ok(SymmetricDefinition::Null)
     } else if is_word("aes", word) {
         Ok(SymmetricDefinition::Aes128Cfb)
+    } else if is_word("xor-sha1", word) {
+        Ok(SymmetricDefinition::Xor(HashAlg::Sha1))
+    } else if is_word("xor-sha256", word) {
+        Ok(SymmetricDefinition::Xor(HashAlg::Sha256))
     } else {
         Err(TokenFault::Bad)
     }

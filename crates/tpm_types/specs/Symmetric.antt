@@ -1,23 +1,26 @@
 -- Symmetric definitions. TPM 2.0 Library, Part 2, section 11.1.6 (TPMT_SYM_DEF) and section 6.3
--- (TPM_ALG_ID: NULL 0010, AES 0006, CFB 0043).
+-- (TPM_ALG_ID: NULL 0010, AES 0006, CFB 0043, XOR 000A).
 use Rattle.std.specs.Prelude.{ℕ, ◌==◌, not, Bool, true, false, List, ◌++◌, if◌then◌else◌, Result, Ok, Err}
 use Rattle.std.specs.Int.{w16, to_be_bytes}
 use Rattle.tpm_bytes.specs.Reading.{◌>>=◌, number_at, or_fault, refused_if}
 use Rattle.tpm_types.specs.declared.rc.Rc.{Rc}
 use Rattle.tpm_types.specs.declared.rc.ResponseCode.TheVariants as code
 use Rattle.tpm_types.specs.declared.symmetric.SymmetricDefinition.{SymmetricDefinition}
-use Rattle.tpm_types.specs.declared.symmetric.SymmetricDefinition.TheVariants.{Null, Aes128Cfb}
+use Rattle.tpm_types.specs.declared.symmetric.SymmetricDefinition.TheVariants.{Null, Aes128Cfb, Xor}
+use Rattle.tpm_types.specs.Algorithm.{hash_at, hash_number}
 use Rattle.tpm_types.specs.Rc.{plain}
 
 abbrev pub is_null : SymmetricDefinition → Bool
 is_null Null = true
 is_null Aes128Cfb = false
+is_null (Xor hash) = false
 
--- NULL alone; or AES, the bits of its key, and its mode
+-- NULL alone; or AES, the bits of its key, and its mode; or XOR, and the hash of its masks
 unfoldable pub symmetric_text : SymmetricDefinition → List ℕ
 symmetric_text Null = to_be_bytes w16 0x0010
 symmetric_text Aes128Cfb =
     to_be_bytes w16 0x0006 ++ to_be_bytes w16 0x0080 ++ to_be_bytes w16 0x0043
+symmetric_text (Xor hash) = to_be_bytes w16 0x000a ++ to_be_bytes w16 (hash_number hash)
 
 -- what stands after the number of AES: 128 bits, and the mode CFB
 unfoldable pub aes_at : List ℕ → Result (SymmetricDefinition × List ℕ) Rc
@@ -28,14 +31,29 @@ aes_at text = do
   feedback ← refused_if (not (mode.0 == 0x0043)) (plain code.Mode)
   Ok (Aes128Cfb, mode.1)
 
+-- what stands after the number of XOR: a hash
+unfoldable pub xor_at : List ℕ → Result (SymmetricDefinition × List ℕ) Rc
+xor_at text = do
+  hash ← hash_at text
+  Ok (Xor hash.0, hash.1)
+
 -- what stands after the number of an algorithm
 abbrev pub behind_at : ℕ → List ℕ → Result (SymmetricDefinition × List ℕ) Rc
 behind_at number text =
     if number == 0x0010 then Ok (Null, text)
-    else (if number == 0x0006 then aes_at text else Err (plain code.Symmetric))
+    else (if number == 0x0006 then aes_at text
+    else (if number == 0x000a then xor_at text
+    else Err (plain code.Symmetric)))
 
 -- a definition, and what is after it
 unfoldable pub symmetric_at : List ℕ → Result (SymmetricDefinition × List ℕ) Rc
 symmetric_at text = do
   algorithm ← or_fault (number_at w16 text) (plain code.Insufficient)
   behind_at algorithm.0 algorithm.1
+
+-- a cipher, which is AES, and what is after it: the one that a storage key can have
+unfoldable pub cipher_at : List ℕ → Result (SymmetricDefinition × List ℕ) Rc
+cipher_at text = do
+  algorithm ← or_fault (number_at w16 text) (plain code.Insufficient)
+  served ← refused_if (not (algorithm.0 == 0x0006)) (plain code.Symmetric)
+  aes_at algorithm.1

@@ -1,13 +1,15 @@
-//! The cipher by which a session encrypts parameters: none, or AES-128 in CFB mode (TPMT_SYM_DEF;
-//! TPM 2.0 Library, Part 2, section 11.1.6).
+//! How a session encrypts parameters: not at all, by AES-128 in CFB mode, or by the exclusive or with
+//! masks (TPMT_SYM_DEF; TPM 2.0 Library, Part 2, section 11.1.6).
 
 ghost use Rattle.std.specs.Prelude.{◌≡◌, ℕ, List, ◌++◌, Ok, IfOk};
 ghost use Rattle.tpm_bytes.specs.Reading.{Reads};
 ghost use Rattle.tpm_bytes.specs.Writing.{Puts};
 
+use crate::algorithm::read_hash;
 use crate::grammar::bytes_fit;
 use crate::rc::{Rc, ResponseCode};
 use tpm_bytes::{Cursor, Full, Sink};
+use tpm_mac::HashAlg;
 
 /// How a session encrypts parameters: TPMT_SYM_DEF of TPM 2.0 Library, Part 2, section 11.1.6.
 #[derive(Clone, Copy, Debug, PartialEq, Eq)]
@@ -16,14 +18,17 @@ pub enum SymmetricDefinition {
     Null,
     /// By AES with a key of 128 bits, in cipher feedback mode.
     Aes128Cfb,
+    /// By the exclusive or with masks that this hash makes.
+    Xor(HashAlg),
 }
 
 impl SymmetricDefinition {
-    ghost use Rattle.tpm_types.specs.Symmetric.{aes_at, symmetric_at, symmetric_text};
+    ghost use Rattle.tpm_types.specs.Symmetric.{aes_at, cipher_at, symmetric_at, symmetric_text, xor_at};
     ghost use Rattle.tpm_types.specs.declared.symmetric.SymmetricDefinition.{SymmetricDefinition};
 
-    /// Reads a definition: INSUFFICIENT where it is cut, SYMMETRIC where it is neither NULL nor
-    /// AES, VALUE where the key has not 128 bits, and MODE where the mode is not CFB.
+    /// Reads a definition: INSUFFICIENT where it is cut, SYMMETRIC where it is neither NULL nor AES
+    /// nor XOR, VALUE where the key has not 128 bits, MODE where the mode is not CFB, and HASH where
+    /// the hash is no served one.
     pub fn read(text: &mut Cursor) -> Result<SymmetricDefinition, Rc>
         // Which definition it is, or the first fault.
         ensures exact { Reads (λ definition. definition) (symmetric_at text.old) text.old
@@ -52,6 +57,7 @@ impl SymmetricDefinition {
         let definition = match number {
             0x0010 => SymmetricDefinition::Null,
             0x0006 => SymmetricDefinition::read_aes(&mut ahead)?,
+            0x000a => SymmetricDefinition::read_xor(&mut ahead)?,
             _ => return Err(ResponseCode::Symmetric.anywhere()),
         };
         *text = ahead;
@@ -80,7 +86,33 @@ impl SymmetricDefinition {
         Ok(SymmetricDefinition::Aes128Cfb)
     }
 
-    /// Writes the definition at the end, two bytes or six, or nothing where it does not fit.
+    /// Reads what stands after the number of XOR.
+    #[tactic(auto, unfolding(crate::specs::Symmetric::xor_at))]
+    fn read_xor(text: &mut Cursor) -> Result<SymmetricDefinition, Rc>
+        ensures { Reads (λ definition. definition) (xor_at text.old) text.old result text.new }
+    {
+        Ok(SymmetricDefinition::Xor(read_hash(text)?))
+    }
+
+    /// Reads a cipher, which is AES: INSUFFICIENT where it is cut, SYMMETRIC for another algorithm,
+    /// VALUE where the key has not 128 bits, and MODE where the mode is not CFB.
+    #[tactic(auto, unfolding(crate::specs::Symmetric::cipher_at))]
+    pub fn read_cipher(text: &mut Cursor) -> Result<SymmetricDefinition, Rc>
+        ensures { Reads (λ definition. definition) (cipher_at text.old) text.old result text.new }
+    {
+        let mut ahead = Cursor::new(text.rest());
+        let Ok(number) = ahead.u16() else {
+            return Err(ResponseCode::Insufficient.anywhere());
+        };
+        if number != 0x0006 {
+            return Err(ResponseCode::Symmetric.anywhere());
+        }
+        let cipher = SymmetricDefinition::read_aes(&mut ahead)?;
+        *text = ahead;
+        Ok(cipher)
+    }
+
+    /// Writes the definition at the end, two bytes, four or six, or nothing where it does not fit.
     #[tactic(auto, unfolding(crate::specs::Symmetric::symmetric_text))]
     pub fn write<const N: usize>(&self, sink: &mut Sink<N>) -> Result<(), Full>
         ensures { Puts N (symmetric_text self.now) sink.old result sink.new }
@@ -88,6 +120,8 @@ impl SymmetricDefinition {
         match *self {
             SymmetricDefinition::Null => sink.put_u16(0x0010),
             SymmetricDefinition::Aes128Cfb => sink.put(b"\x00\x06\x00\x80\x00\x43"),
+            SymmetricDefinition::Xor(HashAlg::Sha1) => sink.put(b"\x00\x0a\x00\x04"),
+            SymmetricDefinition::Xor(HashAlg::Sha256) => sink.put(b"\x00\x0a\x00\x0b"),
         }
     }
 }

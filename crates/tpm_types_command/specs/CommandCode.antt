@@ -48,6 +48,7 @@ code_number code.FlushContext = 0x165
 code_number code.NvReadPublic = 0x169
 code_number code.PolicyAuthValue = 0x16b
 code_number code.PolicyCommandCode = 0x16c
+code_number code.PolicyCpHash = 0x16e
 code_number code.PolicyLocality = 0x16f
 code_number code.PolicyOr = 0x171
 code_number code.ReadPublic = 0x173
@@ -61,6 +62,7 @@ code_number code.ReadClock = 0x181
 code_number code.PcrExtend = 0x182
 code_number code.PolicyGetDigest = 0x189
 code_number code.PolicyPassword = 0x18c
+code_number code.PolicyNvWritten = 0x18f
 
 -- all of them
 abbrev pub all_codes : List CommandCode
@@ -97,6 +99,7 @@ all_codes =
     ∷ code.NvReadPublic
     ∷ code.PolicyAuthValue
     ∷ code.PolicyCommandCode
+    ∷ code.PolicyCpHash
     ∷ code.PolicyLocality
     ∷ code.PolicyOr
     ∷ code.ReadPublic
@@ -110,6 +113,7 @@ all_codes =
     ∷ code.PcrExtend
     ∷ code.PolicyGetDigest
     ∷ code.PolicyPassword
+    ∷ code.PolicyNvWritten
     ∷ []
 
 -- the command of a number, if it is served
@@ -241,6 +245,7 @@ shape_of code.NvReadPublic =
     keeping (answering (shape_with (unauthorized kind.NvIndex ∷ []) []))
 shape_of code.PolicyAuthValue = on_policy []
 shape_of code.PolicyCommandCode = on_policy (parameter.U32 ∷ [])
+shape_of code.PolicyCpHash = on_policy (parameter.Buffer 32 ∷ [])
 shape_of code.PolicyLocality = on_policy (parameter.U8 ∷ [])
 shape_of code.PolicyOr = on_policy (parameter.DigestList ∷ [])
 shape_of code.ReadPublic = keeping (answering (shape_with (unauthorized kind.Object ∷ []) []))
@@ -260,6 +265,7 @@ shape_of code.ReadClock = record (keeping (shape_with [] [])) { forbids_sessions
 shape_of code.PcrExtend = shape_with (user kind.PcrOrNull ∷ []) (parameter.Digests ∷ [])
 shape_of code.PolicyGetDigest = keeping (answering (on_policy []))
 shape_of code.PolicyPassword = on_policy []
+shape_of code.PolicyNvWritten = on_policy (parameter.YesNo ∷ [])
 
 -- how many handles a command has, and how many of these need authorization
 abbrev pub handle_count : CommandCode → ℕ

@@ -40,6 +40,7 @@ code_name code.FlushContext = codes "FlushContext"
 code_name code.NvReadPublic = codes "NV_ReadPublic"
 code_name code.PolicyAuthValue = codes "PolicyAuthValue"
 code_name code.PolicyCommandCode = codes "PolicyCommandCode"
+code_name code.PolicyCpHash = codes "PolicyCpHash"
 code_name code.PolicyLocality = codes "PolicyLocality"
 code_name code.PolicyOr = codes "PolicyOR"
 code_name code.ReadPublic = codes "ReadPublic"
@@ -53,6 +54,7 @@ code_name code.ReadClock = codes "ReadClock"
 code_name code.PcrExtend = codes "PCR_Extend"
 code_name code.PolicyGetDigest = codes "PolicyGetDigest"
 code_name code.PolicyPassword = codes "PolicyPassword"
+code_name code.PolicyNvWritten = codes "PolicyNvWritten"
 
 -- the command of a name, if it is served
 unfoldable pub code_called : List ℕ → Option CommandCode

@@ -46,6 +46,7 @@ pub enum CommandCode {
     NvReadPublic = 0x169,
     PolicyAuthValue = 0x16b,
     PolicyCommandCode = 0x16c,
+    PolicyCpHash = 0x16e,
     PolicyLocality = 0x16f,
     PolicyOr = 0x171,
     ReadPublic = 0x173,
@@ -59,6 +60,7 @@ pub enum CommandCode {
     PcrExtend = 0x182,
     PolicyGetDigest = 0x189,
     PolicyPassword = 0x18c,
+    PolicyNvWritten = 0x18f,
 }
 
 const USER_PCR: HandleRule = HandleRule {
@@ -182,7 +184,7 @@ impl CommandCode {
     ghost use Rattle.tpm_types_command.specs.Shape.{facts_of};
 
     /// All of them, ascending by number.
-    pub const ALL: [CommandCode; 45] = [
+    pub const ALL: [CommandCode; 47] = [
         CommandCode::EvictControl,
         CommandCode::NvUndefineSpace,
         CommandCode::Clear,
@@ -215,6 +217,7 @@ impl CommandCode {
         CommandCode::NvReadPublic,
         CommandCode::PolicyAuthValue,
         CommandCode::PolicyCommandCode,
+        CommandCode::PolicyCpHash,
         CommandCode::PolicyLocality,
         CommandCode::PolicyOr,
         CommandCode::ReadPublic,
@@ -228,6 +231,7 @@ impl CommandCode {
         CommandCode::PcrExtend,
         CommandCode::PolicyGetDigest,
         CommandCode::PolicyPassword,
+        CommandCode::PolicyNvWritten,
     ];
 
     /// The number on the wire.
@@ -287,6 +291,7 @@ impl CommandCode {
             0x169 => Some(CommandCode::NvReadPublic),
             0x16b => Some(CommandCode::PolicyAuthValue),
             0x16c => Some(CommandCode::PolicyCommandCode),
+            0x16e => Some(CommandCode::PolicyCpHash),
             0x16f => Some(CommandCode::PolicyLocality),
             0x171 => Some(CommandCode::PolicyOr),
             0x173 => Some(CommandCode::ReadPublic),
@@ -300,6 +305,7 @@ impl CommandCode {
             0x182 => Some(CommandCode::PcrExtend),
             0x189 => Some(CommandCode::PolicyGetDigest),
             0x18c => Some(CommandCode::PolicyPassword),
+            0x18f => Some(CommandCode::PolicyNvWritten),
             _ => None,
         }
     }
@@ -373,6 +379,7 @@ impl CommandCode {
             CommandCode::NvReadPublic => shape!([NV_INDEX], &[], sized_answer, keeps_shutdown),
             CommandCode::PolicyAuthValue => shape!([POLICY_SESSION], &[]),
             CommandCode::PolicyCommandCode => shape!([POLICY_SESSION], &[U32]),
+            CommandCode::PolicyCpHash => shape!([POLICY_SESSION], &[Buffer(32)]),
             CommandCode::PolicyLocality => shape!([POLICY_SESSION], &[U8]),
             CommandCode::PolicyOr => shape!([POLICY_SESSION], &[DigestList]),
             CommandCode::ReadPublic => shape!([OBJECT], &[], sized_answer, keeps_shutdown),
@@ -397,6 +404,7 @@ impl CommandCode {
                 keeps_shutdown
             ),
             CommandCode::PolicyPassword => shape!([POLICY_SESSION], &[]),
+            CommandCode::PolicyNvWritten => shape!([POLICY_SESSION], &[YesNo]),
         }
     }
 

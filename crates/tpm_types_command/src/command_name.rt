@@ -49,6 +49,7 @@ impl CommandCode {
             CommandCode::NvReadPublic => "NV_ReadPublic",
             CommandCode::PolicyAuthValue => "PolicyAuthValue",
             CommandCode::PolicyCommandCode => "PolicyCommandCode",
+            CommandCode::PolicyCpHash => "PolicyCpHash",
             CommandCode::PolicyLocality => "PolicyLocality",
             CommandCode::PolicyOr => "PolicyOR",
             CommandCode::ReadPublic => "ReadPublic",
@@ -62,6 +63,7 @@ impl CommandCode {
             CommandCode::PcrExtend => "PCR_Extend",
             CommandCode::PolicyGetDigest => "PolicyGetDigest",
             CommandCode::PolicyPassword => "PolicyPassword",
+            CommandCode::PolicyNvWritten => "PolicyNvWritten",
         }
     }
 

@@ -1,11 +1,11 @@
 -- Public areas: what is read was spelled so, and what is spelled so is read.
-use Rattle.std.proofs.Common.{◌≡◌, ℕ, ◌^◌, ◌<◌, ◌≤◌, false, cond, List, [], ◌++◌, length, Result, Ok, Err, refl, sym, ap, subst, ◌∙◌, append_assoc, arith, inl, inr, length-append}
+use Rattle.std.proofs.Common.{◌≡◌, ℕ, ◌^◌, ◌<◌, ◌≤◌, cond, List, [], ◌++◌, length, Result, Ok, Err, refl, sym, ap, subst, ◌∙◌, append_assoc, arith, inl, inr, length-append}
 use Rattle.std.specs.Prelude.{◌==◌}
 use Rattle.std.specs.Int.{w16, to_be_bytes}
 use Rattle.std.proofs.lemmas.Bool.{eqb-true}
-use Rattle.tpm_bytes.specs.Reading.{◌>>=◌, number_at, or_fault, refused_if}
+use Rattle.tpm_bytes.specs.Reading.{◌>>=◌, number_at, or_fault}
 use Rattle.tpm_bytes.specs.Writing.{sized_text}
-use Rattle.tpm_bytes.proofs.Fields.{AreBytes, Takes, bind_ok, ok_is, passed, number_or_again, number_or_takes, wide16}
+use Rattle.tpm_bytes.proofs.Fields.{AreBytes, Takes, bind_ok, ok_is, number_or_again, number_or_takes, wide16}
 use Rattle.tpm_mac.specs.declared.algorithm.HashAlg.{HashAlg}
 use Rattle.tpm_types_object.specs.declared.public.KeyedHashScheme.{KeyedHashScheme}
 use Rattle.tpm_types_object.specs.declared.public.KeyedHashScheme.TheVariants.{Null, Hmac}
@@ -16,21 +16,20 @@ use Rattle.tpm_types_object.specs.declared.public.PublicParameters.{PublicParame
 use Rattle.tpm_types_object.specs.declared.public.PublicParameters.TheVariants as parameters_of
 use Rattle.tpm_types.specs.declared.rc.Rc.{Rc}
 use Rattle.tpm_types.specs.declared.rc.ResponseCode.TheVariants as code
-use Rattle.tpm_types.specs.declared.symmetric.SymmetricDefinition.{SymmetricDefinition}
 use Rattle.tpm_types.specs.declared.symmetric.SymmetricDefinition.TheVariants as symmetric
 use Rattle.tpm_types.specs.Algorithm.{hash_at, hash_number}
 use Rattle.tpm_types.specs.Buffer.{buffer_at}
 use Rattle.tpm_types_object.specs.Filled.{filled_by}
 use Rattle.tpm_types_object.specs.ObjectAttributes.{attributes_at, attributes_text}
-use Rattle.tpm_types_object.specs.Public.{IsPublic, behind_scheme_at, cipher_at, hmac_at, object_type, object_type_text, parameters_at, parameters_text, public_at, public_text, scheme_at, scheme_text, type_of_parameters}
+use Rattle.tpm_types_object.specs.Public.{IsPublic, behind_scheme_at, sym_cipher_at, hmac_at, object_type, object_type_text, parameters_at, parameters_text, public_at, public_text, scheme_at, scheme_text, type_of_parameters}
 use Rattle.tpm_types.specs.Rc.{plain}
-use Rattle.tpm_types.specs.Symmetric.{is_null, symmetric_at, symmetric_text}
+use Rattle.tpm_types.specs.Symmetric.{cipher_at, symmetric_text}
 use Rattle.tpm_types.proofs.FieldLaws.{buffer_spelled}
 use Rattle.tpm_types_object.proofs.ObjectFields.{attributes_spelled, object_type_spelled}
 use Rattle.tpm_types_object.proofs.FilledLaws.{filled_spelled}
 use Rattle.tpm_types.proofs.HashLaws.{hash_spelled}
 use Rattle.tpm_types.proofs.Spelled.{Spelled, all_read, first, for_each, respelled, six_texts, takes, then}
-use Rattle.tpm_types.proofs.SymmetricLaws.{chosen, symmetric_again, symmetric_takes}
+use Rattle.tpm_types.proofs.SymmetricLaws.{chosen, cipher_again, cipher_takes}
 
 -- ---- schemes
 
@@ -85,19 +84,13 @@ scheme_spelled = record { taken = taken; again = again }
 abbrev AreOf : ObjectType → PublicParameters → Type 0
 AreOf type parameters = Unit {0} × (type_of_parameters parameters ≡ type)
 
-cipher_taken : (bytes : List ℕ) (x : PublicParameters × List ℕ) → AreBytes bytes → cipher_at bytes ≡ Ok x → Takes bytes (parameters_text x.0) x.1 × AreOf object.SymCipher x.0
-unfolding cipher_at
+cipher_taken : (bytes : List ℕ) (x : PublicParameters × List ℕ) → AreBytes bytes → sym_cipher_at bytes ≡ Ok x → Takes bytes (parameters_text x.0) x.1 × AreOf object.SymCipher x.0
+unfolding sym_cipher_at
 cipher_taken bytes x fits e =
-    let a = bind_ok (symmetric_at bytes) (λ definition. refused_if (is_null definition.0) (plain code.Symmetric) >>= λ cipher. Ok (parameters_of.SymCipher, definition.1)) x e in
-    let b = bind_ok (refused_if (is_null a.0.0) (plain code.Symmetric)) (λ cipher. Ok (parameters_of.SymCipher, a.0.1)) x a.2 in
-    let t : Takes bytes (symmetric_text a.0.0) a.0.1 = takes bytes (symmetric_text a.0.0) a.0.1 fits (symmetric_takes bytes a.0 fits a.1) in
-    let is = aes a.0.0 (passed (is_null a.0.0) (plain code.Symmetric) b.0 b.1) in
+    let a = bind_ok (cipher_at bytes) (λ cipher. Ok (parameters_of.SymCipher, cipher.1)) x e in
     let made : PublicParameters × List ℕ = (parameters_of.SymCipher, a.0.1) in
-    subst (λ (y : PublicParameters × List ℕ). Takes bytes (parameters_text y.0) y.1 × AreOf object.SymCipher y.0) (ok_is made x b.2) (subst (λ (d : SymmetricDefinition). Takes bytes (symmetric_text d) a.0.1) is t, (tt, refl))
-  where
-    aes : (d : SymmetricDefinition) → is_null d ≡ false → d ≡ symmetric.Aes128Cfb
-    aes symmetric.Null some = absurd cc
-    aes symmetric.Aes128Cfb some = refl
+    subst (λ (y : PublicParameters × List ℕ). Takes bytes (parameters_text y.0) y.1 × AreOf object.SymCipher y.0) (ok_is made x a.2)
+    (takes bytes (symmetric_text symmetric.Aes128Cfb) a.0.1 fits (cipher_takes bytes a.0 fits a.1).0, (tt, refl))
 
 keyed_hash_taken : (bytes : List ℕ) (x : PublicParameters × List ℕ) → AreBytes bytes → parameters_at object.KeyedHash bytes ≡ Ok x → Takes bytes (parameters_text x.0) x.1 × AreOf object.KeyedHash x.0
 keyed_hash_taken bytes x fits e =
@@ -111,9 +104,9 @@ parameters_taken object.KeyedHash = keyed_hash_taken
 parameters_taken object.SymCipher = cipher_taken
 
 of_their_type : (parameters : PublicParameters) (rest : List ℕ) → parameters_at (type_of_parameters parameters) (parameters_text parameters ++ rest) ≡ Ok (parameters, rest)
-unfolding cipher_at
+unfolding sym_cipher_at
 of_their_type (parameters_of.KeyedHash scheme) rest = rw (scheme_spelled.again scheme rest tt) refl
-of_their_type parameters_of.SymCipher rest = rw (symmetric_again symmetric.Aes128Cfb rest) refl
+of_their_type parameters_of.SymCipher rest = rw (cipher_again rest) refl
 
 parameters_spelled : (type : ObjectType) → Spelled parameters_text (AreOf type) (parameters_at type)
 parameters_spelled type = record {

@@ -21,7 +21,7 @@ use Rattle.tpm_types.specs.Algorithm.{hash_at, hash_number}
 use Rattle.tpm_types.specs.Buffer.{buffer_at}
 use Rattle.tpm_types_object.specs.ObjectAttributes.{IsAttributes, attributes_at, attributes_text}
 use Rattle.tpm_types.specs.Rc.{plain}
-use Rattle.tpm_types.specs.Symmetric.{is_null, symmetric_at, symmetric_text}
+use Rattle.tpm_types.specs.Symmetric.{cipher_at, symmetric_text}
 
 -- ---- the types of objects
 
@@ -69,12 +69,11 @@ scheme_at text = do
   scheme ← or_fault (number_at w16 text) (plain code.Insufficient)
   behind_scheme_at scheme.0 scheme.1
 
--- the cipher of a SYMCIPHER, which is not NULL, and what is after it
-unfoldable pub cipher_at : List ℕ → Result (PublicParameters × List ℕ) Rc
-cipher_at text = do
-  definition ← symmetric_at text
-  cipher ← refused_if (is_null definition.0) (plain code.Symmetric)
-  Ok (parameters_of.SymCipher, definition.1)
+-- the cipher of a SYMCIPHER, and what is after it
+unfoldable pub sym_cipher_at : List ℕ → Result (PublicParameters × List ℕ) Rc
+sym_cipher_at text = do
+  cipher ← cipher_at text
+  Ok (parameters_of.SymCipher, cipher.1)
 
 abbrev pub keyed_hash_at : List ℕ → Result (PublicParameters × List ℕ) Rc
 keyed_hash_at text = do
@@ -84,7 +83,7 @@ keyed_hash_at text = do
 -- parameters of this type, and what is after them
 abbrev pub parameters_at : ObjectType → List ℕ → Result (PublicParameters × List ℕ) Rc
 parameters_at object.KeyedHash text = keyed_hash_at text
-parameters_at object.SymCipher text = cipher_at text
+parameters_at object.SymCipher text = sym_cipher_at text
 
 -- the scheme of a KEYEDHASH; or AES with its key's bits and mode
 abbrev pub parameters_text : PublicParameters → List ℕ

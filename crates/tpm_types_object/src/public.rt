@@ -122,7 +122,7 @@ pub enum PublicParameters {
 }
 
 impl PublicParameters {
-    ghost use Rattle.tpm_types_object.specs.Public.{cipher_at, parameters_at, parameters_text, type_of_parameters};
+    ghost use Rattle.tpm_types_object.specs.Public.{parameters_at, parameters_text, sym_cipher_at, type_of_parameters};
 
     /// The type whose parameters they are.
     pub fn object_type(self) -> ObjectType
@@ -145,19 +145,14 @@ impl PublicParameters {
         }
     }
 
-    /// Reads a cipher: as a symmetric definition, but SYMMETRIC where it is NULL.
-    #[tactic(auto, unfolding(crate::specs::Public::cipher_at))]
+    /// Reads the cipher of a storage key.
+    #[tactic(auto, unfolding(crate::specs::Public::sym_cipher_at))]
     fn read_cipher(text: &mut Cursor) -> Result<PublicParameters, Rc>
-        ensures { Reads (λ parameters. parameters) (cipher_at text.old) text.old result text.new }
+        ensures { Reads (λ parameters. parameters) (sym_cipher_at text.old) text.old
+            result text.new }
     {
-        let mut ahead = Cursor::new(text.rest());
-        match SymmetricDefinition::read(&mut ahead)? {
-            SymmetricDefinition::Null => Err(ResponseCode::Symmetric.anywhere()),
-            SymmetricDefinition::Aes128Cfb => {
-                *text = ahead;
-                Ok(PublicParameters::SymCipher)
-            }
-        }
+        SymmetricDefinition::read_cipher(text)?;
+        Ok(PublicParameters::SymCipher)
     }
 
     /// Writes the parameters at the end, at most six bytes, or nothing where they do not fit.

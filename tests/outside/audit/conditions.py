@@ -4,6 +4,7 @@ from dataclasses import dataclass
 
 import frames
 import hmacs
+import nv
 import policy
 from words import HASHES, command_name
 
@@ -28,6 +29,8 @@ def findings(use, history, session_lines, pcr_lines):
         yield of_code(told, use.code)
     if told.cp_hash is not None:
         yield of_cp_hash(told, use)
+    if told.nv_written is not None:
+        yield of_written(told, use)
     if told.localities != policy.ALL_LOCALITIES:
         yield of_locality(told, use.seen.locality)
     if use.view.public is not None:
@@ -70,6 +73,17 @@ def of_cp_hash(told, use):
     if told.cp_hash == hmacs.command_hash(use):
         return Finding(True, f"its cpHash is that of the command, {told.cp_hash.hex()}")
     return Finding(False, f"its cpHash is not that of the command: {told.cp_hash.hex()}")
+
+
+def of_written(told, use):
+    """An NV index is written, or is not, as the session was told."""
+    wanted = "written" if told.nv_written else "not written"
+    if not use.view.is_index:
+        return Finding(False, f"it is to be an NV index that is {wanted}, and is none")
+    is_written = use.view.public.has(nv.Attribute.WRITTEN)
+    if is_written == told.nv_written:
+        return Finding(True, f"it is {wanted}, as its session was told")
+    return Finding(False, f"it is to be {wanted}, and is {'' if is_written else 'not '}written")
 
 
 def of_locality(told, locality):

@@ -41,7 +41,7 @@ def plain_parameters(command, history):
     key = session.key + (b"" if handle is None else history.auth_values.of(handle))
     return sessions.on_first_buffer(
         lambda data: sessions.decrypted(
-            session.algorithm, key, entry.nonce, session.nonce_tpm, data
+            *(session.cipher, session.algorithm, key, entry.nonce, session.nonce_tpm, data)
         ),
         command.parameters,
     )

@@ -9,6 +9,7 @@ It prints what is found of each, and status 1 where it finds nothing of one.
 
 import pathlib
 import sys
+from dataclasses import replace
 from unittest import mock
 
 OUTSIDE = pathlib.Path(__file__).resolve().parent.parent
@@ -41,6 +42,17 @@ def unless(refused):
                 raise
 
     return checked
+
+
+def any_cp_hash(session, entity, use, place):
+    """A policy's use for which it does not matter which cpHash is recorded."""
+    told = session.policy.cp_hash
+    return check_use(session, entity, replace(use, cp_hash=told or use.cp_hash), place)
+
+
+def written_or_not(session, entity, use, place):
+    """A policy's use for which it does not matter whether an index is written."""
+    return check_use(session, entity, replace(use, written=session.policy.nv_written), place)
 
 
 def takes_any_password(self, command, place, entry, handle):
@@ -102,6 +114,12 @@ WRONG = (
     ("any command code will do", "nv_policies", in_policies("POLICY_CC")),
     ("any locality will do", "object_policies", in_policies("LOCALITY")),
     ("any digest will do", "object_policies", in_policies("POLICY_FAIL")),
+    (
+        "an index may be written or not",
+        "policy_nv_written",
+        mock.patch.object(policy, "check_use", written_or_not),
+    ),
+    ("any cpHash will do", "policy_cp_hash", mock.patch.object(policy, "check_use", any_cp_hash)),
     ("what has no policy is authorized by one", "clear", in_policies("AUTH_UNAVAILABLE")),
     ("any password will do", "passwords", in_device("accepts", takes_any_password)),
     ("an empty hmac will do", "hmac_sessions", in_device("accepts", takes_no_hmac)),
@@ -114,6 +132,11 @@ WRONG = (
         "a session is bound whatever the value is",
         "hmac_sessions",
         in_device("is_bound", lambda self, session, handle: session.bind == self.name(handle)),
+    ),
+    (
+        "masks are made without the authorization value",
+        "xor_sessions",
+        in_device("encryption_key", lambda self, session, handle: session.key),
     ),
     (
         "nonces stay",

@@ -71,13 +71,14 @@ KEEPING_SAVED = {
 @dataclass
 class Session:
     """A session, with what it was bound to: the Name, the authorization value, and what wrong
-    values of it counted at, all of them at the start. `policy` is what a policy or a trial session
-    was told.
+    values of it counted at, all of them at the start. `cipher` is AES, XOR or ALG_NULL; the masks
+    of XOR are by the session's own hash algorithm. `policy` is what a policy or a trial session was
+    told.
     """
 
     kind: int
     algorithm: int
-    aes: bool
+    cipher: int
     nonce_tpm: bytes
     key: bytes
     bind: bytes
@@ -257,6 +258,12 @@ class Device(
             return None
         return policy.Entity(public.name_algorithm, public.auth_policy)
 
+    def written(self, handle):
+        """Whether an NV index is written; None of all else."""
+        if handle not in self.indices:
+            return None
+        return self.indices[handle].public.has(nv.Attribute.WRITTEN)
+
     # Authorization.
 
     def is_bound(self, session, handle):
@@ -329,8 +336,10 @@ class Device(
         cp_hash = sessions.command_hash(
             session.algorithm, command.code, self.names(command), command.parameters
         )
-        is_admin = command.shape.is_admin
-        use = policy.Use(command.code, is_admin, cp_hash, self.update_counter, locality)
+        use = policy.Use(
+            *(command.code, command.shape.is_admin, cp_hash, self.written(handle)),
+            *(self.update_counter, locality),
+        )
         policy.check_use(session, self.policy_entity(handle, command.code), use, place)
         entry.demand = session.policy.demand
 
@@ -362,7 +371,7 @@ class Device(
         key = self.encryption_key(session, handle)
         return sessions.on_first_buffer(
             lambda data: sessions.decrypted(
-                session.algorithm, key, entry.nonce, session.nonce_tpm, data
+                *(session.cipher, session.algorithm, key, entry.nonce, session.nonce_tpm, data)
             ),
             command.parameters,
         )
@@ -409,7 +418,7 @@ class Device(
         key = self.encryption_key(session, handle)
         return sessions.on_first_buffer(
             lambda data: sessions.encrypted(
-                session.algorithm, key, session.nonce_tpm, entry.nonce, data
+                *(session.cipher, session.algorithm, key, session.nonce_tpm, entry.nonce, data)
             ),
             parameters,
         )
@@ -461,7 +470,7 @@ class Device(
         nonce_caller = parameters.next().sized(DIGEST_BYTES)
         salt = parameters.next().sized(DIGEST_BYTES)
         kind = parameters.next().one_of(1, HANDLE_KINDS, "VALUE")
-        aes = parameters.next().symmetric()
+        cipher, mask_algorithm = parameters.next().symmetric()
         algorithm = parameters.next().hash()
         parameters.end()
 
@@ -470,10 +479,12 @@ class Device(
             raise Refusal("SIZE/p1", "A1")
         if salt:
             raise Refusal("VALUE/p2", "A2")
+        if mask_algorithm not in (None, algorithm):
+            raise Refusal("HASH/p4", "A3")
         taken = [it & PLACE_BITS for it in self.sessions]
         free = [it for it in range(SESSIONS) if it not in taken]
         if not free:
-            raise Refusal("SESSION_MEMORY", "A3")
+            raise Refusal("SESSION_MEMORY", "A4")
 
         _, bind = handles
         nonce_tpm, key, bind_auth = random[:size], b"", self.auth_value(bind)
@@ -484,7 +495,7 @@ class Device(
         self.sessions[handle] = Session(
             kind,
             algorithm,
-            aes,
+            cipher,
             nonce_tpm,
             key,
             self.name(bind),
@@ -511,6 +522,8 @@ ROWS = {
     frames.POLICY_AUTH_VALUE: Device.policy_auth_value,
     frames.POLICY_PASSWORD: Device.policy_password,
     frames.POLICY_COMMAND_CODE: Device.policy_command_code,
+    frames.POLICY_CP_HASH: Device.policy_cp_hash,
+    frames.POLICY_NV_WRITTEN: Device.policy_nv_written,
     frames.POLICY_LOCALITY: Device.policy_locality,
     frames.POLICY_SECRET: Device.policy_secret,
     frames.POLICY_GET_DIGEST: Device.policy_get_digest,

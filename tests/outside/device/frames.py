@@ -8,6 +8,7 @@ GET_RANDOM, PCR_READ, PCR_EXTEND = 0x17B, 0x17E, 0x182
 POLICY_SECRET, POLICY_AUTH_VALUE, POLICY_COMMAND_CODE = 0x151, 0x16B, 0x16C
 POLICY_LOCALITY, POLICY_OR, POLICY_PCR = 0x16F, 0x171, 0x17F
 POLICY_RESTART, POLICY_GET_DIGEST, POLICY_PASSWORD = 0x180, 0x189, 0x18C
+POLICY_CP_HASH, POLICY_NV_WRITTEN = 0x16E, 0x18F
 CREATE_PRIMARY, CREATE, LOAD, READ_PUBLIC = 0x131, 0x153, 0x157, 0x173
 UNSEAL, HMAC = 0x15E, 0x155
 NV_DEFINE_SPACE, NV_UNDEFINE_SPACE, NV_READ_PUBLIC = 0x12A, 0x122, 0x169
@@ -24,7 +25,7 @@ RH_LOCKOUT, RH_ENDORSEMENT, RH_PLATFORM = 0x4000_000A, 0x4000_000B, 0x4000_000C
 # The first byte of a handle that is not permanent says what it is.
 NV, HMAC_SESSION, POLICY_SESSION, TRANSIENT, PERSISTENT = 0x01, 0x02, 0x03, 0x80, 0x81
 
-SHA1, AES, SHA256, ALG_NULL, CFB = 0x0004, 0x0006, 0x000B, 0x0010, 0x0043
+SHA1, AES, XOR, SHA256, ALG_NULL, CFB = 0x0004, 0x0006, 0x000A, 0x000B, 0x0010, 0x0043
 AES_KEY_BITS = 128
 
 # The types of objects, and the scheme of a KEYEDHASH that makes HMACs (Part 2, section 6.3).
@@ -135,19 +136,30 @@ def on_handle(code, handle, parameters=b"", entries=None):
     return on_handles(code, [handle], parameters, entries)
 
 
-def symmetric(aes):
-    """What a session encrypts by: AES-128 in mode CFB, or nothing."""
+def symmetric(aes=False, xor=None):
+    """What a session encrypts by: AES-128 in mode CFB, masks that a hash algorithm makes, or
+    nothing.
+    """
+    if xor is not None:
+        return number(XOR, 2) + number(xor, 2)
     if not aes:
         return number(ALG_NULL, 2)
     return number(AES, 2) + number(AES_KEY_BITS, 2) + number(CFB, 2)
 
 
 def start_auth_session(
-    nonce, bind=RH_NULL, algorithm=SHA256, aes=False, tpm_key=RH_NULL, salt=b"", kind=SE_HMAC
+    nonce,
+    bind=RH_NULL,
+    algorithm=SHA256,
+    aes=False,
+    tpm_key=RH_NULL,
+    salt=b"",
+    kind=SE_HMAC,
+    xor=None,
 ):
     """The handles of TPM2_StartAuthSession and its parameters."""
     parameters = sized(nonce) + sized(salt) + number(kind, 1)
-    return [tpm_key, bind], parameters + symmetric(aes) + number(algorithm, 2)
+    return [tpm_key, bind], parameters + symmetric(aes, xor) + number(algorithm, 2)
 
 
 def selection(*banks):

@@ -173,6 +173,8 @@ SHAPES = {
     frames.POLICY_AUTH_VALUE: Shape((is_policy,)),
     frames.POLICY_PASSWORD: Shape((is_policy,)),
     frames.POLICY_COMMAND_CODE: Shape((is_policy,)),
+    frames.POLICY_CP_HASH: Shape((is_policy,), sized_parameter=True),
+    frames.POLICY_NV_WRITTEN: Shape((is_policy,)),
     frames.POLICY_LOCALITY: Shape((is_policy,)),
     frames.POLICY_SECRET: Shape(
         (is_authorized_entity, is_policy), 1, sized_parameter=True, sized_answer=True
@@ -337,7 +339,8 @@ def check_entry(command, place, entry, handle, sessions):
         taken = any(it.attributes & attribute for it in before)
         if entry.attributes & attribute and (is_password or taken or not has_buffer):
             raise Refusal(f"ATTRIBUTES/s{place}", "G8")
-    if entry.attributes & (DECRYPT | ENCRYPT) and not sessions[entry.handle].aes:
+    encrypts = entry.attributes & (DECRYPT | ENCRYPT)
+    if encrypts and sessions[entry.handle].cipher == frames.ALG_NULL:
         raise Refusal(f"SYMMETRIC/s{place}", "G8")
 
 

@@ -189,13 +189,13 @@ class Counters:
 
 @dataclass(frozen=True)
 class LiveSession:
-    """A session's start: its type, its hash, whether it has a cipher, and the Name, the
-    authorization value and the protection to which it is bound; its key; its latest nonce; and its policy.
+    """A session's start: its type, its hash, its cipher, and the Name, the authorization value and
+    the protection to which it is bound; its key; its latest nonce; and its policy.
     """
 
     kind: int
     algorithm: int
-    has_cipher: bool
+    cipher: int
     bound: tuple
     key: bytes
     nonce_tpm: bytes
@@ -234,14 +234,14 @@ class Sessions:
         nonce_caller = fields.next().sized(DIGEST_BYTES)
         fields.next().sized(DIGEST_BYTES)
         kind = fields.next().number(1)
-        has_cipher, algorithm = fields.next().symmetric(), fields.next().hash()
+        (cipher, _), algorithm = fields.next().symmetric(), fields.next().hash()
         nonce_tpm, bind = it.random[: len(nonce_caller)], it.handles[1]
         bound, key = None, b""
         if bind != RH_NULL:
             bound = it.names[1], auth_values.of(bind), it.protections[1]
             key = sessions.session_key(algorithm, bound[1], nonce_tpm, nonce_caller)
         starting = policy.starting_state(algorithm)
-        return LiveSession(kind, algorithm, has_cipher, bound, key, nonce_tpm, starting)
+        return LiveSession(kind, algorithm, cipher, bound, key, nonce_tpm, starting)
 
     def roll(self, it):
         """A new nonce of its size for the session of each entry, in order."""
@@ -302,6 +302,17 @@ def command_code_asserted(it, algorithm, kind, old, values):
     return {"digest": policy.after_command_code(algorithm, old, code), "code": code}
 
 
+def cp_hash_asserted(it, algorithm, kind, old, values):
+    cp_hash = it.read().next().sized(DIGEST_BYTES)
+    return {"digest": policy.after_cp_hash(algorithm, old, cp_hash), "cp_hash": cp_hash}
+
+
+def nv_written_asserted(it, algorithm, kind, old, values):
+    is_written = bool(it.read().next().number(1))
+    made = policy.after_nv_written(algorithm, old, is_written)
+    return {"digest": made, "nv_written": is_written}
+
+
 def locality_asserted(it, algorithm, kind, old, values):
     localities = it.read().next().number(1)
     made = policy.after_locality(algorithm, old, localities)
@@ -327,6 +338,8 @@ ASSERTIONS = {
     frames.POLICY_AUTH_VALUE: demand_asserted,
     frames.POLICY_PASSWORD: demand_asserted,
     frames.POLICY_COMMAND_CODE: command_code_asserted,
+    frames.POLICY_CP_HASH: cp_hash_asserted,
+    frames.POLICY_NV_WRITTEN: nv_written_asserted,
     frames.POLICY_LOCALITY: locality_asserted,
     frames.POLICY_SECRET: secret_asserted,
     frames.POLICY_NV: nv_asserted,
@@ -390,7 +403,7 @@ class History:
             binding = session.bind, session.bind_auth, session.bind_protection
             bound = binding if told and told.bound else None
             has = LiveSession(
-                *(session.kind, session.algorithm, session.aes, bound),
+                *(session.kind, session.algorithm, session.cipher, bound),
                 *(session.key, session.nonce_tpm, session.policy),
             )
             if has != told:

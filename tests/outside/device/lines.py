@@ -12,7 +12,7 @@ from typing import Callable
 import frames
 import general
 from frames import AES, ALG_NULL, CONTINUE_SESSION, NO_SESSIONS, RS_PW, SESSIONS, SHA1, SHA256
-from frames import number, sized
+from frames import XOR, number, sized
 from general import Fields, Short
 from sessions import digest_bytes
 
@@ -114,7 +114,15 @@ def word_in(words, value, other=None):
 
 HASHES = {b"sha1": SHA1, b"sha256": SHA256}
 HASHES_OR_NULL = {**HASHES, b"null": ALG_NULL}
-CIPHERS = {b"null": ALG_NULL, b"aes": AES}
+CIPHERS = {
+    b"null": frames.symmetric(),
+    b"aes": frames.symmetric(aes=True),
+    b"xor-sha1": frames.symmetric(xor=SHA1),
+    b"xor-sha256": frames.symmetric(xor=SHA256),
+}
+
+# How many bytes stand behind the algorithm of a cipher.
+BEHIND_CIPHER = {ALG_NULL: 0, AES: 4, XOR: 2}
 
 
 @dataclass(frozen=True)
@@ -222,14 +230,13 @@ def digests_word(fields):
 
 
 def spelled_cipher(token):
-    return frames.symmetric(value_in(CIPHERS, token) == AES)
+    return value_in(CIPHERS, token)
 
 
 def cipher_word(fields):
     algorithm = fields.number(2)
-    if algorithm == AES:
-        fields.take(4)
-    return word_in(CIPHERS, algorithm)
+    behind = fields.take(BEHIND_CIPHER.get(algorithm, 0))
+    return word_in(CIPHERS, number(algorithm, 2) + behind)
 
 
 U8, U16, U32 = integer(1), integer(2), integer(4)
@@ -271,6 +278,8 @@ COMMANDS = {
     "PolicyAuthValue": (frames.POLICY_AUTH_VALUE,),
     "PolicyPassword": (frames.POLICY_PASSWORD,),
     "PolicyCommandCode": (frames.POLICY_COMMAND_CODE, CODE),
+    "PolicyCpHash": (frames.POLICY_CP_HASH, BUFFER),
+    "PolicyNvWritten": (frames.POLICY_NV_WRITTEN, U8),
     "PolicyNV": (frames.POLICY_NV, BUFFER, U16, U16),
     "PolicyLocality": (frames.POLICY_LOCALITY, BITS8),
     "PolicySecret": (frames.POLICY_SECRET, BUFFER, BUFFER, BUFFER, U32),

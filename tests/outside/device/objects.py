@@ -164,7 +164,7 @@ def read_public(fields):
     if kind == KEYEDHASH:
         scheme = read_scheme(fields)
     else:
-        fields.symmetric((frames.AES,))
+        fields.cipher()
     unique = fields.sized(DIGEST_BYTES)
     return Public(kind, name_algorithm, attributes, auth_policy, scheme, unique)
 

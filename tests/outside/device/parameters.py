@@ -80,13 +80,18 @@ class Parameters:
             raise self.refusal("SIZE")
         return [self.sized(DIGEST_BYTES) for _ in range(count)]
 
-    def symmetric(self, allowed=(frames.AES, frames.ALG_NULL)):
-        """Whether there is a cipher, which is AES-128 in mode CFB."""
-        if self.one_of(2, allowed, "SYMMETRIC") == frames.ALG_NULL:
-            return False
-        self.one_of(2, (frames.AES_KEY_BITS,), "VALUE")
-        self.one_of(2, (frames.CFB,), "MODE")
-        return True
+    def cipher(self, allowed=(frames.AES,)):
+        """The algorithm of a cipher; that of AES has a key of 128 bits, and the mode CFB."""
+        algorithm = self.one_of(2, allowed, "SYMMETRIC")
+        if algorithm == frames.AES:
+            self.one_of(2, (frames.AES_KEY_BITS,), "VALUE")
+            self.one_of(2, (frames.CFB,), "MODE")
+        return algorithm
+
+    def symmetric(self):
+        """The cipher of a session, which may be none, and with XOR the hash of its masks."""
+        algorithm = self.cipher((frames.AES, frames.XOR, frames.ALG_NULL))
+        return algorithm, self.hash() if algorithm == frames.XOR else None
 
     def end(self):
         if self.fields.data:

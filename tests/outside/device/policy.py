@@ -9,8 +9,10 @@ from dataclasses import dataclass
 from frames import (
     POLICY_AUTH_VALUE,
     POLICY_COMMAND_CODE,
+    POLICY_CP_HASH,
     POLICY_LOCALITY,
     POLICY_NV,
+    POLICY_NV_WRITTEN,
     POLICY_OR,
     POLICY_PCR,
     POLICY_SECRET,
@@ -32,8 +34,8 @@ LEAST_BRANCHES, MOST_BRANCHES = 2, 8
 COMMANDS = {
     *(0x120, 0x122, 0x126, 0x127, 0x129, 0x12A, 0x131, 0x134, 0x135, 0x136, 0x137, 0x138, 0x139),
     *(0x13A, 0x13B, 0x13C, 0x13D, 0x143, 0x144, 0x145, 0x149, 0x14E, 0x14F, 0x151, 0x153, 0x155),
-    *(0x157, 0x15E, 0x165, 0x169, 0x16B, 0x16C, 0x16F, 0x171, 0x173, 0x176, 0x17A, 0x17B, 0x17E),
-    *(0x17F, 0x180, 0x181, 0x182, 0x189, 0x18C),
+    *(0x157, 0x15E, 0x165, 0x169, 0x16B, 0x16C, 0x16E, 0x16F, 0x171, 0x173, 0x176, 0x17A, 0x17B),
+    *(0x17E, 0x17F, 0x180, 0x181, 0x182, 0x189, 0x18C, 0x18F),
 }
 
 
@@ -47,6 +49,7 @@ class State:
     update_counter: int = None
     code: int = None
     cp_hash: bytes = None
+    nv_written: bool = None
     localities: int = ALL_LOCALITIES
     demand: str = None
 
@@ -78,6 +81,14 @@ def after_command_code(algorithm, old, code):
     return digest(algorithm, old + number(POLICY_COMMAND_CODE, 4) + number(code, 4))
 
 
+def after_cp_hash(algorithm, old, cp_hash):
+    return digest(algorithm, old + number(POLICY_CP_HASH, 4) + cp_hash)
+
+
+def after_nv_written(algorithm, old, is_written):
+    return digest(algorithm, old + number(POLICY_NV_WRITTEN, 4) + number(is_written, 1))
+
+
 def after_locality(algorithm, old, localities):
     return digest(algorithm, old + number(POLICY_LOCALITY, 4) + number(localities, 1))
 
@@ -101,11 +112,14 @@ def after_nv(algorithm, old, arguments, name):
 
 @dataclass(frozen=True)
 class Use:
-    """What a policy is held against as it authorizes a command: the command, and the device."""
+    """What a policy is held against as it authorizes a command: the command, the device, and
+    whether the entity is written, which is None where that is no NV index.
+    """
 
     code: int
     is_admin: bool
     cp_hash: bytes
+    written: bool
     update_counter: int
     locality: int
 
@@ -132,6 +146,8 @@ def check_use(session, entity, use, place):
     if told.code not in (None, use.code):
         raise Refusal(f"POLICY_CC/s{place}", "G9")
     if use.is_admin and told.code is None or told.cp_hash not in (None, use.cp_hash):
+        raise Refusal(f"POLICY_FAIL/s{place}", "G9")
+    if told.nv_written not in (None, use.written):
         raise Refusal(f"POLICY_FAIL/s{place}", "G9")
     if not told.localities >> use.locality & 1:
         raise Refusal("LOCALITY", "G9")

@@ -78,6 +78,32 @@ class Commands:
         told.code = code
         return Answer()
 
+    def policy_cp_hash(self, handles, parameters, locality, random):
+        cp_hash = parameters.next().sized(DIGEST_BYTES)
+        parameters.end()
+
+        session = self.sessions[handles[0]]
+        told, algorithm = session.policy, session.algorithm
+        if len(cp_hash) != digest_bytes(algorithm):
+            raise Refusal("SIZE/p1", "A1")
+        if told.cp_hash not in (None, cp_hash):
+            raise Refusal("CPHASH", "A2")
+        told.digest = policy.after_cp_hash(algorithm, told.digest, cp_hash)
+        told.cp_hash = cp_hash
+        return Answer()
+
+    def policy_nv_written(self, handles, parameters, locality, random):
+        is_written = bool(parameters.next().one_of(1, (0, 1), "VALUE"))
+        parameters.end()
+
+        session = self.sessions[handles[0]]
+        told = session.policy
+        if told.nv_written not in (None, is_written):
+            raise Refusal("VALUE/p1", "A1")
+        told.digest = policy.after_nv_written(session.algorithm, told.digest, is_written)
+        told.nv_written = is_written
+        return Answer()
+
     def policy_locality(self, handles, parameters, locality, random):
         """The parameter has a bit for each locality; the event's own locality does not matter."""
         localities = parameters.next().number(1)

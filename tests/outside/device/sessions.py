@@ -4,7 +4,7 @@ import hashlib
 import hmac
 
 import aes
-from frames import SHA1, SHA256, number
+from frames import SHA1, SHA256, XOR, number
 
 HASHES = {SHA1: hashlib.sha1, SHA256: hashlib.sha256}
 SUCCESS = 0
@@ -70,18 +70,28 @@ def entry_hmac(algorithm, key, parameters, newer, older, others, attributes):
     return mac(algorithm, key, text)
 
 
-def mask(algorithm, key, newer, older):
+def masked(algorithm, key, newer, older, data):
+    """Data with a mask of their size on them, or taken off again (section 21.2)."""
+    return aes.xor(data, kdfa(algorithm, key, b"XOR", newer, older, len(data)))
+
+
+def key_and_block(algorithm, key, newer, older):
     """The AES key and the first block of parameter encryption (section 21.3)."""
     both = kdfa(algorithm, key, b"CFB", newer, older, 2 * aes.BLOCK)
     return both[: aes.BLOCK], both[aes.BLOCK :]
 
 
-def encrypted(algorithm, key, newer, older, data):
-    return aes.cfb_encrypt(*mask(algorithm, key, newer, older), data)
+def encrypted(cipher, algorithm, key, newer, older, data):
+    """By a session's cipher, which is XOR or AES."""
+    if cipher == XOR:
+        return masked(algorithm, key, newer, older, data)
+    return aes.cfb_encrypt(*key_and_block(algorithm, key, newer, older), data)
 
 
-def decrypted(algorithm, key, newer, older, data):
-    return aes.cfb_decrypt(*mask(algorithm, key, newer, older), data)
+def decrypted(cipher, algorithm, key, newer, older, data):
+    if cipher == XOR:
+        return masked(algorithm, key, newer, older, data)
+    return aes.cfb_decrypt(*key_and_block(algorithm, key, newer, older), data)
 
 
 def on_first_buffer(change, parameters):

@@ -33,6 +33,8 @@ NAMES = (
     "PolicyAuthValue 03000000",
     "PolicyPassword 03000000",
     "PolicyCommandCode 03000000 0x15e",
+    f"PolicyCpHash 03000000 {SHA256_DIGEST}",
+    "PolicyNvWritten 03000000 0",
     "PolicyNV OWNER 01000000 03000000 pw:- 0005 0 9",
     "PolicyLocality 03000000 0x1",
     "PolicySecret ENDORSEMENT 03000000 pw:- - - - 0",
@@ -213,10 +215,14 @@ def sections():
     session = f"StartAuthSession NULL NULL {'00' * 16} - 0"
     yield "What a session encrypts by.", each(
         session,
-        ["aes", "null", "-", "AES", "NULL", "aes128", "aes:128", "sha1", "6", "0006"],
+        [
+            *("aes", "null", "-", "AES", "NULL", "aes128", "aes:128", "sha1", "6", "0006"),
+            *("xor-sha1", "xor-sha256", "xor", "xor-", "XOR-SHA1", "xor-SHA256", "xor-sha384"),
+            *("xor-null", "xor:sha1", "xor-sha1-", "xor+sha256", "xorsha1", "xor-sha2561", "a"),
+        ],
         " sha256",
     )
-    algorithms = ["sha1", "sha256", "null", "aes"]
+    algorithms = ["sha1", "sha256", "null", "aes", "xor-sha1"]
     yield "The hash algorithm of a session.", each(f"{session} null", algorithms)
     yield "A sized buffer.", each(
         "PCR_Event 00000000 pw:-",

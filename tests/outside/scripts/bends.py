@@ -13,7 +13,7 @@ import paths
 import frames
 import general
 import lines
-from frames import AES, ALG_NULL, KEYEDHASH, number
+from frames import ALG_NULL, KEYEDHASH, number
 from sessions import digest_bytes
 
 
@@ -69,8 +69,7 @@ class Walk:
         self.take(digest_bytes(self.number(2)))
 
     def cipher(self, name=None):
-        if self.number(2) == AES:
-            self.take(4)
+        self.take(lines.BEHIND_CIPHER[self.number(2)])
 
     def entries(self):
         size, place = self.found_number("authorizationSize", 4), 0

@@ -14,6 +14,8 @@ import general
 import policy
 import sessions
 from frames import (
+    AES,
+    ALG_NULL,
     CONTINUE_SESSION,
     DECRYPT,
     ENCRYPT,
@@ -21,6 +23,7 @@ from frames import (
     RS_PW,
     SE_HMAC,
     SHA256,
+    XOR,
     number,
     sized,
 )
@@ -71,6 +74,7 @@ class Session:
     bind: bytes
     bind_auth: bytes
     kind: int = SE_HMAC
+    cipher: int = ALG_NULL
 
 
 @dataclass
@@ -159,20 +163,24 @@ class Caller:
         size=NONCE_BYTES,
         uses=(),
         kind=SE_HMAC,
+        xor=False,
     ):
         """Starts a session, and gives it as this caller knows it."""
-        nonce = self.nonce(size)
-        handles, parameters = frames.start_auth_session(nonce, bind, algorithm, aes, kind=kind)
+        nonce, cipher = self.nonce(size), XOR if xor else AES if aes else ALG_NULL
+        handles, parameters = frames.start_auth_session(
+            *(nonce, bind, algorithm, aes), kind=kind, xor=algorithm if xor else None
+        )
         start = self.prepare(frames.START_AUTH_SESSION, handles, parameters, *uses)
-        return self.started(start, self.accepted(what, start), nonce, bind, algorithm, kind)
+        answer = self.accepted(what, start)
+        return self.started(start, answer, nonce, bind, algorithm, kind, cipher)
 
-    def started(self, start, answer, nonce, bind, algorithm, kind):
+    def started(self, start, answer, nonce, bind, algorithm, kind, cipher=ALG_NULL):
         handle, parameters = answer
         nonce_tpm, bind_auth = Fields(parameters).sized(), self.auth_value(bind)
         key = b""
         if bind != RH_NULL:
             key = sessions.session_key(algorithm, bind_auth, nonce_tpm, nonce)
-        return Session(handle, algorithm, nonce_tpm, key, self.name(bind), bind_auth, kind)
+        return Session(handle, algorithm, nonce_tpm, key, self.name(bind), bind_auth, kind, cipher)
 
     def prepare(self, code, handles, parameters=b"", *uses):
         """A command with an entry for each use: a password's bytes, a session, or a `Use`."""
@@ -211,6 +219,7 @@ class Caller:
         session = use.session
         return sessions.on_first_buffer(
             lambda data: sessions.encrypted(
+                session.cipher,
                 session.algorithm,
                 session.key + self.auth_value(handle),
                 use.nonce,
@@ -298,7 +307,8 @@ class Caller:
                 session = use.session
                 parameters = sessions.on_first_buffer(
                     lambda data: sessions.decrypted(
-                        session.algorithm, key, use.nonce, session.nonce_tpm, data
+                        *(session.cipher, session.algorithm, key),
+                        *(use.nonce, session.nonce_tpm, data),
                     ),
                     parameters,
                 )
@@ -336,7 +346,8 @@ class Caller:
                 key = session.key + self.auth_value(handle)
                 return sessions.on_first_buffer(
                     lambda data: sessions.decrypted(
-                        session.algorithm, key, session.nonce_tpm, use.nonce, data
+                        *(session.cipher, session.algorithm, key),
+                        *(session.nonce_tpm, use.nonce, data),
                     ),
                     parameters,
                 )

@@ -28,6 +28,12 @@ BY_SESSION = [entry(SESSION, nonce=bytes(16))]
 # The same session, which decrypts the first parameter.
 BY_DECRYPTING = [entry(SESSION, bytes(16), frames.CONTINUE_SESSION | frames.DECRYPT)]
 
+# A session that masks, instead of encrypting.
+HANDLES, PARAMETERS = frames.start_auth_session(bytes(16), xor=SHA256)
+START_XOR = command(
+    frames.START_AUTH_SESSION, b"".join(number(it, 4) for it in HANDLES) + PARAMETERS
+)
+
 # Three entries. The last session ends when they are accepted.
 OTHER = 0x0200_0001
 BY_THREE = [entry(), *BY_SESSION, entry(OTHER, nonce=bytes(16), attributes=0)]
@@ -229,6 +235,48 @@ COMMANDS = [
             (25, "behind the authorization area", "HANDLE/s1"),
         ],
         "HANDLE/s1",
+    ),
+    (
+        "TPM2_PolicyCpHash",
+        policy(frames.POLICY_CP_HASH, sized(bytes(range(32)))),
+        [POLICY_HANDLE, (48, "within cpHashA", "INSUFFICIENT/p1")],
+        "SUCCESS",
+    ),
+    (
+        "TPM2_PolicyNvWritten of an index that is not written",
+        policy(frames.POLICY_NV_WRITTEN, b"\0"),
+        [POLICY_HANDLE, (15, "before writtenSet", "INSUFFICIENT/p1")],
+        "SUCCESS",
+    ),
+    (
+        "TPM2_FlushContext of it",
+        command(frames.FLUSH_CONTEXT, number(TRIAL, 4)),
+        [],
+        "SUCCESS",
+    ),
+    (
+        "TPM2_StartAuthSession with TPM_ALG_XOR",
+        START_XOR,
+        [
+            (14, "within tpmKey", "INSUFFICIENT/h1"),
+            (18, "within bind", "INSUFFICIENT/h2"),
+            (36, "within nonceCaller", "INSUFFICIENT/p1"),
+            (38, "within encryptedSalt", "INSUFFICIENT/p2"),
+            (39, "before sessionType", "INSUFFICIENT/p3"),
+            (43, "within symmetric", "INSUFFICIENT/p4"),
+            (45, "within authHash", "INSUFFICIENT/p5"),
+        ],
+        "SUCCESS",
+    ),
+    (
+        "TPM2_PCR_Event by that session, where it decrypts",
+        on_handle(frames.PCR_EVENT, 10, sized(b"abc"), BY_DECRYPTING),
+        [
+            HANDLE,
+            (43, "within the authorization area", "AUTHSIZE"),
+            (48, "within its data", "INSUFFICIENT/p1"),
+        ],
+        "SUCCESS",
     ),
 ]
 

@@ -264,17 +264,19 @@ def public_cases():
         yield from pair(
             f"an object's public area with {words}", one_object(bad), "without", one_object(good)
         )
-    for words, at, value in (
-        ("the cipher NULL", 0, frames.ALG_NULL),
-        ("keys of 256 bits", 1, 256),
-        ("the mode CTR", 2, 0x0040),
+    for words, at, texts in (
+        ("the cipher NULL", 0, (frames.number(frames.ALG_NULL, 2),)),
+        ("keys of 256 bits", 1, (frames.number(256, 2),)),
+        ("the mode CTR", 2, (frames.number(0x0040, 2),)),
+        ("TPM_ALG_XOR and SHA-256", 0, (frames.symmetric(xor=frames.SHA256), b"", b"")),
     ):
         fields = image_fields.body_of(Device())
         kept = Object(storage_key(), Sensitive(frames.SYMCIPHER, b"", b"", b""), RH_OWNER, b"")
         objects_of(fields).groups.append(image_fields.object_fields(FIRST, kept))
         good = image_of(fields)
         _, _, _, public, _ = objects_of(fields).groups[0]
-        public.fields[4 + at].text = frames.number(value, 2)
+        for behind, text in enumerate(texts):
+            public.fields[4 + at + behind].text = text
         yield from pair(f"a cipher key with {words}", image_of(fields), "AES-128 in CFB", good)
 
 

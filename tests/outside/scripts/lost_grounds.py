@@ -336,8 +336,25 @@ def other_cp_hashes(session):
     caller.does("TPM2_NV_Write", writing())
 
 
+def other_written_values(session):
+    script.chapter("The policy is for an NV index that is not written (condition 6).")
+    unwritten = policy.after_nv_written(SHA256, ZEROS, False)
+    index = caller.index("An index with this policy", BY_POLICY, unwritten)
+    handle = caller.sealed_object("An object with it", unwritten)
+    asserts = lambda: caller.asserts(
+        "TPM2_PolicyNvWritten of 0", caller.written_told(session, False)
+    )
+    asserts()
+    lost("TPM2_Unseal of the object", "POLICY_FAIL/s1", caller.unsealing(handle, session))
+    caller.does("TPM2_NV_Write, the first one", caller.writing(index, DATA, session))
+    asserts()
+    lost("The second one", "POLICY_FAIL/s1", caller.writing(index, DATA, session))
+    caller.restarts(session)
+    caller.flushed(handle)
+
+
 def other_localities(session):
-    script.chapter("The command comes from a locality that is not named (condition 6).")
+    script.chapter("The command comes from a locality that is not named (condition 7).")
     handle = caller.sealed_object("An object whose policy is locality 1", AFTER_LOCALITY_1)
     caller.asserts("TPM2_PolicyLocality of 1", caller.locality(session, AT_LOCALITY_1))
     lost("TPM2_Unseal from locality 0", "LOCALITY", caller.unsealing(handle, session))
@@ -350,7 +367,7 @@ def other_localities(session):
 
 
 def other_hashes(handle, session):
-    script.chapter("The hash of the session is not the nameAlg of the entity (condition 7).")
+    script.chapter("The hash of the session is not the nameAlg of the entity (condition 8).")
     by_sha1 = caller.policy("A policy session of SHA-1", algorithm=SHA1)
     caller.asserts_code(by_sha1)
     lost("The nameAlg is SHA-256", "POLICY_FAIL/s1", caller.unsealing(handle, by_sha1))
@@ -366,7 +383,7 @@ def other_hashes(handle, session):
 
 def other_digests(session):
     """A policy of four assertions, of which one at a time is another."""
-    script.chapter("The policy digest is not the authPolicy (condition 7): an assertion differs.")
+    script.chapter("The policy digest is not the authPolicy (condition 8): an assertion differs.")
     compared = caller.written_index("An index that TPM2_PolicyNV looks at", BY_OWNER)
     auth_policy = policy.after_locality(SHA256, AFTER_PCR_16, AT_LOCALITY_0_OR_1)
     auth_policy = policy.after_secret(SHA256, auth_policy, name_of(RH_OWNER), b"disk")
@@ -517,6 +534,7 @@ changed_pcrs(session)
 other_commands(session)
 admin_role(session)
 other_cp_hashes(session)
+other_written_values(session)
 other_localities(session)
 other_hashes(named, session)
 compared = other_digests(session)

@@ -318,4 +318,49 @@ caller.refused(
     caller.told(PCR, trial, GIVEN + selection() + b"\0"),
 )
 caller.says("TPM2_PolicyPCR with it", "SUCCESS", caller.pcrs(trial, [], bytes(32)))
+
+script.chapter("TPM2_PolicyCpHash behind TPM2_PolicyCpHash; hmac decrypts.")
+caller.says("TPM2_PolicyRestart", "SUCCESS", caller.restart(policy), caller.restart(trial))
+CP = frames.POLICY_CP_HASH
+caller.says("A cpHash", "SUCCESS", caller.cp_hash_told(policy, CP_HASH))
+caller.says("In the trial session too", "SUCCESS", caller.cp_hash_told(trial, CP_HASH))
+up_to_hmacs(CP, sized(bytes(32))[:-1])
+caller.refused(
+    "decrypt in a session that cannot, and a wrong hmac before",
+    "SYMMETRIC/s2",
+    wrong(caller.told(CP, policy, b"\0", hmac, Use(plain, DECRYPTS)), 1),
+)
+
+
+def cp_hash(what, outcome, text):
+    """In a policy session and in a trial session."""
+    for session in (policy, trial):
+        caller.refused(
+            what if session == policy else "",
+            outcome,
+            caller.told(CP, session, text, Use(hmac, DECRYPTS)),
+        )
+
+
+cp_hash("cpHashA that is cut, and cannot be decrypted", "INSUFFICIENT/p1", sized(bytes(32))[:-1])
+cp_hash("One of 33 bytes, and a byte behind it", "SIZE/p1", sized(bytes(33)) + b"\0")
+cp_hash("A byte behind one of 31", "SIZE", sized(bytes(31)) + b"\0")
+cp_hash("One of 31, which is another", "SIZE/p1", sized(bytes(31)))
+cp_hash("Another one", "CPHASH", sized(bytes(32)))
+for session in (policy, trial):
+    caller.accepted(
+        "No fault is left", caller.told(CP, session, sized(CP_HASH), Use(hmac, DECRYPTS))
+    )
+
+script.chapter("TPM2_PolicyNvWritten behind TPM2_PolicyNvWritten of 1.")
+WRITTEN = frames.POLICY_NV_WRITTEN
+caller.says("In a policy session", "SUCCESS", caller.written_told(policy, True))
+caller.says("In a trial session", "SUCCESS", caller.written_told(trial, True))
+up_to_hmacs(WRITTEN, b"")
+for session in (policy, trial):
+    says("No byte", "INSUFFICIENT/p1", WRITTEN, b"", session)
+    says("2, and a byte behind it", "VALUE/p1", WRITTEN, b"\2\0", session)
+    says("A byte behind 0", "SIZE", WRITTEN, b"\0\0", session)
+    says("0, and 1 is recorded", "VALUE/p1", WRITTEN, b"\0", session)
+    caller.accepted("No fault is left", caller.told(WRITTEN, session, b"\1", hmac))
 script.write()

@@ -193,4 +193,39 @@ script.command(
 script.command("That handle", "VALUE/p1", flush(number(RH_OWNER, 4)))
 script.command("A session that is not there", "HANDLE/p1", flush(number(0x0200_0009, 4)))
 script.command("The session", "SUCCESS", flush(number(first.handle, 4)))
+
+script.chapter(
+    "TPM2_StartAuthSession with TPM_ALG_XOR of another hash, by a session that masks the nonce."
+)
+masking = caller.start("A session with TPM_ALG_XOR", RH_OWNER, xor=True)
+
+
+def masked(tail, nonce=15, salt=b"\1", kind=b"\0"):
+    return sized(bytes(nonce)) + sized(salt) + kind + tail
+
+
+WRONG_HASH = number(frames.XOR, 2) + number(0x000C, 2)
+OTHER_HASH = number(frames.XOR, 2) + number(frames.SHA1, 2) + number(frames.SHA256, 2)
+uses = (Use(masking, DECRYPTS | ENCRYPT),)
+caller.refused("Its hmac", "BAD_AUTH/s1", wrong(start(NULLS, cut, *uses), 1))
+caller.refused("The nonce, which is cut", "INSUFFICIENT/p1", start(NULLS, cut, *uses))
+caller.refused(
+    "It has 33 bytes once it is whole", "SIZE/p1", start(NULLS, masked(WRONG_HASH, 33), *uses)
+)
+caller.refused(
+    "sessionType 02", "VALUE/p3", start(NULLS, masked(WRONG_HASH, kind=b"\2"), *uses)
+)
+caller.refused(
+    "A hash that is none, and no authHash", "HASH/p4", start(NULLS, masked(WRONG_HASH), *uses)
+)
+caller.refused(
+    "A byte behind the parameters", "SIZE", start(NULLS, masked(OTHER_HASH + b"\0"), *uses)
+)
+caller.refused("A nonce of 15 bytes", "SIZE/p1", start(NULLS, masked(OTHER_HASH), *uses))
+caller.refused("A salt", "VALUE/p2", start(NULLS, masked(OTHER_HASH, 16), *uses))
+caller.refused(
+    "Another hash than authHash", "HASH/p4", start(NULLS, masked(OTHER_HASH, 16, b""), *uses)
+)
+same = frames.start_auth_session(bytes(16), xor=frames.SHA256)[1]
+caller.accepted("No fault is left", start(NULLS, same, *uses))
 script.write()

@@ -59,6 +59,12 @@ class PolicyCaller(Caller):
     def command_code(self, session, code, *uses):
         return self.told(frames.POLICY_COMMAND_CODE, session, number(code, 4), *uses)
 
+    def cp_hash_told(self, session, cp_hash, *uses):
+        return self.told(frames.POLICY_CP_HASH, session, sized(cp_hash), *uses)
+
+    def written_told(self, session, is_written, *uses):
+        return self.told(frames.POLICY_NV_WRITTEN, session, number(is_written, 1), *uses)
+
     def branches(self, session, *digests, count=None):
         return self.told(frames.POLICY_OR, session, frames.sized_list(*digests, count=count))
 

@@ -77,9 +77,9 @@ for kind, name, algorithm, hash_name in (
         after = policy.after_command_code(algorithm, zeros(session), code)
         caller.digest_is("", session, after)
 
-    script.chapter("And each number between 11F and 18D that is no code.")
+    script.chapter("And each number between 11F and 190 that is no code.")
     caller.says("TPM2_PolicyRestart", "SUCCESS", caller.restart(session))
-    others = sorted(set(range(0x11F, 0x18E)) - policy.COMMANDS)
+    others = sorted(set(range(0x11F, 0x191)) - policy.COMMANDS)
     caller.says(
         "All of them", "POLICY_CC/p1", *(caller.command_code(session, it) for it in others)
     )

@@ -27,6 +27,12 @@ COMMANDS = (
     ("TPM2_PolicyGetDigest", frames.POLICY_GET_DIGEST, b""),
 )
 
+# Two more, at the end.
+LATER = (
+    ("TPM2_PolicyCpHash", frames.POLICY_CP_HASH, frames.sized(bytes(32))),
+    ("TPM2_PolicyNvWritten", frames.POLICY_NV_WRITTEN, b"\1"),
+)
+
 # PCR 0, an NV index, HMAC sessions, permanent entities, objects, and numbers of no kind.
 OTHER_KINDS = (
     *(0, 0x0100_0000, 0x0200_0000, 0x0200_0001, RH_OWNER, RH_NULL, RS_PW),
@@ -55,14 +61,14 @@ NOTHING = frames.policy_secret()
 refused(
     "Before TPM2_Startup",
     "INITIALIZE",
-    *(plain(code, number(0x0300_0000, 4) + text) for _, code, text in COMMANDS),
+    *(plain(code, number(0x0300_0000, 4) + text) for _, code, text in (*COMMANDS, *LATER)),
     by_password(RH_ENDORSEMENT, 0x0300_0000, NOTHING),
 )
 script.startup()
 refused(
     "While there is no session at all",
     "REFERENCE_H0",
-    *(plain(code, number(0x0300_0000, 4) + text) for _, code, text in COMMANDS),
+    *(plain(code, number(0x0300_0000, 4) + text) for _, code, text in (*COMMANDS, *LATER)),
 )
 refused(
     "TPM2_PolicySecret", "REFERENCE_H1", by_password(RH_ENDORSEMENT, 0x0300_0000, NOTHING)
@@ -72,7 +78,8 @@ policy = caller.policy("A policy session, 03000001, bound to TPM_RH_OWNER", bind
 trial = caller.trial("A trial session, 03000002")
 assert (hmac.handle, policy.handle, trial.handle) == (0x0200_0000, 0x0300_0001, 0x0300_0002)
 
-for name, code, text in COMMANDS:
+
+def handles_of(name, code, text):
     script.chapter(f"{name}.")
     refused("No handle", "INSUFFICIENT/h1", plain(code, b""), plain(code, b"\3\0\0"))
     refused(
@@ -117,6 +124,10 @@ for name, code, text in COMMANDS:
         caller.restart(policy),
         caller.restart(trial),
     )
+
+
+for command in COMMANDS:
+    handles_of(*command)
 
 script.chapter("TPM2_PolicySecret, whose first handle needs authorization.")
 refused(
@@ -201,4 +212,7 @@ caller.says("It is flushed", "SUCCESS", caller.flush(other))
 other = caller.policy("A policy session takes its place", algorithm=SHA1)
 assert other.handle == 0x0300_0003
 caller.says("Its digest", "SUCCESS", caller.get_digest(other))
+
+for command in LATER:
+    handles_of(*command)
 script.write()

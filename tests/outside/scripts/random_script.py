@@ -22,8 +22,8 @@ import policy
 import sessions
 import state
 from device import Device
-from frames import ALG_NULL, CONTINUE_SESSION, DECRYPT, ENCRYPT, KEYEDHASH, RH_NULL, RS_PW
-from frames import SHA1, SHA256, SYMCIPHER, number, sized
+from frames import AES, ALG_NULL, CONTINUE_SESSION, DECRYPT, ENCRYPT, KEYEDHASH, RH_NULL, RS_PW
+from frames import SHA1, SHA256, SYMCIPHER, XOR, number, sized
 from general import Entry, Refusal, Short
 from objects import Attribute, Public
 from outputs import POWER, Played, write_outputs
@@ -185,6 +185,8 @@ class Writer(random.Random):
             return self.choice(digests)
         if algorithm in sessions.HASHES and self.happens(0.5):
             zeros = bytes(sessions.digest_bytes(algorithm))
+            if self.happens(0.4):
+                return policy.after_nv_written(algorithm, zeros, self.happens(0.5))
             return policy.after_command_code(algorithm, zeros, frames.NV_CHANGE_AUTH)
         digest = self.choice(self.digests)
         fits = len(digest) in (0, 20 if algorithm == SHA1 else 32)
@@ -260,8 +262,13 @@ class Writer(random.Random):
         algorithm = self.hash()
         nonce = self.randbytes(self.choice((16, 20, 20)) - self.happens())
         bind = self.choice((RH_NULL, RH_NULL, self.entity()))
-        aes, kind = self.choice((True, False)), self.choice(KINDS)
-        return frames.start_auth_session(nonce, bind, algorithm, aes, kind=kind)
+        cipher, kind = self.choice((ALG_NULL, AES, XOR)), self.choice(KINDS)
+        xor = None
+        if cipher == XOR:
+            xor = self.hash() if self.happens(0.1) else algorithm
+        return frames.start_auth_session(
+            *(nonce, bind, algorithm, cipher == AES), kind=kind, xor=xor
+        )
 
     def told(self, parameters=b""):
         return [self.session(frames.SE_POLICY, frames.SE_TRIAL)], parameters
@@ -274,6 +281,27 @@ class Writer(random.Random):
         expiration = int(self.happens())
         parameters = frames.policy_secret(nonce, cp_hash, self.some_bytes(4), expiration)
         return [self.entity(), handle], parameters
+
+    def policy_cp_hash(self):
+        """Mostly that of a command without parameters, which may come yet, or what is recorded."""
+        (handle,), _ = self.told()
+        held = self.device.sessions.get(handle)
+        algorithm = held.algorithm if held else SHA256
+        code, used = self.choice(
+            (
+                (frames.UNSEAL, [self.keyed(signs=False)]),
+                (frames.NV_INCREMENT, self.asked(nv.Type.COUNTER)),
+                (frames.NV_WRITE_LOCK, self.asked()),
+                (frames.NV_READ_LOCK, self.asked(reads=True)),
+            )
+        )
+        cp_hash = sessions.command_hash(algorithm, code, map(self.device.name, used), b"")
+        if held and held.policy.cp_hash and self.happens(0.3):
+            cp_hash = held.policy.cp_hash
+        return [handle], sized(self.some_bytes(32) if self.happens(0.1) else cp_hash)
+
+    def policy_nv_written(self):
+        return self.told(number(self.randrange(2) + 2 * self.happens(), 1))
 
     def policy_or(self):
         (handle,), _ = self.told()
@@ -323,7 +351,7 @@ class Writer(random.Random):
         wanted = self.choice((self.choice(kinds) << 24, self.choice(held or [0])))
         capability = self.choice((1, 1, 1, 1, 2, 5, 6, 6, 3))
         if capability == 2:
-            wanted = self.choice((0, self.choice(list(general.SHAPES)), 0x18C, 0x18D))
+            wanted = self.choice((0, self.choice(list(general.SHAPES)), 0x18F, 0x190))
         if capability == 6:
             wanted = self.choice((0, 0x100, 0x101, 0x129, 0x20E, 0x211, 0x212))
         count = self.choice((0, 1, 2, 64, 65, 2**32 - 1))
@@ -374,6 +402,8 @@ class Writer(random.Random):
             6,
             lambda w: w.told(number(w.choice((*USES, *NV_USES, 0x999)), 4)),
         ),
+        frames.POLICY_CP_HASH: (4, policy_cp_hash),
+        frames.POLICY_NV_WRITTEN: (6, policy_nv_written),
         frames.POLICY_LOCALITY: (3, lambda w: w.told(number(w.choice((0, 1, 3, 31, 31, 32)), 1))),
         frames.POLICY_SECRET: (6, policy_secret),
         frames.POLICY_GET_DIGEST: (3, told),
@@ -449,9 +479,10 @@ class Writer(random.Random):
             return
         held = self.device.sessions[entry.handle]
         entry.nonce = self.randbytes(self.choice((16, len(held.nonce_tpm))))
-        if held.aes and shape.sized_parameter and self.happens(0.4):
+        encrypts = held.cipher != ALG_NULL
+        if encrypts and shape.sized_parameter and self.happens(0.4):
             entry.attributes |= DECRYPT
-        if held.aes and shape.sized_answer and self.happens(0.4):
+        if encrypts and shape.sized_answer and self.happens(0.4):
             entry.attributes |= ENCRYPT
 
     def authenticated(self, command):
@@ -463,7 +494,7 @@ class Writer(random.Random):
             key = device.encryption_key(held, handle)
             command.parameters = sessions.on_first_buffer(
                 lambda data: sessions.encrypted(
-                    held.algorithm, key, entry.nonce, held.nonce_tpm, data
+                    *(held.cipher, held.algorithm, key, entry.nonce, held.nonce_tpm, data)
                 ),
                 command.parameters,
             )

@@ -162,6 +162,16 @@ COMMANDS = {
     ),
     frames.CLEAR_CONTROL: ("ClearControl", False, lambda: caller.clear_control(RH_PLATFORM, 0)),
     frames.CLEAR: ("Clear", False, lambda: caller.clearing(RH_PLATFORM)),
+    frames.POLICY_CP_HASH: (
+        "PolicyCpHash",
+        False,
+        lambda: caller.cp_hash_told(session(), bytes(32)),
+    ),
+    frames.POLICY_NV_WRITTEN: (
+        "PolicyNvWritten",
+        False,
+        lambda: caller.written_told(session(), True),
+    ),
 }
 assert COMMANDS.keys() == general.SHAPES.keys() - {frames.STARTUP, frames.SHUTDOWN}
 

@@ -165,10 +165,9 @@ refused(
     with_symmetric(words(frames.AES, 128) + b"\0", b""),
 )
 refused(
-    "An algorithm that is neither AES nor TPM_ALG_NULL, here TPM_ALG_XOR, TPM_ALG_SHA256 and "
+    "An algorithm that is neither AES nor TPM_ALG_XOR nor TPM_ALG_NULL, here TPM_ALG_SHA256 and "
     "TPM_ALG_CAMELLIA",
     "SYMMETRIC/p4",
-    with_symmetric(words(0x000A, SHA256)),
     with_symmetric(words(SHA256)),
     with_symmetric(words(0x0026, 128, frames.CFB)),
 )
@@ -208,12 +207,12 @@ refused(
 refused(
     "A sessionType of 02 with TPM_ALG_XOR",
     "VALUE/p3",
-    on(NULLS, sized(NONCE) + sized(b"") + b"\x02" + words(0x000A, SHA256)),
+    on(NULLS, sized(NONCE) + sized(b"") + b"\x02" + words(frames.XOR, SHA256)),
 )
 refused(
-    "TPM_ALG_XOR, with a wrong hash, which stands where keyBits would",
-    "SYMMETRIC/p4",
-    with_symmetric(words(0x000A), words(0x000C)),
+    "TPM_ALG_XOR with a wrong hash, and no authHash",
+    "HASH/p4",
+    with_symmetric(words(frames.XOR, 0x000C), b""),
 )
 
 script.chapter("The command's own checks come behind all of these.")
@@ -338,5 +337,55 @@ refused("Then there is none again", "SESSION_MEMORY", start())
 caller.accepted("One ends as it is used", caller.reset(Use(sessions[0], ENDS)))
 assert caller.start("And its number is free").handle == 0x0200_0000
 caller.accepted("The others are as they were", caller.reset(sessions[15]))
+
+script.chapter("TPM_ALG_XOR, behind which stands the hash that makes its masks.")
+refused(
+    "It is cut, before its hash and within it",
+    "INSUFFICIENT/p4",
+    with_symmetric(words(frames.XOR), b""),
+    with_symmetric(words(frames.XOR) + b"\0", b""),
+)
+refused(
+    "A hash that is neither SHA-1 nor SHA-256, here TPM_ALG_NULL, TPM_ALG_SHA384 and the 128 of a "
+    "key",
+    "HASH/p4",
+    *(with_symmetric(words(frames.XOR, it)) for it in (ALG_NULL, 0x000C, 128)),
+)
+refused(
+    "It comes before authHash",
+    "HASH/p4",
+    with_symmetric(words(frames.XOR, ALG_NULL), words(ALG_NULL)),
+)
+refused("No authHash", "INSUFFICIENT/p5", with_symmetric(words(frames.XOR, SHA256), b""))
+refused("A wrong one", "HASH/p5", with_symmetric(words(frames.XOR, SHA256), words(ALG_NULL)))
+OTHERS = dict(xor=SHA1), dict(xor=SHA256, algorithm=SHA1)
+refused(
+    "Another hash than authHash, SHA-1 in a session of SHA-256 and the other way round; there is "
+    "no place for a session either",
+    "HASH/p4",
+    *(start(**it) for it in OTHERS),
+)
+refused("And a salt", "VALUE/p2", *(start(salt=b"\1", **it) for it in OTHERS))
+refused("And a nonce of 15 bytes", "SIZE/p1", *(start(nonce=bytes(15), **it) for it in OTHERS))
+refused(
+    "And a byte behind it",
+    "SIZE",
+    *(on(NULLS, frames.start_auth_session(NONCE, **it)[1] + b"\0") for it in OTHERS),
+)
+refused(
+    "The same hash, and there is no place",
+    "SESSION_MEMORY",
+    *(start(xor=it, algorithm=it) for it in (SHA1, SHA256)),
+)
+caller.accepted("The first is flushed", caller.flush(sessions[0].handle))
+refused("Another hash, while there is a place", "HASH/p4", *(start(**it) for it in OTHERS))
+starts("The same one, SHA-256", xor=True)
+starts("SHA-1", xor=True, algorithm=SHA1, size=20)
+starts("Bound to TPM_RH_OWNER", xor=True, bind=RH_OWNER, size=32)
+for kind, name in ((frames.SE_POLICY, "policy"), (frames.SE_TRIAL, "trial")):
+    session = caller.start(f"A {name} session", kind=kind, xor=True)
+    assert session.handle == 0x0300_0000
+    caller.accepted("TPM2_GetRandom by it", caller.random(4, session))
+    caller.accepted("It is flushed", caller.flush(session))
 
 script.write()

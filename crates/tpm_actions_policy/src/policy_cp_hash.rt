@@ -1,0 +1,35 @@
+//! TPM2_PolicyCpHash: allows the command with one cpHash alone, by its row in `specs/PolicyCpHash`.
+
+ghost use Rattle.std.specs.Prelude.{◌≡◌};
+ghost use Rattle.tpm_types_command.specs.declared.command_code.CommandCode.TheVariants as command;
+ghost use Rattle.tpm_actions_base.specs.Answer.{IsEmpty};
+ghost use Rattle.tpm_actions_base.specs.Request.{request_of};
+ghost use Rattle.tpm_actions_base.specs.Rows.{Acts};
+ghost use Rattle.tpm_actions_policy.specs.Assertions.{assertion_row};
+
+use crate::assertions::{AssertionParameters, make_assertion};
+use tpm_actions_base::answer::Answer;
+use tpm_actions_base::call::Call;
+use tpm_actions_base::reading::{end, parameter};
+use tpm_bytes::Cursor;
+use tpm_record::Keep;
+use tpm_types::{DIGEST_LIMIT, Refused, read_buffer};
+
+/// TPM2_PolicyCpHash: allows the command with one cpHash alone.
+#[tactic(auto, unfolding(crate::specs::Assertions::assertion_row))]
+pub fn policy_cp_hash<K: Keep>(
+    keep: &mut K,
+    call: &Call,
+    _answer: &mut Answer,
+) -> Result<(), Refused>
+    requires { IsEmpty _answer.old }
+    ensures { Acts
+        (assertion_row command.PolicyCpHash (K.record_of keep.old) (request_of call.now))
+        (K.record_of keep.old) result _answer.new (K.record_of keep.new) }
+{
+    let handle = call.first_handle()?;
+    let mut parameters = Cursor::new(call.parameters);
+    let cp_hash = parameter(1, read_buffer(&mut parameters, DIGEST_LIMIT))?;
+    end(&parameters)?;
+    make_assertion(keep, handle, &AssertionParameters::CpHash(cp_hash))
+}

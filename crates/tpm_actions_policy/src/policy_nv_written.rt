@@ -1,0 +1,36 @@
+//! TPM2_PolicyNvWritten: allows an NV index that is written, or one that is not, by its row in
+//! `specs/PolicyNvWritten`.
+
+ghost use Rattle.std.specs.Prelude.{◌≡◌};
+ghost use Rattle.tpm_types_command.specs.declared.command_code.CommandCode.TheVariants as command;
+ghost use Rattle.tpm_actions_base.specs.Answer.{IsEmpty};
+ghost use Rattle.tpm_actions_base.specs.Request.{request_of};
+ghost use Rattle.tpm_actions_base.specs.Rows.{Acts};
+ghost use Rattle.tpm_actions_policy.specs.Assertions.{assertion_row};
+
+use crate::assertions::{AssertionParameters, make_assertion};
+use tpm_actions_base::answer::Answer;
+use tpm_actions_base::call::Call;
+use tpm_actions_base::reading::{end, parameter};
+use tpm_bytes::Cursor;
+use tpm_record::Keep;
+use tpm_types::{Refused, read_yes_no};
+
+/// TPM2_PolicyNvWritten: allows an NV index that is written, or one that is not.
+#[tactic(auto, unfolding(crate::specs::Assertions::assertion_row))]
+pub fn policy_nv_written<K: Keep>(
+    keep: &mut K,
+    call: &Call,
+    _answer: &mut Answer,
+) -> Result<(), Refused>
+    requires { IsEmpty _answer.old }
+    ensures { Acts
+        (assertion_row command.PolicyNvWritten (K.record_of keep.old) (request_of call.now))
+        (K.record_of keep.old) result _answer.new (K.record_of keep.new) }
+{
+    let handle = call.first_handle()?;
+    let mut parameters = Cursor::new(call.parameters);
+    let is_written = parameter(1, read_yes_no(&mut parameters))?;
+    end(&parameters)?;
+    make_assertion(keep, handle, &AssertionParameters::NvWritten(is_written))
+}

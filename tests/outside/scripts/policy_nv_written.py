@@ -1,0 +1,238 @@
+#!/usr/bin/env python3
+"""Writes tests/policy_nv_written.tpm: TPM2_PolicyNvWritten, and indices that are written once."""
+
+import hashlib
+
+import paths
+
+import frames
+import policy
+from caller import Use, flipped
+from frames import NV_WRITE, RH_OWNER, SHA1, SHA256
+from nv import Attribute
+from nv_caller import BY_OWNER, BY_POLICY, FIRST, FOURTH, NvCaller, SECOND, THIRD, area, counter
+from object_caller import HERE, sealed, storage_key
+from objects import Attribute as ObjectAttribute
+from policy_caller import zeros
+from script import Script
+from sessions import command_hash
+
+NO, YES = False, True
+FIFTH = 0x0100_0005
+
+script = Script(
+    "tests/policy_nv_written.tpm",
+    "TPM2_PolicyNvWritten: the policy is for an NV index that is written (1), or for one that is "
+    "not (0). Whether it is, is looked at when the session authorizes.",
+)
+caller = NvCaller(script)
+
+
+def says(what, outcome, session, *values):
+    caller.says(what, outcome, *(caller.written_told(session, it) for it in values))
+
+
+def raw(session, text):
+    return caller.told(frames.POLICY_NV_WRITTEN, session, text)
+
+
+script.startup()
+script.allow_tries()
+for session in caller.each_session():
+    algorithm = session.algorithm
+    caller.says("No parameter", "INSUFFICIENT/p1", raw(session, b""))
+    caller.says(
+        "What is neither 0 nor 1, also with a byte behind it",
+        "VALUE/p1",
+        *(raw(session, it) for it in (b"\2", b"\x80", b"\xff", b"\2\0")),
+    )
+    caller.says("A byte behind it", "SIZE", raw(session, b"\0\0"), raw(session, b"\1\0"))
+    caller.digest_is("The digest is zeros", session, zeros(session))
+    for value, other in ((NO, YES), (YES, NO)):
+        once = policy.after_nv_written(algorithm, zeros(session), value)
+        hashed = hashlib.sha1 if algorithm == SHA1 else hashlib.sha256
+        text = bytes(len(once)) + bytes.fromhex("0000018f") + bytes([value])
+        assert once == hashed(text).digest()
+        says(f"{value:d}", "SUCCESS", session, value)
+        caller.digest_is("Its digest, of the zeros, 0000018F and the byte", session, once)
+        says(f"{other:d}, in a trial session too", "VALUE/p1", session, other)
+        caller.digest_is("The digest is as it was", session, once)
+        says(f"{value:d} once more", "SUCCESS", session, value)
+        twice = policy.after_nv_written(algorithm, once, value)
+        caller.digest_is("And it is in the digest again", session, twice)
+        says(f"{other:d}", "VALUE/p1", session, other)
+        caller.says("TPM2_PolicyRestart", "SUCCESS", caller.restart(session))
+        caller.digest_is("The digest is zeros", session, zeros(session))
+
+for algorithm, hash_name, index in ((SHA256, "SHA-256", FIRST), (SHA1, "SHA-1", SECOND)):
+    script.chapter(f"An index that is written once, of {hash_name}.")
+    size = 20 if algorithm == SHA1 else 32
+    once = policy.after_nv_written(algorithm, bytes(size), NO)
+    public = area(index, BY_OWNER | BY_POLICY, algorithm=algorithm, auth_policy=once)
+    caller.define("Its policy is TPM2_PolicyNvWritten of 0", public)
+    session = caller.policy("A policy session", algorithm=algorithm)
+    caller.fails("TPM2_NV_Write without it", "POLICY_FAIL/s1", caller.writing(index, b"1", session))
+    says("1, which is another policy", "SUCCESS", session, YES)
+    caller.fails("TPM2_NV_Write", "POLICY_FAIL/s1", caller.writing(index, b"1", session))
+    caller.says("TPM2_PolicyRestart", "SUCCESS", caller.restart(session))
+    says("0", "SUCCESS", session, NO)
+    caller.does("TPM2_NV_Write, the first one", caller.writing(index, b"first", session))
+    caller.digest_is("It counted once: the digest is zeros", session, zeros(session))
+    says("0 once more, which the session does not know better", "SUCCESS", session, NO)
+    caller.fails(
+        "TPM2_NV_Write, the second one, of anything",
+        "POLICY_FAIL/s1",
+        *(caller.writing(index, it, session) for it in (b"other", b"first", b"")),
+    )
+    caller.fails("TPM2_NV_Read by it", "POLICY_FAIL/s1", caller.reading(index, 5, session))
+    caller.says("TPM2_PolicyRestart", "SUCCESS", caller.restart(session))
+    says("1 is what holds now, and is not its policy", "SUCCESS", session, YES)
+    caller.fails("TPM2_NV_Write", "POLICY_FAIL/s1", caller.writing(index, b"other", session))
+    caller.read("It is as it was first written", index, b"first", by=RH_OWNER)
+    caller.does("The owner may write all the same", caller.writing(index, b"again", by=RH_OWNER))
+    caller.says("It ends", "SUCCESS", caller.flush(session))
+
+script.chapter("An index that is read by its policy as soon as it is written.")
+written = policy.after_nv_written(SHA256, bytes(32), YES)
+caller.define("An index", area(THIRD, BY_OWNER | BY_POLICY, auth_policy=written))
+session = caller.policy("A policy session")
+says("1", "SUCCESS", session, YES)
+caller.fails("TPM2_NV_Read before it is", "POLICY_FAIL/s1", caller.reading(THIRD, 4, session))
+caller.fails("TPM2_NV_Write", "POLICY_FAIL/s1", caller.writing(THIRD, b"data", session))
+caller.does("The owner writes it", caller.writing(THIRD, b"data", by=RH_OWNER))
+caller.read("TPM2_NV_Read by the same assertion", THIRD, b"data", session)
+says("1", "SUCCESS", session, YES)
+caller.does("TPM2_NV_Write too", caller.writing(THIRD, b"more", session))
+
+script.chapter("What a startup clears is not written any more, and may be written once again.")
+by_clear = Attribute.CLEAR_STCLEAR | BY_OWNER | BY_POLICY
+unwritten = policy.after_nv_written(SHA256, bytes(32), NO)
+caller.define("An index with CLEAR_STCLEAR", area(FOURTH, by_clear, auth_policy=unwritten))
+for words in ("TPM2_NV_Write", "After a startup it is a first one again"):
+    session = caller.policy("A policy session")
+    says("0", "SUCCESS", session, NO)
+    caller.does(words, caller.writing(FOURTH, b"data", session))
+    says("0", "SUCCESS", session, NO)
+    caller.fails("Another TPM2_NV_Write", "POLICY_FAIL/s1", caller.writing(FOURTH, b"x", session))
+    script.power()
+    script.startup()
+    caller.read_index_public("TPM2_NV_ReadPublic: not written", FOURTH)
+
+script.chapter("Defined anew, an index is not written.")
+caller.define("A counter", counter(FIFTH, BY_OWNER | BY_POLICY, auth_policy=unwritten))
+session = caller.policy("A policy session")
+for _ in range(2):
+    says("0", "SUCCESS", session, NO)
+    caller.does("TPM2_NV_Increment", caller.incrementing(FIFTH, session))
+    says("0", "SUCCESS", session, NO)
+    caller.fails("Once more", "POLICY_FAIL/s1", caller.incrementing(FIFTH, session))
+    caller.says("TPM2_PolicyRestart", "SUCCESS", caller.restart(session))
+    caller.does("It is undefined", caller.undefining(FIFTH))
+    caller.define(
+        "And defined again", counter(FIFTH, BY_OWNER | BY_POLICY, auth_policy=unwritten)
+    )
+
+script.chapter(
+    "What is no NV index is neither written nor not: an object whose policy is the same refuses "
+    "both."
+)
+parent = caller.create_primary("A storage key", RH_OWNER, storage_key())
+for value in (NO, YES):
+    digest = policy.after_nv_written(SHA256, bytes(32), value)
+    template = sealed(attributes=HERE | ObjectAttribute.NO_DA, auth_policy=digest)
+    made = caller.create(f"Sealed data, with that of {value:d}", parent, template, data=b"data")
+    handle = caller.load("TPM2_Load", parent, made)
+    says(f"{value:d}", "SUCCESS", session, value)
+    caller.fails("TPM2_Unseal", "POLICY_FAIL/s1", caller.unsealing(handle, session))
+    caller.digest_is("The digest is its authPolicy", session, digest)
+    caller.says("TPM2_PolicyRestart", "SUCCESS", caller.restart(session))
+    trial = caller.trial("A trial session")
+    says(f"{value:d}", "SUCCESS", trial, value)
+    caller.fails("TPM2_Unseal by it", "ATTRIBUTES/s1", caller.unsealing(handle, trial))
+    caller.says("It is flushed", "SUCCESS", caller.flush(trial))
+    caller.accepted("The object is flushed", caller.flush(handle))
+
+script.chapter(
+    "Where it stands in the order. A policy of the command code and of an index that is not "
+    "written, and of locality 1; the index is written already."
+)
+SIXTH = 0x0100_0006
+digest = policy.after_command_code(SHA256, bytes(32), NV_WRITE)
+digest = policy.after_nv_written(SHA256, digest, NO)
+digest = policy.after_locality(SHA256, digest, 2)
+caller.define("The index", area(SIXTH, BY_OWNER | BY_POLICY, auth_policy=digest))
+caller.says(
+    "The assertions",
+    "SUCCESS",
+    caller.command_code(session, NV_WRITE),
+    caller.written_told(session, NO),
+    caller.locality(session, 2),
+)
+writes = caller.writing(SIXTH, b"data", session)
+caller.fails("Not written: the locality refuses", "LOCALITY", writes)
+caller.does("The owner writes it", caller.writing(SIXTH, b"data", by=RH_OWNER))
+caller.fails(
+    "Written: it refuses before the locality",
+    "POLICY_FAIL/s1",
+    caller.writing(SIXTH, b"data", session),
+)
+reads = caller.reading(SIXTH, 4, session)
+caller.fails("The command code refuses before it", "POLICY_CC/s1", reads)
+caller.says("TPM2_PolicyPCR of no PCR", "SUCCESS", caller.pcrs(session, []))
+caller.accepted("TPM2_PCR_Reset of PCR 16", caller.reset(b""))
+caller.fails("And a PCR before that", "PCR_CHANGED", caller.reading(SIXTH, 4, session))
+caller.says("TPM2_PolicyRestart", "SUCCESS", caller.restart(session))
+
+
+def hash_of(prepared):
+    names = map(caller.name, prepared.handles)
+    return command_hash(SHA256, prepared.code, names, prepared.parameters)
+
+
+script.chapter(
+    "With a cpHash. Which of both is looked at first cannot be seen, as both answer POLICY_FAIL; "
+    "the locality behind them shows whether both hold."
+)
+writes = caller.writing(SIXTH, b"data", session)
+right = hash_of(writes)
+for words, cp_hash, value, outcome in (
+    ("both hold", right, YES, "LOCALITY"),
+    ("it does not", right, NO, "POLICY_FAIL/s1"),
+    ("the cpHash does not", flipped(right), YES, "POLICY_FAIL/s1"),
+    ("neither does", flipped(right), NO, "POLICY_FAIL/s1"),
+):
+    caller.says(
+        f"A cpHash, TPM2_PolicyNvWritten and locality 1, and {words}",
+        "SUCCESS",
+        caller.cp_hash_told(session, cp_hash),
+        caller.written_told(session, value),
+        caller.locality(session, 2),
+    )
+    caller.fails("TPM2_NV_Write", outcome, writes)
+    caller.says("TPM2_PolicyRestart", "SUCCESS", caller.restart(session))
+
+script.chapter("The role ADMIN asks for the command code before.")
+changes = policy.after_nv_written(SHA256, bytes(32), NO)
+SEVENTH = 0x0100_0007
+caller.define("An index", area(SEVENTH, BY_OWNER | BY_POLICY, auth_policy=changes))
+says("0, and no command code", "SUCCESS", session, NO)
+caller.fails(
+    "TPM2_NV_ChangeAuth", "POLICY_FAIL/s1", caller.changing_auth(SEVENTH, b"new", session)
+)
+caller.does("TPM2_NV_Write, in the role USER", caller.writing(SEVENTH, b"data", session))
+
+script.chapter("With an hmac, and by a session that ends.")
+EIGHTH = 0x0100_0008
+caller.define("An index", area(EIGHTH, BY_OWNER | BY_POLICY, auth_policy=unwritten))
+bound = caller.policy("A policy session, bound to TPM_RH_OWNER", bind=RH_OWNER, xor=True)
+says("0", "SUCCESS", bound, NO)
+prepared = caller.writing(EIGHTH, b"data", Use(bound, frames.DECRYPT))
+caller.fails(
+    "With a wrong hmac, which is compared last",
+    "BAD_AUTH/s1",
+    prepared.but_entry(1, hmac=flipped(prepared.entries[0].hmac)),
+)
+caller.does("TPM2_NV_Write of a buffer that it masks", prepared)
+caller.read("The data in plain", EIGHTH, b"data", by=RH_OWNER)
+caller.says("It is no more", "REFERENCE_H0", caller.get_digest(bound))
+script.write()

@@ -1,0 +1,97 @@
+#!/usr/bin/env python3
+"""Writes examples/write_once.tpm: an NV index that is written once, and never again."""
+
+import hashlib
+
+import paths
+
+import policy
+from frames import RH_OWNER, RH_PLATFORM, SHA256
+from nv import Attribute
+from nv_caller import FIRST, NvCaller, area
+from script import Script
+
+# What the factory writes: the serial number of a board, and the digest of its certificate.
+RECORD = b"board 004711 " + hashlib.sha256(b"a certificate").digest()[:19]
+
+script = Script(
+    "examples/write_once.tpm",
+    "A factory writes the record of a board into its TPM: once, at the end of the line. From then "
+    "on nobody writes it, whatever passwords they know, and everybody can read it. "
+    "TPM2_PolicyNvWritten makes the policy for that: a writer has to find the index unwritten. The "
+    "platform alone, whose value the firmware sets at each start, can still remove the index.",
+)
+caller = NvCaller(script)
+
+script.chapter("THE POLICY, computed once, on any device.")
+script.startup()
+trial = caller.trial("A trial session: 03000000")
+caller.says(
+    "TPM2_PolicyNvWritten of 0: the index must not be written yet when this policy authorizes",
+    "SUCCESS",
+    caller.written_told(trial, False),
+)
+once = policy.after_nv_written(SHA256, bytes(32), False)
+caller.digest_is(
+    "TPM2_PolicyGetDigest: SHA-256 of 32 zeros, 0000018F and 00, which is the authPolicy below",
+    trial,
+    once,
+)
+caller.says("TPM2_FlushContext of the trial session", "SUCCESS", caller.flush(trial))
+
+script.chapter("THE FACTORY.")
+attributes = Attribute.PLATFORMCREATE | Attribute.POLICYWRITE | Attribute.AUTHREAD | Attribute.NO_DA
+public = area(FIRST, attributes, size=len(RECORD), auth_policy=once)
+caller.define(
+    "TPM2_NV_DefineSpace by TPM_RH_PLATFORM: index 01000001 of 32 bytes, with that policy. Its "
+    "attributes are POLICYWRITE, so that the policy alone can write it; AUTHREAD with an empty "
+    "value, so that everybody reads it; NO_DA; and PLATFORMCREATE, so that the owner cannot remove "
+    "it (42040008)",
+    public,
+    by=RH_PLATFORM,
+)
+session = caller.policy("A policy session: 03000000")
+caller.says("TPM2_PolicyNvWritten of 0 in it", "SUCCESS", caller.written_told(session, False))
+caller.does("TPM2_NV_Write of the record", caller.writing(FIRST, RECORD, session))
+caller.is_now(
+    "TPM2_NV_ReadPublic: the index has WRITTEN (20000000) now, and another Name", FIRST
+)
+
+script.chapter("NOBODY WRITES IT AGAIN. The same assertion still makes the policy's digest ...")
+caller.says("TPM2_PolicyNvWritten of 0", "SUCCESS", caller.written_told(session, False))
+caller.digest_is("TPM2_PolicyGetDigest: the digest is the authPolicy", session, once)
+caller.fails(
+    "... but the index is looked at when the session authorizes, and it is written: TPM2_NV_Write",
+    "POLICY_FAIL/s1",
+    caller.writing(FIRST, bytes(32), session),
+)
+caller.says("TPM2_PolicyRestart", "SUCCESS", caller.restart(session))
+caller.says(
+    "TPM2_PolicyNvWritten of 1, which holds, makes another digest",
+    "SUCCESS",
+    caller.written_told(session, True),
+)
+caller.fails("TPM2_NV_Write", "POLICY_FAIL/s1", caller.writing(FIRST, bytes(32), session))
+caller.fails(
+    "By its empty value: it has no AUTHWRITE", "AUTH_UNAVAILABLE", caller.writing(FIRST, bytes(32))
+)
+for by, name in ((RH_OWNER, "the owner"), (RH_PLATFORM, "the platform")):
+    caller.fails(
+        f"By {name}: it has neither OWNERWRITE nor PPWRITE",
+        "NV_AUTHORIZATION",
+        caller.writing(FIRST, bytes(32), by=by),
+    )
+caller.fails(
+    "The owner cannot remove it, to define another in its place",
+    "NV_AUTHORIZATION",
+    caller.undefining(FIRST, by=RH_OWNER),
+)
+
+script.chapter("AT EACH START it is what the factory wrote.")
+script.power()
+script.startup()
+caller.read("TPM2_NV_Read by the empty value", FIRST, RECORD)
+session = caller.policy("A policy session: 03000000")
+caller.says("TPM2_PolicyNvWritten of 0", "SUCCESS", caller.written_told(session, False))
+caller.fails("TPM2_NV_Write", "POLICY_FAIL/s1", caller.writing(FIRST, bytes(32), session))
+script.write()
