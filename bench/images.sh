@@ -1,5 +1,5 @@
 #!/bin/sh
-# Measures an open of the image of a full device (sixteen persistent objects, 32 NV indices of 8,192
+# Measures an open of the image of a full device (sixteen persistent objects, 64 NV indices of 16,384
 # bytes, a saved state), and a save of that device: microseconds, the fastest of ten runs, and the
 # instructions for each byte of the image, by callgrind. Each is the difference of two runs, so that
 # start and end do not count. Then the instructions of a TPM2_GetCapability line that lists all

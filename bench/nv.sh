@@ -1,8 +1,8 @@
 #!/bin/sh
 # Counts the instructions that TPM2_NV_Read, TPM2_NV_Write and TPM2_NV_Increment take, with one NV
-# index and with 32: the difference of two lengths of a script under callgrind, so that start and end
-# do not count. Needs valgrind, python3, and rt where the program is not built yet. Not part of the
-# gate.
+# index, with 32 and with 64: the difference of two lengths of a script under callgrind, so that start
+# and end do not count. Needs valgrind, python3, and rt where the program is not built yet. Not part of
+# the gate.
 #
 # The device's is what `Machine::execute_into` and all that it calls take; the rest is the text.
 set -eu
@@ -46,7 +46,7 @@ measure() {
     }'
 }
 
-for indices in 1 32; do
+for indices in 1 32 64; do
     measure read 64 "$indices" "NV_Read of 64 bytes"
     measure read 1024 "$indices" "NV_Read of 1,024 bytes"
     measure write 64 "$indices" "NV_Write of 64 bytes"

@@ -17,7 +17,7 @@ KINDS = {
     "magic": lambda text: b"t" + text[1:],
     "version": lambda text: text[:5] + b"\3" + text[6:],
     "digest": lambda text: text[:-1] + bytes([text[-1] ^ 1]),
-    "body": lambda text: with_digest(text[:10] + b"\xff" * (len(text) - 42) + text[-32:]),
+    "body": lambda text: with_digest(text[:16] + b"\xff" * (len(text) - 48) + text[-32:]),
 }
 
 file, kind = sys.argv[1:]

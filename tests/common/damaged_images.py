@@ -1,7 +1,7 @@
 """Has a program open damaged images, and compares its answers with those of the device in Python:
 
-    damaged_images.py PROGRAM                      of a device that saved its state, and of bodies
-                                                   with one thing wrong
+    damaged_images.py PROGRAM                      of a device that saved its state, in either
+                                                   version, and of bodies with one thing wrong
     damaged_images.py PROGRAM full [SEED [COUNT]]  the largest, and so many bodies of a full device
                                                    that are bent
 
@@ -23,6 +23,7 @@ sys.path += [str(OUTSIDE / "scripts"), str(OUTSIDE / "device")]
 
 import image
 import image_bodies
+import image_versions
 import lines
 from bent_bodies import Bender
 from device import Device
@@ -120,14 +121,14 @@ class Comparison:
         print(f"{name}: {sum(faults.values()):,} texts: {told}", flush=True)
 
     def is_saved_again(self, words, text):
-        """Whether what is opened from an image has that image; each is asked for once. One that the
-        program does not open was told before.
+        """Whether what is opened from an image has that image, or the same one of version 2; each
+        is asked for once. One that the program does not open was told before.
         """
         if text in self.saved or self.program.fault_of(text) is not None:
             return
         self.saved.add(text)
-        again = self.program.saved_again(text)
-        self.count(again == text, f"{words}: another image is saved", text)
+        again, wanted = self.program.saved_again(text), image.image(image.open_image(text))
+        self.count(again == wanted, f"{words}: another image is saved", text)
 
     def case(self, case):
         """One that is told in words; a good one is opened, and saved again as it was."""
@@ -164,10 +165,10 @@ def in_some_ways():
     return [*xors, lambda byte: byte + (1 if byte & 1 else -1) & 0xFF]
 
 
-def bent(device, seed, count):
+def bent(device, seed, count, version=image.VERSION_2):
     bender = Bender(seed)
     for number in range(1, count + 1):
-        words, text = bender.bent(device)
+        words, text = bender.bent(device, version)
         yield f"{number} of seed {seed}, {words}", text
 
 
@@ -199,6 +200,12 @@ def in_the_gate(comparison):
     damage(comparison, image.image(device))
     for words, it in ("its body", device), ("the body of a full device", image_bodies.FULL):
         comparison.kind(f"{words}, bent", bent(it, SEED, BENT))
+    old = image.image(device, image.VERSION_1)
+    comparison.kind("it in version 1", [("whole", old)])
+    comparison.kind("its proper prefixes", prefixes(old))
+    comparison.kind("its body in version 1, bent", bent(device, SEED, BENT, image.VERSION_1))
+    comparison.kind("version 2, a bit of its limits changed", image_versions.with_other_limits())
+    comparison.kind("version 2, of 42 to 73 bytes", image_versions.without_state())
     told = []
     for case in image_bodies.cases():
         told.append(comparison.case(case))
@@ -210,6 +217,9 @@ def in_the_gate(comparison):
 
 def of_a_full_device(comparison, seed, count):
     damage(comparison, image.image(image_bodies.largest()))
+    old = image.image(image_bodies.largest(image.VERSION_1), image.VERSION_1)
+    comparison.kind("the largest of version 1", [("whole", old)])
+    comparison.kind("its proper prefixes", prefixes(old))
     device = image_bodies.FULL
     comparison.kind("the body of a full device, bent", bent(device, seed, count))
     before = comparison.agree

@@ -148,7 +148,7 @@ def check_image(program, label, text):
     path.write_bytes(text)
     program.check(label, words, Ending(0, text), MEMORY)
     no_image = Ending(1, error=b"tpmsim_lists: image\n")
-    body = text[image.HEAD_BYTES : -image.DIGEST_AT_END]
+    body = text[image.BODY_AT : -image.DIGEST_AT_END]
     longer = image.framed(body + b"\0")
     path.write_bytes(longer[:-1] + bytes([longer[-1] ^ 1]))
     needed = program.check(f"{label}, with a wrong digest", words, no_image, MEMORY)

@@ -11,46 +11,47 @@ use Rattle.tpm_record.specs.IsRecord.{IsRecord}
 use Rattle.tpm_record.specs.Record.{Record}
 use Rattle.tpm_image.specs.Body.{body_of, image_body_text}
 use Rattle.tpm_image.specs.Frame.{digest_bytes, framed_body, framed_text, head_bytes}
-use Rattle.tpm_image.specs.Image.{image_of, image_text}
+use Rattle.tpm_image.specs.Image.{IsImage, IsWithin, image_of, image_text}
 use Rattle.tpm_image.specs.Sizes.{image_size}
 use Rattle.tpm_image.specs.NonVolatile.{IsNonVolatile, NonVolatile, kept_of, powered_on}
 use Rattle.tpm_image.specs.declared.fault.ImageFault.{ImageFault}
 use Rattle.tpm_image.specs.declared.fault.ImageFault.TheVariants as fault
+use Rattle.tpm_image.specs.declared.version.Version.{Version}
 use Rattle.tpm_image.proofs.BodyLaws.{body_again, body_small, body_taken}
 use Rattle.tpm_image.proofs.FrameLaws.{cut_behind, cut_short, framed_again, framed_taken, length-framed_text}
 
 -- ---- text and reading
 
 -- what a body keeps, if the frame has one
-abbrev kept_by : Result (List ℕ) ImageFault → Result NonVolatile ImageFault
-kept_by framed = framed >>= λ body. or_fault (body_of body) fault.Body
+abbrev kept_by : Result (Version × List ℕ) ImageFault → Result NonVolatile ImageFault
+kept_by framed = framed >>= λ said. or_fault (body_of said.0 said.1) fault.Body
 
-pub image_again : (kept : NonVolatile) → IsNonVolatile kept → image_of (image_text kept) ≡ Ok kept
+pub image_again : (version : Version) (kept : NonVolatile) → IsNonVolatile kept → IsWithin version kept → image_of (image_text version kept) ≡ Ok kept
 unfolding image_text
-image_again kept is =
-    ap kept_by (framed_again (image_body_text kept) (omega (arith, body_small kept is)))
-    ∙ ap (λ r. or_fault r fault.Body) (body_again kept is)
+image_again version kept is within =
+    ap kept_by (framed_again version (image_body_text version kept) (omega (arith, body_small version kept is)))
+    ∙ ap (λ r. or_fault r fault.Body) (body_again version kept is within)
 
-pub image_taken : (text : List ℕ) (kept : NonVolatile) → AreBytes text → image_of text ≡ Ok kept → (text ≡ image_text kept) × IsNonVolatile kept
+pub image_taken : (text : List ℕ) (kept : NonVolatile) → AreBytes text → image_of text ≡ Ok kept → (version : Version) × IsNonVolatile kept × IsImage version kept text
 unfolding image_text
 image_taken text kept fits e =
-    let a = bind_ok (framed_body text) (λ body. or_fault (body_of body) fault.Body) kept e in
+    let a = bind_ok (framed_body text) (λ said. or_fault (body_of said.0 said.1) fault.Body) kept e in
     let frame = framed_taken text a.0 fits a.1 in
-    let body = body_taken a.0 kept frame.1 (or_fault_ok (body_of a.0) fault.Body kept a.2) in
-    (frame.0 ∙ ap (framed_text 1) body.0, body.1)
+    let body = body_taken a.0.0 a.0.1 kept frame.1 (or_fault_ok (body_of a.0.0 a.0.1) fault.Body kept a.2) in
+    (a.0.0, body.1, (body.2, frame.0 ∙ ap (framed_text a.0.0) body.0))
 
--- a text of bytes is the image of what is kept exactly where it is the text of that
-pub image_is : (text : List ℕ) (kept : NonVolatile) → AreBytes text → (image_of text ≡ Ok kept) ↔ ((text ≡ image_text kept) × IsNonVolatile kept)
-image_is text kept fits = (image_taken text kept fits, λ is. ap image_of is.0 ∙ image_again kept is.1)
+-- a text of bytes is the image of what is kept exactly where it is the text of that in a version
+pub image_is : (text : List ℕ) (kept : NonVolatile) → AreBytes text → (image_of text ≡ Ok kept) ↔ ((version : Version) × IsNonVolatile kept × IsImage version kept text)
+image_is text kept fits = (image_taken text kept fits, λ is. ap image_of is.2.1 ∙ image_again is.0 kept is.1 is.2.0)
 
 -- ---- the text's length
 
-pub length-image_text : (kept : NonVolatile) → length (image_text kept) ≡ head_bytes + length (image_body_text kept) + digest_bytes
+pub length-image_text : (version : Version) (kept : NonVolatile) → length (image_text version kept) ≡ head_bytes + length (image_body_text version kept) + digest_bytes
 unfolding image_text
-length-image_text kept = length-framed_text (image_body_text kept)
+length-image_text version kept = length-framed_text version (image_body_text version kept)
 
-pub image_small : (kept : NonVolatile) → IsNonVolatile kept → length (image_text kept) ≤ image_size
-image_small kept is = omega (arith, length-image_text kept, body_small kept is)
+pub image_small : (version : Version) (kept : NonVolatile) → IsNonVolatile kept → length (image_text version kept) ≤ image_size
+image_small version kept is = omega (arith, length-image_text version kept, body_small version kept is)
 
 -- ---- a front of an image
 
@@ -58,18 +59,18 @@ image_small kept is = omega (arith, length-image_text kept, body_small kept is)
 pub front_short : (text : List ℕ) (n : ℕ) → n < head_bytes + digest_bytes → image_of (take n text) ≡ Err fault.Short
 front_short text n few = ap kept_by (cut_short (take n text) (omega (arith, few, length-take n text)))
 
-pub front_cut : (kept : NonVolatile) (n : ℕ) → IsNonVolatile kept → head_bytes + digest_bytes ≤ n → n < length (image_text kept) → image_of (take n (image_text kept)) ≡ Err fault.Length
+pub front_cut : (version : Version) (kept : NonVolatile) (n : ℕ) → IsNonVolatile kept → head_bytes + digest_bytes ≤ n → n < length (image_text version kept) → image_of (take n (image_text version kept)) ≡ Err fault.Length
 unfolding image_text
-front_cut kept n is long less =
-    let size = length-framed_text (image_body_text kept) in
-    ap kept_by (cut_behind (image_body_text kept) n (omega (arith, body_small kept is)) long (omega (arith, less, size)))
+front_cut version kept n is long less =
+    let size = length-framed_text version (image_body_text version kept) in
+    ap kept_by (cut_behind version (image_body_text version kept) n (omega (arith, body_small version kept is)) long (omega (arith, less, size)))
 
 -- none is an image
-pub prefix_refused : (kept : NonVolatile) (n : ℕ) → IsNonVolatile kept → n < length (image_text kept) → image_of (take n (image_text kept)) ≡ Err (cond (nat_lt n (head_bytes + digest_bytes)) fault.Short fault.Length)
-prefix_refused kept n is less =
+pub prefix_refused : (version : Version) (kept : NonVolatile) (n : ℕ) → IsNonVolatile kept → n < length (image_text version kept) → image_of (take n (image_text version kept)) ≡ Err (cond (nat_lt n (head_bytes + digest_bytes)) fault.Short fault.Length)
+prefix_refused version kept n is less =
     elim (cases_lt n (head_bytes + digest_bytes)) [
-      | inl few ↦ rw (lt-ltb n (head_bytes + digest_bytes) few) (front_short (image_text kept) n few)
-      | inr long ↦ rw (le-ltb n (head_bytes + digest_bytes) long) (front_cut kept n is long less)
+      | inl few ↦ rw (lt-ltb n (head_bytes + digest_bytes) few) (front_short (image_text version kept) n few)
+      | inr long ↦ rw (le-ltb n (head_bytes + digest_bytes) long) (front_cut version kept n is long less)
     ]
 
 -- ---- records

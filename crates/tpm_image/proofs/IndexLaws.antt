@@ -1,6 +1,6 @@
 -- The NV indices of an image: what is read was spelled so, and what is spelled so is read.
 use Rattle.tpm_image.specs.Sizes.{indices_size}
-use Rattle.tpm_types.specs.Limits.{nv_data_limit, nv_index_limit, nv_space_limit}
+use Rattle.tpm_types.specs.Limits.{nv_data_limit}
 use Rattle.std.proofs.Common.{◌≡◌, ℕ, ◌+◌, ◌*◌, ◌≤◌, Bool, true, false, cond, List, [], ◌∷◌, ◌++◌, length, Option, Some, None, refl, sym, ap, arith, length-append}
 use Rattle.std.specs.Prelude.{◌==◌}
 use Rattle.std.specs.Int.{w16, to_be_bytes}
@@ -27,8 +27,12 @@ use Rattle.tpm_types_nv.specs.declared.nv_type.NvType.{NvType}
 use Rattle.tpm_types_nv.specs.declared.nv_type.NvType.TheVariants as type
 use Rattle.tpm_types_nv.proofs.NvPublicLaws.{sized_nv_public_spelled}
 use Rattle.tpm_image.specs.Body.{ascend_from, bytes_of, data_size, fields_of_index_in, have_space, index_in, index_text, indices_in, indices_text, is_index}
+use Rattle.tpm_image.specs.Version.{index_limit, space_limit}
+use Rattle.tpm_image.specs.declared.version.Version.{Version}
+use Rattle.tpm_image.specs.declared.version.Version.TheVariants.{Two}
 use Rattle.tpm_image.proofs.SortedMapLaws.{are_both, ascends, ascends-again, both}
 use Rattle.tpm_image.proofs.FieldSpelling.{auth_value_spelled, buffer_in_spelled, counted_spelled, in_body_spelled, made_of, passing_spelled, three_texts}
+use Rattle.tpm_image.proofs.VersionLaws.{indices_within}
 
 -- ---- the size of the data
 
@@ -101,11 +105,11 @@ index_spelled = made_of keyed (λ e. e.1) to from (passing_spelled is_index fiel
 
 -- ---- all of them
 
--- what holds of the indices in contents
-pub record AreStored (indices : Entries NvIndex) : Type 0 where
+-- what holds of the indices in an image of a version
+pub record AreStored (version : Version) (indices : Entries NvIndex) : Type 0 where
   pub ascends : Ascends indices
-  pub few : length indices ≤ nv_index_limit
-  pub small : bytes_of indices ≤ nv_space_limit
+  pub few : length indices ≤ index_limit version
+  pub small : bytes_of indices ≤ space_limit version
   pub each : AreIndices indices
 
 are_each : (es : Entries NvIndex) → AllByRecursion (λ e. IsIndex e.0 e.1) es → AreIndices es
@@ -116,10 +120,10 @@ are_each-again : (es : Entries NvIndex) → AreIndices es → AllByRecursion (λ
 are_each-again [] each = tt
 are_each-again (e ∷ es) each = (each.0, are_each-again es each.1)
 
-pub indices_spelled : Spelled indices_text AreStored indices_in
+pub indices_spelled : (version : Version) → Spelled indices_text (AreStored version) (indices_in version)
 unfolding indices_in indices_text
-indices_spelled =
-    respelled (passing_spelled have_space (passing_spelled (ascend_from 0) (counted_spelled nv_index_limit (omega arith) index_spelled))) (λ _. refl)
+indices_spelled version =
+    respelled (passing_spelled (have_space (space_limit version)) (passing_spelled (ascend_from 0) (counted_spelled (index_limit version) (omega (arith, indices_within version)) index_spelled))) (λ _. refl)
     (λ es is. record { ascends = ascends 0 es is.0.1; few = is.0.0.0; small = leb-true _ _ is.1; each = are_each es is.0.0.1 })
     (λ es are. (((are.few, are_each-again es are.each), ascends-again es are.ascends), le-leb _ _ are.small))
 
@@ -150,6 +154,6 @@ all_small : (es : Entries NvIndex) → AreIndices es → length (flat_map index_
 all_small [] each = omega arith
 all_small (e ∷ es) each = omega (arith, index_small e each.0, all_small es each.1, length-append (index_text e) (flat_map index_text es), sum_by-cons (λ (d : ℕ × NvIndex). d.1.public.data_size) e es)
 
-pub indices_small : (es : Entries NvIndex) → AreStored es → length (indices_text es) ≤ indices_size
+pub indices_small : (es : Entries NvIndex) → AreStored Two es → length (indices_text es) ≤ indices_size
 unfolding indices_text
 indices_small es are = omega (arith, are.few, are.small, all_small es are.each, length-append (to_be_bytes w16 (length es)) (flat_map index_text es))

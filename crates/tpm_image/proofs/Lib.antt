@@ -17,3 +17,4 @@ pub mod Sent
 pub mod StateLaws
 pub mod Writing
 pub mod Histories
+pub mod VersionLaws

@@ -1,33 +1,35 @@
 -- What opening answers, from the frame and the body of a text.
-use Rattle.std.proofs.Common.{◌≡◌, ℕ, Bool, true, false, List, length, Result, Ok, Err, refl}
-use Rattle.std.specs.Prelude.{◌==◌, is_ok, nat_lt, not, take}
+use Rattle.std.proofs.Common.{◌≡◌, ℕ, Bool, true, false, List, length, Option, Some, None, Result, Ok, Err, refl}
+use Rattle.std.specs.Prelude.{◌==◌, is_ok, nat_lt, not, ok_or, take}
 use Rattle.std.specs.Str.{bytes_eq}
 use Rattle.tpm_bytes.specs.Reading.{◌>>=◌, or_fault, refused_if}
 use Rattle.tpm_mac.specs.Digest.{hash_of}
 use Rattle.tpm_mac.specs.declared.algorithm.HashAlg.TheVariants.{Sha256}
 use Rattle.tpm_record.specs.Record.{Record}
 use Rattle.tpm_image.specs.Body.{body_of}
-use Rattle.tpm_image.specs.Frame.{before_digest, digest_of, framed_body, length_of, magic, version_of}
+use Rattle.tpm_image.specs.Frame.{before_digest, digest_of, framed_body, length_of, magic, number_of}
 use Rattle.tpm_image.specs.Image.{image_of}
 use Rattle.tpm_image.specs.NonVolatile.{NonVolatile}
 use Rattle.tpm_image.specs.Opening.{Opens}
+use Rattle.tpm_image.specs.Version.{version_numbered}
 use Rattle.tpm_image.specs.declared.fault.ImageFault.{ImageFault}
 use Rattle.tpm_image.specs.declared.fault.ImageFault.TheVariants as fault
 use Rattle.tpm_image.specs.declared.fault.Malformed.{Malformed}
+use Rattle.tpm_image.specs.declared.version.Version.{Version}
 
 -- the frame is not refused for want of memory
 frame_fits : (text : List ℕ) → framed_body text ≡ Err fault.NoMemory → ⊥
 unfolding framed_body
 frame_fits text is =
-    by (nat_lt (length text) 42) (not (bytes_eq (take 4 text) magic)) (not (version_of text == 1)) (not (length_of text == length text)) (not (bytes_eq (hash_of Sha256 (before_digest text)) (digest_of text))) _ is
+    by (nat_lt (length text) 42) (not (bytes_eq (take 4 text) magic)) (version_numbered (number_of text)) (not (length_of text == length text)) (not (bytes_eq (hash_of Sha256 (before_digest text)) (digest_of text))) _ is
   where
-    by : (a b c d e : Bool) (body : List ℕ) → (refused_if a fault.Short >>= λ long. refused_if b fault.Magic >>= λ word. refused_if c fault.Version >>= λ version. refused_if d fault.Length >>= λ whole. refused_if e fault.Digest >>= λ digest. Ok body) ≡ Err fault.NoMemory → ⊥
+    by : (a b : Bool) (c : Option Version) (d e : Bool) (body : List ℕ) → (refused_if a fault.Short >>= λ long. refused_if b fault.Magic >>= λ word. ok_or c fault.Version >>= λ version. refused_if d fault.Length >>= λ whole. refused_if e fault.Digest >>= λ digest. let said : Version × List ℕ = (version, body) in Ok said) ≡ Err fault.NoMemory → ⊥
     by true b c d e body is = absurd cc
     by false true c d e body is = absurd cc
-    by false false true d e body is = absurd cc
-    by false false false true e body is = absurd cc
-    by false false false false true body is = absurd cc
-    by false false false false false body is = absurd cc
+    by false false None d e body is = absurd cc
+    by false false (Some version) true e body is = absurd cc
+    by false false (Some version) false true body is = absurd cc
+    by false false (Some version) false false body is = absurd cc
 
 module _ {M : Type 0} (record_of : M → Record) (can : Bool) where
   pub unframed : (text : List ℕ) (f : ImageFault) → framed_body text ≡ Err f → Opens record_of can text (Err f)
@@ -35,8 +37,8 @@ module _ {M : Type 0} (record_of : M → Record) (can : Bool) where
   unframed text f is = rw is refl
 
 -- a body that spells a state makes an image
-pub is_image : (text body : List ℕ) → framed_body text ≡ Ok body → is_ok (body_of body) ≡ true → (kept : NonVolatile) × (image_of text ≡ Ok kept)
-is_image text body framed ok = rw framed (by (body_of body) ok)
+pub is_image : (text : List ℕ) (version : Version) (body : List ℕ) → framed_body text ≡ Ok (version, body) → is_ok (body_of version body) ≡ true → (kept : NonVolatile) × (image_of text ≡ Ok kept)
+is_image text version body framed ok = rw framed (by (body_of version body) ok)
   where
     by : (r : Result NonVolatile Malformed) → is_ok r ≡ true → (kept : NonVolatile) × (or_fault r fault.Body ≡ Ok kept)
     by (Ok kept) is = (kept, refl)

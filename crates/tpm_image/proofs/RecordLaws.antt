@@ -1,39 +1,45 @@
 -- The images of records, and devices that are opened from them.
-use Rattle.std.proofs.Common.{◌≡◌, ℕ, ◌<◌, ◌≤◌, Bool, List, length, take, Result, Ok, Err, IfOk, sym, ap, ◌∙◌}
+use Rattle.std.proofs.Common.{◌≡◌, ℕ, ◌<◌, ◌≤◌, Bool, List, length, take, Result, Ok, Err, IfOk, refl, sym, ap, ◌∙◌}
 use Rattle.tpm_bytes.proofs.Fields.{AreBytes, ok_is}
 use Rattle.tpm_record.specs.IsRecord.{IsRecord}
 use Rattle.tpm_record.specs.Record.{Record}
-use Rattle.tpm_image.specs.Image.{image_of, image_text}
+use Rattle.tpm_image.specs.Image.{IsImage, IsWithin, image_of, image_text}
 use Rattle.tpm_image.specs.Sizes.{image_size}
 use Rattle.tpm_image.specs.NonVolatile.{IsNonVolatile, NonVolatile, kept_of, powered_on}
 use Rattle.tpm_image.specs.Opening.{Opens, OpensAgain}
 use Rattle.tpm_image.specs.declared.fault.ImageFault.{ImageFault}
 use Rattle.tpm_image.specs.declared.fault.ImageFault.TheVariants as fault
+use Rattle.tpm_image.specs.declared.version.Version.{Version}
+use Rattle.tpm_image.specs.declared.version.Version.TheVariants.{Two}
+use Rattle.tpm_image.proofs.BodyLaws.{within_device}
 use Rattle.tpm_image.proofs.ImageLaws.{front_cut, image_again, image_small, image_taken, kept_is}
 
-pub record_again : (r : Record) → IsRecord r → image_of (image_text (kept_of r)) ≡ Ok (kept_of r)
-record_again r is = image_again (kept_of r) (kept_is r is)
+pub record_image : (r : Record) → IsRecord r → IsImage Two (kept_of r) (image_text Two (kept_of r))
+record_image r is = (within_device (kept_of r) (kept_is r is), refl)
 
-pub record_small : (r : Record) → IsRecord r → length (image_text (kept_of r)) ≤ image_size
-record_small r is = image_small (kept_of r) (kept_is r is)
+pub record_again : (version : Version) (r : Record) → IsRecord r → IsWithin version (kept_of r) → image_of (image_text version (kept_of r)) ≡ Ok (kept_of r)
+record_again version r is within = image_again version (kept_of r) (kept_is r is) within
 
-pub record_cut : (r : Record) (n : ℕ) → IsRecord r → 42 ≤ n → n < length (image_text (kept_of r)) → image_of (take n (image_text (kept_of r))) ≡ Err fault.Length
-record_cut r n is long less = front_cut (kept_of r) n (kept_is r is) long less
+pub record_small : (version : Version) (r : Record) → IsRecord r → length (image_text version (kept_of r)) ≤ image_size
+record_small version r is = image_small version (kept_of r) (kept_is r is)
+
+pub record_cut : (version : Version) (r : Record) (n : ℕ) → IsRecord r → 42 ≤ n → n < length (image_text version (kept_of r)) → image_of (take n (image_text version (kept_of r))) ≡ Err fault.Length
+record_cut version r n is long less = front_cut version (kept_of r) n (kept_is r is) long less
 
 module _ {M : Type 0} (record_of : M → Record) (can : Bool) (text : List ℕ) where
   -- what is opened was spelled so
-  pub opened_found : (result : Result M ImageFault) → AreBytes text → Opens record_of can text result → IfOk result (λ machine. (kept : NonVolatile) × IsNonVolatile kept × (text ≡ image_text kept) × (record_of machine ≡ powered_on kept))
+  pub opened_found : (result : Result M ImageFault) → AreBytes text → Opens record_of can text result → IfOk result (λ machine. (version : Version) × (kept : NonVolatile) × IsNonVolatile kept × IsImage version kept text × (record_of machine ≡ powered_on kept))
   opened_found (Ok machine) fits opens =
       let t = image_taken text opens.0 fits opens.1 in
-      (opens.0, t.1, t.0, opens.2)
+      (t.0, opens.0, t.1, t.2, opens.2)
   opened_found (Err f) fits opens = tt
 
   -- what is spelled so is opened
-  pub opened_only : (r : Record) (result : Result M ImageFault) → IsRecord r → text ≡ image_text (kept_of r) → Opens record_of can text result → OpensAgain record_of can r result
-  opened_only r result is same opens = by result opens
+  pub opened_only : (version : Version) (r : Record) (result : Result M ImageFault) → IsRecord r → IsImage version (kept_of r) text → Opens record_of can text result → OpensAgain record_of can r result
+  opened_only version r result is image opens = by result opens
     where
       told : image_of text ≡ Ok (kept_of r)
-      told = ap image_of same ∙ record_again r is
+      told = ap image_of image.1 ∙ record_again version r is image.0
 
       one : (kept : NonVolatile) → image_of text ≡ Ok kept → kept_of r ≡ kept
       one kept other = ok_is {E = ImageFault} (kept_of r) kept (sym told ∙ other)

@@ -1,10 +1,10 @@
 -- The body of an image: what a device keeps without power, part by part. The layout is this
 -- device's own; objects and indices stand in it by the standard's structures (TPM 2.0 Library, Part
 -- 2, sections 12.2.4, TPMT_PUBLIC, 12.3.2.4, TPMT_SENSITIVE, and 13.6, TPM2B_NV_PUBLIC).
-use Rattle.tpm_types.specs.Limits.{nv_data_limit, nv_index_limit, nv_space_limit, persistent_limit}
+use Rattle.tpm_types.specs.Limits.{nv_data_limit, persistent_limit}
 use Rattle.std.specs.Prelude.{ℕ, ◌+◌, ◌==◌, ◌&&◌, nat_le, not, Bool, true, if◌then◌else◌}
 use Rattle.std.specs.Prelude.{List, [], ◌∷◌, ◌++◌, length, ok_or, Result, Ok, Err}
-use Rattle.std.specs.Int.{w8, w32, w64, to_be_bytes}
+use Rattle.std.specs.Int.{w8, w16, w32, w64, to_be_bytes}
 use Rattle.std.specs.List.{flat_map, sum_by}
 use Rattle.tpm_sorted_map.specs.SortedMap.{Entries}
 use Rattle.tpm_bytes.specs.Many.{many_at}
@@ -34,7 +34,31 @@ use Rattle.tpm_types_object.specs.declared.public.Public.{Public}
 use Rattle.tpm_types_object.specs.declared.sensitive.Sensitive.{Sensitive}
 use Rattle.tpm_image.specs.Fields.{auth_value_in, buffer_in, bytes_in, counted_in, counted_text, in_body, is_trimmed, malformed, number_in, passing, yes_no_in, yes_no_text}
 use Rattle.tpm_image.specs.NonVolatile.{KeptState, NonVolatile}
+use Rattle.tpm_image.specs.Version.{index_limit, space_limit}
 use Rattle.tpm_image.specs.declared.fault.Malformed.{Malformed}
+use Rattle.tpm_image.specs.declared.version.Version.{Version}
+use Rattle.tpm_image.specs.declared.version.Version.TheVariants.{One, Two}
+
+-- ---- the limits
+
+-- version 1 does not say them; version 2 says how many NV indices there may be, and the most bytes
+-- of their data
+unfoldable pub limits_text : Version → List ℕ
+limits_text One = []
+limits_text Two = to_be_bytes w16 (index_limit Two) ++ to_be_bytes w32 (space_limit Two)
+
+-- no others than those of the version
+abbrev pub are_limits_of : Version → (indices space : ℕ) → Bool
+are_limits_of version indices space =
+    indices == index_limit version && space == space_limit version
+
+unfoldable pub limits_in : Version → List ℕ → Result (Unit {0} × List ℕ) Malformed
+limits_in One text = Ok (tt, text)
+limits_in Two text = do
+  indices ← number_in w16 text
+  space ← number_in w32 indices.1
+  same ← refused_if (not (are_limits_of Two indices.0 space.0)) malformed
+  Ok (tt, space.1)
 
 -- ---- the hierarchies
 
@@ -264,15 +288,17 @@ index_in text = do
 abbrev pub bytes_of : Entries NvIndex → ℕ
 bytes_of indices = sum_by (λ e. e.1.public.data_size) indices
 
-abbrev pub have_space : Entries NvIndex → Bool
-have_space indices = nat_le (bytes_of indices) nv_space_limit
+abbrev pub have_space : (limit : ℕ) → Entries NvIndex → Bool
+have_space limit indices = nat_le (bytes_of indices) limit
 
--- in ascending order of their handles, within the limits on their number and their data
+-- in ascending order of their handles, within the version's limits on their number and their data
 unfoldable pub indices_text : Entries NvIndex → List ℕ
 indices_text indices = counted_text index_text indices
 
-unfoldable pub indices_in : List ℕ → Result (Entries NvIndex × List ℕ) Malformed
-indices_in text = passing have_space (passing (ascend_from 0) (counted_in nv_index_limit index_in)) text
+unfoldable pub indices_in : Version → List ℕ → Result (Entries NvIndex × List ℕ) Malformed
+indices_in version text =
+    passing (have_space (space_limit version))
+    (passing (ascend_from 0) (counted_in (index_limit version) index_in)) text
 
 -- ---- the whole body
 
@@ -310,16 +336,18 @@ state_in text = do
     saved.1,
   )
 
--- these, the persistent objects and the NV indices
-unfoldable pub image_body_text : NonVolatile → List ℕ
-image_body_text kept =
-    state_text kept.state ++ objects_text kept.persistent ++ indices_text kept.indices
+-- the limits, these, the persistent objects and the NV indices
+unfoldable pub image_body_text : Version → NonVolatile → List ℕ
+image_body_text version kept =
+    limits_text version ++ state_text kept.state ++ objects_text kept.persistent
+    ++ indices_text kept.indices
 
 -- what a body of these bytes, and of no more, keeps
-unfoldable pub body_of : List ℕ → Result NonVolatile Malformed
-body_of text = do
-  state ← state_in text
+unfoldable pub body_of : Version → List ℕ → Result NonVolatile Malformed
+body_of version text = do
+  limits ← limits_in version text
+  state ← state_in limits.1
   persistent ← objects_in state.1
-  indices ← indices_in persistent.1
+  indices ← indices_in version persistent.1
   ended ← refused_if (not (length indices.1 == 0)) malformed
   Ok (record { state = state.0; persistent = persistent.0; indices = indices.0 })

@@ -1,23 +1,25 @@
--- The frame of an image, version 1: a head before its body, and a digest after both. The format is
--- this device's own.
-use Rattle.std.specs.Prelude.{◌≡◌, ℕ, ◌+◌, ◌-◌, ◌==◌, nat_lt, not, List, [], ◌∷◌, ◌++◌, length, take, drop}
-use Rattle.std.specs.Prelude.{Result, Ok, Err}
-use Rattle.std.specs.Borrow.{Bor}
+-- The frame of an image: a head before its body, and a digest after both. The format is this
+-- device's own.
+use Rattle.std.specs.Prelude.{ℕ, ◌+◌, ◌-◌, ◌==◌, nat_lt, not, List, [], ◌∷◌, ◌++◌, length, take, drop}
+use Rattle.std.specs.Prelude.{ok_or, Result, Ok}
 use Rattle.std.specs.Int.{w16, w32, from_be_bytes, to_be_bytes}
 use Rattle.std.specs.Str.{bytes_eq}
 use Rattle.tpm_bytes.specs.Reading.{◌>>=◌, refused_if}
 use Rattle.tpm_mac.specs.Digest.{hash_of}
 use Rattle.tpm_mac.specs.declared.algorithm.HashAlg.TheVariants.{Sha256}
+use Rattle.tpm_image.specs.Version.{version_number, version_numbered}
 use Rattle.tpm_image.specs.declared.fault.ImageFault.{ImageFault}
 use Rattle.tpm_image.specs.declared.fault.ImageFault.TheVariants as fault
+use Rattle.tpm_image.specs.declared.version.Version.{Version}
 
 -- TPMI
 abbrev pub magic : List ℕ
 magic = 0x54 ∷ 0x50 ∷ 0x4d ∷ 0x49 ∷ []
 
--- the word TPMI, the version, and the length of the whole
-abbrev pub head_text : (version whole : ℕ) → List ℕ
-head_text version whole = magic ++ to_be_bytes w16 version ++ to_be_bytes w32 whole
+-- the word TPMI, the number of the version, and the length of the whole
+abbrev pub head_text : Version → (whole : ℕ) → List ℕ
+head_text version whole =
+    magic ++ to_be_bytes w16 (version_number version) ++ to_be_bytes w32 whole
 
 abbrev pub head_bytes : ℕ
 head_bytes = 10
@@ -30,14 +32,15 @@ abbrev pub digested_text : List ℕ → List ℕ
 digested_text text = text ++ hash_of Sha256 text
 
 -- a body in its frame: the head before it, and the digest of both after it
-abbrev pub framed_text : (version : ℕ) → List ℕ → List ℕ
+abbrev pub framed_text : Version → List ℕ → List ℕ
 framed_text version body =
     digested_text (head_text version (head_bytes + length body + digest_bytes) ++ body)
 
 -- ---- its parts, by their places
 
-abbrev pub version_of : List ℕ → ℕ
-version_of text = from_be_bytes w16 (take 2 (drop 4 text))
+-- the number of the version
+abbrev pub number_of : List ℕ → ℕ
+number_of text = from_be_bytes w16 (take 2 (drop 4 text))
 
 abbrev pub length_of : List ℕ → ℕ
 length_of text = from_be_bytes w32 (take 4 (drop 6 text))
@@ -49,13 +52,13 @@ before_digest text = take (length text - digest_bytes) text
 abbrev pub digest_of : List ℕ → List ℕ
 digest_of text = drop (length text - digest_bytes) text
 
--- the body of a text in its frame, or the first fault of the frame
-unfoldable pub framed_body : List ℕ → Result (List ℕ) ImageFault
+-- the version and the body of a text in its frame, or the first fault of the frame
+unfoldable pub framed_body : List ℕ → Result (Version × List ℕ) ImageFault
 framed_body text = do
   long ← refused_if (nat_lt (length text) (head_bytes + digest_bytes)) fault.Short
   word ← refused_if (not (bytes_eq (take 4 text) magic)) fault.Magic
-  version ← refused_if (not (version_of text == 1)) fault.Version
+  version ← ok_or (version_numbered (number_of text)) fault.Version
   whole ← refused_if (not (length_of text == length text)) fault.Length
   digest ← refused_if
       (not (bytes_eq (hash_of Sha256 (before_digest text)) (digest_of text))) fault.Digest
-  Ok (drop head_bytes (before_digest text))
+  Ok (version, drop head_bytes (before_digest text))

@@ -1,3 +1,4 @@
+pub mod Version
 pub mod NonVolatile
 pub mod Fields
 pub mod Body

@@ -2,6 +2,10 @@
 use Rattle.std.specs.Prelude.{ℕ, ◌+◌, ◌*◌}
 use Rattle.tpm_types.specs.Limits.{nv_index_limit, nv_space_limit, persistent_limit}
 
+-- the limits that version 2 says
+abbrev pub limits_size : ℕ
+limits_size = 6
+
 -- what does not grow: hierarchies, lockout, clock, counts, and what a shutdown saved
 abbrev pub state_size : ℕ
 state_size = 1269
@@ -24,7 +28,7 @@ abbrev pub indices_size : ℕ
 indices_size = 2 + entries_size
 
 abbrev pub body_size : ℕ
-body_size = state_size + (objects_size + indices_size)
+body_size = limits_size + (state_size + (objects_size + indices_size))
 
 -- a body, with the digest after it, and the image, whose head has 10 bytes
 abbrev pub text_size : ℕ

@@ -5,6 +5,7 @@ ghost use Rattle.std.specs.Prelude.{◌≡◌, ◌≤◌, ◌+◌, ◌++◌, [],
 ghost use Rattle.tpm_image.specs.Body.{body_of, image_body_text, state_in, state_text};
 ghost use Rattle.tpm_image.specs.Filling.{PowersOn, Restores};
 ghost use Rattle.tpm_image.specs.NonVolatile.{kept_of};
+ghost use Rattle.tpm_image.specs.declared.version.Version.TheVariants.{Two};
 ghost use Rattle.tpm_record.specs.Record.{manufactured};
 
 use crate::fault::{FillFault, Malformed};
@@ -14,6 +15,7 @@ use crate::indices::{read_indices, write_indices};
 use crate::lockout::{read_lockout, write_lockout};
 use crate::objects::{read_objects, write_objects};
 use crate::saved::{read_saved, write_saved};
+use crate::version::{Version, read_limits, write_limits};
 use tpm_bytes::Cursor;
 use tpm_lockout::Lockout;
 use tpm_nv::Indices;
@@ -35,19 +37,26 @@ fn read_state(fixed: &mut Fixed, text: &mut Cursor) -> Result<u64, Malformed>
     Ok(max_count)
 }
 
-/// Reads a whole body into a keep that was just made.
+/// Reads a whole body of a version into a keep that was just made.
 #[tactic(auto, unfolding(crate::specs::Body::body_of))]
-pub(crate) fn read_body<K: Keep>(keep: &mut K, body: &[u8]) -> Result<(), FillFault>
+pub(crate) fn read_body<K: Keep>(
+    version: Version,
+    keep: &mut K,
+    body: &[u8],
+) -> Result<(), FillFault>
     requires { K.record_of keep.old ≡ manufactured (replicate 256 0) }
-    ensures { PowersOn K.can_refuse (body_of body.now) result (K.record_of keep.new) }
+    ensures { PowersOn K.can_refuse (body_of version body.now) result (K.record_of keep.new) }
 {
     let mut text = Cursor::new(body);
+    let Ok(()) = read_limits(version, &mut text) else {
+        return Err(FillFault::Malformed);
+    };
     let Ok(max_count) = read_state(keep.fixed_mut(), &mut text) else {
         return Err(FillFault::Malformed);
     };
     keep.nv_mut().set_max_count(max_count);
     read_objects(keep.persistent_mut(), &mut text)?;
-    read_indices(keep.nv_mut(), &mut text)?;
+    read_indices(version, keep.nv_mut(), &mut text)?;
     if !text.is_empty() {
         return Err(FillFault::Malformed);
     }
@@ -72,13 +81,14 @@ fn write_state<K: Keep>(keep: &K, text: &mut Text)
     write_saved(&fixed.saved, text);
 }
 
-/// Writes a whole body.
+/// Writes a whole body, in the version that is written.
 #[tactic(auto, unfolding(crate::specs::Body::image_body_text))]
 pub(crate) fn write_body<K: Keep>(keep: &K, text: &mut Text)
     requires { text.old ≡ [] }
-    ensures written { text.new ≡ image_body_text (kept_of (K.record_of keep.now)) }
+    ensures written { text.new ≡ image_body_text Two (kept_of (K.record_of keep.now)) }
     ensures small { length text.new ≤ body_size }
 {
+    write_limits(text);
     write_state(keep, text);
     write_objects(keep.persistent(), text);
     write_indices(keep.nv(), text);

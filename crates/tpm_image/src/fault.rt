@@ -7,13 +7,13 @@ pub enum ImageFault {
     Short,
     /// They do not begin with TPMI.
     Magic,
-    /// Another version than 1.
+    /// Another version than 1 and 2.
     Version,
     /// The text is not as long as its head says.
     Length,
     /// Its last 32 bytes are not the SHA-256 of those before them.
     Digest,
-    /// What is between head and digest spells no state.
+    /// What is between head and digest spells no state within the limits of the version.
     Body,
     /// It is an image, and memory was refused.
     NoMemory,

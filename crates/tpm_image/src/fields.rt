@@ -18,7 +18,10 @@ use tpm_types::{
 };
 use tpm_types_object::read_filled;
 
-/// The most bytes of what does not grow, of the persistent objects, and of the NV indices.
+/// How many bytes the limits have; and the most bytes of what does not grow, of the persistent
+/// objects, and of the NV indices.
+const LIMITS_SIZE: usize = 6;
+
 const STATE_SIZE: usize = 1_269;
 
 const OBJECTS_SIZE: usize = 2 + PERSISTENT_LIMIT * 330;
@@ -26,7 +29,7 @@ const OBJECTS_SIZE: usize = 2 + PERSISTENT_LIMIT * 330;
 const INDICES_SIZE: usize = 2 + NV_INDEX_LIMIT * 84 + NV_SPACE_LIMIT;
 
 /// The most bytes of a body, with the digest after it.
-pub(crate) const TEXT_LIMIT: usize = STATE_SIZE + OBJECTS_SIZE + INDICES_SIZE + 32;
+pub(crate) const TEXT_LIMIT: usize = LIMITS_SIZE + STATE_SIZE + OBJECTS_SIZE + INDICES_SIZE + 32;
 
 /// A body that is being written.
 pub(crate) type Text = Sink<TEXT_LIMIT>;

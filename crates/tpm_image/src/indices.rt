@@ -9,6 +9,7 @@ ghost use Rattle.tpm_bytes.specs.Reading.{Reads};
 ghost use Rattle.tpm_image.specs.Body.{ascend_from, data_size, have_space, index_in, index_text, indices_in, indices_text};
 ghost use Rattle.tpm_image.specs.Fields.{in_body, passing};
 ghost use Rattle.tpm_image.specs.Filling.{AllBelow, Appends, Fills};
+ghost use Rattle.tpm_image.specs.Version.{space_limit};
 ghost use Rattle.tpm_nv.specs.Definition.{has_type_size};
 ghost use Rattle.tpm_nv.specs.Head.{index_with, indices_of, total};
 ghost use Rattle.tpm_nv.specs.Index.{data_bytes};
@@ -17,9 +18,10 @@ ghost use Rattle.tpm_types_object.specs.Filled.{filled_by};
 
 use crate::fault::{FillFault, Malformed};
 use crate::fields::{Text, read_auth_value, read_sized, read_u16, write_sized, write_u16};
+use crate::version::Version;
 use tpm_bytes::Cursor;
 use tpm_nv::{DefineFault, Head, Indices, has_type_size};
-use tpm_types::{AuthValue, NV_DATA_LIMIT, NV_INDEX_LIMIT};
+use tpm_types::{AuthValue, NV_DATA_LIMIT};
 use tpm_types_nv::{NvAttribute, NvPublic};
 
 /// What an image says of an index.
@@ -110,12 +112,19 @@ fn add_index<N: Indices>(indices: &mut N, lowest: u64, text: &mut Cursor) -> Res
     }
 }
 
-/// Reads a number of indices, each with a handle above those before it.
-fn add_indices<N: Indices>(indices: &mut N, count: u16, text: &mut Cursor) -> Result<(), FillFault>
+/// Reads a number of indices, each with a handle above those before it, whose data are within the
+/// limit of a version.
+fn add_indices<N: Indices>(
+    version: Version,
+    indices: &mut N,
+    count: u16,
+    text: &mut Cursor,
+) -> Result<(), FillFault>
     requires none { (N.contents indices.old).indices ≡ [] }
     requires few { count ≤ nv_index_limit }
     ensures filled { Fills N.can_refuse
-        (passing have_space (passing (ascend_from 0) (many_at index_in count)) text.old)
+        (passing (have_space (space_limit version))
+        (passing (ascend_from 0) (many_at index_in count)) text.old)
         (N.contents indices.new).indices result text.new }
     ensures count { (N.contents indices.new).max_count ≡ (N.contents indices.old).max_count }
 {
@@ -124,24 +133,32 @@ fn add_indices<N: Indices>(indices: &mut N, count: u16, text: &mut Cursor) -> Re
         lowest = add_index(indices, lowest, text)?;
     }
     indices.read_sizes();
+    if indices.bytes().len() > version.space_limit() {
+        return Err(FillFault::Malformed);
+    }
     Ok(())
 }
 
-/// Reads the NV indices of a device that has none. The largest value of a counter stays.
+/// Reads the NV indices of a device that has none, within the limits of a version. The largest
+/// value of a counter stays.
 #[tactic(auto, unfolding(crate::specs::Body::indices_in))]
-pub(crate) fn read_indices<N: Indices>(indices: &mut N, text: &mut Cursor) -> Result<(), FillFault>
+pub(crate) fn read_indices<N: Indices>(
+    version: Version,
+    indices: &mut N,
+    text: &mut Cursor,
+) -> Result<(), FillFault>
     requires { (N.contents indices.old).indices ≡ [] }
-    ensures filled { Fills N.can_refuse (indices_in text.old) (N.contents indices.new).indices
-        result text.new }
+    ensures filled { Fills N.can_refuse (indices_in version text.old)
+        (N.contents indices.new).indices result text.new }
     ensures count { (N.contents indices.new).max_count ≡ (N.contents indices.old).max_count }
 {
     let Ok(count) = read_u16(text) else {
         return Err(FillFault::Malformed);
     };
-    if usize::from(count) > NV_INDEX_LIMIT {
+    if usize::from(count) > version.index_limit() {
         return Err(FillFault::Malformed);
     }
-    add_indices(indices, count, text)
+    add_indices(version, indices, count, text)
 }
 
 /// Writes an index that has these bytes.

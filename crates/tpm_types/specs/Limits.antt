@@ -37,11 +37,11 @@ persistent_limit = 16
 
 -- how many NV indices there may be
 abbrev pub nv_index_limit : ℕ
-nv_index_limit = 32
+nv_index_limit = 64
 
 -- the most bytes of data that all NV indices have together
 abbrev pub nv_space_limit : ℕ
-nv_space_limit = 8192
+nv_space_limit = 16384
 
 -- the most bytes of data that one ordinary NV index has
 abbrev pub nv_data_limit : ℕ

@@ -29,10 +29,10 @@ pub const OBJECT_LIMIT: usize = 8;
 pub const PERSISTENT_LIMIT: usize = 16;
 
 /// How many NV indices there may be.
-pub const NV_INDEX_LIMIT: usize = 32;
+pub const NV_INDEX_LIMIT: usize = 64;
 
 /// The most bytes of data that all NV indices have together.
-pub const NV_SPACE_LIMIT: usize = 8_192;
+pub const NV_SPACE_LIMIT: usize = 16_384;
 
 /// The most bytes of data that one ordinary NV index has.
 pub const NV_DATA_LIMIT: usize = 2_048;

@@ -1,8 +1,11 @@
 """The image of what a device keeps without power: bytes that another device is opened from.
 
 Behind the word TPMI stand a version and the length of the whole; at the end stands the SHA-256 of
-all before. The body has the fields of docs/table in their order.
+all before. The body has the fields of docs/table in their order. Version 2 is written, and has the
+limits on NV indices before the body; version 1 is read, too, within limits of its own.
 """
+
+from dataclasses import dataclass
 
 import nv
 import objects
@@ -16,7 +19,7 @@ from general import Fields, Refusal, Short
 from parameters import DIGEST_BYTES, Parameters
 from sessions import digest, digest_bytes, trimmed
 
-MAGIC, VERSION = b"TPMI", 1
+MAGIC = b"TPMI"
 HEAD_BYTES, DIGEST_AT_END = 10, 32
 
 # The hierarchies in their order, and the hash algorithms of the banks.
@@ -29,10 +32,34 @@ class Fault(Exception):
     """Why bytes are no image: Short, Magic, Version, Length, Digest or Body."""
 
 
+@dataclass(frozen=True)
+class Version:
+    """How many NV indices an image has at most, and how many bytes of their data; and whether it
+    says these limits.
+    """
+
+    number: int
+    indices: int
+    all_bytes: int
+    says_limits: bool
+
+    @property
+    def limits(self):
+        return number(self.indices, 2) + number(self.all_bytes, 4) if self.says_limits else b""
+
+
+VERSION_1 = Version(1, 32, 8192, False)
+VERSION_2 = Version(2, nv.INDICES, nv.ALL_BYTES, True)
+VERSIONS = {it.number: it for it in (VERSION_1, VERSION_2)}
+
+# Where the body begins in an image that is written.
+BODY_AT = HEAD_BYTES + len(VERSION_2.limits)
+
+
 # Writing.
 
 
-def image(device):
+def image(device, version=VERSION_2):
     body = b"".join(
         (
             hierarchies_text(device),
@@ -44,13 +71,18 @@ def image(device):
             indices_text(device),
         )
     )
-    return framed(body)
+    return framed(body, version)
 
 
-def framed(body):
-    """A body between its head and its digest."""
-    length = HEAD_BYTES + len(body) + DIGEST_AT_END
-    text = MAGIC + number(VERSION, 2) + number(length, 4) + body
+def framed(body, version=VERSION_2):
+    """A body between its head, with the limits behind it that the version says, and its digest."""
+    return digested(version.number, version.limits + body)
+
+
+def digested(version, behind_head):
+    """What is behind the head of a version, whatever that is, between the head and the digest."""
+    length = HEAD_BYTES + len(behind_head) + DIGEST_AT_END
+    text = MAGIC + number(version, 2) + number(length, 4) + behind_head
     return text + digest(SHA256, text)
 
 
@@ -118,14 +150,15 @@ def open_image(text):
     fields = Fields(text)
     if fields.take(len(MAGIC)) != MAGIC:
         raise Fault("Magic")
-    if fields.number(2) != VERSION:
+    version = VERSIONS.get(fields.number(2))
+    if version is None:
         raise Fault("Version")
     if fields.number(4) != len(text):
         raise Fault("Length")
     if digest(SHA256, text[:-DIGEST_AT_END]) != text[-DIGEST_AT_END:]:
         raise Fault("Digest")
     try:
-        return read_body(Parameters(text[HEAD_BYTES:-DIGEST_AT_END]))
+        return read_body(Parameters(text[HEAD_BYTES:-DIGEST_AT_END]), version)
     except (Refusal, Short):
         raise Fault("Body") from None
 
@@ -140,8 +173,9 @@ def fault_of(text):
     return None
 
 
-def read_body(fields):
+def read_body(fields, version):
     device = Device()
+    check(fields.take(len(version.limits)) == version.limits)
     read_hierarchies(fields, device)
     device.disable_clear = bool(fields.one_of(1, (0, 1), "VALUE"))
     numbers = [fields.number(4) for _ in range(4)]
@@ -152,7 +186,7 @@ def read_body(fields):
     device.largest_counter = fields.number(8)
     read_saved(fields, device)
     read_objects(fields, device)
-    read_indices(fields, device)
+    read_indices(fields, device, version)
     fields.end()
     return device
 
@@ -197,9 +231,9 @@ def read_objects(fields, device):
         last = handle
 
 
-def read_indices(fields, device):
+def read_indices(fields, device, version):
     count, last = fields.number(2), -1
-    check(count <= nv.INDICES)
+    check(count <= version.indices)
     for _ in range(count):
         public = fields.structure(nv.read_public)
         check(public.index > last)
@@ -209,4 +243,4 @@ def read_indices(fields, device):
         device.indices[public.index] = nv.Index(public, auth_value, data)
         last = public.index
     taken = sum(it.public.data_size for it in device.indices.values())
-    check(taken <= nv.ALL_BYTES)
+    check(taken <= version.all_bytes)

@@ -14,7 +14,7 @@ from parameters import DIGEST_BYTES
 from sessions import digest, digest_bytes, trimmed
 
 # How many indices there may be, how many bytes they may have in all, and one alone.
-INDICES, ALL_BYTES, INDEX_BYTES = 32, 8192, 2048
+INDICES, ALL_BYTES, INDEX_BYTES = 64, 16_384, 2048
 
 # The most bytes of a buffer that is written, extended by or read at once.
 BUFFER_BYTES = 1024

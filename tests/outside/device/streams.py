@@ -86,11 +86,11 @@ class Connection:
 
 
 def image_told(text):
-    """What a file holds, as it is compared: no image, or one, or bytes that are none."""
+    """What a file holds, as it is compared: no image, or one of a version, or what is none."""
     if text is None:
         return "no image"
     try:
-        return "image " + without_clock(open_image(text)).hex()
+        return f"image {text[:6].hex()}: {without_clock(open_image(text)).hex()}"
     except Fault as fault:
         return f"image {fault}"
 

@@ -6,8 +6,8 @@ A seed always gives the same: of `random` only that is used which is the same ev
 import random
 
 import image_fields
-from image import DIGEST_AT_END, HEAD_BYTES, framed
-from image_fields import Counted, Plain, Sized, image_of
+from image import VERSION_2, framed
+from image_fields import Counted, Plain, Sized, image_of, text_of
 
 # Pieces that are removed, doubled or put in have at most so many bytes.
 PIECE_BYTES = 40
@@ -27,7 +27,7 @@ class Bender(random.Random):
     def one_of(self, values):
         return values[self.below(len(values))]
 
-    def bent(self, device):
+    def bent(self, device, version=VERSION_2):
         """What was done, and the image; now and then two things are done to the fields."""
         fields = image_fields.body_of(device)
         text_bends = self.change_byte, self.remove_piece, self.double_piece, self.insert_piece
@@ -37,13 +37,12 @@ class Bender(random.Random):
         )
         bend = self.one_of(text_bends + 2 * field_bends)
         if bend in text_bends:
-            text = image_of(fields)[HEAD_BYTES:-DIGEST_AT_END]
-            return bend.__name__, framed(bend(text))
+            return bend.__name__, framed(bend(text_of(fields)), version)
         names = []
         for it in (bend, self.one_of(field_bends))[: 1 + (self.random() < 0.25)]:
             it(fields)
             names.append(it.__name__)
-        return " ".join(names), image_of(fields)
+        return " ".join(names), image_of(fields, version)
 
     # Bends of the text.
 

@@ -7,12 +7,12 @@ import paths  # first: it finds the device
 import frames
 import general
 from expected import buffer_of
-from image import DIGEST_AT_END, HEAD_BYTES
+from image import BODY_AT, DIGEST_AT_END, HEAD_BYTES
 from script import line
 from sessions import digest
 
 # Where the length of an image stands in it, and what is behind the seeds and proofs.
-LENGTH_AT, BEHIND_SEEDS = 6, 10 + 4 * 66
+LENGTH_AT, BEHIND_SEEDS = 6, BODY_AT + 4 * 66
 
 # How often a line is bent, and how often a byte of the text.
 SELDOM, OFTEN = 0.06, 0.3

@@ -45,7 +45,7 @@ TEMPLATES = (
 script = Script(
     "tests/full_device.tpm",
     "A device that is filled up to each of its limits: sixteen persistent objects, eight transient "
-    "ones, 32 NV indices of 8,192 bytes in all, and sixteen sessions. tests/outside/scripts/"
+    "ones, 64 NV indices of 16,384 bytes in all, and sixteen sessions. tests/outside/scripts/"
     "images.py prints the image of what it keeps.",
 )
 caller = StateCaller(script)
@@ -80,9 +80,8 @@ def define_all():
     taken = sum(it.data_size for it, _ in defined) + platforms.data_size
     count = nv.INDICES - len(defined) - 1
     for at in range(count):
-        rest = nv.ALL_BYTES - taken
-        size = rest - 8 * (count - 1) if at == 0 else 8
-        public = area(0x0140_0000 + at, BY_OWNER, size=min(size, rest))
+        left_for_this = nv.ALL_BYTES - taken - 8 * (count - 1 - at)
+        public = area(0x0140_0000 + at, BY_OWNER, size=min(left_for_this, nv.INDEX_BYTES))
         caller.define("As many as there are, and all bytes" if at == 0 else "", public)
         taken += public.data_size
     assert taken == nv.ALL_BYTES and len(caller.publics) == nv.INDICES

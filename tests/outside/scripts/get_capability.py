@@ -197,8 +197,8 @@ def indices():
     borders("From the second", HANDLES, handles[1], handles[1:])
     borders("From behind it", HANDLES, handles[1] + 1, handles[2:])
     borders("From the last", HANDLES, handles[-1], handles[-1:])
-    for index in range(0x0100_1000, 0x0100_101B):
-        caller.define("There are 32" if index == 0x0100_1000 else "", area(index, BY_VALUE))
+    for index in range(0x0100_1000, 0x0100_103B):
+        caller.define("There are 64" if index == 0x0100_1000 else "", area(index, BY_VALUE))
         handles.append(index)
     handles.sort()
     borders("From 01000000", HANDLES, 0x0100_0000, handles)

@@ -3,7 +3,7 @@ is not looked at.
 """
 
 import copy
-from dataclasses import dataclass, replace
+from dataclasses import replace
 
 import frames
 import full_device
@@ -11,8 +11,10 @@ import image_fields
 import nv
 from device import Device
 from frames import RH_ENDORSEMENT, RH_LOCKOUT, RH_NULL, RH_OWNER, RH_PLATFORM, SHA1
-from image import DIGEST_AT_END, HEAD_BYTES, framed, image
+from image import BODY_AT, DIGEST_AT_END, VERSION_2, framed, image
+from image_cases import Case, areas, pair, pairs, plural, with_indices
 from image_fields import image_of, indices_of, objects_of
+from image_versions import version_cases
 from nv import Attribute, of_type
 from nv_caller import BY_OWNER, area, bits, counter, extended
 from object_caller import HERE, hmac_key, sealed, storage_key
@@ -26,38 +28,15 @@ FIRST = 0x8100_0000
 WITH_VALUES = RH_OWNER, RH_ENDORSEMENT, RH_PLATFORM, RH_LOCKOUT
 
 # Where a new device's image has its three bytes of few values. Behind the last are the two counts.
-DISABLE_CLEAR, CLOSED, SAVED = 10 + 4 * 66 + 2, 10 + 4 * 66 + 19, 355 - DIGEST_AT_END - 5
+DISABLE_CLEAR, CLOSED, SAVED = 16 + 4 * 66 + 2, 16 + 4 * 66 + 19, 361 - DIGEST_AT_END - 5
 SAVED_BANKS = SAVED_PCRS * (20 + 32)
-
-
-@dataclass(frozen=True)
-class Case:
-    """What a text is, in words, and whether a device is opened from it."""
-
-    words: str
-    text: bytes
-    is_good: bool
-
-
-def plural(count):
-    return "a byte" if count == 1 else f"{count:,} bytes"
-
-
-def pair(bad, bad_text, good, good_text):
-    return [Case(bad, bad_text, False), Case(good, good_text, True)]
-
-
-def pairs(of, bad, good):
-    """Of each two, with words for them: what `of` makes of them."""
-    return pair(bad[0], of(*bad[1:]), good[0], of(*good[1:]))
-
 
 # A full device can be built once alone.
 FULL = full_device.build()
 
 
-def largest():
-    """A device of which each field has as many bytes as it can."""
+def largest(version=VERSION_2):
+    """A device of which each field has as many bytes as it can in an image of a version."""
     device, value = Device(), b"v" * 32
     device.auth_values = {handle: value for handle in WITH_VALUES}
     device.saved = Saved.STATE
@@ -66,8 +45,8 @@ def largest():
     sensitive = Sensitive(public.kind, value, b"s" * 32, b"d" * DATA_BYTES)
     for handle in range(FIRST, FIRST + PERSISTENT_OBJECTS):
         device.objects[handle] = Object(public, sensitive, RH_OWNER, b"n" * NAME_BYTES)
-    size = nv.ALL_BYTES // nv.INDICES
-    for index in range(0x0100_0000, 0x0100_0000 + nv.INDICES):
+    size = version.all_bytes // version.indices
+    for index in range(0x0100_0000, 0x0100_0000 + version.indices):
         public = area(index, WRITTEN, size=size, auth_policy=b"p" * 32)
         device.indices[index] = nv.Index(public, value, bytes(range(size)))
     return device
@@ -76,21 +55,8 @@ def largest():
 # Images of small devices.
 
 
-def with_indices(*indices):
-    """Of a device with these indices."""
-    device = Device()
-    device.indices = {it.public.index: it for it in indices}
-    return image(device)
-
-
 def one_index(public, data=b"", auth_value=b"a"):
     return with_indices(nv.Index(public, auth_value, data))
-
-
-def areas(*sizes):
-    """Of a device with an index of each of these sizes."""
-    numbered = enumerate(sizes, 0x0100_0000)
-    return with_indices(*(nv.Index(area(index, size=size), b"") for index, size in numbered))
 
 
 def one_object(public=None, handle=FIRST, hierarchy=RH_OWNER, name=b"", **sensitive):
@@ -116,12 +82,12 @@ def with_auth_value(handle, value):
 def with_byte(at, value):
     """The image of a new device with another byte in its body."""
     text = image(Device())
-    return framed(text[HEAD_BYTES:at] + bytes([value]) + text[at + 1 : -DIGEST_AT_END])
+    return framed(text[BODY_AT:at] + bytes([value]) + text[at + 1 : -DIGEST_AT_END])
 
 
 def with_saved(value, banks=b""):
-    body = image(Device())[HEAD_BYTES:-DIGEST_AT_END]
-    at = SAVED - HEAD_BYTES
+    body = image(Device())[BODY_AT:-DIGEST_AT_END]
+    at = SAVED - BODY_AT
     return framed(body[:at] + bytes([value]) + banks + body[at + 1 :])
 
 
@@ -190,13 +156,13 @@ def list_cases():
 
     device = copy.deepcopy(FULL)
     device.indices[0x0100_00FF] = nv.Index(area(0x0100_00FF, size=0), b"")
-    yield from pair("33 indices", image(device), "32", good)
+    yield from pair("65 indices", image(device), "64", good)
     device = copy.deepcopy(FULL)
     device.objects[0x8100_0001] = device.objects[FIRST]
     yield from pair("17 objects", image(device), "16", good)
-    most = 2048, 2048, 2048, 2047
-    yield from pairs(areas, ("8,193 bytes of indices", *most, 2), ("8,192", *most, 1))
-    yield from pairs(areas, ("8,200 bytes in 32", *[256] * 31, 264), ("8,192", *[256] * 32))
+    most = [2048] * 7 + [2047]
+    yield from pairs(areas, ("16,385 bytes of indices", *most, 2), ("16,384", *most, 1))
+    yield from pairs(areas, ("16,392 bytes in 64", *[256] * 63, 264), ("16,384", *[256] * 64))
 
 
 def object_cases():
@@ -346,14 +312,14 @@ def size_cases():
         area_fields.append(image_fields.Plain(last.text[:-1]))
         yield from pair(f"{words} without its last byte", image_of(fields), "with it", good)
     new = image(Device())
-    body = new[HEAD_BYTES:-DIGEST_AT_END]
+    body = new[BODY_AT:-DIGEST_AT_END]
     yield from pair("a byte behind the indices", framed(body + b"\0"), "none", new)
     yield from pair("a byte too few", framed(body[:-1]), "none", new)
     yield from pair("no body", framed(b""), "one", new)
     most = image(largest())
-    assert len(most) == 17_475
+    assert len(most) == 28_361
     for count, words in ((1, "a byte"), (1 << 20, "a mebibyte")):
-        longer = framed(most[HEAD_BYTES:-DIGEST_AT_END] + bytes(count))
+        longer = framed(most[BODY_AT:-DIGEST_AT_END] + bytes(count))
         yield from pair(f"{words} behind the indices of the largest image", longer, "none", most)
 
 
@@ -390,6 +356,7 @@ def every_attribute():
 
 def cases():
     """Each bad one is followed by the good one next to it."""
+    yield from version_cases()
     yield from hierarchy_cases()
     yield from flag_cases()
     yield from list_cases()

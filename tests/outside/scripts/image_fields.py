@@ -52,9 +52,9 @@ def text_of(fields):
     return b"".join(it.text for it in fields)
 
 
-def image_of(fields):
+def image_of(fields, version=image.VERSION_2):
     """The fields between a head and a digest that are right."""
-    return image.framed(text_of(fields))
+    return image.framed(text_of(fields), version)
 
 
 def buffer(text):

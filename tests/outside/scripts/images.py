@@ -38,7 +38,7 @@ def faults():
     new = image(Device())
     version = number(3, 2)
     yield "Short", "41 bytes", new[:41]
-    yield "Length", "354 bytes", new[:-1]
+    yield "Length", "360 bytes", new[:-1]
     yield "Length", "a byte more", new + b"\0"
     yield "Magic", "its first byte changed", b"\x55" + new[1:]
     yield "Version", "version 3", new[:4] + version + new[6:]
@@ -61,7 +61,7 @@ def main(names):
         print(f"{name}: {checked(device).hex()}")
     if not names:
         text = checked(Device())
-        assert len(text) == 355 and text[:10].hex() == "54504d49000100000163"
+        assert len(text) == 361 and text[:16].hex() == "54504d490002000001690040" "00004000"
         print(f"a new device: {text.hex()}")
         print(f"a full device: {checked(image_bodies.FULL).hex()}")
 

@@ -225,14 +225,15 @@ def numbers():
 
 
 def limit_of_numbers():
-    script.chapter("There are at most 32 indices, by whomever they are defined.")
-    every = range(FIRST, FIRST + 32)
+    script.chapter("There are at most 64 indices, by whomever they are defined.")
+    every = range(FIRST, FIRST + 64)
     for index in every:
         by = RH_PLATFORM if index % 2 else RH_OWNER
         public = area(index, BY_OWNER | (CREATED if index % 2 else 0))
-        caller.define("" if index > FIRST else "32 of them, of eight bytes", public, by=by)
+        words = {FIRST: "64 of them, of eight bytes", FIRST + 32: "The 33rd of them"}
+        caller.define(words.get(index, ""), public, by=by)
     unfitting(
-        "One more, of eight bytes or of none",
+        "A 65th, of eight bytes or of none",
         "NV_SPACE",
         area(0x0100_0100),
         area(0x0100_0100, size=0),
@@ -252,22 +253,22 @@ def limit_of_numbers():
 
 
 def limit_of_bytes():
-    script.chapter("All have at most 8,192 bytes, whether they are written or not.")
-    every = range(FIRST, FIRST + 4)
+    script.chapter("All have at most 16,384 bytes, whether they are written or not.")
+    every = range(FIRST, FIRST + 8)
     values = {it: bytes([it & 0xFF]) * 2048 for it in every}
     for index in every:
-        caller.define("" if index > FIRST else "Four of 2,048 bytes", area(index, size=2048))
-    unfitting("A fifth, of a byte", "NV_SPACE", area(FIRST + 4, size=1))
+        caller.define("" if index > FIRST else "Eight of 2,048 bytes", area(index, size=2048))
+    unfitting("A ninth, of a byte", "NV_SPACE", area(FIRST + 8, size=1))
     for index in every:
         for half in (0, 1024):
             what = "All are written, each in two halves" if (index, half) == (FIRST, 0) else ""
             part = values[index][half : half + 1024]
             caller.does(what, caller.writing(index, part, offset=half))
-    unfitting("Another one, of a byte", "NV_SPACE", area(FIRST + 4, size=1))
+    unfitting("Another one, of a byte", "NV_SPACE", area(FIRST + 8, size=1))
     caller.does("The second is undefined", caller.undefining(FIRST + 1))
-    unfitting("One of 2,049 bytes", "SIZE/p2", area(FIRST + 4, size=2049))
-    for index in (FIRST + 4, FIRST + 5):
-        what = "Two of 1,024 bytes are defined" if index == FIRST + 4 else ""
+    unfitting("One of 2,049 bytes", "SIZE/p2", area(FIRST + 8, size=2049))
+    for index in (FIRST + 8, FIRST + 9):
+        what = "Two of 1,024 bytes are defined" if index == FIRST + 8 else ""
         caller.define(what, area(index, size=1024))
     unfitting("One of a byte", "NV_SPACE", area(FIRST + 1, size=1))
     caller.define("One of no bytes", area(FIRST + 1, size=0))
@@ -275,17 +276,17 @@ def limit_of_bytes():
         if index == FIRST + 1:
             continue
         for half in (0, 1024):
-            what = "The first, third and fourth read as written" if (index, half) == (
+            what = "The others read as written" if (index, half) == (
                 FIRST, 0
             ) else ""
             caller.read(what, index, values[index][half : half + 1024], offset=half)
-    caller.does("The last one is undefined", caller.undefining(FIRST + 5))
-    unfitting("One of 1,025 bytes", "NV_SPACE", area(FIRST + 5, size=1025))
-    caller.define("One of 1,016", area(FIRST + 5, size=1016))
-    unfitting("One of nine", "NV_SPACE", area(FIRST + 6, size=9))
-    caller.define("A counter, which fills the space", counter(FIRST + 6))
-    unfitting("Bits", "NV_SPACE", bits(FIRST + 7))
-    unfitting("An index that is extended", "NV_SPACE", extended(FIRST + 7))
+    caller.does("The last one is undefined", caller.undefining(FIRST + 9))
+    unfitting("One of 1,025 bytes", "NV_SPACE", area(FIRST + 9, size=1025))
+    caller.define("One of 1,016", area(FIRST + 9, size=1016))
+    unfitting("One of nine", "NV_SPACE", area(FIRST + 10, size=9))
+    caller.define("A counter, which fills the space", counter(FIRST + 10))
+    unfitting("Bits", "NV_SPACE", bits(FIRST + 11))
+    unfitting("An index that is extended", "NV_SPACE", extended(FIRST + 11))
 
 
 script.startup()

@@ -386,7 +386,7 @@ for index, public in enumerate(
             algorithm=SHA1,
             auth_policy=policy.after_command_code(SHA1, bytes(20), NV_CHANGE_AUTH),
         ),
-        *(area(0x0100_0041 + it, BY_VALUE, size=2000) for it in range(4)),
+        *(area(0x0100_0041 + it, BY_VALUE, size=2000) for it in range(8)),
     )
 ):
     caller.define("They are defined" if index == 0 else "", public, auth=VALUE)

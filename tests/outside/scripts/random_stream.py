@@ -6,7 +6,7 @@ import frames
 import state
 import streams
 from bent_script import bent_image
-from image import Fault, open_image
+from image import VERSION_1, Fault, image, open_image
 from random_script import MOST_TRIES, Writer
 
 # No time passes that counts for dictionary attack protection: none of these is over before the
@@ -74,17 +74,22 @@ class StreamWriter(Writer):
             buffer = self.next_buffer()
             self.send(buffer[: self.randrange(len(buffer) or 1)])
 
-    def bend_image(self):
-        """A run on a bent image; where that is none, the image stands there again behind it."""
+    def give_image(self):
+        """A run on an image of either version, which is mostly bent; where it is none, the one that
+        was there stands there again behind it.
+        """
         self.served.end()
-        image = self.served.image
-        bent = bent_image(self, image)
-        if is_quick(bent):
+        before = given = self.served.image
+        if self.happens(0.5):
+            given = image(open_image(before), VERSION_1)
+        if self.happens(0.8):
+            given = bent_image(self, given)
+        if is_quick(given):
             return
-        self.say(f"image {bent.hex()}")
+        self.say(f"image {given.hex()}")
         self.run()
         if self.served.run.error.startswith("tpmsim: image"):
-            self.say(f"image {image.hex()}")
+            self.say(f"image {before.hex()}")
 
     def run(self):
         self.say(f"run {self.randrange(5)}")
@@ -106,5 +111,5 @@ def random_stream(seed, runs):
             writer.say(f"new {writer.randbytes(7).hex()}")
         writer.run()
         if writer.happens(0.4):
-            writer.bend_image()
+            writer.give_image()
     return writer.lines

@@ -4,19 +4,13 @@ program of that version saved, and NAME.tpm the script of its device. Neither is
 
 import paths
 
-import image_fields
+import image
 from device import Device
 from expected import played_by
-from frames import SHA256, number
-from sessions import digest
 
 FOLDER = paths.TESTS / "version_1"
 NAMES = "new", "saved", "changed", "locked", "full"
 BYTES_OF_LINE = 32
-
-# An image of this version has its body between so many bytes, and the limits of its two lists.
-BEFORE, BEHIND = 10, 32
-INDICES, BYTES_OF_INDICES = 32, 8192
 
 
 def hex_file(name):
@@ -45,13 +39,6 @@ def device_of(name):
     return device
 
 
-def framed(fields):
-    """The image of this version that has these fields as its body."""
-    body = image_fields.text_of(fields)
-    text = b"TPMI" + number(1, 2) + number(BEFORE + len(body) + BEHIND, 4) + body
-    return text + digest(SHA256, text)
-
-
 def image_of(device):
     """The image of this version that a device has."""
-    return framed(image_fields.body_of(device))
+    return image.image(device, image.VERSION_1)

@@ -4,8 +4,8 @@
     python3 tests/outside/scripts/version_1_images.py PROGRAM
 
 What it answers to commands that look at the device, and use what it has, and what it saves
-afterwards, has to be what the device in Python answers and saves. It says of each image what was
-tried; the last line is `N agree, M differ`.
+afterwards, which is of version 2, has to be what the device in Python answers and saves. It says of
+each image what was tried; the last line is `N agree, M differ`.
 """
 
 import collections
@@ -120,18 +120,18 @@ def looks(device):
 
 
 def changes(device):
-    """What hangs on the largest value of a counter, and on authorization values; and wrong ones."""
+    """What hangs on the largest value of a counter, and on authorization values; and wrong ones. An
+    index more is defined, even if the image has as many as its version can have.
+    """
     for index, held in sorted(device.indices.items()):
         if held.public.kind == nv.Type.COUNTER:
             yield on_index(device, frames.NV_INCREMENT, index)
             yield on_index(device, frames.NV_READ, index, frames.nv_read(nv.NUMBER_BYTES, 0))
-    if len(device.indices) < version_1.INDICES:
-        define = frames.nv_define_space(counter(NEW_COUNTER, BY_OWNER).text)
-        yield frames.on_handle(frames.NV_DEFINE_SPACE, RH_OWNER, define, by(device, RH_OWNER))
-        used = [RH_OWNER, NEW_COUNTER]
-        yield frames.on_handles(frames.NV_INCREMENT, used, entries=by(device, RH_OWNER))
-        reading = frames.nv_read(nv.NUMBER_BYTES, 0)
-        yield frames.on_handles(frames.NV_READ, used, reading, by(device, RH_OWNER))
+    define = frames.nv_define_space(counter(NEW_COUNTER, BY_OWNER).text)
+    yield frames.on_handle(frames.NV_DEFINE_SPACE, RH_OWNER, define, by(device, RH_OWNER))
+    used, reading = [RH_OWNER, NEW_COUNTER], frames.nv_read(nv.NUMBER_BYTES, 0)
+    yield frames.on_handles(frames.NV_INCREMENT, used, entries=by(device, RH_OWNER))
+    yield frames.on_handles(frames.NV_READ, used, reading, by(device, RH_OWNER))
     yield line("PCR_Event", "00000005", "pw:-", "6576656e74")
     for hierarchy in WITH_VALUES:
         entries = by(device, hierarchy)
@@ -232,8 +232,9 @@ class Comparison:
         again, of_script = version_1.image_of(opened), version_1.image_of(device)
         self.check(again == text, "the device in Python opens it, and has this image")
         self.check(of_script == text, "the one behind its script has this image")
-        given = self.run(text, [])
-        self.check(given == ([[]], "", image.image(opened)), "the program opens it, and saves it")
+        wanted = [[]], "", image.image(opened)
+        self.check(self.run(text, []) == wanted, "the program opens it, and saves it as version 2")
+        self.check(self.run(wanted[2], []) == wanted, "it opens that, and saves it as it is")
 
     def opened(self, text, words, commands):
         """Commands, and TPM2_ReadClock behind them, to the device that an image is of."""
@@ -276,7 +277,7 @@ def beyond_limits(text):
     """A full device has as much as an image of this version can have."""
     device = image.open_image(text)
     device.indices[LAST_INDEX] = nv.Index(area(LAST_INDEX, BY_OWNER, size=0), b"", b"")
-    assert len(device.indices) == version_1.INDICES + 1
+    assert len(device.indices) == image.VERSION_1.indices + 1
     yield "Body", version_1.image_of(device), "with an index more, of no bytes"
 
     device = image.open_image(text)
@@ -284,7 +285,7 @@ def beyond_limits(text):
     public = area(index, held.public.attributes & ~nv.Attribute.WRITTEN, size=1)
     device.indices[index] = nv.Index(public, held.auth_value, b"")
     taken = sum(it.public.data_size for it in device.indices.values())
-    assert taken == version_1.BYTES_OF_INDICES + 1
+    assert taken == image.VERSION_1.all_bytes + 1
     yield "Body", version_1.image_of(device), "with a byte of data more"
 
 

@@ -11,10 +11,10 @@ returns-clause-found g c =
     opened_found (state_of {K = g.row.K.Denot} {S = g.row.K-SessionSlots.Denot} {O = g.row.K-ObjectSlots.Denot} {P = g.row.K-PersistentMap.Denot} {N = g.row.K-NvIndices.Denot} g.K.Keep.record_of) (g.K.Keep.empty_can_refuse || g.K.Keep.can_refuse) c.args.text.now c.open_device.result fits c.open_device.ensures
 
 pub returns-clause-only : goal.returns-clause-only
-returns-clause-only g c = λ r is same.
-    opened_only (state_of {K = g.row.K.Denot} {S = g.row.K-SessionSlots.Denot} {O = g.row.K-ObjectSlots.Denot} {P = g.row.K-PersistentMap.Denot} {N = g.row.K-NvIndices.Denot} g.K.Keep.record_of) (g.K.Keep.empty_can_refuse || g.K.Keep.can_refuse) c.args.text.now r c.open_device.result is same c.open_device.ensures
+returns-clause-only g c = λ version r is image.
+    opened_only (state_of {K = g.row.K.Denot} {S = g.row.K-SessionSlots.Denot} {O = g.row.K-ObjectSlots.Denot} {P = g.row.K-PersistentMap.Denot} {N = g.row.K-NvIndices.Denot} g.K.Keep.record_of) (g.K.Keep.empty_can_refuse || g.K.Keep.can_refuse) c.args.text.now version r c.open_device.result is image c.open_device.ensures
 
 pub returns-clause-history : goal.returns-clause-history
-returns-clause-history g c = λ r history is follows same.
+returns-clause-history g c = λ version r history is follows image.
     opened_follows (state_of {K = g.row.K.Denot} {S = g.row.K-SessionSlots.Denot} {O = g.row.K-ObjectSlots.Denot} {P = g.row.K-PersistentMap.Denot} {N = g.row.K-NvIndices.Denot} g.K.Keep.record_of) (g.K.Keep.empty_can_refuse || g.K.Keep.can_refuse) r history c.open_device.result
-    (opened_only (state_of {K = g.row.K.Denot} {S = g.row.K-SessionSlots.Denot} {O = g.row.K-ObjectSlots.Denot} {P = g.row.K-PersistentMap.Denot} {N = g.row.K-NvIndices.Denot} g.K.Keep.record_of) (g.K.Keep.empty_can_refuse || g.K.Keep.can_refuse) c.args.text.now r c.open_device.result is same c.open_device.ensures) follows
+    (opened_only (state_of {K = g.row.K.Denot} {S = g.row.K-SessionSlots.Denot} {O = g.row.K-ObjectSlots.Denot} {P = g.row.K-PersistentMap.Denot} {N = g.row.K-NvIndices.Denot} g.K.Keep.record_of) (g.K.Keep.empty_can_refuse || g.K.Keep.can_refuse) c.args.text.now version r c.open_device.result is image c.open_device.ensures) follows

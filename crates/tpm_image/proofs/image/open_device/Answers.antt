@@ -5,10 +5,10 @@ use Rattle.tpm_machine.specs.State.{state_of}
 use Rattle.tpm_image.proofs.OpeningLaws.{is_image, unframed}
 use Rattle.tpm_image.proofs.image.open_device.Goals as goal
 
-pub returns-in_err-body : goal.returns-in_err-body
-returns-in_err-body g c =
+pub returns-in_err-version : goal.returns-in_err-version
+returns-in_err-version g c =
     let p = err_from_is_err_and c.from_residual.result c.from_residual.ensures.1 in
-    rw (p.1, p.2) (unframed (state_of {K = g.row.K.Denot} {S = g.row.K-SessionSlots.Denot} {O = g.row.K-ObjectSlots.Denot} {P = g.row.K-PersistentMap.Denot} {N = g.row.K-NvIndices.Denot} g.K.Keep.record_of) (g.K.Keep.empty_can_refuse || g.K.Keep.can_refuse) c.args.text.now c.in_err-body.field-0.0 c.in_err-body.ensures)
+    rw (p.1, p.2) (unframed (state_of {K = g.row.K.Denot} {S = g.row.K-SessionSlots.Denot} {O = g.row.K-ObjectSlots.Denot} {P = g.row.K-PersistentMap.Denot} {N = g.row.K-NvIndices.Denot} g.K.Keep.record_of) (g.K.Keep.empty_can_refuse || g.K.Keep.can_refuse) c.args.text.now c.in_err-version.field-0.0 c.in_err-version.ensures)
 
 pub returns-then-is_body : goal.returns-then-is_body
-returns-then-is_body g c = (search rules, is_image c.args.text.now c.in_ok-body.body.now (search rules) (sym c.is_body.ensures ∙ c.if-is_body.true))
+returns-then-is_body g c = (search rules, is_image c.args.text.now c.in_ok-version.version c.in_ok-version.body.now (search rules) (sym c.is_body.ensures ∙ c.if-is_body.true))

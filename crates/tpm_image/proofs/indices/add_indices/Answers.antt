@@ -2,9 +2,11 @@ use Rattle.std.proofs.Common.{arith, [], ◌∷◌, length-append, sym, refl, ap
 use Rattle.std.proofs.lemmas.Result.{err_from_is_err_and}
 use Rattle.tpm_bytes.specs.Reading.{◌>>=◌}
 use Rattle.tpm_image.specs.Body.{index_in}
+use Rattle.tpm_image.specs.Version.{space_limit}
 use Rattle.tpm_image.proofs.Appending.{behind_below}
 use Rattle.tpm_image.proofs.EntriesLaws.{entries_begun, entries_more}
-use Rattle.tpm_image.proofs.IndicesLaws.{indices_cut, indices_done, with_space}
+use Rattle.tpm_image.proofs.IndicesLaws.{indices_cut, indices_done, indices_over, with_space}
+use Rattle.tpm_image.proofs.VersionLaws.{space_within}
 use Rattle.tpm_image.proofs.indices.add_indices.Goals as goal
 
 pub loop-init : goal.loop-init
@@ -29,9 +31,14 @@ loop-preserved g c =
 pub returns-in_err-lowest-clause-filled : goal.returns-in_err-lowest-clause-filled
 returns-in_err-lowest-clause-filled g c =
     let p = err_from_is_err_and c.from_residual.result c.from_residual.ensures.1 in
-    rw (p.1, p.2) (indices_cut _ index_in c.args.count c.loop.counter c.loop.lowest (g.N.Indices.contents c.loop.indices).indices _ (g.N.Indices.contents c.add_index.new.indices).indices c.loop.text _ _ _ _ (omega (arith, c.loop-test.true)) (ap (λ r. r >>= with_space) c.loop.invariant.joined) c.in_err-lowest.ensures.added)
+    rw (p.1, p.2) (indices_cut (space_limit c.args.version) _ index_in c.args.count c.loop.counter c.loop.lowest (g.N.Indices.contents c.loop.indices).indices _ (g.N.Indices.contents c.add_index.new.indices).indices c.loop.text _ _ _ _ (space_within c.args.version) (omega (arith, c.loop-test.true)) (ap (λ r. r >>= with_space (space_limit c.args.version)) c.loop.invariant.joined) c.in_err-lowest.ensures.added)
 
 pub returns-clause-filled : goal.returns-clause-filled
 returns-clause-filled g c =
-    ap (λ r. r >>= with_space) (sym c.loop.invariant.joined)
-    ∙ indices_done index_in c.args.count c.loop.counter c.loop.lowest _ c.loop.text (omega (arith, c.loop-test.false, c.loop.auto)) c.read_sizes.ensures.small
+    ap (λ r. r >>= with_space (space_limit c.args.version)) (sym c.loop.invariant.joined)
+    ∙ indices_done (space_limit c.args.version) index_in c.args.count c.loop.counter c.loop.lowest _ c.loop.text (omega (arith, c.loop-test.false, c.loop.auto)) (omega (arith, c.if-bytes-space_limit.false, c.space_limit.ensures.value, c.bytes.ensures.whole))
+
+pub returns-then-bytes-space_limit-clause-filled : goal.returns-then-bytes-space_limit-clause-filled
+returns-then-bytes-space_limit-clause-filled g c =
+    ap (λ r. r >>= with_space (space_limit c.args.version)) (sym c.loop.invariant.joined)
+    ∙ indices_over (space_limit c.args.version) index_in c.args.count c.loop.counter c.loop.lowest _ c.loop.text (omega (arith, c.loop-test.false, c.loop.auto)) (omega (arith, c.if-bytes-space_limit.true, c.space_limit.ensures.value, c.bytes.ensures.whole))
