@@ -1,5 +1,5 @@
-# Which words make a command line: `run [--trace] SCRIPT`, where `-` is standard input, and
-# `asm LINE`, whose line is one word. Help and the version are told on standard output. All others are
+# Which words make a command line: `run [--trace] SCRIPT`, where `-` is standard input, `asm LINE`,
+# whose line is one word, and `line HEX`. kept_scripts.sh has those of `run --image`. Help and the version are told on standard output. All others are
 # refused, though the files that they name are there and hold scripts.
 . "$(dirname "$0")/common/cases.sh"
 
@@ -54,6 +54,14 @@ run "tpmsim asm 'Startup 0' a" asm 'Startup 0' a
 run "tpmsim asm --trace 'Startup 0'" asm --trace 'Startup 0'
 run "tpmsim --trace asm 'Startup 0'" --trace asm 'Startup 0'
 
+# A buffer, whose line is printed; line.sh has more of them.
+words line 80010000000c000001440000
+words line 80010000000c00000144
+words line 8
+words line
+words line 80 01
+words line --trace 80010000000c000001440000
+
 # Other options; help and the version.
 words run -x
 words run -h
@@ -71,6 +79,7 @@ words ru a
 words RUN a
 words help
 words help run
+words help line
 words version
 
 # A word that is not UTF-8.

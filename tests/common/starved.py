@@ -41,6 +41,8 @@ def check_words(program):
     """Runs that are done by their words alone."""
     script, line = str(SCRIPT), "Startup 0"
     pathlib.Path("bad").write_text("do Startup 3 3\n", "ascii")
+    pathlib.Path("startup").write_text("do Startup 0\n", "ascii")
+    keep = ["run", "--image", "kept", "--entropy", "/dev/urandom"]
     played = Ending(0, out_of("examples/measured_boot.out"))
     traced = Ending(0, out_of("examples/measured_boot.trace"))
     usage, file = Ending(2, error=b"tpmsim: usage\n"), Ending(3, error=b"tpmsim: file\n")
@@ -48,6 +50,10 @@ def check_words(program):
         ("a script", ["run", script], played),
         ("its trace", ["run", "--trace", script], traced),
         ("a line", ["asm", line], Ending(0, b"80010000000c000001440000\n")),
+        ("the line of a buffer", ["line", "80010000000c000001440000"], Ending(0, b"Startup 0\n")),
+        ("a buffer without a line", ["line", "80"], Ending(2, error=b"tpmsim: line NoLine\n")),
+        ("no buffer", ["line", "8"], usage),
+        ("a device that is kept", [*keep, "startup"], Ending(0, b"80010000000a00000000\n")),
         ("no script", ["run", "none"], file),
         ("a bad script", ["run", "bad"], Ending(2, error=b"tpmsim: script line 1\n")),
         ("a bad line", ["asm", "Startup"], Ending(2, error=b"tpmsim: asm Missing\n")),

@@ -1,17 +1,20 @@
 -- The images of records, and devices that are opened from them.
-use Rattle.std.proofs.Common.{◌≡◌, ℕ, ◌<◌, ◌≤◌, Bool, List, length, take, Result, Ok, Err, IfOk, refl, sym, ap, ◌∙◌}
+use Rattle.std.proofs.Common.{◌≡◌, ℕ, ◌<◌, ◌≤◌, Bool, List, length, take, Result, Ok, Err, IfOk, refl, sym, ap, ◌∙◌, arith}
 use Rattle.tpm_bytes.proofs.Fields.{AreBytes, ok_is}
 use Rattle.tpm_record.specs.IsRecord.{IsRecord}
 use Rattle.tpm_record.specs.Record.{Record}
+use Rattle.tpm_image.specs.Body.{body_of}
 use Rattle.tpm_image.specs.Image.{IsImage, IsWithin, image_of, image_text}
+use Rattle.tpm_image.specs.KeptText.{kept_but_clock, kept_text}
 use Rattle.tpm_image.specs.Sizes.{image_size}
 use Rattle.tpm_image.specs.NonVolatile.{IsNonVolatile, NonVolatile, kept_of, powered_on}
 use Rattle.tpm_image.specs.Opening.{Opens, OpensAgain}
 use Rattle.tpm_image.specs.declared.fault.ImageFault.{ImageFault}
 use Rattle.tpm_image.specs.declared.fault.ImageFault.TheVariants as fault
+use Rattle.tpm_image.specs.declared.fault.Malformed.{Malformed}
 use Rattle.tpm_image.specs.declared.version.Version.{Version}
 use Rattle.tpm_image.specs.declared.version.Version.TheVariants.{Two}
-use Rattle.tpm_image.proofs.BodyLaws.{within_device}
+use Rattle.tpm_image.proofs.BodyLaws.{body_again, within_device}
 use Rattle.tpm_image.proofs.ImageLaws.{front_cut, image_again, image_small, image_taken, kept_is}
 
 pub record_image : (r : Record) → IsRecord r → IsImage Two (kept_of r) (image_text Two (kept_of r))
@@ -25,6 +28,34 @@ record_small version r is = image_small version (kept_of r) (kept_is r is)
 
 pub record_cut : (version : Version) (r : Record) (n : ℕ) → IsRecord r → 42 ≤ n → n < length (image_text version (kept_of r)) → image_of (take n (image_text version (kept_of r))) ≡ Err fault.Length
 record_cut version r n is long less = front_cut version (kept_of r) n (kept_is r is) long less
+
+-- ---- what is kept but for the clock
+
+without_clock : (r : Record) → IsRecord r → IsNonVolatile (kept_but_clock r)
+without_clock r is =
+    let kept = kept_is r is in
+    record {
+      state = record {
+        hierarchies = kept.state.hierarchies;
+        lockout = kept.state.lockout;
+        clock = omega arith;
+        reset_count = kept.state.reset_count;
+        restart_count = kept.state.restart_count;
+        saved = kept.state.saved;
+      };
+      persistent = kept.persistent;
+      nv = kept.nv;
+    }
+
+pub kept_alike : (r s : Record) → IsRecord r → IsRecord s → kept_text r ≡ kept_text s → kept_but_clock r ≡ kept_but_clock s
+kept_alike r s is are same =
+    ok_is {E = Malformed} (kept_but_clock r) (kept_but_clock s)
+    (sym (again r is) ∙ ap (body_of Two) same ∙ again s are)
+  where
+    again : (r : Record) → IsRecord r → body_of Two (kept_text r) ≡ Ok (kept_but_clock r)
+    again r is =
+        let kept = without_clock r is in
+        body_again Two (kept_but_clock r) kept (within_device (kept_but_clock r) kept)
 
 module _ {M : Type 0} (record_of : M → Record) (can : Bool) (text : List ℕ) where
   -- what is opened was spelled so

@@ -4,6 +4,7 @@ pub mod Fields
 pub mod Body
 pub mod Frame
 pub mod Image
+pub mod KeptText
 pub mod Filling
 pub mod Opening
 pub use Rattle.tpm_record.specs.Record

@@ -4,6 +4,7 @@ ghost use Rattle.tpm_image.specs.Sizes.{body_size, state_size, text_size};
 ghost use Rattle.std.specs.Prelude.{◌≡◌, ◌≤◌, ◌+◌, ◌++◌, [], length, replicate};
 ghost use Rattle.tpm_image.specs.Body.{body_of, image_body_text, state_in, state_text};
 ghost use Rattle.tpm_image.specs.Filling.{PowersOn, Restores};
+ghost use Rattle.tpm_image.specs.KeptText.{with_clock};
 ghost use Rattle.tpm_image.specs.NonVolatile.{kept_of};
 ghost use Rattle.tpm_image.specs.declared.version.Version.TheVariants.{Two};
 ghost use Rattle.tpm_record.specs.Record.{manufactured};
@@ -63,18 +64,19 @@ pub(crate) fn read_body<K: Keep>(
     Ok(())
 }
 
-/// Writes what does not grow.
+/// Writes what does not grow, with this clock.
 #[tactic(auto, unfolding(crate::specs::Body::state_text))]
-fn write_state<K: Keep>(keep: &K, text: &mut Text)
+fn write_state<K: Keep>(keep: &K, clock: u64, text: &mut Text)
     requires { length text.old + state_size ≤ text_size }
-    ensures written { text.new ≡ text.old ++ state_text (kept_of (K.record_of keep.now)).state }
+    ensures written { text.new ≡ text.old
+        ++ state_text (with_clock clock (kept_of (K.record_of keep.now))).state }
     ensures small { length text.new ≤ length text.old + state_size }
 {
     let fixed = keep.fixed();
     write_hierarchies(&fixed.hierarchies, text);
     write_bool(fixed.disable_clear, text);
     write_lockout(fixed.lockout.fields(), text);
-    write_u64(fixed.clock, text);
+    write_u64(clock, text);
     write_u32(fixed.reset_count, text);
     write_u32(fixed.restart_count, text);
     write_u64(keep.nv().max_count(), text);
@@ -82,14 +84,24 @@ fn write_state<K: Keep>(keep: &K, text: &mut Text)
 }
 
 /// Writes a whole body, in the version that is written.
-#[tactic(auto, unfolding(crate::specs::Body::image_body_text))]
 pub(crate) fn write_body<K: Keep>(keep: &K, text: &mut Text)
     requires { text.old ≡ [] }
     ensures written { text.new ≡ image_body_text Two (kept_of (K.record_of keep.now)) }
     ensures small { length text.new ≤ body_size }
 {
+    write_body_at(keep, keep.fixed().clock, text);
+}
+
+/// Writes a whole body, with this clock.
+#[tactic(auto, unfolding(crate::specs::Body::image_body_text))]
+pub(crate) fn write_body_at<K: Keep>(keep: &K, clock: u64, text: &mut Text)
+    requires { text.old ≡ [] }
+    ensures written { text.new ≡ image_body_text Two (with_clock clock
+        (kept_of (K.record_of keep.now))) }
+    ensures small { length text.new ≤ body_size }
+{
     write_limits(text);
-    write_state(keep, text);
+    write_state(keep, clock, text);
     write_objects(keep.persistent(), text);
     write_indices(keep.nv(), text);
 }

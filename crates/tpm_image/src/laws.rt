@@ -3,6 +3,7 @@
 ghost use Rattle.std.specs.Prelude.{◌≡◌, ◌≤◌, ◌<◌, ℕ, List, Ok, Err, length, take};
 ghost use Rattle.tpm_image.specs.Image.{IsImage, IsWithin, image_of, image_text};
 ghost use Rattle.tpm_image.specs.Sizes.{image_size};
+ghost use Rattle.tpm_image.specs.KeptText.{kept_but_clock, kept_text};
 ghost use Rattle.tpm_image.specs.NonVolatile.{kept_of, powered_on};
 ghost use Rattle.tpm_image.specs.declared.fault.ImageFault.TheVariants as fault;
 ghost use Rattle.tpm_image.specs.declared.version.Version.{Version};
@@ -24,6 +25,14 @@ pub fn image_laws()
     ensures small { (version : Version) (r : Record) → IsRecord r
         → length (image_text version (kept_of r)) ≤ image_size }
     ensures cycled { (r : Record) → powered_on (kept_of r) ≡ cycled r }
+{}
+
+/// Records of one kept text keep the same, but for the clock.
+#[inline(always)]
+#[tactic(auto, using(crate::proofs::RecordLaws::kept_alike))]
+pub fn kept_text_laws()
+    ensures { (r s : Record) → IsRecord r → IsRecord s → kept_text r ≡ kept_text s
+        → kept_but_clock r ≡ kept_but_clock s }
 {}
 
 /// No proper prefix of an image, of either version, is one: below 42 bytes it is Short, and else it

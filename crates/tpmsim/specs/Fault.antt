@@ -4,15 +4,17 @@ use Rattle.std.specs.Fmt.{decimal}
 use Rattle.std.specs.declared.io.ErrorKind.{ErrorKind}
 use Rattle.std.specs.declared.io.ErrorKind.TheVariants.{OutOfMemory}
 use Rattle.tpmsim.specs.declared.fault.Fault.{Fault}
-use Rattle.tpmsim.specs.declared.fault.Fault.TheVariants.{Usage, ScriptLine, Asm, Image, File, Socket, Entropy, Memory}
+use Rattle.tpmsim.specs.declared.fault.Fault.TheVariants.{Usage, ScriptLine, Asm, NoLine, Image, File, Socket, Entropy, Memory}
 use Rattle.tpm_image.specs.declared.fault.ImageFault.{ImageFault}
 use Rattle.tpm_image.specs.declared.fault.ImageFault.TheVariants as image
+use Rattle.tpm_line.specs.declared.fault.SpellFault.{SpellFault}
+use Rattle.tpm_line.specs.declared.fault.SpellFault.TheVariants as spelling
 use Rattle.tpm_text.specs.declared.fault.AsmFault.{AsmFault}
 use Rattle.tpm_text.specs.declared.fault.AsmFault.TheVariants as line
 use Rattle.tpmsim_arguments.specs.declared.fault.ArgumentFault.{ArgumentFault}
 use Rattle.tpmsim_arguments.specs.declared.fault.ArgumentFault.TheVariants as words
 use Rattle.tpmsim_script.specs.declared.fault.ScriptFault.{ScriptFault}
-use Rattle.tpmsim_script.specs.declared.fault.ScriptFault.TheVariants.{Line, Read, TooManyLines, Write, NoMemory}
+use Rattle.tpmsim_script.specs.declared.fault.ScriptFault.TheVariants.{Line, Read, TooManyLines, Write, Save, NoMemory}
 
 -- Memory of an error of that kind, and else the other fault
 abbrev pub fault_or : Fault → ErrorKind → Fault
@@ -29,12 +31,18 @@ fault_of (Line number) = ScriptLine number
 fault_of Read = File
 fault_of TooManyLines = File
 fault_of Write = File
+fault_of Save = File
 fault_of NoMemory = Memory
 
 -- the fault of a line that was not assembled: memory ran out, or it spells no command
 abbrev pub fault_of_line : AsmFault → Fault
 fault_of_line line.NoMemory = Memory
 fault_of_line fault = Asm fault
+
+-- the fault of a buffer whose line was not found
+abbrev pub fault_of_spelling : SpellFault → Fault
+fault_of_spelling spelling.NoLine = NoLine
+fault_of_spelling spelling.NoMemory = Memory
 
 -- the fault of a file that was not opened as an image: memory ran out, or it is none
 abbrev pub fault_of_image : ImageFault → Fault
@@ -47,6 +55,7 @@ abbrev pub status_of : Fault → ℕ
 status_of Usage = 2
 status_of (ScriptLine number) = 2
 status_of (Asm fault) = 2
+status_of NoLine = 2
 status_of (Image fault) = 4
 status_of File = 3
 status_of Socket = 3
@@ -77,6 +86,7 @@ abbrev pub fault_text : Fault → List ℕ
 fault_text Usage = codes "usage"
 fault_text (ScriptLine number) = codes "script line " ++ decimal number
 fault_text (Asm fault) = codes "asm " ++ asm_text fault
+fault_text NoLine = codes "line NoLine"
 fault_text (Image fault) = codes "image " ++ image_text fault
 fault_text File = codes "file"
 fault_text Socket = codes "socket"

@@ -7,6 +7,7 @@ use std::io::ErrorKind;
 use std::{fmt, io};
 use tpm_bytes::NoMemory;
 use tpm_image::ImageFault;
+use tpm_line::SpellFault;
 use tpm_text::AsmFault;
 use tpmsim_arguments::ArgumentFault;
 use tpmsim_script::ScriptFault;
@@ -20,6 +21,8 @@ pub enum Fault {
     ScriptLine(u32),
     /// The line to be assembled spells no command.
     Asm(AsmFault),
+    /// There is no line that spells the buffer.
+    NoLine,
     /// The file of the image holds none.
     Image(ImageFault),
     /// A file, or standard input or output, could not be opened, read or written.
@@ -51,7 +54,7 @@ impl Fault {
         ensures { result ≡ status_of self }
     {
         match self {
-            Fault::Usage | Fault::ScriptLine(_) | Fault::Asm(_) => 2,
+            Fault::Usage | Fault::ScriptLine(_) | Fault::Asm(_) | Fault::NoLine => 2,
             Fault::File | Fault::Socket | Fault::Entropy | Fault::Memory => 3,
             Fault::Image(_) => 4,
         }
@@ -74,6 +77,7 @@ impl fmt::Display for Fault {
             Fault::Asm(AsmFault::Range { column }) => write!(f, "asm Range {column}"),
             Fault::Asm(AsmFault::TooLong) => write!(f, "asm TooLong"),
             Fault::Asm(AsmFault::NoMemory) => write!(f, "asm NoMemory"),
+            Fault::NoLine => write!(f, "line NoLine"),
             Fault::Image(ImageFault::Short) => write!(f, "image Short"),
             Fault::Image(ImageFault::Magic) => write!(f, "image Magic"),
             Fault::Image(ImageFault::Version) => write!(f, "image Version"),
@@ -130,7 +134,10 @@ impl From<ScriptFault> for Fault {
     fn from(fault: ScriptFault) -> Fault {
         match fault {
             ScriptFault::Line(number) => Fault::ScriptLine(number),
-            ScriptFault::Read | ScriptFault::TooManyLines | ScriptFault::Write => Fault::File,
+            ScriptFault::Read
+            | ScriptFault::TooManyLines
+            | ScriptFault::Write
+            | ScriptFault::Save => Fault::File,
             ScriptFault::NoMemory => Fault::Memory,
         }
     }
@@ -145,6 +152,19 @@ impl From<AsmFault> for Fault {
         match fault {
             AsmFault::NoMemory => Fault::Memory,
             fault => Fault::Asm(fault),
+        }
+    }
+}
+
+impl From<SpellFault> for Fault {
+    ghost use Rattle.tpmsim.specs.Fault.{fault_of_spelling};
+
+    ghost from_gives = { λ spell_fault fault. fault ≡ fault_of_spelling spell_fault };
+
+    fn from(fault: SpellFault) -> Fault {
+        match fault {
+            SpellFault::NoLine => Fault::NoLine,
+            SpellFault::NoMemory => Fault::Memory,
         }
     }
 }

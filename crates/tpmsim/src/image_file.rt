@@ -10,7 +10,7 @@ use std::{fs, io};
 use tpm_bytes::Tap;
 use tpm_image::{open, save};
 use tpm_machine::Machine;
-use tpm_record::SlotKeep;
+use tpm_record::{Keep, SlotKeep};
 
 /// The permissions of an image: its owner alone reads and writes it, since it has the device's
 /// seeds and every authorization value.
@@ -49,7 +49,7 @@ impl<'a> ImageFile<'a> {
     /// Writes the image of a device to the new file, forces that to the disk, and puts it in the
     /// place of the old one, of which the folder is forced to the disk too. Where a fault comes
     /// before that, the old image stays.
-    pub fn save(&self, rt: &HostRuntime, machine: &Machine<SlotKeep>) -> Result<(), Fault> {
+    pub fn save<K: Keep>(&self, rt: &HostRuntime, machine: &Machine<K>) -> Result<(), Fault> {
         write_image(rt, self.new.as_str(), machine)?;
         put_in_place(rt, self.new.as_str(), self.path, self.folder.as_str()).map_err(
             |error| Fault::of_io(error, Fault::File),
@@ -58,7 +58,7 @@ impl<'a> ImageFile<'a> {
 }
 
 /// Writes the image of a device to a file that is made anew, and forces it to the disk.
-fn write_image(rt: &HostRuntime, path: &str, machine: &Machine<SlotKeep>) -> Result<(), Fault> {
+fn write_image<K: Keep>(rt: &HostRuntime, path: &str, machine: &Machine<K>) -> Result<(), Fault> {
     let file = create_anew(rt, path).map_err(|error| Fault::of_io(error, Fault::File))?;
     let mut tap = Tap::new(file);
     save(machine, &mut tap).map_err(|_| Fault::File)?;

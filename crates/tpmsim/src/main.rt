@@ -1,34 +1,39 @@
 #![tactic(auto)]
 
 //! A TPM 2.0 simulator that runs scripts of commands, `tpmsim run SCRIPT`, assembles commands from
-//! words, `tpmsim asm LINE`, and serves a device on a socket, `tpmsim serve`.
+//! words, `tpmsim asm LINE`, finds the words of a command, `tpmsim line HEX`, and serves a device
+//! on a socket, `tpmsim serve`.
 //!
 //! On standard output, `run` prints each response in hex on a line of its own, and with `--trace` a
-//! line before it that traces the command. `asm` prints the command in hex, and `--help` a help. A
-//! run that fails says why in one line on standard error, and its exit status says of what kind
-//! that is ([`fault`]).
+//! line before it that traces the command; with `--image` its device is kept in a file. `asm`
+//! prints the command in hex, `line` the line, and `--help` a help. A run that fails says why in
+//! one line on standard error, and its exit status says of what kind that is ([`fault`]).
 //!
-//! It stands on tpmsim_arguments for its words, on tpmsim_script for scripts, on `tpm_text` for
-//! lines, and on `tpm_wire` and `tpm_image` for a device that is served. Here is what touches
-//! files, sockets and clocks; what the device answers is proved in the crates below.
+//! It stands on tpmsim_arguments for its words, on tpmsim_script for scripts, on `tpm_text` and
+//! `tpm_line` for lines, on `tpm_image` for a device that is kept, and on `tpm_wire` for one that
+//! is served. Here is what touches files, sockets and clocks; what the device answers is proved in the
+//! crates below.
 
+mod entropy;
 mod fault;
 mod folder;
 mod image_file;
+mod image_saver;
+mod running;
 mod serving;
 mod socket;
 mod source;
 mod stopwatch;
 
 use fault::Fault;
+use hex::FromHexError;
+use running::{run_alone, run_kept};
 use serving::serve_device;
+use std::env;
 use std::process::ExitCode;
-use std::{env, fs};
-use tpm_bytes::Tap;
-use tpm_record::SlotKeep;
+use tpm_line::line_of;
 use tpm_text::assemble;
 use tpmsim_arguments::Arguments;
-use tpmsim_script::run_script;
 
 fn main(rt: HostRuntime) -> ExitCode {
     match try_main(&rt) {
@@ -45,9 +50,22 @@ fn try_main(rt: &HostRuntime) -> Result<(), Fault> {
         .map_err(|error| Fault::of_io(error, Fault::Usage))?
         .collect(rt.alloc())?;
     match Arguments::parse(rt.alloc(), words.as_slice())? {
-        Arguments::Run { script, trace } => run(rt, script, trace),
+        Arguments::Run {
+            script,
+            trace,
+            storage: None,
+        } => run_alone(rt, script, trace),
+        Arguments::Run {
+            script,
+            trace,
+            storage: Some(storage),
+        } => run_kept(rt, script, trace, &storage),
         Arguments::Assemble { line } => {
             let text = hex::encode(rt.alloc(), assemble(rt.alloc(), line)?)?;
+            println!(rt; "{text}").map_err(|error| Fault::of_io(error, Fault::File))
+        }
+        Arguments::Spell { digits } => {
+            let text = line_of(rt.alloc(), buffer_of(rt, digits)?.as_slice())?;
             println!(rt; "{text}").map_err(|error| Fault::of_io(error, Fault::File))
         }
         Arguments::Serve(service) => serve_device(rt, &service),
@@ -57,14 +75,11 @@ fn try_main(rt: &HostRuntime) -> Result<(), Fault> {
     }
 }
 
-/// Runs the script of a file, or on standard input.
-fn run(rt: &HostRuntime, script: &str, trace: bool) -> Result<(), Fault> {
-    let output = &mut Tap::new(rt.stdout());
-    if script == "-" {
-        run_script::<SlotKeep, _, _>(rt.alloc(), &mut Tap::new(rt.stdin()), output, trace)?;
-    } else {
-        let file = fs::open(rt, script).map_err(|error| Fault::of_io(error, Fault::File))?;
-        run_script::<SlotKeep, _, _>(rt.alloc(), &mut Tap::new(file), output, trace)?;
+/// The buffer that hex digits of either case write.
+fn buffer_of(rt: &HostRuntime, digits: &str) -> Result<Vec<u8>, Fault> {
+    match hex::decode(rt.alloc(), digits) {
+        Ok(buffer) => Ok(buffer),
+        Err(FromHexError::OutOfMemory) => Err(Fault::Memory),
+        Err(_) => Err(Fault::Usage),
     }
-    Ok(())
 }

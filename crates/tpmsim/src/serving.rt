@@ -1,12 +1,12 @@
 //! The serving of a device on a socket, one connection after another, with its image saved after
 //! each.
 
+use crate::entropy::Entropy;
 use crate::fault::Fault;
 use crate::image_file::ImageFile;
 use crate::socket::{Socket, bind};
 use crate::source::Source;
 use tpm_bytes::Tap;
-use tpm_machine::Machine;
 use tpm_record::SlotKeep;
 use tpm_wire::{HostFault, Mux, ServeFault, serve};
 use tpmsim_arguments::Service;
@@ -16,11 +16,12 @@ use tpmsim_arguments::Service;
 pub fn serve_device(rt: &HostRuntime, service: &Service) -> Result<(), Fault> {
     let file = ImageFile::at(rt, service.image)?;
     let opened = file.open(rt)?;
-    let mut source = Source::open(rt, service.entropy, service.locality)?;
+    let mut entropy = Entropy::open(rt, service.entropy)?;
     let machine = match opened {
         Some(machine) => machine,
-        None => manufacture(rt, &mut source)?,
+        None => entropy.manufacture(rt)?,
     };
+    let mut source = Source::new(entropy, service.locality);
     let socket = bind(rt, service.socket)?;
     let mut mux = Mux::new(machine);
     let served = serve_connections(
@@ -33,14 +34,6 @@ pub fn serve_device(rt: &HostRuntime, service: &Service) -> Result<(), Fault> {
     );
     socket.remove(rt, service.socket);
     served
-}
-
-/// A new device, of the first random bytes.
-fn manufacture(rt: &HostRuntime, source: &mut Source) -> Result<Machine<SlotKeep>, Fault> {
-    let random = source
-        .random()
-        .map_err(|error| Fault::of_io(error, Fault::Entropy))?;
-    Ok(Machine::manufacture(rt.alloc(), &random)?)
 }
 
 /// Serves this many connections, one after another, and saves the device after each.

@@ -1,13 +1,13 @@
 -- What a command line is answered by, from what clap finds in its words.
-use Rattle.std.proofs.Common.{◌≡◌, ◌≢◌, ◌⊎◌, ◌∙◌, ap, inl, inr, refl, true, false, Bool, codes, List, Option, Some, None, Result, Ok, Err, ok_or, option_map, if◌then◌else◌}
+use Rattle.std.proofs.Common.{◌≡◌, ◌≢◌, ◌⊎◌, ◌∙◌, ap, inl, inr, refl, sym, true, false, Bool, codes, List, Option, Some, None, Result, Ok, Err, ok_or, option_and_then, option_map, if◌then◌else◌}
 use Rattle.std.specs.Str.{bytes_eq}
 use Rattle.clap.specs.Words.{IsAmong, Row, Text, fault_of, first_of, is_simple, is_simple_and_free, subcommand_of}
 use Rattle.clap.specs.declared.error.kind.ErrorKind.{ErrorKind}
-use Rattle.clap.specs.declared.error.kind.ErrorKind.TheVariants.{DisplayHelp, DisplayVersion, OutOfMemory}
+use Rattle.clap.specs.declared.error.kind.ErrorKind.TheVariants.{ArgumentConflict, DisplayHelp, DisplayHelpOnMissingArgumentOrSubcommand, DisplayVersion, Format, InvalidSubcommand, InvalidValue, Io, MissingRequiredArgument, MissingSubcommand, NoEquals, OutOfMemory, TooFewValues, TooManyValues, UnknownArgument, ValueValidation, WrongNumberOfValues}
 use Rattle.clap.proofs.OnLiterals.{clap_on_literals}
 use Rattle.tpm_bytes.specs.Reading.{Gives}
-use Rattle.tpmsim_arguments.specs.Answers.{Answers, AreTaken}
-use Rattle.tpmsim_arguments.specs.Invocation.{Served, asked, asked_by, asked_in, is_set, service_in, run, assemble, serve, tell}
+use Rattle.tpmsim_arguments.specs.Answers.{Answers, AreTaken, IsTold}
+use Rattle.tpmsim_arguments.specs.Invocation.{Invocation, Served, Stored, asked, asked_by, asked_in, is_set, run_in, service_in, storage_in, run, assemble, spell, serve, tell}
 use Rattle.tpmsim_arguments.specs.CommandLine.{program}
 use Rattle.tpmsim_arguments.specs.Fault.{fault_of_words}
 use Rattle.tpmsim_arguments.specs.declared.arguments.Arguments.{Arguments}
@@ -33,30 +33,40 @@ not_found None e = refl
 not_found (Some y) e = absurd cc
 
 -- no command asks for a text of clap's
-no_text : (kind : ErrorKind) (a b d trace : Bool) (script line : Option Text) (service : Option Served)
-    → (if a then option_map (λ s. run s trace) script
-    else (if b then option_map assemble line else (if d then option_map serve service else None))) ≡ Some (tell kind)
+no_run : (kind : ErrorKind) (trace : Bool) (script : Option Text) (storage : Option (Option Stored))
+    → option_and_then (λ s. option_and_then (λ kept. Some (run s trace kept)) storage) script ≡ Some (tell kind) → ⊥
+no_run kind trace None storage e = cc
+no_run kind trace (Some s) None e = cc
+no_run kind trace (Some s) (Some kept) e = cc
+
+no_text : (kind : ErrorKind) (a b l d : Bool) (ran : Option Invocation) (line digits : Option Text) (service : Option Served)
+    → (ran ≡ Some (tell kind) → ⊥)
+    → (if a then ran else (if b then option_map assemble line else (if l then option_map spell digits
+    else (if d then option_map serve service else None)))) ≡ Some (tell kind)
     → ⊥
-no_text kind true b d trace None line service e = cc
-no_text kind true b d trace (Some s) line service e = cc
-no_text kind false true d trace script None service e = cc
-no_text kind false true d trace script (Some l) service e = cc
-no_text kind false false true trace script line None e = cc
-no_text kind false false true trace script line (Some s) e = cc
-no_text kind false false false trace script line service e = cc
+no_text kind true b l d ran line digits service never e = never e
+no_text kind false true l d ran None digits service never e = cc
+no_text kind false true l d ran (Some text) digits service never e = cc
+no_text kind false false true d ran line None service never e = cc
+no_text kind false false true d ran line (Some text) service never e = cc
+no_text kind false false false true ran line digits None never e = cc
+no_text kind false false false true ran line digits (Some s) never e = cc
+no_text kind false false false false ran line digits service never e = cc
 
 none_tells : (kind : ErrorKind) (command : Option (Text × List Row)) → asked_in command ≡ Some (tell kind) → ⊥
 none_tells kind None e = cc
 none_tells kind (Some command) e =
     let rows = command.1 in
-    no_text kind (bytes_eq command.0 (codes "run")) (bytes_eq command.0 (codes "asm")) (bytes_eq command.0 (codes "serve"))
-    (is_set (codes "trace") rows) (first_of (codes "script") rows) (first_of (codes "line") rows) (service_in rows) e
+    no_text kind (bytes_eq command.0 (codes "run")) (bytes_eq command.0 (codes "asm")) (bytes_eq command.0 (codes "line")) (bytes_eq command.0 (codes "serve"))
+    (run_in rows) (first_of (codes "line") rows) (first_of (codes "hex") rows) (service_in rows)
+    (no_run kind (is_set (codes "trace") rows) (first_of (codes "script") rows) (storage_in rows)) e
 
 -- clap takes the words, and its matches are read
 pub taken : (words : List Text) (r : Result Arguments ArgumentFault) → AreTaken words
     → Gives asked (ok_or (asked_by words) Usage) r → Answers words r
-taken words (Ok (arguments.Run script trace)) right e = (right, found_is _ _ e)
+taken words (Ok (arguments.Run script trace storage)) right e = (right, found_is _ _ e)
 taken words (Ok (arguments.Assemble line)) right e = (right, found_is _ _ e)
+taken words (Ok (arguments.Spell digits)) right e = (right, found_is _ _ e)
 taken words (Ok (arguments.Serve service)) right e = (right, found_is _ _ e)
 taken words (Ok (arguments.Tell error)) right e = absurd (none_tells _ (subcommand_of program words) (found_is _ _ e))
 taken words (Err Usage) right e = inr (right, not_found _ e)
@@ -72,3 +82,33 @@ refused words kind Usage is (inl out) help version =
     absurd cc
 refused words kind Usage is (inr among) help version =
     inl (kind, among, λ wish. elim wish [ inl h ↦ help h | inr v ↦ version v ])
+
+-- what is neither help nor the version is no wish
+is_wish : (kind : ErrorKind) → ((kind ≢ DisplayHelp) × (kind ≢ DisplayVersion) → ⊥) → IsTold kind
+is_wish DisplayHelp never = inl refl
+is_wish DisplayVersion never = inr refl
+is_wish InvalidValue never = absurd (never (λ e. cc, λ e. cc))
+is_wish UnknownArgument never = absurd (never (λ e. cc, λ e. cc))
+is_wish InvalidSubcommand never = absurd (never (λ e. cc, λ e. cc))
+is_wish NoEquals never = absurd (never (λ e. cc, λ e. cc))
+is_wish ValueValidation never = absurd (never (λ e. cc, λ e. cc))
+is_wish TooManyValues never = absurd (never (λ e. cc, λ e. cc))
+is_wish TooFewValues never = absurd (never (λ e. cc, λ e. cc))
+is_wish WrongNumberOfValues never = absurd (never (λ e. cc, λ e. cc))
+is_wish ArgumentConflict never = absurd (never (λ e. cc, λ e. cc))
+is_wish MissingRequiredArgument never = absurd (never (λ e. cc, λ e. cc))
+is_wish MissingSubcommand never = absurd (never (λ e. cc, λ e. cc))
+is_wish DisplayHelpOnMissingArgumentOrSubcommand never = absurd (never (λ e. cc, λ e. cc))
+is_wish Io never = absurd (never (λ e. cc, λ e. cc))
+is_wish Format never = absurd (never (λ e. cc, λ e. cc))
+is_wish OutOfMemory never = absurd (never (λ e. cc, λ e. cc))
+
+-- clap refuses the words for help or the version, which it tells
+pub told : (words : List Text) (kind : ErrorKind) → (kind ≡ OutOfMemory) ⊎ IsAmong kind (fault_of program words)
+    → ((kind ≢ DisplayHelp) × (kind ≢ DisplayVersion) → ⊥) → IsAmong kind (fault_of program words) × IsTold kind
+told words kind (inr among) never = (among, is_wish kind never)
+told words kind (inl out) never =
+    elim (is_wish kind never) [
+      | inl h ↦ let bad : OutOfMemory ≡ DisplayHelp = sym out ∙ h in absurd cc
+      | inr v ↦ let bad : OutOfMemory ≡ DisplayVersion = sym out ∙ v in absurd cc
+    ]

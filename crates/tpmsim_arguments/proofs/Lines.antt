@@ -7,8 +7,8 @@ use Rattle.clap.specs.Words.{Text}
 use Rattle.clap.proofs.OnLiterals.{clap_on_literals}
 use Rattle.tpm_text.specs.Number.{decimal_of, locality_of}
 use Rattle.tpmsim_arguments.specs.Answers.{AreTaken}
-use Rattle.tpmsim_arguments.specs.Invocation.{Invocation, asked_by, assemble, run, serve}
-use Rattle.tpmsim_arguments.specs.Lines.{AskFor, AskForDevice, IsScript, asm_line, begins_with_hyphen, run_line, joined_line, trace_line}
+use Rattle.tpmsim_arguments.specs.Invocation.{Invocation, asked_by, assemble, run, serve, spell}
+use Rattle.tpmsim_arguments.specs.Lines.{AskFor, AskForDevice, IsScript, asm_line, begins_with_hyphen, kept_line, line_line, run_line, joined_line, trace_line}
 
 -- a word that begins with no hyphen is no name of an argument
 no_hyphen : (word : Text) → begins_with_hyphen word ≡ false → strip_byte 45 word ≡ None
@@ -29,15 +29,25 @@ pub line_is_assembled : (name line : Text) → begins_with_hyphen line ≡ false
 unfolding clap_on_literals
 line_is_assembled name line e = rw (no_end line e, no_long line e, no_short line e) (refl, refl)
 
-pub script_is_run : (name script : Text) → IsScript script → AskFor (run_line name script) (run script false)
+pub digits_are_spelled : (name digits : Text) → begins_with_hyphen digits ≡ false → AskFor (line_line name digits) (spell digits)
+unfolding clap_on_literals
+digits_are_spelled name digits e = rw (no_end digits e, no_long digits e, no_short digits e) (refl, refl)
+
+pub script_is_run : (name script : Text) → IsScript script → AskFor (run_line name script) (run script false None)
 unfolding clap_on_literals
 script_is_run name script (inl e) = rw (no_end script e, no_long script e, no_short script e) (refl, refl)
 script_is_run name script (inr e) = rw e (refl, refl)
 
-pub script_is_traced : (name script : Text) → IsScript script → AskFor (trace_line name script) (run script true)
+pub script_is_traced : (name script : Text) → IsScript script → AskFor (trace_line name script) (run script true None)
 unfolding clap_on_literals
 script_is_traced name script (inl e) = rw (no_end script e, no_long script e, no_short script e) (refl, refl)
 script_is_traced name script (inr e) = rw e (refl, refl)
+
+pub device_is_kept : (name image entropy script : Text) → IsScript script
+    → AskFor (kept_line name image entropy script) (run script true (Some (record { image = image; entropy = Some entropy })))
+unfolding clap_on_literals
+device_is_kept name image entropy script (inl e) = rw (no_end script e, no_long script e, no_short script e) (refl, refl)
+device_is_kept name image entropy script (inr e) = rw e (refl, refl)
 
 locality_is : (number : ℕ) → number ≤ 4 → locality_of number ≡ Some number
 locality_is number small = rw (le-leb number 4 small) refl

@@ -1,5 +1,5 @@
 -- The program's command line, in the words of clap.
-use Rattle.std.specs.Prelude.{List, [], ◌∷◌, Some, true, codes}
+use Rattle.std.specs.Prelude.{List, [], ◌∷◌, Some, false, true, codes}
 use Rattle.clap.specs.Words.{App, Rule, Shape, Text, new_rule, with_subcommand}
 use Rattle.clap.specs.Simple.{new_shape}
 use Rattle.clap.specs.declared.builder.action.ArgAction.TheVariants.{Set, SetTrue}
@@ -20,17 +20,26 @@ operand name = record (new_rule name) {
 abbrev pub setting : Text → Rule
 setting name = record (operand name) { long = Some name }
 
+-- --NAME with a value, which may be left out
+abbrev pub choice : Text → Rule
+choice name = record (setting name) { required = false }
+
 -- a command of this name, with these arguments
 abbrev pub with_arguments : Text → List Rule → Shape
 with_arguments name rules = record (new_shape name) { rules = rules }
 
--- run [--trace] SCRIPT
+-- run [--trace] [--image FILE] [--entropy FILE] SCRIPT
 abbrev pub run_command : Shape
-run_command = with_arguments (codes "run") (flag (codes "trace") ∷ operand (codes "script") ∷ [])
+run_command = with_arguments (codes "run") (flag (codes "trace") ∷ choice (codes "image")
+    ∷ choice (codes "entropy") ∷ operand (codes "script") ∷ [])
 
 -- asm LINE
 abbrev pub asm_command : Shape
 asm_command = with_arguments (codes "asm") (operand (codes "line") ∷ [])
+
+-- line HEX
+abbrev pub line_command : Shape
+line_command = with_arguments (codes "line") (operand (codes "hex") ∷ [])
 
 -- serve --socket PATH --image FILE --entropy FILE --locality NUMBER --connections NUMBER
 abbrev pub serve_command : Shape
@@ -46,5 +55,5 @@ bare_program = record {
 }
 
 abbrev pub program : App
-program = with_subcommand (with_subcommand (with_subcommand bare_program run_command) asm_command)
-    serve_command
+program = with_subcommand (with_subcommand (with_subcommand (with_subcommand bare_program
+    run_command) asm_command) line_command) serve_command

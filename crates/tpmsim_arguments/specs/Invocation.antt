@@ -11,6 +11,7 @@ use Rattle.tpmsim_arguments.specs.CommandLine.{program}
 use Rattle.tpmsim_arguments.specs.declared.arguments.Arguments.{Arguments}
 use Rattle.tpmsim_arguments.specs.declared.arguments.Arguments.TheVariants as arguments
 use Rattle.tpmsim_arguments.specs.declared.service.Service.{Service}
+use Rattle.tpmsim_arguments.specs.declared.storage.Storage.{Storage}
 
 -- what a device is served with
 pub record Served : Type 0 where
@@ -20,11 +21,19 @@ pub record Served : Type 0 where
   pub locality : ℕ
   pub connections : ℕ
 
--- to run a script, with its trace or without; to print the buffer of a line; to serve a device; to
--- tell a text of clap's, its help or the version
+-- the files of a device that a script is played on: that of its image, and that of the random bytes
+-- that a new one is made of
+pub record Stored : Type 0 where
+  pub image : Text
+  pub entropy : Option Text
+
+-- to run a script, with its trace or without, on a device that is kept or on one that is not; to
+-- print the buffer of a line; to print the line of a buffer; to serve a device; to tell a text of
+-- clap's, its help or the version
 pub data Invocation : Type 0 where
-  run : Text → Bool → Invocation
+  run : Text → Bool → Option Stored → Invocation
   assemble : Text → Invocation
+  spell : Text → Invocation
   serve : Served → Invocation
   tell : ErrorKind → Invocation
 
@@ -58,13 +67,27 @@ service_in rows = do
     connections = connections;
   })
 
+-- Where the device is kept, which may be nowhere. None of random bytes without an image.
+abbrev pub stored_by : (image entropy : Option Text) → Option (Option Stored)
+stored_by (Some image) entropy = Some (Some (record { image = image; entropy = entropy }))
+stored_by None (Some entropy) = None
+stored_by None None = Some None
+
+abbrev pub storage_in : List Row → Option (Option Stored)
+storage_in rows = stored_by (first_of (codes "image") rows) (first_of (codes "entropy") rows)
+
+abbrev pub run_in : List Row → Option Invocation
+run_in rows = do
+  script ← first_of (codes "script") rows
+  storage ← storage_in rows
+  Some (run script (is_set (codes "trace") rows) storage)
+
 -- what a command of this name asks for, with these matches
 abbrev pub asked_of : Text → List Row → Option Invocation
-asked_of name rows = if bytes_eq name (codes "run")
-    then option_map (λ script. run script (is_set (codes "trace") rows))
-    (first_of (codes "script") rows)
+asked_of name rows = if bytes_eq name (codes "run") then run_in rows
     else (if bytes_eq name (codes "asm") then option_map assemble (first_of (codes "line") rows)
-    else (if bytes_eq name (codes "serve") then option_map serve (service_in rows) else None))
+    else (if bytes_eq name (codes "line") then option_map spell (first_of (codes "hex") rows)
+    else (if bytes_eq name (codes "serve") then option_map serve (service_in rows) else None)))
 
 abbrev pub asked_in : Option (Text × List Row) → Option Invocation
 asked_in = option_and_then (λ command. asked_of command.0 command.1)
@@ -84,8 +107,15 @@ served service = record {
   connections = service.connections;
 }
 
+abbrev pub stored : Storage → Stored
+stored storage = record {
+  image = storage.image.now;
+  entropy = option_map (λ path. path.now) storage.entropy;
+}
+
 abbrev pub asked : Arguments → Invocation
-asked (arguments.Run script trace) = run script.now trace
+asked (arguments.Run script trace storage) = run script.now trace (option_map stored storage)
 asked (arguments.Assemble line) = assemble line.now
+asked (arguments.Spell digits) = spell digits.now
 asked (arguments.Serve service) = serve (served service)
 asked (arguments.Tell error) = tell (kind_of error)

@@ -34,6 +34,15 @@ run_line name script = name ∷ codes "run" ∷ script ∷ []
 abbrev pub trace_line : (name script : Text) → List Text
 trace_line name script = name ∷ codes "run" ∷ codes "--trace" ∷ script ∷ []
 
+-- NAME line HEX
+abbrev pub line_line : (name digits : Text) → List Text
+line_line name digits = name ∷ codes "line" ∷ digits ∷ []
+
+-- NAME run --trace --image=IMAGE --entropy=ENTROPY SCRIPT
+abbrev pub kept_line : (name image entropy script : Text) → List Text
+kept_line name image entropy script = name ∷ codes "run" ∷ codes "--trace"
+    ∷ (codes "--image=" ++ image) ∷ (codes "--entropy=" ++ entropy) ∷ script ∷ []
+
 -- NAME serve --socket SOCKET --image IMAGE --entropy ENTROPY --locality LOCALITY
 --     --connections CONNECTIONS
 abbrev pub serve_line : (name socket image entropy locality connections : Text) → List Text

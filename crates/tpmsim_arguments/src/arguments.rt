@@ -1,18 +1,20 @@
 //! The command line: its subcommands and their settings, and what its words ask for.
 
-ghost use Rattle.std.specs.Prelude.{◌≡◌, false, map, ok_or, option_map, IfOk};
+ghost use Rattle.std.specs.Prelude.{◌≡◌, codes, false, map, ok_or, option_map, IfOk};
 ghost use Rattle.clap.specs.Words.{app_of, first_of, found_of, rows_of, rule_of, shape_of};
 ghost use Rattle.clap.specs.Words.{subcommand_rows_of};
 ghost use Rattle.tpm_bytes.specs.Reading.{Gives};
 ghost use Rattle.tpmsim_arguments.specs.Answers.{Answers};
-ghost use Rattle.tpmsim_arguments.specs.Invocation.{asked, asked_in, asked_of, is_set, served};
-ghost use Rattle.tpmsim_arguments.specs.Invocation.{service_in};
-ghost use Rattle.tpmsim_arguments.specs.CommandLine.{asm_command, program, run_command};
+ghost use Rattle.tpmsim_arguments.specs.Invocation.{asked, asked_in, asked_of, is_set, run_in};
+ghost use Rattle.tpmsim_arguments.specs.Invocation.{served, service_in, storage_in, stored};
+ghost use Rattle.tpmsim_arguments.specs.CommandLine.{asm_command, choice, flag, line_command};
+ghost use Rattle.tpmsim_arguments.specs.CommandLine.{operand, program, run_command};
 ghost use Rattle.tpmsim_arguments.specs.CommandLine.{serve_command, setting};
 ghost use Rattle.tpmsim_arguments.specs.declared.fault.ArgumentFault.TheVariants.{Usage};
 
 use crate::fault::ArgumentFault;
 use crate::service::Service;
+use crate::storage::Storage;
 use clap::{Arg, ArgAction, ArgMatches, Command};
 use std::alloc::{AllocError, Global};
 use std::convert::AsStr;
@@ -21,11 +23,21 @@ use tpm_text::{decimal, locality};
 /// What the command line asks for.
 #[derive(Drop)]
 pub enum Arguments<'a> {
-    /// To run the script in this file, or on standard input where the word is `-`; and to print the
-    /// trace of each event.
-    Run { script: &'a str, trace: bool },
+    /// To run the script in this file, or on standard input where the word is `-`; to print the
+    /// trace of each event; and to keep the device in these files, or nowhere.
+    Run {
+        script: &'a str,
+        trace: bool,
+        storage: Option<Storage<'a>>,
+    },
     /// To print the buffer of the command that this line spells.
-    Assemble { line: &'a str },
+    Assemble {
+        line: &'a str,
+    },
+    /// To print the line that spells the buffer with these hex digits.
+    Spell {
+        digits: &'a str,
+    },
     /// To serve a device on a socket.
     Serve(Service<'a>),
     /// To print its help or its version, which clap tells in place of matches.
@@ -59,12 +71,12 @@ impl<'a> Arguments<'a> {
         ensures { option_map asked result ≡ asked_of name.now (rows_of (found_of options.now)) }
     {
         match name {
-            "run" => Some(Arguments::Run {
-                script: value(options, "script")?,
-                trace: is_set(options, "trace"),
-            }),
+            "run" => run_of(options),
             "asm" => Some(Arguments::Assemble {
                 line: value(options, "line")?,
+            }),
+            "line" => Some(Arguments::Spell {
+                digits: value(options, "hex")?,
             }),
             "serve" => Some(Arguments::Serve(service_of(options)?)),
             _ => None,
@@ -99,6 +111,29 @@ fn is_set(options: &ArgMatches<'_>, flag: &str) -> bool
     }
 }
 
+/// What the matches of `run` ask for.
+fn run_of<'a>(options: &ArgMatches<'a>) -> Option<Arguments<'a>>
+    ensures { option_map asked result ≡ run_in (rows_of (found_of options.now)) }
+{
+    Some(Arguments::Run {
+        script: value(options, "script")?,
+        trace: is_set(options, "trace"),
+        storage: storage_of(options)?,
+    })
+}
+
+/// Where the matches of `run` want the device kept, which may be nowhere. Random bytes without an
+/// image are none of what can be asked for.
+fn storage_of<'a>(options: &ArgMatches<'a>) -> Option<Option<Storage<'a>>>
+    ensures { option_map (option_map stored) result ≡ storage_in (rows_of (found_of options.now)) }
+{
+    match (value(options, "image"), value(options, "entropy")) {
+        (Some(image), entropy) => Some(Some(Storage { image, entropy })),
+        (None, None) => Some(None),
+        (None, Some(_)) => None,
+    }
+}
+
 /// What the matches of `serve` ask for.
 fn service_of<'a>(options: &ArgMatches<'a>) -> Option<Service<'a>>
     ensures { option_map served result ≡ service_in (rows_of (found_of options.now)) }
@@ -121,26 +156,61 @@ fn command<'a>(alloc: Global) -> Result<Command<'a>, AllocError>
         .subcommand_required(true)
         .subcommand(run_command(alloc)?)?
         .subcommand(asm_command(alloc)?)?
+        .subcommand(line_command(alloc)?)?
         .subcommand(serve_command(alloc)?)
 }
 
 fn run_command<'a>(alloc: Global) -> Result<Command<'a>, AllocError>
     ensures { IfOk result (λ command. shape_of command ≡ run_command) }
 {
-    let trace = Arg::new(alloc, "trace")
-        .long("trace")
-        .action(ArgAction::SetTrue)
-        .help("Prints before each response which row of the table the command took");
-    let script = Arg::new(alloc, "script")
-        .value_name("SCRIPT")
-        .required(true)
-        .action(ArgAction::Set)
-        .help("The file of the script, or - for standard input");
     Command::new(alloc, "run")
         .about("Runs a script, and prints the responses in hex, one a line")
         .after_help("Example: tpmsim run --trace examples/measured_boot.tpm")
-        .arg(trace)?
-        .arg(script)
+        .arg(trace_flag(alloc))?
+        .arg(run_option(
+            alloc,
+            "image",
+            "What the device keeps without power; a new device where there is no such file",
+        ))?
+        .arg(run_option(
+            alloc,
+            "entropy",
+            "The random bytes of a new device, its first 256; 00 to ff without this",
+        ))?
+        .arg(script_operand(alloc))
+}
+
+fn trace_flag<'a>(alloc: Global) -> Arg<'a>
+    ensures rule { rule_of result ≡ flag (codes "trace") }
+    ensures local { result.global ≡ false }
+{
+    Arg::new(alloc, "trace")
+        .long("trace")
+        .action(ArgAction::SetTrue)
+        .help("Prints before each response which row of the table the command took")
+}
+
+fn script_operand<'a>(alloc: Global) -> Arg<'a>
+    ensures rule { rule_of result ≡ operand (codes "script") }
+    ensures local { result.global ≡ false }
+{
+    Arg::new(alloc, "script")
+        .value_name("SCRIPT")
+        .required(true)
+        .action(ArgAction::Set)
+        .help("The file of the script, or - for standard input")
+}
+
+/// An option of `run` that has a file, and may be left out.
+fn run_option<'a>(alloc: Global, name: &'a str, help: &'a str) -> Arg<'a>
+    ensures rule { rule_of result ≡ choice name.entry.now }
+    ensures local { result.global ≡ false }
+{
+    Arg::new(alloc, name)
+        .long(name)
+        .value_name("FILE")
+        .action(ArgAction::Set)
+        .help(help)
 }
 
 fn asm_command<'a>(alloc: Global) -> Result<Command<'a>, AllocError>
@@ -155,6 +225,20 @@ fn asm_command<'a>(alloc: Global) -> Result<Command<'a>, AllocError>
         .about("Prints the buffer of a command in hex")
         .after_help("Example: tpmsim asm 'PCR_Read sha256:0,4'")
         .arg(line)
+}
+
+fn line_command<'a>(alloc: Global) -> Result<Command<'a>, AllocError>
+    ensures { IfOk result (λ command. shape_of command ≡ line_command) }
+{
+    let digits = Arg::new(alloc, "hex")
+        .value_name("HEX")
+        .required(true)
+        .action(ArgAction::Set)
+        .help("The buffer of the command in hex, as it stands behind `cmd ` in a script");
+    Command::new(alloc, "line")
+        .about("Prints the line in words that spells the buffer of a command")
+        .after_help("Example: tpmsim line 80010000000c0000017b0020")
+        .arg(digits)
 }
 
 fn serve_command<'a>(alloc: Global) -> Result<Command<'a>, AllocError>

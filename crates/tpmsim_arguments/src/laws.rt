@@ -1,10 +1,11 @@
 //! The law that command lines, as people write them, ask for what they say.
 
-ghost use Rattle.std.specs.Prelude.{◌≡◌, ◌∷◌, List, [], ℕ, false, true};
-ghost use Rattle.tpmsim_arguments.specs.Invocation.{assemble, run};
+ghost use Rattle.std.specs.Prelude.{◌≡◌, ◌∷◌, List, [], None, Some, ℕ, false, true};
+ghost use Rattle.tpmsim_arguments.specs.Invocation.{assemble, run, spell};
 ghost use Rattle.tpmsim_arguments.specs.Lines.{AskFor, AskForDevice, IsScript};
 ghost use Rattle.tpmsim_arguments.specs.Lines.{NoneBeginsWithHyphen, asm_line};
-ghost use Rattle.tpmsim_arguments.specs.Lines.{begins_with_hyphen, joined_line, run_line};
+ghost use Rattle.tpmsim_arguments.specs.Lines.{begins_with_hyphen, joined_line, kept_line};
+ghost use Rattle.tpmsim_arguments.specs.Lines.{line_line, run_line};
 ghost use Rattle.tpmsim_arguments.specs.Lines.{serve_line, trace_line};
 
 /// Command lines as people write them ask for what they say, where no word but the names of
@@ -14,10 +15,15 @@ ghost use Rattle.tpmsim_arguments.specs.Lines.{serve_line, trace_line};
 pub fn usual_line_laws()
     ensures asm { (name line : List ℕ) → begins_with_hyphen line ≡ false
         → AskFor (asm_line name line) (assemble line) }
+    ensures line { (name digits : List ℕ) → begins_with_hyphen digits ≡ false
+        → AskFor (line_line name digits) (spell digits) }
     ensures run { (name script : List ℕ) → IsScript script
-        → AskFor (run_line name script) (run script false) }
+        → AskFor (run_line name script) (run script false None) }
     ensures trace { (name script : List ℕ) → IsScript script
-        → AskFor (trace_line name script) (run script true) }
+        → AskFor (trace_line name script) (run script true None) }
+    ensures kept { (name image entropy script : List ℕ) → IsScript script
+        → AskFor (kept_line name image entropy script)
+        (run script true (Some (record { image = image; entropy = Some entropy }))) }
     ensures serve { (name socket image entropy locality connections : List ℕ)
         → NoneBeginsWithHyphen (socket ∷ image ∷ entropy ∷ locality ∷ connections ∷ [])
         → AskForDevice (serve_line name socket image entropy locality connections) socket image

@@ -9,7 +9,7 @@ use Rattle.tpm_machine_step.specs.Step.{Stepped, step}
 use Rattle.tpmsim_script.specs.Line.{Meaning, line_meaning}
 use Rattle.tpmsim_script.specs.Player.{Did}
 use Rattle.tpmsim_script.specs.declared.line_fault.LineFault.{LineFault}
-use Rattle.tpmsim_script.specs.declared.line_fault.LineFault.TheVariants.{Bad, Write}
+use Rattle.tpmsim_script.specs.declared.line_fault.LineFault.TheVariants.{Bad, Write, Save}
 use Rattle.tpmsim_script.specs.Script.{Playing, Effect, answer, command_of, cycle, cycle_to, execute, perform, perform_line, printed_response, printed_trace}
 
 said_done : (p : Playing) (line : List ℕ) (said : Meaning) → length line ≤ 65536 → line_meaning line ≡ Some said → perform_line p line ≡ perform p said
@@ -40,6 +40,7 @@ pub did_said : (p : Playing) (line : List ℕ) (said : Meaning) (old : Option (L
 did_said p line said old before (Ok done) new after short e did = (did.0, said_done p line said short e ∙ did.1, did.2, did.3)
 did_said p line said old before (Err Bad) new after short e did = (said_done p line said short e ∙ did.0, did.1, did.2)
 did_said p line said old before (Err Write) new after short e did = tt
+did_said p line said old before (Err Save) new after short e did = tt
 
 abbrev is_bad : Result (Unit {0}) LineFault → Bool
 is_bad (Err Bad) = true
@@ -70,12 +71,14 @@ executed p buffer s old mid (Ok done) new after is traced printed next err =
     (answer p (command_of p buffer) s, ap (λ s. Some (answer p (command_of p buffer) s)) (sym is), appended_twice old mid new _ _ traced printed, next)
 executed p buffer s old mid (Err Bad) new after is traced printed next err = absurd (bad_is_no_write err)
 executed p buffer s old mid (Err Write) new after is traced printed next err = tt
+executed p buffer s old mid (Err Save) new after is traced printed next err = tt
 
 -- and what could not be printed
 pub untraced : (line : Option Effect) (p : Playing) (old : Option (List ℕ)) (result : Result (Unit {0}) LineFault) (new : Option (List ℕ)) (after : Playing) → result ≡ Err Write → Did line old p result new after
 untraced line p old (Ok done) new after e = absurd (ok_is_no_write done e)
 untraced line p old (Err Bad) new after e = absurd (bad_is_no_write e)
 untraced line p old (Err Write) new after e = tt
+untraced line p old (Err Save) new after e = tt
 
 -- a power cycle, whose trace was printed where that is asked for
 pub cycled : (p : Playing) (s : Stepped) (old : Option (List ℕ)) (result : Result (Unit {0}) LineFault) (new : Option (List ℕ)) (after : Playing)
@@ -84,3 +87,4 @@ pub cycled : (p : Playing) (s : Stepped) (old : Option (List ℕ)) (result : Res
 cycled p s old (Ok done) new after is printed next err = (cycle_to p s, ap (λ s. Some (cycle_to p s)) (sym is), printed, next)
 cycled p s old (Err Bad) new after is printed next err = absurd (bad_is_no_write err)
 cycled p s old (Err Write) new after is printed next err = tt
+cycled p s old (Err Save) new after is printed next err = tt

@@ -10,9 +10,10 @@ use Rattle.tpmsim_script.specs.LineFault.{fault_at}
 use Rattle.tpmsim_script.specs.Player.{Did}
 use Rattle.tpmsim_script.specs.declared.line_fault.LineFault.{LineFault}
 use Rattle.tpmsim_script.specs.declared.line_fault.LineFault.TheVariants as stop
-use Rattle.tpmsim_script.specs.Run.{NextFound, OnNoMemory, OnTooMany, OnUnread, PlaysAllAllowed, PlaysToFailure, PlaysUpTo, UnlessFailed, Ran, end_at_limit}
+use Rattle.tpm_bytes.specs.Tap.{Marks}
+use Rattle.tpmsim_script.specs.Run.{AreTheirs, NextFound, OnNoMemory, OnTooMany, OnUnread, PlaysAllAllowed, PlaysToFailure, PlaysUpTo, UnlessFailed, Ran, end_at_limit}
 use Rattle.tpmsim_script.specs.declared.fault.ScriptFault.{ScriptFault}
-use Rattle.tpmsim_script.specs.declared.fault.ScriptFault.TheVariants.{Line, Read, TooManyLines, Write, NoMemory}
+use Rattle.tpmsim_script.specs.declared.fault.ScriptFault.TheVariants.{Line, Read, TooManyLines, Write, Save, NoMemory}
 use Rattle.tpmsim_script.specs.Script.{IsOutput, Output, Playing, Plays, Effect, output_with, perform_line, play}
 
 -- what was appended in turns, the first of which may have kept what was there
@@ -76,6 +77,7 @@ pub ran_to_line : (left rest old held new : Option (List ℕ)) (p next : Playing
     → LosesFirstLine left line rest → Keeps old held → Did (perform_line p line) held p (Err fault) new next → ((bad : Option ℕ) → Plays left old new p number bad → P bad) → Ran P (Err (fault_at number fault))
 ran_to_line left rest old held new p next number line stop.Bad P t k did whole = whole (Some number) (stopped_by_line left rest old held new p number line t k did.0 did.1)
 ran_to_line left rest old held new p next number line stop.Write P t k did whole = tt
+ran_to_line left rest old held new p next number line stop.Save P t k did whole = tt
 
 pub stopped_by_length : (left old new : Option (List ℕ)) (p : Playing) (number : ℕ) → IfSome left BeginsTooLong → Keeps old new → Plays left old new p number (Some number)
 stopped_by_length None old new p number t k = tt
@@ -88,6 +90,7 @@ ran_to_fault left old new rest p number (Line bad) line P found kept whole = who
 ran_to_fault left old new rest p number Read line P found kept whole = tt
 ran_to_fault left old new rest p number TooManyLines line P found kept whole = tt
 ran_to_fault left old new rest p number Write line P found kept whole = tt
+ran_to_fault left old new rest p number Save line P found kept whole = tt
 ran_to_fault left old new rest p number NoMemory line P found kept whole = tt
 
 -- ---- a run up to a line
@@ -128,6 +131,7 @@ failed_read here left old new start first p q number (Line bad) t k leads = tt
 failed_read here left old new start first p q number Read t k leads = stopped_by_reader here left old new start first p q number t k leads
 failed_read here left old new start first p q number TooManyLines t k leads = tt
 failed_read here left old new start first p q number Write t k leads = tt
+failed_read here left old new start first p q number Save t k leads = tt
 failed_read here left old new start first p q number NoMemory t k leads = tt
 
 pub failed_few : (here rest : Option (List ℕ)) (number : ℕ) (fault : ScriptFault) (line : List ℕ) (fact : Type 0) → NextFound number here (Err fault) line rest → OnTooMany {X = Unit {0}} (Err fault) fact
@@ -135,6 +139,7 @@ failed_few here rest number (Line bad) line fact found = tt
 failed_few here rest number Read line fact found = tt
 failed_few here rest number TooManyLines line fact found = absurd found
 failed_few here rest number Write line fact found = tt
+failed_few here rest number Save line fact found = tt
 failed_few here rest number NoMemory line fact found = tt
 
 pub failed_with_memory : (here rest : Option (List ℕ)) (number : ℕ) (fault : ScriptFault) (line : List ℕ) → NextFound number here (Err fault) line rest → OnNoMemory {X = Unit {0}} (Err fault) ⊥
@@ -142,20 +147,24 @@ failed_with_memory here rest number (Line bad) line found = tt
 failed_with_memory here rest number Read line found = tt
 failed_with_memory here rest number TooManyLines line found = absurd found
 failed_with_memory here rest number Write line found = tt
+failed_with_memory here rest number Save line found = tt
 failed_with_memory here rest number NoMemory line found = absurd found
 
 -- nor does it come at a line
 pub stopped_read : (number : ℕ) (fault : LineFault) (fact : Type 0) → OnUnread {X = Unit {0}} (Err (fault_at number fault)) fact
 stopped_read number stop.Bad fact = tt
 stopped_read number stop.Write fact = tt
+stopped_read number stop.Save fact = tt
 
 pub stopped_few : (number : ℕ) (fault : LineFault) (fact : Type 0) → OnTooMany {X = Unit {0}} (Err (fault_at number fault)) fact
 stopped_few number stop.Bad fact = tt
 stopped_few number stop.Write fact = tt
+stopped_few number stop.Save fact = tt
 
 pub stopped_with_memory : (number : ℕ) (fault : LineFault) (fact : Type 0) → OnNoMemory {X = Unit {0}} (Err (fault_at number fault)) fact
 stopped_with_memory number stop.Bad fact = tt
 stopped_with_memory number stop.Write fact = tt
+stopped_with_memory number stop.Save fact = tt
 
 -- ---- after the last line that a script may have
 
@@ -184,6 +193,7 @@ ended_played here rest old new p number known (Err (Line bad)) line P found k wh
 ended_played here rest old new p number known (Err Read) line P found k whole = tt
 ended_played here rest old new p number known (Err TooManyLines) line P found k whole = tt
 ended_played here rest old new p number known (Err Write) line P found k whole = tt
+ended_played here rest old new p number known (Err Save) line P found k whole = tt
 ended_played here rest old new p number known (Err NoMemory) line P found k whole = tt
 
 pub ended_read : (here left old new start first : Option (List ℕ)) (p q : Playing) (number : ℕ) (next : Result Bool ScriptFault)
@@ -194,6 +204,7 @@ ended_read here left old new start first p q number (Err (Line bad)) t k leads =
 ended_read here left old new start first p q number (Err Read) t k leads = stopped_by_reader here left old new start first p q number t k leads
 ended_read here left old new start first p q number (Err TooManyLines) t k leads = tt
 ended_read here left old new start first p q number (Err Write) t k leads = tt
+ended_read here left old new start first p q number (Err Save) t k leads = tt
 ended_read here left old new start first p q number (Err NoMemory) t k leads = tt
 
 pub ended_many : (here rest old new start first : Option (List ℕ)) (p q : Playing) (number known : ℕ) (next : Result Bool ScriptFault) (line : List ℕ)
@@ -204,6 +215,7 @@ ended_many here rest old new start first p q number known (Err (Line bad)) line 
 ended_many here rest old new start first p q number known (Err Read) line e found k leads = tt
 ended_many here rest old new start first p q number known (Err TooManyLines) line e found k leads = absurd found
 ended_many here rest old new start first p q number known (Err Write) line e found k leads = tt
+ended_many here rest old new start first p q number known (Err Save) line e found k leads = tt
 ended_many here rest old new start first p q number known (Err NoMemory) line e found k leads = tt
 
 pub ended_with_memory : (here rest : Option (List ℕ)) (known : ℕ) (next : Result Bool ScriptFault) (line : List ℕ) → NextFound known here next line rest → OnNoMemory (end_at_limit next) ⊥
@@ -213,6 +225,7 @@ ended_with_memory here rest known (Err (Line bad)) line found = tt
 ended_with_memory here rest known (Err Read) line found = tt
 ended_with_memory here rest known (Err TooManyLines) line found = absurd found
 ended_with_memory here rest known (Err Write) line found = tt
+ended_with_memory here rest known (Err Save) line found = tt
 ended_with_memory here rest known (Err NoMemory) line found = absurd found
 
 -- ---- the start of a line, after which the reader failed
@@ -264,6 +277,7 @@ ran_unread start text left before old mid written new q p (Err Read) a b c k d h
     failure_kept text left old mid new p (subst (λ x. PlaysToFailure x left old mid p) a (subst (λ x. PlaysToFailure start left x mid p) b (subst (λ x. PlaysToFailure start left before mid x) c h))) (subst (Keeps mid) d k)
 ran_unread start text left before old mid written new q p (Err TooManyLines) a b c k d h = tt
 ran_unread start text left before old mid written new q p (Err Write) a b c k d h = tt
+ran_unread start text left before old mid written new q p (Err Save) a b c k d h = tt
 ran_unread start text left before old mid written new q p (Err NoMemory) a b c k d h = tt
 
 pub ran_too_many : (start text before old mid written new : Option (List ℕ)) (q p : Playing) (result : Result (Unit {0}) ScriptFault) → start ≡ text → before ≡ old → q ≡ p → Keeps mid written → written ≡ new
@@ -275,4 +289,15 @@ ran_too_many start text before old mid written new q p (Err TooManyLines) a b c 
     let all : PlaysAllAllowed text old mid p = subst (λ x. PlaysAllAllowed x old mid p) a (subst (λ x. PlaysAllAllowed start x mid p) b (subst (λ x. PlaysAllAllowed start before mid x) c h)) in
     (all.0, all.1, up_to_kept text old mid new p 1 1048577 (all.0 ∷ all.1) all.2 (subst (Keeps mid) d k))
 ran_too_many start text before old mid written new q p (Err Write) a b c k d h = tt
+ran_too_many start text before old mid written new q p (Err Save) a b c k d h = tt
 ran_too_many start text before old mid written new q p (Err NoMemory) a b c k d h = tt
+
+-- what failed has failed yet, where the writer has no more marks
+pub theirs_yet : (result : Result (Unit {0}) ScriptFault) (reader old new : Marks) (unsaved still : Bool) → new ≡ old → (unsaved ≡ true → still ≡ true) → AreTheirs result reader old unsaved → AreTheirs result reader new still
+theirs_yet (Ok done) reader old new unsaved still e stays h = tt
+theirs_yet (Err (Line bad)) reader old new unsaved still e stays h = tt
+theirs_yet (Err Read) reader old new unsaved still e stays h = h
+theirs_yet (Err TooManyLines) reader old new unsaved still e stays h = tt
+theirs_yet (Err Write) reader old new unsaved still e stays h = ap (λ (marks : Marks). marks.failed) e ∙ h
+theirs_yet (Err Save) reader old new unsaved still e stays h = stays h
+theirs_yet (Err NoMemory) reader old new unsaved still e stays h = tt

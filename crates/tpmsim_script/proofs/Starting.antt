@@ -3,13 +3,12 @@ use Rattle.std.proofs.Common.{◌≡◌, ℕ, ◌+◌, ◌<◌, List, length, sl
 use Rattle.std.proofs.lemmas.Grind.{same_number_lists}
 use Rattle.std.proofs.lemmas.List.FromFn.{get_or-range_with_len, length-range_with_len}
 use Rattle.std.specs.Prelude.{Bool, replicate}
-use Rattle.tpm_record.specs.Record.{Record, manufactured}
+use Rattle.tpm_record.specs.Record.{Record}
 use Rattle.tpmsim_script.specs.Script.{at_first, script_bytes}
 
-pub starts : (traced : Bool) (locality waited : ℕ) (random : List ℕ) (device : Record) → locality ≡ 0 → waited ≡ 0 → random ≡ replicate 256 0 → device ≡ manufactured script_bytes
-    → record { traced = traced; locality = locality; waited = waited; random = random; device = device } ≡ at_first traced
+pub starts : (traced : Bool) (locality waited : ℕ) (random : List ℕ) (device : Record) → locality ≡ 0 → waited ≡ 0 → random ≡ replicate 256 0 → record { traced = traced; locality = locality; waited = waited; random = random; device = device } ≡ at_first traced device
 unfolding at_first
-starts traced locality waited random device l w r d = λ i. record { traced = traced; locality = l i; waited = w i; random = r i; device = d i }
+starts traced locality waited random device l w r = λ i. record { traced = traced; locality = l i; waited = w i; random = r i; device = device }
 
 -- a list that holds each place is the bytes 00 to ff
 pub counted_up : (bytes : List ℕ) → length bytes ≡ 256 → ((place : ℕ) → place < 256 → slice_index bytes place ≡ place) → bytes ≡ script_bytes

@@ -1,12 +1,12 @@
 -- What a player is seen as, and what a line did.
-use Rattle.std.specs.Prelude.{◌≡◌, ℕ, true, List, Option, Some, None, Result, Ok, Err}
+use Rattle.std.specs.Prelude.{◌≡◌, ℕ, Bool, true, List, Option, Some, None, Result, Ok, Err}
 use Rattle.std.specs.Io.KnownBytes.{Appends}
 use Rattle.tpm_bytes.specs.Tap.{Marks}
 use Rattle.tpm_machine.specs.State.{state_of}
 use Rattle.tpm_record.specs.Record.{Record}
 use Rattle.tpmsim_script.specs.Script.{Playing, Effect, playing}
 use Rattle.tpmsim_script.specs.declared.line_fault.LineFault.{LineFault}
-use Rattle.tpmsim_script.specs.declared.line_fault.LineFault.TheVariants.{Bad, Write}
+use Rattle.tpmsim_script.specs.declared.line_fault.LineFault.TheVariants.{Bad, Write, Save}
 use Rattle.tpmsim_script.specs.declared.player.Player.{Player}
 
 -- how a script is being played, by the record that its device's keep stands for
@@ -15,7 +15,7 @@ playing_of record_of player =
     playing player.traced player.script (state_of record_of player.machine)
 
 -- A line had its effect and printed its text, from known bytes to known ones; or it is bad, and did
--- and printed nothing. Of a writer that failed nothing is said.
+-- and printed nothing. Of a writer or a saver that failed nothing is said.
 abbrev pub Did : Option Effect
     → Option (List ℕ) → Playing
     → Result (Unit {0}) LineFault → Option (List ℕ) → Playing → Type 0
@@ -24,8 +24,10 @@ Did line old before (Ok done) new after =
     × Appends old new effect.text × (after ≡ effect.next)
 Did line old before (Err Bad) new after = (line ≡ None) × (new ≡ old) × (after ≡ before)
 Did line old before (Err Write) new after = Unit {0}
+Did line old before (Err Save) new after = Unit {0}
 
--- Write is answered only where the writer failed.
-abbrev pub IsWriters : Result (Unit {0}) LineFault → Marks → Type 0
-IsWriters (Err Write) writer = writer.failed ≡ true
-IsWriters other writer = Unit {0}
+-- Write is answered only where the writer failed, and Save only where the saver did.
+abbrev pub IsTheirs : Result (Unit {0}) LineFault → (writer : Marks) → (unsaved : Bool) → Type 0
+IsTheirs (Err Write) writer unsaved = writer.failed ≡ true
+IsTheirs (Err Save) writer unsaved = unsaved ≡ true
+IsTheirs other writer unsaved = Unit {0}

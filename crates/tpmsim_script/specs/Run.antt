@@ -30,11 +30,14 @@ abbrev pub OnNoMemory : {X : Type 0} → Result X ScriptFault → Type 0 → Typ
 OnNoMemory (Err fault.NoMemory) fact = fact
 OnNoMemory other fact = Unit {0}
 
--- Read is answered only where the reader failed, and Write only where the writer did.
-abbrev pub AreTheirs : {X : Type 0} → Result X ScriptFault → (reader writer : Marks) → Type 0
-AreTheirs (Err fault.Read) reader writer = reader.failed ≡ true
-AreTheirs (Err fault.Write) reader writer = writer.failed ≡ true
-AreTheirs other reader writer = Unit {0}
+-- Read is answered only where the reader failed, Write only where the writer did, and Save only
+-- where the saver did.
+abbrev pub AreTheirs : {X : Type 0} → Result X ScriptFault → (reader writer : Marks)
+    → (unsaved : Bool) → Type 0
+AreTheirs (Err fault.Read) reader writer unsaved = reader.failed ≡ true
+AreTheirs (Err fault.Write) reader writer unsaved = writer.failed ≡ true
+AreTheirs (Err fault.Save) reader writer unsaved = unsaved ≡ true
+AreTheirs other reader writer unsaved = Unit {0}
 
 -- The lines before the number next were played from p on, the first of them under this number; none
 -- is bad; what they print was written after what the writer held (old); the rest are the others.

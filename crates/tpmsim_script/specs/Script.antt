@@ -38,18 +38,22 @@ playing traced script device = record {
   device = device;
 }
 
--- the bytes 00 to ff, which the device of a script is manufactured with
+-- the bytes 00 to ff, which a new device of a script is manufactured with
 abbrev pub script_bytes : List ℕ
 script_bytes = range_with_len 0 256
 
--- at first locality 0, no time, random bytes that are all 0, and a new device
-unfoldable pub at_first : (traced : Bool) → Playing
-at_first traced = record {
+-- the device of a script where none is given
+abbrev pub new_device : Record
+new_device = manufactured script_bytes
+
+-- at first locality 0, no time, random bytes that are all 0, and this device
+unfoldable pub at_first : (traced : Bool) → (device : Record) → Playing
+at_first traced device = record {
   traced = traced;
   locality = 0;
   waited = 0;
   random = replicate 256 0;
-  device = manufactured script_bytes;
+  device = device;
 }
 
 -- the 256 random bytes that these bytes make, over and over

@@ -6,7 +6,7 @@ use std::alloc::AllocError;
 use tpm_bytes::NoMemory;
 
 /// Why a script did not run to its end. The lines before the fault were run, and their responses
-/// written, but for those that a `Write` fault cut off.
+/// written, but for those that a `Write` or a `Save` fault cut off.
 #[derive(Clone, Copy, Debug, PartialEq, Eq)]
 pub enum ScriptFault {
     /// The line of this number, from 1, is none of a script's lines.
@@ -17,6 +17,8 @@ pub enum ScriptFault {
     TooManyLines,
     /// The responses could not be written.
     Write,
+    /// The device could not be saved. The response to the last command was not written.
+    Save,
     /// There is no memory for the device or the buffers. Nothing was read.
     NoMemory,
 }

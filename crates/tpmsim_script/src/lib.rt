@@ -1,11 +1,13 @@
 #![tactic(auto)]
 
-//! Scripts of commands: [`run::run_script`] plays one on a new device and writes what it answers.
+//! Scripts of commands: [`run::run_device`] plays one on a device and writes what it answers, and
+//! [`run::run_script`] on a new device.
 //!
 //! A script is a text whose lines are read one after another ([`lines`], [`line`]), set what the
 //! next command is given ([`script`]) and are performed on the device ([`player`]), a command in
 //! [`room`] for its bytes; the responses, and traces where they are asked for, gather in a buffer
-//! ([`answers`]) that is written before more of the script is read ([`run`]).
+//! ([`answers`]) that is written before more of the script is read ([`run`]). The device is saved
+//! on the way ([`saver`]).
 //!
 //! It stands on `tpm_machine` for the device, on `tpm_text` for commands in words and traces, and
 //! on `tpm_hex`. What is written is what `specs/` says that the script prints, to its end or to its
@@ -20,7 +22,9 @@ mod lines;
 mod player;
 mod room;
 pub mod run;
+pub mod saver;
 mod script;
 
 pub use fault::ScriptFault;
-pub use run::run_script;
+pub use run::{new_machine, run_device, run_script};
+pub use saver::{Saver, Unsaved};

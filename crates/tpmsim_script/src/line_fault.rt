@@ -12,6 +12,8 @@ pub enum LineFault {
     Bad,
     /// Its response, or one before it, could not be written.
     Write,
+    /// The device could not be saved.
+    Save,
 }
 
 impl LineFault {
@@ -24,6 +26,7 @@ impl LineFault {
         match self {
             LineFault::Bad => ScriptFault::Line(number),
             LineFault::Write => ScriptFault::Write,
+            LineFault::Save => ScriptFault::Save,
         }
     }
 }

@@ -1,5 +1,5 @@
-//! A device and the script that it plays: each line is performed, and the response is printed,
-//! after its trace where that is asked for.
+//! A device and the script that it plays: each line is performed, the device is saved where it
+//! changed, and the response is printed, after its trace where that is asked for.
 
 ghost use Rattle.std.specs.Prelude.{◌≡◌, ◌≤◌, [], false, true, length, IfOk, OnOk, OnErr};
 ghost use Rattle.std.specs.Io.KnownBytes.{Appends, Keeps};
@@ -10,18 +10,18 @@ ghost use Rattle.tpm_machine_step.specs.Step.{outcome_step};
 ghost use Rattle.tpm_text.specs.Trace.{IsTraceable};
 ghost use Rattle.tpmsim_script.specs.Answers.{backlog, printout};
 ghost use Rattle.tpmsim_script.specs.Line.{hex_of, meaning_of};
-ghost use Rattle.tpmsim_script.specs.Player.{Did, IsWriters, playing_of};
+ghost use Rattle.tpmsim_script.specs.Player.{Did, IsTheirs, playing_of};
 ghost use Rattle.tpmsim_script.specs.Script.{at_first, cycle, execute, perform, perform_line};
-ghost use Rattle.tpmsim_script.specs.Script.{printed_trace, script_bytes, set_entropy};
+ghost use Rattle.tpmsim_script.specs.Script.{printed_trace, set_entropy};
 
 use crate::answers::Answers;
 use crate::fault::ScriptFault;
 use crate::line::Line;
 use crate::line_fault::LineFault;
 use crate::room::Room;
+use crate::saver::Saver;
 use crate::script::Script;
-use std::alloc::Global;
-use std::array;
+use std::alloc::{AllocError, Global};
 use std::io::Write;
 use tpm_bytes::Tap;
 use tpm_machine::Machine;
@@ -43,15 +43,13 @@ pub struct Player<K: Keep> {
 }
 
 impl<K: Keep> Player<K> {
-    /// A new device that was manufactured with the bytes 00 to ff.
-    pub fn new(alloc: Global, traced: bool) -> Result<Player<K>, ScriptFault>
-        ensures fault { OnErr result (result ≡ Err ScriptFault.NoMemory) }
-        ensures playing { IfOk result
-            (λ player. playing_of K.record_of player ≡ at_first traced) }
+    /// A device, at the start of a script.
+    pub fn new(alloc: Global, machine: Machine<K>, traced: bool) -> Result<Player<K>, AllocError>
+        ensures playing { IfOk result (λ player. playing_of K.record_of player
+            ≡ at_first traced (state_of K.record_of machine)) }
         ensures answers { IfOk result (λ player. backlog player.answers ≡ []) }
     {
         let answers = Answers::new(alloc)?;
-        let machine = Machine::manufacture(alloc, &first_bytes())?;
         Ok(Player {
             traced,
             script: Script::new(),
@@ -61,18 +59,26 @@ impl<K: Keep> Player<K> {
         })
     }
 
+    /// The device.
+    pub fn machine(&self) -> &Machine<K>
+        ensures { result.now ≡ self.now.machine }
+    {
+        &self.machine
+    }
+
     /// Does what a line says, and prints the response to a command, and traces where they are asked
     /// for. What is written in hex or in words goes to `room`. Of a keep that can be refused memory
     /// nothing is said.
     #[tactic(auto, using(crate::proofs::Doing::unsaid_done))]
-    pub fn line<W: Write>(
+    pub fn line<W: Write, S: Saver>(
         &mut self,
         line: &[u8],
         room: &mut Room,
         writer: &mut Tap<W>,
+        saver: &mut S,
     ) -> Result<(), LineFault>
         requires { length line.now ≤ 65536 }
-        ensures failed { IsWriters result (marks_of writer.new) }
+        ensures failed { IsTheirs result (marks_of writer.new) (S.has_failed saver.new) }
         ensures did { K.can_refuse ≡ false → Did
             (perform_line (playing_of K.record_of self.old) line.now)
             (printout (W.contents (device_of writer.old)) self.old.answers) (playing_of K.record_of self.old)
@@ -80,7 +86,7 @@ impl<K: Keep> Player<K> {
             (printout (W.contents (device_of writer.new)) self.new.answers) (playing_of K.record_of self.new) }
     {
         let said = Line::parse(line)?;
-        self.perform(said, room, writer)
+        self.perform(said, room, writer, saver)
     }
 
     /// Writes all lines so far.
@@ -99,14 +105,15 @@ impl<K: Keep> Player<K> {
 
     /// Does what was said.
     #[tactic(auto, using(crate::proofs::Doing::nothing_printed))]
-    fn perform<W: Write>(
+    fn perform<W: Write, S: Saver>(
         &mut self,
         line: Line,
         room: &mut Room,
         writer: &mut Tap<W>,
+        saver: &mut S,
     ) -> Result<(), LineFault>
         requires { length (hex_of (meaning_of line)) ≤ 65536 }
-        ensures failed { IsWriters result (marks_of writer.new) }
+        ensures failed { IsTheirs result (marks_of writer.new) (S.has_failed saver.new) }
         ensures did { K.can_refuse ≡ false → Did
             (perform (playing_of K.record_of self.old) (meaning_of line.entry))
             (printout (W.contents (device_of writer.old)) self.old.answers) (playing_of K.record_of self.old)
@@ -114,20 +121,28 @@ impl<K: Keep> Player<K> {
             (printout (W.contents (device_of writer.new)) self.new.answers) (playing_of K.record_of self.new) }
     {
         match line {
-            Line::Command(digits) => self.execute(room.decode(digits)?, writer)?,
-            Line::Words(words) => self.execute(room.assemble(words)?, writer)?,
+            Line::Command(digits) => self.execute(room.decode(digits)?, writer, saver)?,
+            Line::Words(words) => self.execute(room.assemble(words)?, writer, saver)?,
             Line::Locality(locality) => self.script.set_locality(locality),
             Line::Wait(milliseconds) => self.script.wait(milliseconds)?,
             Line::Entropy(digits) => self.script.set_entropy(room.decode(digits)?)?,
-            Line::PowerCycle => self.cycle_power(writer)?,
+            Line::PowerCycle => self.cycle_power(writer, saver)?,
             Line::Nothing => {}
         }
         Ok(())
     }
 
-    /// Executes a command, and prints the response, after its trace where that is asked for.
-    fn execute<W: Write>(&mut self, buffer: &[u8], writer: &mut Tap<W>) -> Result<(), LineFault>
-        ensures failed { IsWriters result (marks_of writer.new) }
+    /// Executes a command, has the device saved where it changed, and then prints the response,
+    /// after its trace where that is asked for.
+    fn execute<W: Write, S: Saver>(
+        &mut self,
+        buffer: &[u8],
+        writer: &mut Tap<W>,
+        saver: &mut S,
+    ) -> Result<(), LineFault>
+        ensures failed { IsTheirs result (marks_of writer.new) (S.has_failed saver.new) }
+        ensures saved { OnOk result
+            (S.holds saver.new (state_of K.record_of self.new.machine)) }
         ensures did { K.can_refuse ≡ false → Did
             (Some (execute (playing_of K.record_of self.old) buffer.now))
             (printout (W.contents (device_of writer.old)) self.old.answers) (playing_of K.record_of self.old)
@@ -136,6 +151,9 @@ impl<K: Keep> Player<K> {
     {
         let event = self.script.command(buffer);
         self.machine.execute_into(&event, &mut self.outcome);
+        let Ok(()) = saver.save_change(&self.machine) else {
+            return Err(LineFault::Save);
+        };
         traceable_laws();
         self.trace(&event, writer)?;
         let response = self.outcome.response.as_slice();
@@ -144,9 +162,16 @@ impl<K: Keep> Player<K> {
             .map_err(|_| LineFault::Write)
     }
 
-    /// Cycles the device's power, and prints the trace of that where it is asked for.
-    fn cycle_power<W: Write>(&mut self, writer: &mut Tap<W>) -> Result<(), LineFault>
-        ensures failed { IsWriters result (marks_of writer.new) }
+    /// Cycles the device's power, has the device saved, and prints the trace of the cycle where
+    /// that is asked for.
+    fn cycle_power<W: Write, S: Saver>(
+        &mut self,
+        writer: &mut Tap<W>,
+        saver: &mut S,
+    ) -> Result<(), LineFault>
+        ensures failed { IsTheirs result (marks_of writer.new) (S.has_failed saver.new) }
+        ensures saved { OnOk result
+            (S.holds saver.new (state_of K.record_of self.new.machine)) }
         ensures did { K.can_refuse ≡ false → Did
             (Some (cycle (playing_of K.record_of self.old)))
             (printout (W.contents (device_of writer.old)) self.old.answers) (playing_of K.record_of self.old)
@@ -155,6 +180,9 @@ impl<K: Keep> Player<K> {
     {
         let event = Event::PowerCycle;
         self.machine.execute_into(&event, &mut self.outcome);
+        let Ok(()) = saver.save(&self.machine) else {
+            return Err(LineFault::Save);
+        };
         traceable_laws();
         self.trace(&event, writer)
     }
@@ -181,11 +209,4 @@ impl<K: Keep> Player<K> {
             .put_text(writer, text.as_str().as_bytes())
             .map_err(|_| LineFault::Write)
     }
-}
-
-/// The bytes 00 to ff.
-fn first_bytes() -> [u8; 256]
-    ensures { result ≡ script_bytes }
-{
-    array::from_fn(|place| place as u8)
 }

@@ -1,37 +1,85 @@
-//! The run of a whole script on a new device, from a reader to a writer; whatever the fault, the
-//! lines before it are played and their responses written.
+//! The run of a whole script on a device, from a reader to a writer, with the device saved on the
+//! way; whatever the fault, the lines before it are played and their responses written.
 
-ghost use Rattle.std.specs.Prelude.{◌≡◌, [], false, IfOk, OnOk, OnErr};
+ghost use Rattle.std.specs.Prelude.{◌≡◌, [], false, IfOk, OnErr, OnOk, true};
 ghost use Rattle.std.specs.Io.KnownBytes.{Keeps};
 ghost use Rattle.tpm_bytes.specs.Tap.{device_of, marks_of};
+ghost use Rattle.tpm_machine.specs.State.{state_of};
 ghost use Rattle.tpmsim_script.specs.Answers.{backlog, printout};
 ghost use Rattle.tpmsim_script.specs.Lines.{Agrees, LosesStart, line_of, rest_of, text_left};
 ghost use Rattle.tpmsim_script.specs.Player.{playing_of};
 ghost use Rattle.tpmsim_script.specs.Run.{AreTheirs, NextFound, OnNoMemory, OnTooMany, OnUnread};
 ghost use Rattle.tpmsim_script.specs.Run.{PlaysAllAllowed, PlaysToFailure, UnlessFailed, Ran};
 ghost use Rattle.tpmsim_script.specs.Run.{end_at_limit};
-ghost use Rattle.tpmsim_script.specs.Script.{Plays, at_first};
+ghost use Rattle.tpmsim_script.specs.Script.{Plays, at_first, new_device, script_bytes};
 
 use crate::fault::ScriptFault;
 use crate::lines::{Lines, Next};
 use crate::player::Player;
 use crate::room::Room;
-use std::alloc::Global;
+use crate::saver::{Saver, SavesNothing};
+use std::alloc::{AllocError, Global};
+use std::array;
 use std::io::{Read, Write};
-use tpm_bytes::Tap;
+use tpm_bytes::{NoMemory, Tap};
+use tpm_machine::Machine;
 use tpm_record::Keep;
 
 /// How many lines a script may have.
 pub const SCRIPT_LINES: u32 = 1_048_576;
 
-/// Runs the script that `reader` gives on a new device, whose state is kept by `K`, and writes the
-/// response to each command to `writer`; with `trace` the trace of each command before its
-/// response, and that of each power cycle. But for the keep it takes memory at the start alone.
-/// Whatever the fault, the lines before it were run, and their responses written, but for those
-/// that a `Write` fault cut off. Of a script of more than [`SCRIPT_LINES`] lines the first
-/// [`SCRIPT_LINES`] are run.
+/// Runs the script that `reader` gives on a new device, which was manufactured with the bytes 00 to
+/// ff and which nobody saves: [`run_device`].
 pub fn run_script<K: Keep, R: Read, W: Write>(
     alloc: Global,
+    reader: &mut Tap<R>,
+    writer: &mut Tap<W>,
+    trace: bool,
+) -> Result<(), ScriptFault>
+    ensures played { K.can_refuse ≡ false → Ran (Plays (R.remaining (device_of reader.old))
+        (W.contents (device_of writer.old)) (W.contents (device_of writer.new))
+        (at_first trace new_device) 1) result }
+    ensures read { K.can_refuse ≡ false → OnUnread result (PlaysToFailure
+        (R.remaining (device_of reader.old)) (R.remaining (device_of reader.new))
+        (W.contents (device_of writer.old)) (W.contents (device_of writer.new))
+        (at_first trace new_device)) }
+    ensures too_many { K.can_refuse ≡ false → OnTooMany result (PlaysAllAllowed
+        (R.remaining (device_of reader.old)) (W.contents (device_of writer.old)) (W.contents (device_of writer.new))
+        (at_first trace new_device)) }
+    ensures failed { AreTheirs result (marks_of reader.new) (marks_of writer.new) false }
+    ensures no_memory { OnNoMemory result
+        ((reader.new ≡ reader.old) × (writer.new ≡ writer.old)) }
+{
+    let machine: Machine<K> = new_machine(alloc)?;
+    run_device(alloc, machine, &mut SavesNothing, reader, writer, trace)
+}
+
+/// A new device of scripts, which is manufactured with the bytes 00 to ff.
+pub fn new_machine<K: Keep>(alloc: Global) -> Result<Machine<K>, NoMemory>
+    ensures refused { OnErr result (K.empty_can_refuse ≡ true) }
+    ensures state { IfOk result (λ machine. state_of K.record_of machine ≡ new_device) }
+{
+    Machine::manufacture(alloc, &first_bytes())
+}
+
+/// The bytes 00 to ff.
+fn first_bytes() -> [u8; 256]
+    ensures { result ≡ script_bytes }
+{
+    array::from_fn(|place| place as u8)
+}
+
+/// Runs the script that `reader` gives on a device, whose state is kept by `K`, and writes the
+/// response to each command to `writer`; with `trace` the trace of each command before its
+/// response, and that of each power cycle. The device is saved before a response goes out, where
+/// something changed that has to be saved; at each power cycle; and at the end, whatever that was.
+/// But for the keep memory is taken at the start alone. Whatever the fault, the lines before it
+/// were run, and their responses written, but for those that a `Write` or a `Save` fault cut off.
+/// Of a script of more than [`SCRIPT_LINES`] lines the first [`SCRIPT_LINES`] are run.
+pub fn run_device<K: Keep, S: Saver, R: Read, W: Write>(
+    alloc: Global,
+    machine: Machine<K>,
+    saver: &mut S,
     reader: &mut Tap<R>,
     writer: &mut Tap<W>,
     trace: bool,
@@ -39,32 +87,39 @@ pub fn run_script<K: Keep, R: Read, W: Write>(
     // What is written is what the script prints, to its end or up to its first bad line. This is
     // said of a keep that can never be refused memory.
     ensures played { K.can_refuse ≡ false → Ran (Plays (R.remaining (device_of reader.old))
-        (W.contents (device_of writer.old)) (W.contents (device_of writer.new)) (at_first trace) 1) result }
+        (W.contents (device_of writer.old)) (W.contents (device_of writer.new))
+        (at_first trace (state_of K.record_of machine)) 1) result }
 
     // Where the reader failed, the whole lines of what it had given were played and written, and
     // only the start of one more was not.
     ensures read { K.can_refuse ≡ false → OnUnread result (PlaysToFailure
         (R.remaining (device_of reader.old)) (R.remaining (device_of reader.new))
         (W.contents (device_of writer.old)) (W.contents (device_of writer.new))
-        (at_first trace)) }
+        (at_first trace (state_of K.record_of machine))) }
 
     // There are too many lines only where as many as a script may have were played and written, and
     // one more is there.
     ensures too_many { K.can_refuse ≡ false → OnTooMany result (PlaysAllAllowed
         (R.remaining (device_of reader.old)) (W.contents (device_of writer.old)) (W.contents (device_of writer.new))
-        (at_first trace)) }
+        (at_first trace (state_of K.record_of machine))) }
 
-    // Read is answered only where the reader failed, and Write only where the writer did.
-    ensures failed { AreTheirs result (marks_of reader.new) (marks_of writer.new) }
+    // Read is answered only where the reader failed, Write only where the writer did, and Save only
+    // where the saver did.
+    ensures failed { AreTheirs result (marks_of reader.new) (marks_of writer.new)
+        (S.has_failed saver.new) }
 
-    // Where there is no memory, nothing was read or written.
+    // Where there is no memory, nothing was read, written or saved.
     ensures no_memory { OnNoMemory result
-        ((reader.new ≡ reader.old) × (writer.new ≡ writer.old)) }
+        ((reader.new ≡ reader.old) × (writer.new ≡ writer.old) × (saver.new ≡ saver.old)) }
 {
-    let mut run = Run::<K>::new(alloc, trace)?;
+    let mut run = Run::new(alloc, machine, trace)?;
     let mut room = Room::new(alloc)?;
-    let outcome = run.lines(reader, writer, &mut room);
-    run.player.flush(writer)?;
+    let outcome = run.lines(reader, writer, saver, &mut room);
+    let flushed = run.player.flush(writer);
+    let Ok(()) = saver.save(run.player.machine()) else {
+        return Err(ScriptFault::Save);
+    };
+    flushed?;
     outcome
 }
 
@@ -76,26 +131,26 @@ struct Run<K: Keep> {
 }
 
 impl<K: Keep> Run<K> {
-    fn new(alloc: Global, traced: bool) -> Result<Run<K>, ScriptFault>
-        ensures fault { OnErr result (result ≡ Err ScriptFault.NoMemory) }
-        ensures playing { IfOk result
-            (λ run. playing_of K.record_of run.player ≡ at_first traced) }
+    fn new(alloc: Global, machine: Machine<K>, traced: bool) -> Result<Run<K>, AllocError>
+        ensures playing { IfOk result (λ run. playing_of K.record_of run.player
+            ≡ at_first traced (state_of K.record_of machine)) }
         ensures lines { IfOk result (λ run. rest_of run.lines ≡ []) }
         ensures ended { IfOk result (λ run. run.lines.ended ≡ false) }
         ensures answers { IfOk result (λ run. backlog run.player.answers ≡ []) }
     {
         Ok(Run {
             lines: Lines::new(alloc)?,
-            player: Player::new(alloc, traced)?,
+            player: Player::new(alloc, machine, traced)?,
         })
     }
 
     /// Runs the lines, to the end of the script or to a fault. What they write in hex or in words
     /// goes to `room`.
-    fn lines<R: Read, W: Write>(
+    fn lines<R: Read, W: Write, S: Saver>(
         &mut self,
         reader: &mut Tap<R>,
         writer: &mut Tap<W>,
+        saver: &mut S,
         room: &mut Room,
     ) -> Result<(), ScriptFault>
         requires { Agrees (R.remaining (device_of reader.old)) self.old.lines }
@@ -114,7 +169,8 @@ impl<K: Keep> Run<K> {
             (printout (W.contents (device_of writer.old)) self.old.player.answers)
             (printout (W.contents (device_of writer.new)) self.new.player.answers)
             (playing_of K.record_of self.old.player)) }
-        ensures failed { AreTheirs result (marks_of reader.new) (marks_of writer.new) }
+        ensures failed { AreTheirs result (marks_of reader.new) (marks_of writer.new)
+            (S.has_failed saver.new) }
         ensures memory { OnNoMemory result ⊥ }
     {
         for number in 1..SCRIPT_LINES + 1 {
@@ -123,7 +179,7 @@ impl<K: Keep> Run<K> {
                 Ok(false) => return Ok(()),
                 Err(fault) => return Err(fault),
             }
-            if let Err(fault) = self.player.line(self.lines.line(), room, writer) {
+            if let Err(fault) = self.player.line(self.lines.line(), room, writer, saver) {
                 return Err(fault.at(number));
             }
         }
@@ -140,7 +196,7 @@ impl<K: Keep> Run<K> {
         number: u32,
     ) -> Result<bool, ScriptFault>
         requires { Agrees (R.remaining (device_of reader.old)) self.old.lines }
-        ensures failed { AreTheirs result (marks_of reader.new) (marks_of writer.new) }
+        ensures failed { AreTheirs result (marks_of reader.new) (marks_of writer.new) false }
         ensures played { playing_of K.record_of self.new.player
             ≡ playing_of K.record_of self.old.player }
         ensures found { NextFound number

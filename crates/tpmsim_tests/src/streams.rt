@@ -1,11 +1,14 @@
-//! Readers and writers that fail, or stop and go on.
+//! Readers, writers and savers that fail, or stop and go on.
+
+ghost use Rattle.std.specs.Prelude.{◌≡◌, OnErr, true};
 
 use std::io;
 use std::io::{ErrorKind, Read, Write};
 use std::test::Fail;
 use tpm_bytes::Tap;
-use tpm_record::SlotKeep;
-use tpmsim_script::{ScriptFault, run_script};
+use tpm_machine::Machine;
+use tpm_record::{Keep, SlotKeep};
+use tpmsim_script::{Saver, ScriptFault, Unsaved, new_machine, run_device, run_script};
 
 const STARTUP: &[u8] = b"cmd 80010000000c000001440000\ncmd";
 
@@ -107,6 +110,74 @@ fn a_writer_may_take_pieces_and_fail(rt: HostRuntime) -> Result<(), Fail> {
         assert_eq!(rt;
             Some(writer.into_inner().taken.as_slice()),
             SUCCESS_AND_COMMAND_SIZE.get(..taken),
+            "room for {room}"
+        );
+    }
+    Ok(())
+}
+
+/// Saves so many times, and then fails.
+#[derive(Drop)]
+struct Shelf {
+    room: u32,
+    is_full: bool,
+}
+
+impl Shelf {
+    fn put(&mut self) -> Result<(), Unsaved>
+        ensures failed { OnErr result (self.new.is_full ≡ true) }
+        ensures stays { self.old.is_full ≡ true → self.new.is_full ≡ true }
+    {
+        if self.is_full || self.room == 0 {
+            self.is_full = true;
+            return Err(Unsaved);
+        }
+        self.room -= 1;
+        Ok(())
+    }
+}
+
+impl Saver for Shelf {
+    ghost holds = { λ _ _. Unit {0} };
+
+    ghost has_failed = { λ shelf. shelf.is_full };
+
+    fn save_change<K: Keep>(&mut self, _machine: &Machine<K>) -> Result<(), Unsaved> {
+        self.put()
+    }
+
+    fn save<K: Keep>(&mut self, _machine: &Machine<K>) -> Result<(), Unsaved> {
+        self.put()
+    }
+}
+
+#[test]
+fn what_is_not_saved_is_not_told(rt: HostRuntime) -> Result<(), Fail> {
+    for (room, outcome, written) in [
+        (0, Err(ScriptFault::Save), 0),
+        (1, Err(ScriptFault::Save), 21),
+        (2, Err(ScriptFault::Save), 42),
+        (3, Ok(()), 42),
+    ] {
+        let machine: Machine<SlotKeep> = new_machine(rt.alloc())?;
+        let mut saver = Shelf {
+            room,
+            is_full: false,
+        };
+        let mut reader = Tap::new(STARTUP);
+        let mut writer = Tap::new(Vec::new(rt.alloc()));
+        let given = run_device(
+            rt.alloc(),
+            machine,
+            &mut saver,
+            &mut reader,
+            &mut writer,
+            false,
+        );
+        assert_eq!(rt; given, outcome, "room for {room}");
+        assert_eq!(rt;
+            Some(writer.into_inner().as_slice()),
+            SUCCESS_AND_COMMAND_SIZE.get(..written),
             "room for {room}"
         );
     }

@@ -10,5 +10,6 @@ returns c =
     let new_is : app_of c.subcommand_required.result ≡ bare_program = search rules in
     let first = subcommand_added c.in_ok-subcommand.ensures refl new_is c.in_ok-run_command.ensures in
     let second = subcommand_added c.in_ok-subcommand-2.ensures refl first c.in_ok-asm_command.ensures in
-    IfOk-weaker c.subcommand-3.result _ _ (λ command added.
-    subcommand_added added refl second c.in_ok-serve_command.ensures) c.subcommand-3.ensures
+    let third = subcommand_added c.in_ok-subcommand-3.ensures refl second c.in_ok-line_command.ensures in
+    IfOk-weaker c.subcommand-4.result _ _ (λ command added.
+    subcommand_added added refl third c.in_ok-serve_command.ensures) c.subcommand-4.ensures

@@ -1,17 +1,17 @@
-use Rattle.std.proofs.Common.{◌≡◌, false, rules, ap, codes}
+use Rattle.std.proofs.Common.{◌≡◌, rules, ap, codes}
 use Rattle.std.proofs.lemmas.Result.{IfOk-weaker}
 use Rattle.clap.specs.Words.{App, app_of, new_app, rule_of}
-use Rattle.tpmsim_arguments.specs.CommandLine.{flag, operand}
+use Rattle.tpmsim_arguments.specs.CommandLine.{choice}
 use Rattle.tpmsim_arguments.proofs.Commands.{argument_added}
 use Rattle.tpmsim_arguments.proofs.arguments.run_command.Goals as goal
 
 pub returns : goal.returns
 returns c =
     let new_is : app_of c.after_help.result ≡ new_app (codes "run") = search rules in
-    let trace_is : rule_of c.help-trace.result ≡ flag (codes "trace") = search rules in
-    let script_is : rule_of c.help-script.result ≡ operand (codes "script") = search rules in
-    let trace_local : c.help-trace.result.global ≡ false = search rules in
-    let script_local : c.help-script.result.global ≡ false = search rules in
-    let first = argument_added c.in_ok-arg.ensures trace_local new_is trace_is in
-    IfOk-weaker c.arg-2.result _ _ (λ command added.
-    ap (λ (app : App). app.top) (argument_added added script_local first script_is)) c.arg-2.ensures
+    let image_is : rule_of c.run_option.result ≡ choice (codes "image") = search rules in
+    let entropy_is : rule_of c.run_option-2.result ≡ choice (codes "entropy") = search rules in
+    let first = argument_added c.in_ok-arg.ensures c.trace_flag.ensures.local new_is c.trace_flag.ensures.rule in
+    let second = argument_added c.in_ok-arg-2.ensures c.run_option.ensures.local first image_is in
+    let third = argument_added c.in_ok-arg-3.ensures c.run_option-2.ensures.local second entropy_is in
+    IfOk-weaker c.arg-4.result _ _ (λ command added.
+    ap (λ (app : App). app.top) (argument_added added c.script_operand.ensures.local third c.script_operand.ensures.rule)) c.arg-4.ensures

@@ -1,12 +1,14 @@
-use Rattle.tpmsim_arguments.proofs.Lines.{joined_is_served, line_is_assembled, script_is_run, script_is_traced}
+use Rattle.tpmsim_arguments.proofs.Lines.{device_is_kept, digits_are_spelled, joined_is_served, line_is_assembled, script_is_run, script_is_traced}
 use Rattle.tpmsim_arguments.proofs.Settings.{device_is_served}
 use Rattle.tpmsim_arguments.proofs.laws.usual_line_laws.Goals as goal
 
 pub returns : goal.returns
 returns c = record {
   asm = line_is_assembled;
+  line = digits_are_spelled;
   run = script_is_run;
   trace = script_is_traced;
+  kept = device_is_kept;
   serve = device_is_served;
   joined = joined_is_served;
 }

@@ -4,7 +4,7 @@ use Rattle.tpm_bytes.specs.Reading.{Gives}
 use Rattle.tpmsim_arguments.specs.Invocation.{asked, asked_in}
 use Rattle.tpmsim_arguments.specs.CommandLine.{program}
 use Rattle.tpmsim_arguments.specs.declared.fault.ArgumentFault.TheVariants.{Usage}
-use Rattle.tpmsim_arguments.proofs.Answering.{program_is_free, program_is_simple, refused, taken}
+use Rattle.tpmsim_arguments.proofs.Answering.{program_is_free, program_is_simple, refused, taken, told}
 use Rattle.tpmsim_arguments.proofs.arguments.Arguments.parse.Goals as goal
 
 pub returns-in-Ok : goal.returns-in-Ok
@@ -26,3 +26,12 @@ returns-in-Err g c =
     subst (λ (app : App). HasKind (fault_of app words) c.in-Err.error) app_is (c.in-Err.ensures.kinds (ap is_simple_and_free app_is ∙ program_is_free)) in
     let mistake = c.use_stderr.ensures.0 (search rules) in
     refused words (kind_of c.in-Err.error) c.from.result c.from.ensures has mistake.0 mistake.1
+
+pub returns-in-Err-2 : goal.returns-in-Err-2
+returns-in-Err-2 g c =
+    let words : List Text = map g.S.AsStr.text c.args.words.now in
+    let app_is : app_of c.in_ok-command.field-0 ≡ program = c.in_ok-command.ensures in
+    let has : HasKind (fault_of program words) c.in-Err.error =
+    subst (λ (app : App). HasKind (fault_of app words) c.in-Err.error) app_is (c.in-Err.ensures.kinds (ap is_simple_and_free app_is ∙ program_is_free)) in
+    let no = c.if-use_stderr.false in
+    told words (kind_of c.in-Err.error) has (λ both. let yes = c.use_stderr.ensures.1 both in cc)

@@ -1,6 +1,6 @@
 use Rattle.std.proofs.Common.{rules, of_calls}
 use Rattle.tpmsim_script.proofs.Starting.{counted_up}
-use Rattle.tpmsim_script.proofs.player.first_bytes.Goals as goal
+use Rattle.tpmsim_script.proofs.run.first_bytes.Goals as goal
 
 pub returns : goal.returns
 returns c =

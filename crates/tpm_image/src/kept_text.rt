@@ -1,0 +1,47 @@
+//! What a device keeps without power but for its clock, as a text: by it a change is told from time
+//! that passed.
+
+ghost use Rattle.std.specs.Prelude.{◌≡◌, List, [], not, ℕ};
+ghost use Rattle.std.specs.Str.{bytes_eq};
+ghost use Rattle.tpm_image.specs.KeptText.{kept_text};
+ghost use Rattle.tpm_machine.specs.State.{state_of};
+
+use crate::body::write_body_at;
+use crate::fields::Text;
+use std::marker::Model;
+use tpm_machine::Machine;
+use tpm_record::Keep;
+
+/// What a device keeps but for its clock. Contracts see it as its text.
+#[derive(Drop)]
+pub struct KeptText {
+    text: Text,
+}
+
+impl Model for KeptText {
+    ghost Value = { List ℕ };
+
+    ghost view = { λ k. k.text };
+}
+
+impl KeptText {
+    /// That of no device: every device keeps something.
+    pub fn none() -> KeptText
+        ensures { result ≡ [] }
+    {
+        KeptText { text: Text::new() }
+    }
+
+    /// Becomes that of this device, and tells whether it is another than before.
+    pub fn renew<K: Keep>(&mut self, machine: &Machine<K>) -> bool
+        ensures text { self.new ≡ kept_text (state_of K.record_of machine.now) }
+        ensures told { result ≡ not (bytes_eq self.old
+            (kept_text (state_of K.record_of machine.now))) }
+    {
+        let mut text = Text::new();
+        write_body_at(machine.keep(), 0, &mut text);
+        let is_another = self.text.as_slice() != text.as_slice();
+        self.text = text;
+        is_another
+    }
+}

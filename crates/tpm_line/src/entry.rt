@@ -1,0 +1,68 @@
+//! Handles and authorization entries in words.
+
+use crate::fault::SpellFault;
+use crate::word::put_bytes;
+use std::alloc::AllocError;
+use std::fmt::Write;
+use tpm_bytes::Cursor;
+use tpm_types::Handle;
+use tpm_types_command::AuthEntry;
+
+/// How many entries a line may have.
+const ENTRIES: u8 = 3;
+
+/// Adds a handle: the name of a permanent entity, or eight hex digits.
+fn put_handle(handle: Handle, line: &mut String) -> Result<(), AllocError> {
+    if handle == Handle::OWNER {
+        line.push_str("OWNER")
+    } else if handle == Handle::NULL {
+        line.push_str("NULL")
+    } else if handle == Handle::LOCKOUT {
+        line.push_str("LOCKOUT")
+    } else if handle == Handle::ENDORSEMENT {
+        line.push_str("ENDORSEMENT")
+    } else if handle == Handle::PLATFORM {
+        line.push_str("PLATFORM")
+    } else {
+        let number = handle.number;
+        write!(line, "{number:08x}")
+    }
+}
+
+/// Adds this many handles.
+pub fn put_handles(count: usize, fields: &mut Cursor, line: &mut String) -> Result<(), SpellFault> {
+    for _ in 0..count {
+        let number = fields.u32()?;
+        line.push_str(" ")?;
+        put_handle(Handle { number }, line)?;
+    }
+    Ok(())
+}
+
+/// Adds the entries of an authorization area.
+pub fn put_area(fields: &mut Cursor, line: &mut String) -> Result<(), SpellFault> {
+    let size = fields.u32()?;
+    let mut area = Cursor::new(fields.take(size as usize)?);
+    for _ in 0..ENTRIES {
+        if area.is_empty() {
+            break;
+        }
+        put_entry(&AuthEntry::read(&mut area)?, line)?;
+    }
+    Ok(())
+}
+
+/// Adds an entry: of a password, in the one form that a password has, or of a session.
+fn put_entry(entry: &AuthEntry, line: &mut String) -> Result<(), AllocError> {
+    let attributes = entry.attributes.octet;
+    if entry.session == Handle::PASSWORD && entry.nonce.is_empty() && attributes == 1 {
+        line.push_str(" pw:")?;
+    } else {
+        line.push_str(" s:")?;
+        put_handle(entry.session, line)?;
+        line.push_str(":")?;
+        put_bytes(entry.nonce, line)?;
+        write!(line, ":{attributes:02x}:")?;
+    }
+    put_bytes(entry.hmac, line)
+}

@@ -1,0 +1,55 @@
+//! Why there is no line of a buffer.
+
+ghost use Rattle.std.specs.Prelude.{◌≡◌};
+
+use std::alloc::AllocError;
+use tpm_bytes::{Short, SizedFault};
+use tpm_types::Rc;
+
+/// Why there is no line of a buffer.
+#[derive(Clone, Copy, Debug, PartialEq, Eq)]
+pub enum SpellFault {
+    /// None was found.
+    NoLine,
+    NoMemory,
+}
+
+impl From<AllocError> for SpellFault {
+    ghost use Rattle.tpm_line.specs.declared.fault.SpellFault.TheVariants.{NoMemory};
+
+    ghost from_gives = { λ _ fault. fault ≡ NoMemory };
+
+    fn from(_error: AllocError) -> SpellFault {
+        SpellFault::NoMemory
+    }
+}
+
+impl From<Short> for SpellFault {
+    ghost use Rattle.tpm_line.specs.declared.fault.SpellFault.TheVariants.{NoLine};
+
+    ghost from_gives = { λ _ fault. fault ≡ NoLine };
+
+    fn from(_fault: Short) -> SpellFault {
+        SpellFault::NoLine
+    }
+}
+
+impl From<SizedFault> for SpellFault {
+    ghost use Rattle.tpm_line.specs.declared.fault.SpellFault.TheVariants.{NoLine};
+
+    ghost from_gives = { λ _ fault. fault ≡ NoLine };
+
+    fn from(_fault: SizedFault) -> SpellFault {
+        SpellFault::NoLine
+    }
+}
+
+impl From<Rc> for SpellFault {
+    ghost use Rattle.tpm_line.specs.declared.fault.SpellFault.TheVariants.{NoLine};
+
+    ghost from_gives = { λ _ fault. fault ≡ NoLine };
+
+    fn from(_code: Rc) -> SpellFault {
+        SpellFault::NoLine
+    }
+}

@@ -1,0 +1,21 @@
+#![tactic(auto)]
+
+//! The line in words that spells the buffer of a command, where one does.
+//!
+//! [`line::line_of`] reads a buffer by the shape of its command and writes a word for each of its
+//! parts: handles and entries ([`entry`]), parameters ([`parameter`]), which are numbers
+//! ([`number`]), algorithms, bytes in hex ([`word`]) and lists ([`list`]). Then the line is
+//! assembled, and given only where that makes the buffer again. So what is proved of it rests on
+//! `tpm_text` alone, and the parts that write words promise nothing. That there is a line of each
+//! buffer that a line spells is tested.
+
+mod entry;
+pub mod fault;
+pub mod line;
+mod list;
+mod number;
+mod parameter;
+mod word;
+
+pub use fault::SpellFault;
+pub use line::line_of;

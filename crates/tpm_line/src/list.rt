@@ -1,0 +1,66 @@
+//! Lists in words: selections of PCRs, digests with their algorithm, and sized buffers.
+
+use crate::fault::SpellFault;
+use crate::word::{hash_word, put_buffer, put_digits};
+use std::fmt::Write;
+use tpm_bytes::Cursor;
+use tpm_types::{PCR_COUNT, read_hash};
+
+/// What the elements of a list are.
+#[derive(Clone, Copy, Debug, PartialEq, Eq)]
+pub enum Element {
+    /// TPMS_PCR_SELECTION.
+    Bank,
+    /// TPMT_HA.
+    Digest,
+    /// TPM2B_DIGEST.
+    Buffer,
+}
+
+/// Adds the elements of a list, joined by `+`, or `-` for none.
+pub fn put_list(
+    element: Element,
+    fields: &mut Cursor,
+    line: &mut String,
+) -> Result<(), SpellFault> {
+    let count = fields.u32()?;
+    if count == 0 {
+        line.push_str("-")?;
+    }
+    for place in 0..count {
+        if place > 0 {
+            line.push_str("+")?;
+        }
+        match element {
+            Element::Bank => put_bank(fields, line)?,
+            Element::Digest => put_digest(fields, line)?,
+            Element::Buffer => put_buffer(fields, line)?,
+        }
+    }
+    Ok(())
+}
+
+/// Adds the PCRs that are selected in a bank.
+fn put_bank(fields: &mut Cursor, line: &mut String) -> Result<(), SpellFault> {
+    let hash = read_hash(fields)?;
+    let _size = fields.u8()?;
+    let selected = u32::from_le_bytes([fields.u8()?, fields.u8()?, fields.u8()?, 0]);
+    line.push_str(hash_word(hash))?;
+    let mut separator = ":";
+    for pcr in 0..PCR_COUNT as u32 {
+        if selected >> pcr & 1 == 1 {
+            write!(line, "{separator}{pcr}")?;
+            separator = ",";
+        }
+    }
+    Ok(())
+}
+
+/// Adds a digest with its hash algorithm.
+fn put_digest(fields: &mut Cursor, line: &mut String) -> Result<(), SpellFault> {
+    let hash = read_hash(fields)?;
+    line.push_str(hash_word(hash))?;
+    line.push_str(":")?;
+    put_digits(fields.take(hash.size())?, line)?;
+    Ok(())
+}

@@ -1,0 +1,36 @@
+//! Numbers in words: decimal, but for codes, sets of bits and handles.
+
+use std::alloc::AllocError;
+use std::fmt::Write;
+use tpm_types_command::CommandCode;
+
+/// In what a number is written.
+#[derive(Clone, Copy, Debug, PartialEq, Eq)]
+pub enum Form {
+    Decimal,
+    Hexadecimal,
+    /// With all digits of a handle.
+    Handle,
+}
+
+impl Form {
+    /// That of the number at this place among a command's parameters.
+    pub fn of(code: CommandCode, place: usize) -> Form {
+        match code {
+            CommandCode::FlushContext | CommandCode::EvictControl => Form::Handle,
+            CommandCode::PolicyCommandCode | CommandCode::PolicyLocality | CommandCode::NvSetBits =>
+                Form::Hexadecimal,
+            CommandCode::GetCapability if place < 2 => Form::Hexadecimal,
+            _ => Form::Decimal,
+        }
+    }
+}
+
+/// Adds a number.
+pub fn put_number(number: u64, form: Form, line: &mut String) -> Result<(), AllocError> {
+    match form {
+        Form::Decimal => write!(line, "{number}"),
+        Form::Hexadecimal => write!(line, "{number:#x}"),
+        Form::Handle => write!(line, "{number:#010x}"),
+    }
+}

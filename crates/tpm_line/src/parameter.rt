@@ -1,0 +1,53 @@
+//! A parameter in words, of any kind that a command's shape names.
+
+use crate::fault::SpellFault;
+use crate::list::{Element, put_list};
+use crate::number::{Form, put_number};
+use crate::word::{put_buffer, put_hash, put_symmetric};
+use tpm_bytes::Cursor;
+use tpm_types_command::{CommandCode, ParameterKind};
+
+/// Adds the parameters of a command.
+pub fn put_parameters(
+    code: CommandCode,
+    fields: &mut Cursor,
+    line: &mut String,
+) -> Result<(), SpellFault> {
+    let kinds = code.shape().parameters;
+    for place in 0..kinds.len() {
+        line.push_str(" ")?;
+        put_parameter(kinds[place], Form::of(code, place), fields, line)?;
+    }
+    Ok(())
+}
+
+/// Adds a parameter of a kind, in this form where it is a number.
+fn put_parameter(
+    kind: ParameterKind,
+    form: Form,
+    fields: &mut Cursor,
+    line: &mut String,
+) -> Result<(), SpellFault> {
+    match kind {
+        ParameterKind::SessionType | ParameterKind::U8 | ParameterKind::YesNo => {
+            put_number(u64::from(fields.u8()?), form, line)?;
+        }
+        ParameterKind::StartupType | ParameterKind::U16 | ParameterKind::Operation => {
+            put_number(u64::from(fields.u16()?), form, line)?;
+        }
+        ParameterKind::U32 | ParameterKind::PersistentHandle => {
+            put_number(u64::from(fields.u32()?), form, line)?;
+        }
+        ParameterKind::U64 => put_number(fields.u64()?, form, line)?,
+        ParameterKind::Hash | ParameterKind::HashOrNull => put_hash(fields, line)?,
+        ParameterKind::Symmetric => put_symmetric(fields, line)?,
+        ParameterKind::Selection => put_list(Element::Bank, fields, line)?,
+        ParameterKind::Digests => put_list(Element::Digest, fields, line)?,
+        ParameterKind::DigestList => put_list(Element::Buffer, fields, line)?,
+        ParameterKind::Buffer(_)
+        | ParameterKind::SensitiveCreate
+        | ParameterKind::Public
+        | ParameterKind::NvPublic => put_buffer(fields, line)?,
+    }
+    Ok(())
+}

@@ -1,0 +1,43 @@
+//! The file of random bytes, and a new device that is made of some.
+
+use crate::fault::Fault;
+use std::fs::File;
+use std::io::{BufReader, Read};
+use std::{fs, io};
+use tpm_machine::Machine;
+use tpm_record::SlotKeep;
+
+/// How many random bytes are read at once: those of sixteen commands.
+const READ_SIZE: usize = 16 * 256;
+
+/// The file of random bytes.
+#[derive(Drop)]
+pub struct Entropy {
+    reader: BufReader<File>,
+}
+
+impl Entropy {
+    /// Opens the file at this path.
+    pub fn open(rt: &HostRuntime, path: &str) -> Result<Entropy, Fault> {
+        let file = fs::open(rt, path).map_err(|error| Fault::of_io(error, Fault::Entropy))?;
+        let reader = BufReader::with_capacity(rt.alloc(), READ_SIZE, file).map_err(
+            |error| Fault::of_io(error, Fault::Entropy),
+        )?;
+        Ok(Entropy { reader })
+    }
+
+    /// The next 256 random bytes.
+    pub fn random(&mut self) -> io::Result<[u8; 256]> {
+        let mut random = [0; 256];
+        self.reader.read_exact(&mut random)?;
+        Ok(random)
+    }
+
+    /// A new device, of the next random bytes.
+    pub fn manufacture(&mut self, rt: &HostRuntime) -> Result<Machine<SlotKeep>, Fault> {
+        let random = self
+            .random()
+            .map_err(|error| Fault::of_io(error, Fault::Entropy))?;
+        Ok(Machine::manufacture(rt.alloc(), &random)?)
+    }
+}

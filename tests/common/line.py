@@ -1,0 +1,70 @@
+"""Finds the lines of buffers by `tpmsim line`:
+
+    python3 line.py PROGRAM
+
+For the buffer of each `do` line of tests/ and examples/ it must be a line of that buffer, the one
+that the device in Python finds; for a `cmd` line whose buffer has no line, there is none. The
+commands of bent scripts are many, so of `cmd` lines each twentieth is tried.
+"""
+
+import pathlib
+import subprocess
+import sys
+
+HERE = pathlib.Path(__file__).resolve().parent
+TOP = HERE.parent.parent
+sys.path.insert(0, str(HERE.parent / "outside" / "device"))
+
+import lines  # noqa: E402
+
+PROGRAM = sys.argv[1]
+NO_LINE = 2, b"", b"tpmsim: line NoLine\n"
+EACH = 20
+
+
+def arguments(word):
+    """What stands behind this word in the scripts, each once."""
+    scripts = sorted([*TOP.glob("tests/*.tpm"), *TOP.glob("examples/*.tpm")])
+    found = {}
+    for script in scripts:
+        for line in script.read_bytes().splitlines():
+            front, _, behind = line.partition(b" ")
+            if front == word:
+                found[behind] = None
+    return list(found)
+
+
+def is_line(argument):
+    try:
+        lines.assemble(argument)
+    except lines.Fault:
+        return False
+    return True
+
+
+def given(digits):
+    """What `tpmsim line` gives."""
+    done = subprocess.run([PROGRAM, "line", digits], capture_output=True, timeout=60)
+    return done.returncode, done.stdout, done.stderr
+
+
+def wanted(buffer):
+    line = lines.line_of(buffer)
+    return NO_LINE if line is None else (0, line.encode() + b"\n", b"")
+
+
+def check(buffer):
+    """Whether the line is right; of another one it is said which it should be."""
+    told = given(buffer.hex())
+    if told == wanted(buffer):
+        return True
+    print(f"FAILED: {buffer.hex()}: {told}, and not {wanted(buffer)}")
+    return False
+
+
+spelled = {lines.assemble(it): None for it in arguments(b"do") if is_line(it)}
+if all([check(it) and lines.line_of(it) is not None for it in spelled]):
+    print("each do line comes back as a line of its buffer")
+bent = [bytes.fromhex(it.decode()) for it in arguments(b"cmd") if it and len(it) % 2 == 0][::EACH]
+if all([check(it) for it in bent]):
+    print("of the buffers of cmd lines, those that no line spells have none")
