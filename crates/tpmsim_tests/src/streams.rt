@@ -116,7 +116,7 @@ fn a_writer_may_take_pieces_and_fail(rt: HostRuntime) -> Result<(), Fail> {
     Ok(())
 }
 
-/// Saves so many times, and then fails.
+/// A saver with room for this many saves: each one after these fails.
 #[derive(Drop)]
 struct Shelf {
     room: u32,
