@@ -1,52 +1,76 @@
-//! What a run tells of each of its events, over both keeps.
+//! What a run tells of each of its events.
 
-use super::commands::{CLEAR, NO_SESSIONS, STARTUP, command_of, event_of};
+use super::comparison::check;
+use super::keeps::{Trial, run_over_both};
 use std::alloc::Global;
 use std::process::Abort;
 use std::test::Fail;
 use tpm_machine::Machine;
 use tpm_machine_step::{Event, Outcome, Row};
-use tpm_record::{Keep, ListKeep, SlotKeep};
+use tpm_record::Keep;
+use tpm_types::Locality;
+
+const STARTUP: u32 = 0x144;
 
 const GET_RANDOM: u32 = 0x17b;
 
-#[test]
-fn a_run_tells_each_outcome_once(rt: HostRuntime) -> Result<(), Fail> {
-    check_run::<ListKeep, HostRuntime>(&rt, rt.alloc())?;
-    check_run::<SlotKeep, HostRuntime>(&rt, rt.alloc())
+/// A command from locality 0 without time.
+fn event_of(buffer: &[u8]) -> Event {
+    Event::of_command(buffer, Locality::new(0).unwrap(), 0, [0; 256])
 }
 
-fn check_run<K: Keep, R: Abort>(rt: &R, alloc: Global) -> Result<(), Fail> {
-    let startup = command_of(alloc, NO_SESSIONS, STARTUP, &[CLEAR])?;
-    let random = command_of(alloc, NO_SESSIONS, GET_RANDOM, &[CLEAR])?;
-    let events = [
-        event_of(startup.as_slice()),
+/// TPM2_Startup(CLEAR), a power cycle, and TPM2_GetRandom before another start.
+fn events() -> [Event<'static>; 3] {
+    [
+        event_of(b"\x80\x01\0\0\0\x0c\0\0\x01\x44\0\0"),
         Event::PowerCycle,
-        event_of(random.as_slice()),
-    ];
-    let mut machine: Machine<K> = Machine::manufacture(alloc, &[0; 256])?;
+        event_of(b"\x80\x01\0\0\0\x0c\0\0\x01\x7b\0\0"),
+    ]
+}
+
+/// The length of a response, and its row.
+type Told = (usize, Row);
+
+/// What a run of events tells, one after another.
+fn told_of<K: Keep>(
+    alloc: Global,
+    machine: &mut Machine<K>,
+    events: &[Event],
+) -> Result<Vec<Told>, Fail> {
     let mut told = Vec::new(alloc);
     let mut kept = true;
     machine.run(
-        &events,
+        events,
         &mut |outcome: &Outcome| {
             kept = kept && told.push((outcome.response.len(), outcome.row)).is_ok();
         },
     );
-    assert!(rt; kept);
-    assert!(rt;
-        told.as_slice()
-            == [
-                (10, row(STARTUP, 0)),
-                (0, row(0, 0)),
-                (10, row(GET_RANDOM, 5)),
-            ]
-            .as_slice()
-    );
-    Ok(())
+    if !kept {
+        return Err(Fail::new("no memory"));
+    }
+    Ok(told)
 }
 
 /// The row of a command's code, and the number of the check that refused it.
 fn row(code: u32, check: u8) -> Row {
     Row { code, check }
+}
+
+struct RunOfThree;
+
+impl Trial for RunOfThree {
+    fn run<K: Keep, R: Abort>(rt: &R, alloc: Global) -> Result<(), Fail> {
+        let mut machine: Machine<K> = Machine::manufacture(alloc, &[0; 256])?;
+        let told = told_of(alloc, &mut machine, &events())?;
+        check(rt, told.get(0).copied(), Some((10, row(STARTUP, 0))));
+        check(rt, told.get(1).copied(), Some((0, row(0, 0))));
+        check(rt, told.get(2).copied(), Some((10, row(GET_RANDOM, 5))));
+        check(rt, told.len(), 3);
+        Ok(())
+    }
+}
+
+#[test]
+fn a_run_tells_each_outcome_once(rt: HostRuntime) -> Result<(), Fail> {
+    run_over_both::<RunOfThree>(&rt)
 }

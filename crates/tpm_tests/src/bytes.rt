@@ -200,3 +200,59 @@ fn a_tap_writes_a_whole_text(rt: HostRuntime) {
         check(&rt, tap.failed(), !succeeds);
     }
 }
+
+/// A reader and a writer that does the same at each call, and counts the calls.
+#[derive(Drop)]
+struct CountedDevice {
+    conduct: Conduct,
+    calls: u32,
+}
+
+impl CountedDevice {
+    fn called(&mut self, room: usize) -> io::Result<usize> {
+        self.calls = self.calls.saturating_add(1);
+        self.conduct.count(room)
+    }
+}
+
+impl Read for CountedDevice {
+    fn read(&mut self, buffer: &mut [u8]) -> io::Result<usize> {
+        Ok(self.called(buffer.len())?.min(buffer.len()))
+    }
+}
+
+impl Write for CountedDevice {
+    fn write(&mut self, piece: &[u8]) -> io::Result<usize> {
+        Ok(self.called(piece.len())?.min(piece.len()))
+    }
+
+    fn flush(&mut self) -> io::Result<()> {
+        self.called(0)?;
+        Ok(())
+    }
+}
+
+/// How often a device of this conduct is called in a read, in a write, and in a flush.
+fn calls_of(conduct: Conduct, bytes: &[u8]) -> [u32; 3] {
+    let calls = 0;
+    let mut read = Tap::new(CountedDevice { conduct, calls });
+    let mut room = [0u8; 2];
+    let _ = read.read(&mut room[..bytes.len().min(2)]);
+    let mut written = Tap::new(CountedDevice { conduct, calls });
+    let _ = written.write(bytes);
+    let mut flushed = Tap::new(CountedDevice { conduct, calls });
+    let _ = flushed.flush();
+    [
+        read.into_inner().calls,
+        written.into_inner().calls,
+        flushed.into_inner().calls,
+    ]
+}
+
+#[test]
+fn a_tap_calls_its_device_once(rt: HostRuntime) {
+    for conduct in [Conduct::OneByte, Conduct::Nothing, Conduct::Fails] {
+        check(&rt, calls_of(conduct, b""), [1, 1, 1]);
+        check(&rt, calls_of(conduct, b"ab"), [1, 1, 1]);
+    }
+}

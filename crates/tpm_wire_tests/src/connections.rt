@@ -1,11 +1,13 @@
 //! Connections that take turns.
 
-use super::device::{STARTUP, host, mux};
+use super::comparison::check;
+use super::device::{STARTUP, answer, feed, mux, turn};
+use super::keeps::{Trial, run_over_both};
 use std::alloc::Global;
 use std::process::Abort;
 use std::test::Fail;
-use tpm_record::{Keep, SlotKeep};
-use tpm_wire::{ConnectionNumber, Mux, Turn};
+use tpm_record::Keep;
+use tpm_wire::{ConnectionNumber, Full, Mux, NoConnection, Turn};
 
 /// TPM2_Startup, and TPM2_GetRandom of one and of two bytes.
 const FIRST: &[u8] = &[
@@ -35,93 +37,116 @@ const SECOND_ANSWERS: &[u8] = &[
 const WRONG_SIZE: &[u8] = &[0x80, 1, 0, 0, 0, 10, 0, 0, 1, 0x42];
 
 /// Feeds a byte, and adds the response to the others, if a turn then answers.
-fn answer<K: Keep, R: Abort>(
-    rt: &R,
+fn add_answer<K: Keep>(
     mux: &mut Mux<K>,
     connection: ConnectionNumber,
     byte: u8,
     answers: &mut Vec<u8>,
 ) -> Result<(), Fail> {
-    assert_eq!(rt; mux.feed(connection, &[byte]), Ok(1));
-    if let Turn::Answer(outcome) = mux.turn(connection, host())? {
+    feed(mux, connection, &[byte])?;
+    if let Turn::Answer(outcome) = turn(mux, connection)? {
         answers.extend_from_slice(outcome.response.as_slice())?;
     }
     Ok(())
 }
 
-fn feed_two_in_turn<K: Keep, R: Abort>(rt: &R, alloc: Global) -> Result<(), Fail> {
-    let mut mux: Mux<K> = mux(alloc)?;
-    let first = mux.open()?;
-    let second = mux.open()?;
-    let mut answers = Vec::new(alloc);
-    let mut other_answers = Vec::new(alloc);
-    for (one, other) in FIRST.iter().zip(SECOND) {
-        answer(rt, &mut mux, first, *one, &mut answers)?;
-        answer(rt, &mut mux, second, *other, &mut other_answers)?;
+struct TwoInTurn;
+
+impl Trial for TwoInTurn {
+    fn run<K: Keep, R: Abort>(rt: &R, alloc: Global) -> Result<(), Fail> {
+        let mut mux: Mux<K> = mux(alloc)?;
+        let first = mux.open()?;
+        let second = mux.open()?;
+        let mut answers = Vec::new(alloc);
+        let mut other_answers = Vec::new(alloc);
+        for (one, other) in FIRST.iter().zip(SECOND) {
+            add_answer(&mut mux, first, *one, &mut answers)?;
+            add_answer(&mut mux, second, *other, &mut other_answers)?;
+        }
+        check(rt, answers.as_slice(), FIRST_ANSWERS);
+        check(rt, other_answers.as_slice(), SECOND_ANSWERS);
+        Ok(())
     }
-    assert!(rt; answers.as_slice() == FIRST_ANSWERS);
-    assert!(rt; other_answers.as_slice() == SECOND_ANSWERS);
-    Ok(())
 }
 
 #[test]
 fn two_connections_are_fed_a_byte_in_turn(rt: HostRuntime) -> Result<(), Fail> {
-    feed_two_in_turn::<SlotKeep, HostRuntime>(&rt, rt.alloc())
+    run_over_both::<TwoInTurn>(&rt)
 }
 
-fn end_by_a_wrong_size<K: Keep, R: Abort>(rt: &R, alloc: Global) -> Result<(), Fail> {
-    let mut mux: Mux<K> = mux(alloc)?;
-    for size in [[0, 0, 0, 5], [0, 0, 0, 9], [0, 0, 0x10, 1]] {
-        let connection = mux.open()?;
-        assert_eq!(rt; mux.feed(connection, &[0x80, 1]), Ok(2));
-        assert_eq!(rt; mux.feed(connection, &size), Ok(4));
-        let Ok(Turn::Answer(outcome)) = mux.turn(connection, host()) else {
-            return Err(Fail::new("no answer"));
-        };
-        assert!(rt; outcome.response.as_slice() == WRONG_SIZE);
-        assert_eq!(rt; mux.feed(connection, STARTUP), Ok(12));
-        assert!(rt; matches!(mux.turn(connection, host()), Ok(Turn::Ended)));
-        assert_eq!(rt; mux.close(connection), Ok(()));
-    }
+/// Whether a turn of a connection gives its end.
+fn has_ended<K: Keep>(mux: &mut Mux<K>, connection: ConnectionNumber) -> bool {
+    matches!(turn(mux, connection), Ok(Turn::Ended))
+}
+
+/// A connection that begins with this size.
+fn end_by<K: Keep, R: Abort>(rt: &R, mux: &mut Mux<K>, size: [u8; 4]) -> Result<(), Fail> {
+    let connection = mux.open()?;
+    check(rt, feed(mux, connection, &[0x80, 1]), Ok(2));
+    check(rt, feed(mux, connection, &size), Ok(4));
+    let outcome = answer(mux, connection)?;
+    check(rt, outcome.response.as_slice(), WRONG_SIZE);
+    check(rt, feed(mux, connection, STARTUP), Ok(12));
+    check(rt, has_ended(mux, connection), true);
+    check(rt, mux.close(connection), Ok(()));
     Ok(())
+}
+
+struct WrongSizes;
+
+impl Trial for WrongSizes {
+    fn run<K: Keep, R: Abort>(rt: &R, alloc: Global) -> Result<(), Fail> {
+        let mut mux: Mux<K> = mux(alloc)?;
+        for size in [[0, 0, 0, 5], [0, 0, 0, 9], [0, 0, 0x10, 1]] {
+            end_by(rt, &mut mux, size)?;
+        }
+        Ok(())
+    }
 }
 
 #[test]
 fn a_size_that_no_command_has_ends_a_connection(rt: HostRuntime) -> Result<(), Fail> {
-    end_by_a_wrong_size::<SlotKeep, HostRuntime>(&rt, rt.alloc())
+    run_over_both::<WrongSizes>(&rt)
 }
 
-fn open_nine<K: Keep, R: Abort>(rt: &R, alloc: Global) -> Result<(), Fail> {
-    let mut mux: Mux<K> = mux(alloc)?;
-    let first = mux.open()?;
-    for _ in 0..7 {
-        mux.open()?;
+struct NinthConnection;
+
+impl Trial for NinthConnection {
+    fn run<K: Keep, R: Abort>(rt: &R, alloc: Global) -> Result<(), Fail> {
+        let mut mux: Mux<K> = mux(alloc)?;
+        let first = mux.open()?;
+        for _ in 0..7 {
+            mux.open()?;
+        }
+        check(rt, mux.open(), Err(Full));
+        check(rt, mux.close(first), Ok(()));
+        check(rt, turn(&mut mux, first).err(), Some(NoConnection));
+        check(rt, mux.open(), Ok(first));
+        Ok(())
     }
-    assert!(rt; mux.open().is_err());
-    assert_eq!(rt; mux.close(first), Ok(()));
-    assert!(rt; mux.turn(first, host()).is_err());
-    assert_eq!(rt; mux.open(), Ok(first));
-    Ok(())
 }
 
 #[test]
 fn a_ninth_connection_is_refused(rt: HostRuntime) -> Result<(), Fail> {
-    open_nine::<SlotKeep, HostRuntime>(&rt, rt.alloc())
+    run_over_both::<NinthConnection>(&rt)
 }
 
-fn cycle_with_bytes<K: Keep, R: Abort>(rt: &R, alloc: Global) -> Result<(), Fail> {
-    let mut mux: Mux<K> = mux(alloc)?;
-    let connection = mux.open()?;
-    assert_eq!(rt; mux.feed(connection, STARTUP), Ok(12));
-    mux.power_cycle();
-    assert!(rt; matches!(mux.turn(connection, host()), Ok(Turn::Answer(_))));
-    let _keep = mux.machine().keep();
-    let machine = mux.into_machine();
-    assert!(rt; Mux::new(machine).close(connection).is_err());
-    Ok(())
+struct PowerCycle;
+
+impl Trial for PowerCycle {
+    fn run<K: Keep, R: Abort>(rt: &R, alloc: Global) -> Result<(), Fail> {
+        let mut mux: Mux<K> = mux(alloc)?;
+        let connection = mux.open()?;
+        check(rt, feed(&mut mux, connection, STARTUP), Ok(12));
+        mux.power_cycle();
+        check(rt, answer(&mut mux, connection)?.row.check, 0);
+        let machine = mux.into_machine();
+        check(rt, Mux::new(machine).close(connection), Err(NoConnection));
+        Ok(())
+    }
 }
 
 #[test]
 fn a_power_cycle_keeps_bytes(rt: HostRuntime) -> Result<(), Fail> {
-    cycle_with_bytes::<SlotKeep, HostRuntime>(&rt, rt.alloc())
+    run_over_both::<PowerCycle>(&rt)
 }

@@ -1,11 +1,13 @@
-//! A device, what its host says, and what is sent to it.
+//! A device, what its host says, and what is sent to it. These functions say nothing of what they
+//! give, so that a test is proved without a look at the bytes.
 
 use std::alloc::Global;
 use std::test::Fail;
 use tpm_machine::Machine;
+use tpm_machine_step::Outcome;
 use tpm_record::Keep;
 use tpm_types::Locality;
-use tpm_wire::{Host, Mux};
+use tpm_wire::{ConnectionNumber, Host, Mux, NoConnection, Turn};
 
 pub const STARTUP: &[u8] = &[0x80, 1, 0, 0, 0, 12, 0, 0, 1, 0x44, 0, 0];
 
@@ -20,5 +22,33 @@ pub fn host() -> Host {
         locality: Locality::new(0).unwrap(),
         elapsed_ms: 0,
         random: [7; 256],
+    }
+}
+
+/// Feeds bytes to a connection.
+pub fn feed<K: Keep>(
+    mux: &mut Mux<K>,
+    connection: ConnectionNumber,
+    piece: &[u8],
+) -> Result<usize, NoConnection> {
+    mux.feed(connection, piece)
+}
+
+/// A turn of a connection.
+pub fn turn<K: Keep>(
+    mux: &mut Mux<K>,
+    connection: ConnectionNumber,
+) -> Result<Turn, NoConnection> {
+    mux.turn(connection, host())
+}
+
+/// The outcome of a connection's next buffer, which is whole.
+pub fn answer<K: Keep>(
+    mux: &mut Mux<K>,
+    connection: ConnectionNumber,
+) -> Result<Outcome, Fail> {
+    match turn(mux, connection)? {
+        Turn::Answer(outcome) => Ok(outcome),
+        _ => Err(Fail::new("no answer")),
     }
 }

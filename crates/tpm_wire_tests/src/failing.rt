@@ -1,14 +1,16 @@
-//! Each read, each write and each value of the host fails in turn, in a connection that has every
-//! kind of answer.
+//! A connection that has every kind of answer: it comes in pieces of any size, and each read, each
+//! write and each value of the host fails in turn.
 
+use super::comparison::check;
 use super::device::{host, mux};
+use super::keeps::{Trial, run_over_both};
 use std::alloc::Global;
 use std::io;
 use std::io::{ErrorKind, Read, Write};
 use std::process::Abort;
 use std::test::Fail;
 use tpm_bytes::Tap;
-use tpm_record::{Keep, SlotKeep};
+use tpm_record::Keep;
 use tpm_wire::{Host, HostFault, Mux, ServeFault, serve};
 
 /// TPM2_Startup, TPM2_GetRandom of two bytes, TPM2_PCR_Reset by a password, TPM2_Startup again, a
@@ -42,9 +44,10 @@ const WRITE_SIZE: usize = 4;
 
 const WRITES: usize = 21;
 
-/// How many calls succeed; each later one fails.
+/// How many calls succeed, and how many bytes a read gives; each later call fails.
 #[derive(Clone, Copy)]
 struct Allowance {
+    size: usize,
     reads: usize,
     writes: usize,
     values: usize,
@@ -52,6 +55,7 @@ struct Allowance {
 
 /// Nothing fails.
 const ALL: Allowance = Allowance {
+    size: READ_SIZE,
     reads: READS,
     writes: WRITES,
     values: 6,
@@ -61,6 +65,7 @@ const ALL: Allowance = Allowance {
 #[derive(Drop)]
 struct Reader<'a> {
     left: &'a [u8],
+    size: usize,
     reads: usize,
 }
 
@@ -69,7 +74,7 @@ impl Read for Reader<'_> {
         let Some(reads) = self.reads.checked_sub(1) else {
             return Err(ErrorKind::ConnectionReset.into());
         };
-        let count = READ_SIZE.min(buffer.len()).min(self.left.len());
+        let count = self.size.min(buffer.len()).min(self.left.len());
         let (piece, others) = self.left.split_at(count);
         buffer[..count].copy_from_slice(piece);
         self.left = others;
@@ -119,6 +124,7 @@ fn serve_stream<K: Keep>(alloc: Global, allowance: Allowance) -> Result<Served, 
     let _ = mux.close(number);
     let mut reader = Tap::new(Reader {
         left: STREAM,
+        size: allowance.size,
         reads: allowance.reads,
     });
     let mut writer = Tap::new(Writer {
@@ -160,51 +166,87 @@ fn ends_within(ends: [usize; 6], bytes: usize) -> u64 {
 
 /// What holds however a connection ends: its number is free, and the first responses were written.
 fn check_end<R: Abort>(rt: &R, served: &Served, ended: Result<u64, ServeFault>) {
-    assert_eq!(rt; served.ended, ended);
-    assert!(rt; served.closed);
-    assert!(rt; RESPONSES.starts_with(served.written.as_slice()));
+    check(rt, served.ended, ended);
+    check(rt, served.closed, true);
+    check(rt, RESPONSES.starts_with(served.written.as_slice()), true);
+}
+
+struct NothingFails;
+
+impl Trial for NothingFails {
+    fn run<K: Keep, R: Abort>(rt: &R, alloc: Global) -> Result<(), Fail> {
+        for (size, reads) in [(1, 79), (3, 27), (READ_SIZE, READS), (4_096, 1)] {
+            let served = serve_stream::<K>(alloc, Allowance { size, reads, ..ALL })?;
+            check_end(rt, &served, Ok(6));
+            check(rt, served.executed, 6);
+            check(rt, served.written.as_slice(), RESPONSES);
+        }
+        Ok(())
+    }
 }
 
 #[test]
-fn nothing_fails(rt: HostRuntime) -> Result<(), Fail> {
-    let served = serve_stream::<SlotKeep>(rt.alloc(), ALL)?;
-    check_end(&rt, &served, Ok(6));
-    assert!(rt; served.executed == 6 && served.written.as_slice() == RESPONSES);
-    Ok(())
+fn pieces_of_any_size_are_one_stream(rt: HostRuntime) -> Result<(), Fail> {
+    run_over_both::<NothingFails>(&rt)
+}
+
+struct EachRead;
+
+impl Trial for EachRead {
+    fn run<K: Keep, R: Abort>(rt: &R, alloc: Global) -> Result<(), Fail> {
+        for reads in 0..READS {
+            let served = serve_stream::<K>(alloc, Allowance { reads, ..ALL })?;
+            check_end(rt, &served, Err(ServeFault::Read));
+            let whole = ends_within(BUFFER_ENDS, READ_SIZE.saturating_mul(reads));
+            check(rt, served.executed, whole);
+            check(rt, ends_within(RESPONSE_ENDS, served.written.len()), whole);
+        }
+        Ok(())
+    }
 }
 
 #[test]
 fn each_read_fails(rt: HostRuntime) -> Result<(), Fail> {
-    for reads in 0..READS {
-        let served = serve_stream::<SlotKeep>(rt.alloc(), Allowance { reads, ..ALL })?;
-        check_end(&rt, &served, Err(ServeFault::Read));
-        let whole = ends_within(BUFFER_ENDS, READ_SIZE.saturating_mul(reads));
-        assert_eq!(rt; served.executed, whole);
-        assert_eq!(rt; ends_within(RESPONSE_ENDS, served.written.len()), whole);
-    }
-    Ok(())
+    run_over_both::<EachRead>(&rt)
 }
 
 /// The command whose response was lost has run.
+struct EachWrite;
+
+impl Trial for EachWrite {
+    fn run<K: Keep, R: Abort>(rt: &R, alloc: Global) -> Result<(), Fail> {
+        for writes in 0..WRITES {
+            let served = serve_stream::<K>(alloc, Allowance { writes, ..ALL })?;
+            check_end(rt, &served, Err(ServeFault::Write));
+            let answered = ends_within(RESPONSE_ENDS, served.written.len());
+            check(rt, served.executed, answered.saturating_add(1));
+        }
+        Ok(())
+    }
+}
+
 #[test]
 fn each_write_fails(rt: HostRuntime) -> Result<(), Fail> {
-    for writes in 0..WRITES {
-        let served = serve_stream::<SlotKeep>(rt.alloc(), Allowance { writes, ..ALL })?;
-        check_end(&rt, &served, Err(ServeFault::Write));
-        let answered = ends_within(RESPONSE_ENDS, served.written.len());
-        assert_eq!(rt; served.executed, answered.saturating_add(1));
-    }
-    Ok(())
+    run_over_both::<EachWrite>(&rt)
 }
 
 /// The command whose values the host did not give has not run.
+struct EachValue;
+
+impl Trial for EachValue {
+    fn run<K: Keep, R: Abort>(rt: &R, alloc: Global) -> Result<(), Fail> {
+        for values in 0..6 {
+            let served = serve_stream::<K>(alloc, Allowance { values, ..ALL })?;
+            check_end(rt, &served, Err(ServeFault::Host));
+            let answered = ends_within(RESPONSE_ENDS, served.written.len());
+            check(rt, u64::try_from(values), Ok(served.executed));
+            check(rt, served.executed, answered);
+        }
+        Ok(())
+    }
+}
+
 #[test]
 fn each_value_of_the_host_fails(rt: HostRuntime) -> Result<(), Fail> {
-    for values in 0..6 {
-        let served = serve_stream::<SlotKeep>(rt.alloc(), Allowance { values, ..ALL })?;
-        check_end(&rt, &served, Err(ServeFault::Host));
-        let answered = ends_within(RESPONSE_ENDS, served.written.len());
-        assert!(rt; u64::try_from(values) == Ok(served.executed) && answered == served.executed);
-    }
-    Ok(())
+    run_over_both::<EachValue>(&rt)
 }

@@ -1,14 +1,15 @@
 //! Three connections that measure into PCRs, in several orders: what TPM2_PCR_Read then answers is
 //! the fold of what was accepted.
 
-use super::device::{STARTUP, host, mux};
+use super::comparison::check;
+use super::device::{STARTUP, answer, feed, mux};
+use super::keeps::{Trial, run_over_both};
 use std::alloc::Global;
 use std::process::Abort;
 use std::test::Fail;
 use tpm_mac::{Digest, HashAlg, digest_parts};
-use tpm_machine_step::Outcome;
-use tpm_record::{Keep, ListKeep, SlotKeep};
-use tpm_wire::{ConnectionNumber, Mux, Turn};
+use tpm_record::Keep;
+use tpm_wire::{ConnectionNumber, Mux};
 
 /// What a command measures into PCR 16, in the bank of SHA-256.
 #[derive(Clone, Copy)]
@@ -48,16 +49,16 @@ impl Measurement {
     fn feed<K: Keep>(self, mux: &mut Mux<K>, connection: ConnectionNumber) -> Result<(), Fail> {
         match self {
             Measurement::Extend(byte) => {
-                mux.feed(connection, &header(65, 0x82))?;
-                mux.feed(connection, &[0, 0, 0, 1, 0, 0x0b])?;
-                mux.feed(connection, &[byte; 32])?;
+                feed(mux, connection, &header(65, 0x82))?;
+                feed(mux, connection, &[0, 0, 0, 1, 0, 0x0b])?;
+                feed(mux, connection, &[byte; 32])?;
             }
             Measurement::Event(byte) => {
-                mux.feed(connection, &header(30, 0x3c))?;
-                mux.feed(connection, &[0, 1, byte])?;
+                feed(mux, connection, &header(30, 0x3c))?;
+                feed(mux, connection, &[0, 1, byte])?;
             }
             Measurement::Reset => {
-                mux.feed(connection, &header(27, 0x3d))?;
+                feed(mux, connection, &header(27, 0x3d))?;
             }
         }
         Ok(())
@@ -117,14 +118,7 @@ const READ: &[u8] = &[
 /// What stands before the value in its answer.
 const BEFORE_VALUE: usize = 30;
 
-/// The response to what a connection was fed, and whether it was accepted.
-fn answer<K: Keep>(mux: &mut Mux<K>, connection: ConnectionNumber) -> Result<Outcome, Fail> {
-    match mux.turn(connection, host())? {
-        Turn::Answer(outcome) => Ok(outcome),
-        _ => Err(Fail::new("no answer")),
-    }
-}
-
+/// Feeds what each sends in an order, and compares what TPM2_PCR_Read then answers.
 fn measure<K: Keep, R: Abort>(
     rt: &R,
     alloc: Global,
@@ -134,7 +128,7 @@ fn measure<K: Keep, R: Abort>(
     let first = mux.open()?;
     let second = mux.open()?;
     let third = mux.open()?;
-    mux.feed(first, STARTUP)?;
+    feed(&mut mux, first, STARTUP)?;
     answer(&mut mux, first)?;
     let mut value = zeros();
     for (sender, measurement) in order {
@@ -148,20 +142,27 @@ fn measure<K: Keep, R: Abort>(
             value = measurement.fold(value);
         }
     }
-    mux.feed(third, READ)?;
+    feed(&mut mux, third, READ)?;
     let read = answer(&mut mux, third)?;
-    assert!(rt; read.response.as_slice().get(BEFORE_VALUE..) == Some(value.as_slice()));
+    check(
+        rt,
+        read.response.as_slice().get(BEFORE_VALUE..),
+        Some(value.as_slice()),
+    );
     Ok(())
 }
 
-fn measure_in_all_orders<K: Keep, R: Abort>(rt: &R, alloc: Global) -> Result<(), Fail> {
-    measure::<K, R>(rt, alloc, IN_TURN)?;
-    measure::<K, R>(rt, alloc, IN_REVERSE_TURN)?;
-    measure::<K, R>(rt, alloc, ONE_AFTER_ANOTHER)
+struct AllOrders;
+
+impl Trial for AllOrders {
+    fn run<K: Keep, R: Abort>(rt: &R, alloc: Global) -> Result<(), Fail> {
+        measure::<K, R>(rt, alloc, IN_TURN)?;
+        measure::<K, R>(rt, alloc, IN_REVERSE_TURN)?;
+        measure::<K, R>(rt, alloc, ONE_AFTER_ANOTHER)
+    }
 }
 
 #[test]
 fn a_read_is_the_fold_of_what_three_connections_measured(rt: HostRuntime) -> Result<(), Fail> {
-    measure_in_all_orders::<ListKeep, HostRuntime>(&rt, rt.alloc())?;
-    measure_in_all_orders::<SlotKeep, HostRuntime>(&rt, rt.alloc())
+    run_over_both::<AllOrders>(&rt)
 }

@@ -6,6 +6,8 @@
 //! It stands on `tpm_wire`, and nothing stands on it.
 
 #[cfg(test)]
+mod comparison;
+#[cfg(test)]
 mod connections;
 #[cfg(test)]
 mod device;
@@ -14,6 +16,6 @@ mod failing;
 #[cfg(test)]
 mod histories;
 #[cfg(test)]
-mod serving;
+mod keeps;
 #[cfg(test)]
-mod socket;
+mod serving;

@@ -32,21 +32,28 @@ fn main(rt: HostRuntime) -> ExitCode {
     }
 }
 
+/// Does what the command line says, in lists. No other function here names their keep: one that
+/// does is slow to prove, whatever it does with it.
 fn try_main(rt: &HostRuntime) -> Result<(), Fault> {
     let words: Vec<String> = env::args(rt)?.collect(rt.alloc())?;
-    match words.as_slice() {
-        [_] => run(rt),
-        [_, word, file] if word.as_str() == "open" => print_image::<ListKeep>(rt, file.as_str()),
-        [_, word, line] if word.as_str() == "line" => print_trace::<ListKeep>(rt, line.as_str()),
+    perform::<ListKeep>(rt, words.as_slice())
+}
+
+/// Does what the words say.
+fn perform<K: Keep>(rt: &HostRuntime, words: &[String]) -> Result<(), Fault> {
+    match words {
+        [_] => run::<K>(rt),
+        [_, word, file] if word.as_str() == "open" => print_image::<K>(rt, file.as_str()),
+        [_, word, line] if word.as_str() == "line" => print_trace::<K>(rt, line.as_str()),
         _ => Err(Fault::Usage),
     }
 }
 
 /// Runs the script on standard input.
-fn run(rt: &HostRuntime) -> Result<(), Fault> {
+fn run<K: Keep>(rt: &HostRuntime) -> Result<(), Fault> {
     let input = &mut Tap::new(rt.stdin());
     let output = &mut Tap::new(rt.stdout());
-    run_script::<ListKeep, _, _>(rt.alloc(), input, output, false)?;
+    run_script::<K, _, _>(rt.alloc(), input, output, false)?;
     Ok(())
 }
 

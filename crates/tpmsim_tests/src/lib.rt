@@ -6,6 +6,10 @@
 //! It stands on tpmsim_script and `tpm_text`, and nothing stands on it.
 
 #[cfg(test)]
+mod comparison;
+#[cfg(test)]
+mod keeps;
+#[cfg(test)]
 mod lines;
 #[cfg(test)]
 mod streams;

@@ -3,11 +3,8 @@
 use std::alloc::Global;
 use std::process::Abort;
 use std::test::Fail;
-use tpm_machine::Machine;
 use tpm_machine_step::{Event, Outcome};
-use tpm_record::SlotKeep;
-use tpm_text::{AsmFault, assemble, trace_line, traceable_laws};
-use tpm_types::Locality;
+use tpm_text::{AsmFault, assemble, trace_line};
 
 const STARTUP: &[u8] = &[0x80, 1, 0, 0, 0, 0x0c, 0, 0, 1, 0x44, 0, 0];
 
@@ -52,16 +49,5 @@ fn the_first_fault_is_told(rt: HostRuntime) {
 fn an_event_has_a_trace(rt: HostRuntime) -> Result<(), Fail> {
     let line = trace_line(rt.alloc(), &Event::PowerCycle, &Outcome::empty())?;
     assert!(rt; line.as_str() == "power");
-    Ok(())
-}
-
-#[test]
-fn a_command_has_a_trace(rt: HostRuntime) -> Result<(), Fail> {
-    let mut machine: Machine<SlotKeep> = Machine::manufacture(rt.alloc(), &[0; 256])?;
-    let event = Event::of_command(STARTUP, Locality::new(0).unwrap(), 0, [0; 256]);
-    let outcome = machine.execute(&event);
-    traceable_laws();
-    let line = trace_line(rt.alloc(), &event, &outcome)?;
-    assert!(rt; line.as_str() == "Startup L0 +0 ok 00000000");
     Ok(())
 }

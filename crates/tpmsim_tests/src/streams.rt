@@ -2,12 +2,16 @@
 
 ghost use Rattle.std.specs.Prelude.{◌≡◌, OnErr, true};
 
+use super::comparison::check;
+use super::keeps::{Trial, run_over_both};
+use std::alloc::Global;
 use std::io;
 use std::io::{ErrorKind, Read, Write};
+use std::process::Abort;
 use std::test::Fail;
 use tpm_bytes::Tap;
 use tpm_machine::Machine;
-use tpm_record::{Keep, SlotKeep};
+use tpm_record::Keep;
 use tpmsim_script::{Saver, ScriptFault, Unsaved, new_machine, run_device, run_script};
 
 const STARTUP: &[u8] = b"cmd 80010000000c000001440000\ncmd";
@@ -46,21 +50,43 @@ impl Read for Reader<'_> {
     }
 }
 
+/// What a script came to, and what it wrote.
+#[derive(Drop)]
+struct Told {
+    outcome: Result<(), ScriptFault>,
+    written: Vec<u8>,
+}
+
+/// Runs the script that a reader gives in these turns, and tells how many turns it left.
+fn run_turns<K: Keep>(alloc: Global, turns: &[Turn]) -> (Told, usize) {
+    let mut reader = Tap::new(Reader { turns });
+    let mut writer = Tap::new(Vec::new(alloc));
+    let outcome = run_script::<K, _, _>(alloc, &mut reader, &mut writer, false);
+    let written = writer.into_inner();
+    (Told { outcome, written }, reader.into_inner().turns.len())
+}
+
+struct ReaderThatEnds;
+
+impl Trial for ReaderThatEnds {
+    fn run<K: Keep, R: Abort>(rt: &R, alloc: Global) -> Result<(), Fail> {
+        for (turn, outcome, written) in [
+            (Turn::Fails, Err(ScriptFault::Read), SUCCESS),
+            (Turn::Gives(b""), Ok(()), SUCCESS_AND_COMMAND_SIZE),
+        ] {
+            let turns = [Turn::Gives(STARTUP), turn, Turn::Gives(b"\ncmd\n")];
+            let (told, left) = run_turns::<K>(alloc, &turns);
+            check(rt, told.outcome, outcome);
+            check(rt, told.written.as_slice(), written);
+            check(rt, left, 1);
+        }
+        Ok(())
+    }
+}
+
 #[test]
 fn a_reader_is_not_asked_again(rt: HostRuntime) -> Result<(), Fail> {
-    for (turn, outcome, written) in [
-        (Turn::Fails, Err(ScriptFault::Read), SUCCESS),
-        (Turn::Gives(b""), Ok(()), SUCCESS_AND_COMMAND_SIZE),
-    ] {
-        let turns = [Turn::Gives(STARTUP), turn, Turn::Gives(b"\ncmd\n")];
-        let mut reader = Tap::new(Reader { turns: &turns });
-        let mut writer = Tap::new(Vec::new(rt.alloc()));
-        let given = run_script::<SlotKeep, _, _>(rt.alloc(), &mut reader, &mut writer, false);
-        assert_eq!(rt; given, outcome);
-        assert_eq!(rt; writer.into_inner().as_slice(), written);
-        assert_eq!(rt; reader.into_inner().turns.len(), 1);
-    }
-    Ok(())
+    run_over_both::<ReaderThatEnds>(&rt)
 }
 
 /// Takes at most `room` bytes, five at a time, and then fails.
@@ -91,29 +117,48 @@ impl Write for Narrow {
     }
 }
 
+/// Runs a script whose responses go to a writer with this room.
+fn run_narrow<K: Keep>(alloc: Global, room: usize, flushes: bool) -> Told {
+    let mut reader = Tap::new(STARTUP);
+    let mut writer = Tap::new(Narrow {
+        taken: Vec::new(alloc),
+        room,
+        flushes,
+    });
+    let outcome = run_script::<K, _, _>(alloc, &mut reader, &mut writer, false);
+    let written = writer.into_inner().taken;
+    Told { outcome, written }
+}
+
+/// Compares what came of a script, which wrote this many bytes from the front of its responses.
+fn check_told<R: Abort>(rt: &R, told: &Told, outcome: Result<(), ScriptFault>, written: usize) {
+    check(rt, told.outcome, outcome);
+    check(
+        rt,
+        Some(told.written.as_slice()),
+        SUCCESS_AND_COMMAND_SIZE.get(..written),
+    );
+}
+
+struct NarrowWriter;
+
+impl Trial for NarrowWriter {
+    fn run<K: Keep, R: Abort>(rt: &R, alloc: Global) -> Result<(), Fail> {
+        for (room, flushes, outcome, written) in [
+            (42, true, Ok(()), 42),
+            (41, true, Err(ScriptFault::Write), 41),
+            (0, true, Err(ScriptFault::Write), 0),
+            (42, false, Err(ScriptFault::Write), 21),
+        ] {
+            check_told(rt, &run_narrow::<K>(alloc, room, flushes), outcome, written);
+        }
+        Ok(())
+    }
+}
+
 #[test]
 fn a_writer_may_take_pieces_and_fail(rt: HostRuntime) -> Result<(), Fail> {
-    for (room, flushes, outcome, taken) in [
-        (42, true, Ok(()), 42),
-        (41, true, Err(ScriptFault::Write), 41),
-        (0, true, Err(ScriptFault::Write), 0),
-        (42, false, Err(ScriptFault::Write), 21),
-    ] {
-        let mut reader = Tap::new(STARTUP);
-        let mut writer = Tap::new(Narrow {
-            taken: Vec::new(rt.alloc()),
-            room,
-            flushes,
-        });
-        let given = run_script::<SlotKeep, _, _>(rt.alloc(), &mut reader, &mut writer, false);
-        assert_eq!(rt; given, outcome, "room for {room}");
-        assert_eq!(rt;
-            Some(writer.into_inner().taken.as_slice()),
-            SUCCESS_AND_COMMAND_SIZE.get(..taken),
-            "room for {room}"
-        );
-    }
-    Ok(())
+    run_over_both::<NarrowWriter>(&rt)
 }
 
 /// A saver with room for this many saves: each one after these fails.
@@ -151,35 +196,35 @@ impl Saver for Shelf {
     }
 }
 
+/// Runs a script on a device that such a saver keeps.
+fn run_saved<K: Keep>(alloc: Global, room: u32) -> Result<Told, Fail> {
+    let machine: Machine<K> = new_machine(alloc)?;
+    let is_full = false;
+    let saver = &mut Shelf { room, is_full };
+    let reader = &mut Tap::new(STARTUP);
+    let mut writer = Tap::new(Vec::new(alloc));
+    let outcome = run_device(alloc, machine, saver, reader, &mut writer, false);
+    let written = writer.into_inner();
+    Ok(Told { outcome, written })
+}
+
+struct FullShelf;
+
+impl Trial for FullShelf {
+    fn run<K: Keep, R: Abort>(rt: &R, alloc: Global) -> Result<(), Fail> {
+        for (room, outcome, written) in [
+            (0, Err(ScriptFault::Save), 0),
+            (1, Err(ScriptFault::Save), 21),
+            (2, Err(ScriptFault::Save), 42),
+            (3, Ok(()), 42),
+        ] {
+            check_told(rt, &run_saved::<K>(alloc, room)?, outcome, written);
+        }
+        Ok(())
+    }
+}
+
 #[test]
 fn what_is_not_saved_is_not_told(rt: HostRuntime) -> Result<(), Fail> {
-    for (room, outcome, written) in [
-        (0, Err(ScriptFault::Save), 0),
-        (1, Err(ScriptFault::Save), 21),
-        (2, Err(ScriptFault::Save), 42),
-        (3, Ok(()), 42),
-    ] {
-        let machine: Machine<SlotKeep> = new_machine(rt.alloc())?;
-        let mut saver = Shelf {
-            room,
-            is_full: false,
-        };
-        let mut reader = Tap::new(STARTUP);
-        let mut writer = Tap::new(Vec::new(rt.alloc()));
-        let given = run_device(
-            rt.alloc(),
-            machine,
-            &mut saver,
-            &mut reader,
-            &mut writer,
-            false,
-        );
-        assert_eq!(rt; given, outcome, "room for {room}");
-        assert_eq!(rt;
-            Some(writer.into_inner().as_slice()),
-            SUCCESS_AND_COMMAND_SIZE.get(..written),
-            "room for {room}"
-        );
-    }
-    Ok(())
+    run_over_both::<FullShelf>(&rt)
 }
