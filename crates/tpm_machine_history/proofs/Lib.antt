@@ -24,6 +24,8 @@ pub mod Balance
 pub mod FailedTries
 pub mod Forgiving
 pub mod FewTries
+pub mod PowerCycles
+pub mod SessionStarts
 pub mod Following
 pub mod LivingOn
 pub mod UseGrounds
