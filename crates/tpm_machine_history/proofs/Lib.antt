@@ -26,6 +26,7 @@ pub mod Forgiving
 pub mod FewTries
 pub mod PowerCycles
 pub mod SessionStarts
+pub mod FailedRun
 pub mod Following
 pub mod LivingOn
 pub mod UseGrounds

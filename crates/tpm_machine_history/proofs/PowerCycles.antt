@@ -29,10 +29,10 @@ starting_bank bank = (
       (λ k d below. length-replicate (digest_size bank) _),
 )
 
-starting_banks : IsBanks new_banks
+pub starting_banks : IsBanks new_banks
 starting_banks = record { sha1 = starting_bank alg.Sha1; sha256 = starting_bank alg.Sha256; count = omega arith }
 
-none_taken : {X : Type 0} (IsOne : X → Type 0) (n : ℕ) → AreAll IsOne (free n)
+pub none_taken : {X : Type 0} (IsOne : X → Type 0) (n : ℕ) → AreAll IsOne (free n)
 none_taken IsOne zero place = tt
 none_taken IsOne (suc n) zero = tt
 none_taken IsOne (suc n) (suc place) = none_taken IsOne n place

@@ -32,6 +32,7 @@ ghost use Rattle.tpm_machine_history.specs.DeviceCounters.{BeginsAbove, ExceedsE
 ghost use Rattle.tpm_machine_history.specs.DeviceCounters.{KeepsCounter};
 ghost use Rattle.tpm_machine_history.specs.DeviceSessions.{HasSessions, IsLive};
 ghost use Rattle.tpm_machine_history.specs.Executions.{Execution, Leads, history_after, power_cycle};
+ghost use Rattle.tpm_machine_history.specs.FailedRun.{IsFailedRun};
 ghost use Rattle.tpm_machine_history.specs.Follows.{After, Follows, RunFollows, StretchFollows, Tells};
 ghost use Rattle.tpm_machine_history.specs.Grounds.{AllHaveGrounds};
 ghost use Rattle.tpm_machine_history.specs.History.{AcceptedCommand, Done, History, PastEvent};
@@ -228,6 +229,13 @@ pub fn session_start_laws()
 #[inline(always)]
 pub fn reset_laws()
     ensures { (one : PastEvent) → (is_reset one ≡ true ↔ IsReset one) }
+{}
+
+/// As many tries can fail as the sharper bound says: a run of reads of an NV index with a wrong password,
+/// worked out.
+#[inline(always)]
+pub fn failed_run_laws()
+    ensures { IsFailedRun }
 {}
 
 /// In a stretch of events in which no TPM2_DictionaryAttackLockReset, no
