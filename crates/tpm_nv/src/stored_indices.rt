@@ -47,7 +47,7 @@ pub struct StoredIndices<H: SortedMap<Head, NV_INDEX_LIMIT>, R: Area> {
 pub type ListIndices = StoredIndices<ListMap<Head, NV_INDEX_LIMIT>, ListArea>;
 
 /// NV indices in as many places as there can be. No memory is ever taken, so none can be refused.
-/// They are some twelve thousand bytes long: they are made once, and lent.
+/// They are some 23,600 bytes long, the data of all among them: they are made once, and lent.
 pub type SlotIndices = StoredIndices<SlotMap<Head, NV_INDEX_LIMIT>, SlotArea>;
 
 impl<H: SortedMap<Head, NV_INDEX_LIMIT>, R: Area> Model for StoredIndices<H, R> {

@@ -88,7 +88,7 @@ impl Session {
 
     /// Decrypts a parameter in place, or refuses and leaves it where the session has no symmetric
     /// algorithm. The authorization value is that of the entity that the session authorizes too, or
-    /// empty (TPM 2.0 Library, Part 1, section 21.3).
+    /// empty (TPM 2.0 Library, Part 1, sections 21.2 and 21.3).
     #[tactic(auto, unfolding(crate::specs::Encryption::plain_parameter))]
     pub fn open_parameter(
         &self,
