@@ -4,7 +4,7 @@
 ghost use Rattle.tpm_bytes.specs.Reading.{Gives};
 ghost use Rattle.std.specs.Prelude.{◌≡◌, ◌<◌, ◌≤◌, ◌^◌, ℕ, [], Bool, false, true, is_some, if◌then◌else◌};
 ghost use Rattle.std.specs.Prelude.{length, option_copied, option_map, OnOk};
-ghost use Rattle.tpm_nv.specs.Access.{ChangesContents, bits_set, check_readable, extended, incremented, read_at, read_locked, with_auth_value, write_locked, written};
+ghost use Rattle.tpm_nv.specs.Access.{ChangesContents, bits_set, extended, incremented, read_at, read_locked, with_auth_value, write_locked, written};
 ghost use Rattle.tpm_nv.specs.Clear.{cleared};
 ghost use Rattle.tpm_nv.specs.Definition.{Defines, defined_index, has_type_size};
 ghost use Rattle.tpm_nv.specs.Head.{head_of, heads_of, indices_of};
@@ -102,10 +102,6 @@ pub trait Indices: Drop + Sized {
     fn extend(&mut self, handle: Handle, bytes: &[u8]) -> Result<(), NvFault>
         ensures { ChangesContents (extended (contents self.old) handle bytes.now) (contents self.old)
             result (contents self.new) };
-
-    /// Whether an index may be read.
-    fn check_readable(&self, handle: Handle) -> Result<(), NvFault>
-        ensures { result ≡ check_readable (contents self.now) handle };
 
     /// A number of bytes of the data from an offset on (Part 3, section 31.13).
     fn read(&self, handle: Handle, offset: u16, size: u16) -> Result<&[u8], NvFault>

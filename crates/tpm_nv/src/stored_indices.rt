@@ -347,20 +347,6 @@ impl<H: SortedMap<Head, NV_INDEX_LIMIT>, R: Area> Indices for StoredIndices<H, R
         Ok(())
     }
 
-    #[tactic(auto, unfolding(crate::specs::Access::check_readable))]
-    fn check_readable(&self, handle: Handle) -> Result<(), NvFault> {
-        let Some(head) = self.head(handle) else {
-            return Err(NvFault::Undefined);
-        };
-        if head.public.attributes.has(NvAttribute::ReadLocked) {
-            return Err(NvFault::Locked);
-        }
-        if !head.public.attributes.has(NvAttribute::Written) {
-            return Err(NvFault::Uninitialized);
-        }
-        Ok(())
-    }
-
     #[tactic(auto, unfolding(crate::specs::Access::read_at))]
     fn read(&self, handle: Handle, offset: u16, size: u16) -> Result<&[u8], NvFault> {
         let Some(found) = self.find(handle) else {
