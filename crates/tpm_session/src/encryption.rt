@@ -54,7 +54,7 @@ impl Session {
         ensures iv { result.iv
             ≡ cipher_iv (cipher_bytes self.now auth_value.now newer.now older.now) }
     {
-        let key = self.key_with(auth_value);
+        let key = self.entry_key(auth_value);
         let mut bytes = [0; 32];
         kdfa(
             self.hash,
@@ -79,7 +79,7 @@ impl Session {
             (mask_bytes self.now auth_value.now newer.now older.now (length bytes.old))
             ≡ length bytes.old }
     {
-        let key = self.key_with(auth_value);
+        let key = self.entry_key(auth_value);
         let mut room = [0; BUFFER_LIMIT];
         let mask = &mut room[..bytes.len()];
         kdfa(self.hash, key.as_slice(), MASK_LABEL, newer, older, mask);

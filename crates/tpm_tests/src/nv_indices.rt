@@ -84,7 +84,11 @@ fn ordinary<N: Indices>(rt: &impl Abort, mut indices: N) {
         defined(&mut indices, ORDINARY),
         Outcome::Answered(Err(DefineFault::Defined)),
     );
-    check(rt, read_fault(&indices, FIRST), Some(NvFault::Uninitialized));
+    check(
+        rt,
+        read_fault(&indices, FIRST),
+        Some(NvFault::Uninitialized),
+    );
     check(rt, indices.write(FIRST, 2, b"\x5a"), Ok(()));
     check(
         rt,
@@ -135,7 +139,11 @@ fn counters<N: Indices>(rt: &impl Abort, mut indices: N) {
     check(rt, indices.lock_read(SECOND), Ok(()));
     check(rt, read_fault(&indices, SECOND), Some(NvFault::Locked));
     indices.startup();
-    check(rt, read_fault(&indices, FIRST), Some(NvFault::Uninitialized));
+    check(
+        rt,
+        read_fault(&indices, FIRST),
+        Some(NvFault::Uninitialized),
+    );
     check(rt, indices.set_bits(FIRST, 1), Ok(()));
     check(
         rt,
