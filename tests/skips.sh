@@ -1,5 +1,5 @@
-# Tests that cannot run: tools/scripts.sh skips them with their reasons, and .ci/run fails then. Both
-# stand in a copy of the repository's folders, with other tests, and with stand-ins for what the gate
+# Tests that cannot run: tools/scripts.sh skips them with their reasons, and .ci/run fails then.
+# Each stands in a copy of the repository, with other tests, and with stand-ins for what the gate
 # runs beside them.
 tests=$(cd "$(dirname "$0")" && pwd -P)
 . "$tests/common/cases.sh"
@@ -45,13 +45,20 @@ ln -s "$program" "$copy/crates/tpmsim_lists/out/tpmsim_lists"
 played 'tests that fail, and one that cannot run' is_wrong ends_otherwise gives_no_reason \
     gives_an_empty_reason goes_on cannot_run
 
-# All that is on the path, but for one tool each time, and the tests that need it.
+# All that is on the path, but for one tool each time, and the tests that need it. Where the machine
+# itself has no such tool, one stands there in its place that does nothing.
 mkdir "$room/path"
 IFS=:
 for folder in $PATH; do
     ln -s "$folder"/* "$room/path" 2>"$room/told"
 done
 unset IFS
+for tool in cc nm git python3 unshare; do
+    if [ ! -x "$room/path/$tool" ]; then
+        printf '#!/bin/sh\n' >"$room/path/$tool"
+        chmod +x "$room/path/$tool"
+    fi
+done
 rm -r "$copy/tests"
 ln -s "$tests" "$copy/tests"
 
@@ -82,15 +89,16 @@ for crate in tpmsim tpmsim_lists; do
 done
 chmod +x "$room/stubs/rt" "$copy"/tools/*.sh
 
-# gate LABEL SAID STATUS: what the gate says of failures where tools/scripts.sh says so, and ends so.
+# gate LABEL SAID STATUS: what the gate says of failures, where tools/scripts.sh says and ends so.
 gate() {
     echo "$1:"
     status=0
     SAID=$2 STATUS=$3 "$copy/.ci/run" >"$room/output" 2>&1 || status=$?
-    sed -n '/^FAILED/p; /^there is no/p; $s/^[0-9]* passed/N passed/p' "$room/output" | sed 's/^/    /'
+    sed -n '/^FAILED/p; /^there is no/p; $s/^[0-9]* passed/N passed/p' "$room/output" |
+        sed 's/^/    /'
     echo "    status $status"
 }
-PATH=$room/stubs:$PATH
+PATH=$room/stubs:$room/path
 gate 'the gate' '9 passed, 0 failed' 0
 gate 'two were skipped' '9 passed, 0 failed, 2 skipped' 0
 gate 'one failed, and two were skipped' '9 passed, 1 failed, 2 skipped' 1
@@ -98,5 +106,4 @@ gate 'none was skipped, in these words' '9 passed, 0 failed, 0 skipped' 0
 gate 'no count' 'all is well' 0
 gate 'another status' '9 passed, 0 failed' 1
 rm "$room/path/cc"
-PATH=$room/stubs:$room/path
 gate 'without cc' '9 passed, 0 failed, 5 skipped' 0
