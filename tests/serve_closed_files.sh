@@ -49,9 +49,14 @@ tried() {
 tried 'an image that may not be read' unreadable entropy socket
 tried 'random bytes that may not be read' image unreadable socket
 tried 'a socket in a folder that may not be written to' image entropy closed/socket
+tried 'an image in a folder that may not be written to' closed/image entropy socket
+ls -A closed
+chmod 777 closed
+tried 'an image in a folder that may' closed/image entropy socket
+chmod 555 closed
 image=closed/image
 begin 1
-talk 'an image in a folder that may not be written to' 4096 "$startup" "$back"
+talk 'an image in a folder that may no more be written to' 4096 "$startup" "$back"
 ended 'one connection'
 ls -A closed
 cmp closed/image ../image && echo 'the image is as it was, too'
