@@ -1,11 +1,13 @@
 #!/usr/bin/env python3
 """Writes tests/cut_hmac_commands.tpm: commands by an hmac, cut behind the authorization area."""
 
+from collections.abc import Iterator
+
 import paths
 
 import frames
 import policy
-from caller import Use
+from caller import Prepared, Session, Use
 from cuts import HEADER_BYTES, with_size
 from frames import CONTINUE_SESSION, DECRYPT, RH_LOCKOUT, RH_OWNER, SHA1, SHA256, sized
 from grounds_caller import GroundsCaller
@@ -33,37 +35,39 @@ script = Script(
 caller = GroundsCaller(script)
 
 
-def unlock():
+def unlock() -> None:
     caller.does("TPM2_DictionaryAttackLockReset", caller.lock_reset())
 
 
-def refused(what, outcome, tries, *buffers):
+def refused(what: str, outcome: str, tries: int, *buffers: bytes) -> None:
     """What is refused, and how many tries have failed then."""
     script.command(what, outcome, *buffers)
     caller.tries_are("Tries", tries)
 
 
-def refused_alone(what, outcome, tries, buffer):
+def refused_alone(what: str, outcome: str, tries: int, buffer: bytes) -> None:
     """The same, where a try that counts is taken back."""
     refused(what, outcome, tries, buffer)
     if tries:
         unlock()
 
 
-def cuts_of(prepared):
+def cuts_of(prepared: Prepared) -> Iterator[tuple[str, bytes]]:
     """The command with each shorter length of its parameters, and what is said of that."""
     whole, count = prepared.buffer(), len(prepared.parameters)
     for left in range(count):
         yield f"Cut to {left} of {count} bytes", with_size(whole[: len(whole) - count + left])
 
 
-def comes_whole(prepared):
+def comes_whole(prepared: Prepared) -> None:
     response = script.command("Whole", "SUCCESS", prepared.buffer(), fresh=True)
     caller.received(prepared, response)
     caller.tries_are("No try", NO_TRY)
 
 
-def cut(name, prepared, outcome="AUTH_FAIL/s1", tries=TRY):
+def cut(
+    name: str, prepared: Prepared, outcome: str = "AUTH_FAIL/s1", tries: int = TRY
+) -> None:
     """A command that is cut, and has a byte too many: so many tries each time; and then whole."""
     script.chapter(f"{name}.")
     for what, buffer in cuts_of(prepared):
@@ -73,7 +77,7 @@ def cut(name, prepared, outcome="AUTH_FAIL/s1", tries=TRY):
     comes_whole(prepared)
 
 
-def by_each_session():
+def by_each_session() -> tuple[Session, ...]:
     """TPM2_NV_Write of the first index, by each kind of session."""
     unbound = caller.start("A session that is bound to nothing: the value of the index is the key")
     cut("TPM2_NV_Write by it", caller.writing(FIRST, DATA, unbound, offset=2))
@@ -93,7 +97,7 @@ def by_each_session():
     return unbound, sha1, bound, to_owner, told
 
 
-def by_each_command(session, told, key):
+def by_each_command(session: Session, told: Session, key: int) -> None:
     """Other commands at a protected index or object, by a session that is bound to nothing."""
     cut("TPM2_NV_Read", caller.reading(FIRST, 3, session, offset=2))
     cut("TPM2_NV_SetBits", caller.setting(SECOND, 5, session))
@@ -103,7 +107,7 @@ def by_each_command(session, told, key):
     cut("TPM2_HMAC by an object", caller.hmac(key, DATA, SHA256, session))
 
 
-def beside(session, bound):
+def beside(session: Session, bound: Session) -> None:
     """A session that is bound to the index, where it does not authorize it."""
     cut("TPM2_PCR_Event of PCR 16, which the bound session authorizes", caller.event(DATA, bound))
     cut(
@@ -120,7 +124,7 @@ def beside(session, bound):
     )
 
 
-def without_try(session):
+def without_try(session: Session) -> None:
     """The same where nothing protected is tried."""
     cut(
         "TPM2_NV_Write of the index with TPMA_NV_NO_DA",
@@ -137,7 +141,7 @@ def without_try(session):
     )
 
 
-def before_the_parameters(prepared):
+def before_the_parameters(prepared: Prepared) -> None:
     script.chapter(
         "TPM2_NV_Write, cut before its parameters, with commandSize corrected, and anywhere, with "
         "commandSize as it was. No hmac is compared, so that is no try."
@@ -156,7 +160,7 @@ def before_the_parameters(prepared):
     comes_whole(prepared)
 
 
-def of_what_is_left(session):
+def of_what_is_left(session: Session) -> None:
     """An entry that is right for what is left of the parameters: then they are what is refused."""
     whole = frames.nv_write(DATA, 2)
     in_data = range(len(sized(DATA)))
@@ -175,7 +179,7 @@ def of_what_is_left(session):
         refused_alone(f"{left} bytes are left", "AUTH_FAIL/s1", TRY, prepared.buffer())
 
 
-def up_to_lockout(session):
+def up_to_lockout(session: Session) -> None:
     script.chapter("Tries add up to maxTries, which is 3. No more is counted then.")
     prepared = caller.writing(FIRST, DATA, session, offset=2)
     for tries, (what, buffer) in enumerate(cuts_of(prepared), 1):
@@ -193,7 +197,7 @@ def up_to_lockout(session):
     comes_whole(prepared)
 
 
-def at_lockout_auth(session):
+def at_lockout_auth(session: Session) -> None:
     script.chapter(
         "TPM2_DictionaryAttackParameters by a session: a try at lockoutAuth counts nothing, and "
         "closes it for lockoutRecovery, which is 1,000 seconds."
