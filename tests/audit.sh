@@ -4,6 +4,7 @@
 # each of which is wrong in one thing: the history alone finds that.
 tests=$(cd "$(dirname "$0")" && pwd -P)
 . "$tests/common/cases.sh"
+needs python3
 export PYTHONDONTWRITEBYTECODE=1
 scripts=$tests/outside/audit
 audit=$tests/../tools/audit.py

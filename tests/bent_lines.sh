@@ -5,6 +5,7 @@
 # their tokens; each further one is a way of bending.
 tests=$(cd "$(dirname "$0")" && pwd -P)
 . "$tests/common/cases.sh"
+needs python3
 
 export PYTHONDONTWRITEBYTECODE=1 PYTHONPATH="$tests/outside/device"
 python3 "$tests/common/bent_lines.py" "$program"

@@ -2,6 +2,7 @@
 # behind each command, common/kept_scripts.py says by the device in Python.
 tests=$(cd "$(dirname "$0")" && pwd -P)
 . "$tests/common/cases.sh"
+needs python3
 export PYTHONDONTWRITEBYTECODE=1
 
 python3 "$tests/common/kept_scripts.py" "$program"

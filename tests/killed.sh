@@ -3,6 +3,7 @@
 # closed that: as common/kills.py says. tools/kills.sh kills it more often.
 tests=$(cd "$(dirname "$0")" && pwd -P)
 . "$tests/common/cases.sh"
+needs python3
 
 export PYTHONDONTWRITEBYTECODE=1
 python3 "$tests/common/kills.py" "$program" 40 1

@@ -3,6 +3,8 @@
 # proved; a stand-in for `rt` builds another, which says that it was built.
 tests=$(cd "$(dirname "$0")" && pwd -P)
 . "$tests/common/cases.sh"
+needs git
+[ "$(id -u)" -ne 0 ] || needs setpriv
 copy="$room/a copy"
 lib=$copy/crates/tpm_hex/src/lib.rt
 kept=$room/kept
@@ -81,7 +83,7 @@ with - 'by a link' "$room/link" run -
 # Another user, whose start leaves no stamp, as in a checkout that nobody can write to.
 rm -r "$copy/crates/tpmsim/out"
 chmod -R a-w "$copy"
-if [ "$(id -u)" -eq 0 ] && command -v setpriv >/dev/null; then
+if [ "$(id -u)" -eq 0 ]; then
     with - 'read-only' "$(command -v setpriv)" --reuid=65534 --regid=65534 --clear-groups \
         "$copy/tpmsim" run -
 else

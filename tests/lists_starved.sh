@@ -1,12 +1,7 @@
 # The device in lists, to which memory is refused: each growth in turn, in the opening of an image, in
 # a line, and in each command that needs memory. common/lists_starved.py says what then has to come.
-# Where no C compiler is there, what is wanted is printed.
 tests=$(cd "$(dirname "$0")" && pwd -P)
 . "$tests/common/cases.sh"
-
-if ! { command -v cc && command -v nm; } >"$room/tools"; then
-    cat "$tests/lists_starved.out"
-    exit
-fi
+needs cc nm python3
 export PYTHONDONTWRITEBYTECODE=1 PYTHONPATH="$tests/outside/device"
 python3 "$tests/common/lists_starved.py" "$program"

@@ -2,6 +2,7 @@
 # this order: the command line, the image, the random bytes, the socket, and then each connection.
 common=$(cd "$(dirname "$0")" && pwd -P)/common
 . "$(dirname "$0")/common/cases.sh"
+needs python3
 
 startup=80010000000c000001440000
 random=80010000000c0000017b0004

@@ -1,9 +1,4 @@
-# The files of a served device that are links, are removed or replaced while it is served, may not be
-# read or written, end, or have no room. The full disk is one that root mounts for this test alone.
-# Where that does not work, or nobody can be kept from a file, what is wanted is printed.
-if [ -z "${own_mounts:-}" ] && [ "$(id -u)" -eq 0 ] && unshare --mount true 2>/dev/null; then
-    own_mounts=yes exec unshare --mount sh "$0" "$@"
-fi
+# The files of a served device that are links, are removed or replaced while it is served, or end.
 tests=$(cd "$(dirname "$0")" && pwd -P)
 . "$tests/common/cases.sh"
 . "$tests/common/served.sh"
@@ -15,11 +10,6 @@ back=$(words 'HierarchyChangeAuth OWNER pw:6f776e -')
 # tried LABEL IMAGE: a run with this image and without a connection.
 tried() {
     run "$1" serve --socket socket --image "$2" --entropy entropy --locality 0 --connections 0
-}
-
-# wanted FIRST LAST: the lines that are wanted, of those that cannot be made here.
-wanted() {
-    sed -n "/^$1/,/^$2/p" "$tests/serve_files.out"
 }
 
 # An image that is a link is read where the link leads to. A new file takes the place of the link;
@@ -108,61 +98,3 @@ mv enough entropy
 begin 1
 talk 'what that command did was saved' 4096 "$startup" "$back"
 ended 'one connection'
-
-# A disk that is full: the image stays as it was. With room again, the device goes on from there.
-if [ -n "${own_mounts:-}" ] && mkdir disk && mount -t tmpfs -o size=16k none disk 2>/dev/null; then
-    cp kept disk/image
-    image=disk/image
-    head -c 1000000 /dev/zero >disk/full 2>/dev/null
-    begin 1
-    talk 'a full disk' 4096 "$startup" "$back"
-    ended 'one connection'
-    cmp disk/image kept && echo 'the image is as it was'
-    rm disk/full
-    begin 1
-    talk 'a disk with room again' 4096 "$startup" "$back"
-    ended 'one connection'
-    image=
-    echo "on it: $(ls -A disk | tr '\n' ' ')"
-    umount disk
-else
-    wanted 'a full disk' 'on it: '
-fi
-
-# Somebody who may not read a file, or not write to a folder: whoever runs this, or where root does so,
-# who may do all, nobody. That one has a copy of the program, in a folder of the sort of /tmp.
-chmod 711 "$room" "$room/folder"
-mkdir theirs
-cp "$program" theirs/program
-cp kept theirs/image
-cp entropy theirs/entropy
-mkdir theirs/closed
-cp kept theirs/closed/image
-chmod 777 theirs
-chmod 755 theirs/program
-chmod 644 theirs/image theirs/entropy theirs/closed/image
-chmod 555 theirs/closed
-cd theirs || exit 1
-echo unread >unreadable
-chmod 000 unreadable
-as=
-[ "$(id -u)" -ne 0 ] || as='setpriv --reuid 65534 --regid 65534 --clear-groups '
-printf '#!/bin/sh\nexec %s"%s" "$@"\n' "$as" "$PWD/program" >"$room/somebody"
-chmod 755 "$room/somebody"
-program=$room/somebody
-if "$program" --version >"$room/output" 2>&1 && ! $as cat unreadable >"$room/output" 2>&1; then
-    tried 'an image that may not be read' unreadable
-    run 'random bytes that may not be read' serve --socket socket --image image \
-        --entropy unreadable --locality 0 --connections 0
-    run 'a socket in a folder that may not be written to' serve --socket closed/socket \
-        --image image --entropy entropy --locality 0 --connections 0
-    image=closed/image
-    begin 1
-    talk 'an image in a folder that may not be written to' 4096 "$startup" "$back"
-    ended 'one connection'
-    ls -A closed
-    cmp closed/image ../kept && echo 'the image is as it was, too'
-else
-    wanted 'an image that may not' 'the image is as it was, too'
-fi
-chmod 755 closed

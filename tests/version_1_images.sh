@@ -2,5 +2,6 @@
 # what it saves then, is what the device in Python answers and saves.
 tests=$(cd "$(dirname "$0")" && pwd -P)
 . "$tests/common/cases.sh"
+needs python3
 
 PYTHONDONTWRITEBYTECODE=1 python3 "$tests/outside/scripts/version_1_images.py" "$program"

@@ -14,7 +14,9 @@
 # others with the other programs. NAME.out is what standard output must be, NAME.err what standard
 # error must be (no file: empty), and NAME.status the exit status (no file: 0). Where there is a
 # NAME.trace, NAME.tpm is run as `PROGRAM run --trace NAME.tpm` too, which is a further test, and
-# NAME.trace is what standard output must be. The last line is `N passed, M failed`.
+# NAME.trace is what standard output must be. A shell test that cannot run here ends with status 77,
+# and prints one line, its reason: it is skipped, and so counted, as is one whose program is not
+# there. The last line is `N passed, M failed`, and behind that `, K skipped` where a test was.
 set -u
 
 top=$(CDPATH='' cd "$(dirname "$0")/.." && pwd -P) || exit 1
@@ -25,10 +27,16 @@ trap 'rm -rf "$work"' EXIT
 : >"$work/empty"
 passed=0
 failed=0
+skipped=0
 
 fail() {
     echo "FAILED: $1"
     failed=$((failed + 1))
+}
+
+skip() {
+    echo "skipped: $1: $2"
+    skipped=$((skipped + 1))
 }
 
 # first_difference TEST WANTED: the first line of standard output that differs from what is wanted,
@@ -69,6 +77,14 @@ name_of() {
     esac
 }
 
+# is_skipped TEST STATUS: whether a test that ended so was skipped, and gave its reason.
+is_skipped() {
+    case $1,$2 in
+    *.sh,77) [ "$(grep -c . "$work/output")" -eq 1 ] && [ "$(wc -l <"$work/output")" -eq 1 ] ;;
+    *) false ;;
+    esac
+}
+
 # run TEST PROGRAM [OPTION]: runs a test with a program.
 run() {
     case $1,$2 in
@@ -89,6 +105,10 @@ check() {
     fi
     status=0
     run "$1" "$2" "${4:-}" >"$work/output" 2>"$work/error" || status=$?
+    if is_skipped "$1" "$status"; then
+        skip "$named" "$(cat "$work/output")"
+        return
+    fi
     wanted_status=$(status_of "$1")
     wanted_error=$work/empty
     [ ! -f "$base.err" ] || wanted_error=$base.err
@@ -165,8 +185,15 @@ if [ -x "$lists" ]; then
     done
 else
     missing "$lists"
+    for test do
+        case $test in
+        */lists_*.sh) skip "${test#"$top/"}" 'tpmsim_lists was not built here' ;;
+        esac
+    done
 fi
 
 [ -x "$out/tpmsim" ] || echo 'No proof was run: nothing was proved and built here.'
-echo "$passed passed, $failed failed"
+counts="$passed passed, $failed failed"
+[ "$skipped" -eq 0 ] || counts="$counts, $skipped skipped"
+echo "$counts"
 [ "$failed" -eq 0 ]

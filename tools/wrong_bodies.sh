@@ -15,7 +15,8 @@ cd "$(dirname "$0")/.."
 if [ "$#" -eq 0 ]; then
     for folder in wrong/*/; do
         crate=${folder%/}
-        set -- "$@" "${crate#wrong/}"
+        crate=${crate#wrong/}
+        [ ! -d "crates/$crate" ] || set -- "$@" "$crate"
     done
 fi
 folder=$(mktemp -d)

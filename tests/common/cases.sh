@@ -11,6 +11,20 @@ program=$room/tpmsim
 ln -s "$(cd "$(dirname "$1")" && pwd -P)/$(basename "$1")" "$program" || exit 1
 mkdir "$room/folder" && cd "$room/folder" || exit 1
 
+# skip REASON: ends a test that cannot run here, before it has printed anything. tools/scripts.sh
+# counts it as skipped.
+skip() {
+    echo "$1"
+    exit 77
+}
+
+# needs TOOL..: skips the test where one of these is not there.
+needs() {
+    for tool do
+        command -v "$tool" >"$room/found" || skip "there is no $tool"
+    done
+}
+
 # TPM2_Startup(CLEAR), which is answered SUCCESS (80010000000a00000000), and INITIALIZE
 # (80010000000a00000100) the second time. `cmd` alone is COMMAND_SIZE (80010000000a00000142).
 # shellcheck disable=SC2034 # the tests use it

@@ -1,13 +1,14 @@
 """Faults that end the front: a program that ends, that is none, that answers nonsense, an image
-that is damaged, and a script that becomes too long. The image stays whole.
+that is damaged, or that another run has, and a script that becomes too long. The image stays whole.
 """
 
 import os
 import re
 import signal
 import stat
+import subprocess
 
-from front_client import Front
+from front_client import PROGRAM, Front
 
 CHANGE = "HierarchyChangeAuth OWNER pw:- 6f776e"
 
@@ -66,6 +67,29 @@ def images():
     open("state/tpm.image", "wb").write(whole)
 
 
+def begun():
+    """A run beside the fronts, on the same image."""
+    words = [PROGRAM, "run", "--image", "state/tpm.image", "-"]
+    pipes = {name: subprocess.PIPE for name in ("stdin", "stdout", "stderr")}
+    return subprocess.Popen(words, **pipes)
+
+
+def another_run():
+    """A front ends where another run has the image, and a run where a front has it."""
+    run = begun()
+    run.stdin.write(b"do Startup 0\n")
+    run.stdin.flush()
+    print("another run has the image:", run.stdout.readline().decode().strip())
+    Front(waits=False).ended("a front beside it")
+    said = run.communicate(b"do GetRandom 4\n")
+    print(f"that run: status {run.returncode}", *said)
+    front = Front()
+    run = begun()
+    said = run.communicate(b"do Startup 0\n")
+    print(f"a run beside a front: status {run.returncode}", *said)
+    front.shut_down("that front")
+
+
 def too_long(label, *options):
     """It ends before a line that has no room."""
     front = Front("--lines", "200", *options)
@@ -103,6 +127,7 @@ def log_full():
 program_ends()
 no_program()
 images()
+another_run()
 often_reset()
 log_full()
 too_long("a script")

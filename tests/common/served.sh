@@ -1,5 +1,6 @@
 # What the tests of a served device share: they read it behind cases.sh, which gives `program` and
 # `room`. A client in Python sends the commands, and prints each response on a line.
+needs python3
 client=$tests/common/client.py
 export PYTHONDONTWRITEBYTECODE=1
 

@@ -103,7 +103,8 @@ def text_of(path):
 
 def check_service(program, label, image, connections):
     """A run that serves this many connections, with this image or with none. It takes its memory
-    before its socket is there: so it answers nothing where it is starved, and leaves nothing.
+    before its socket is there: so it answers nothing where it is starved, and leaves nothing but the
+    lock of its image.
     """
 
     def run(first, last):
@@ -115,7 +116,7 @@ def check_service(program, label, image, connections):
         process = program.begun([*SERVE, str(connections)], first, last, ROOM)
         answers = talked(process) if connections else b""
         ending = ended(process)
-        names = {path.name for path in ROOM.iterdir()} - {"image", "entropy"}
+        names = {path.name for path in ROOM.iterdir()} - {"image", "image.lock", "entropy"}
         told = image_told(text_of(ROOM / "image"))
         return Service(ending, answers, told, tuple(sorted(names)))
 

@@ -158,7 +158,8 @@ int link(const char *old, const char *new) {
 }
 
 int statx(int folder, const char *path, int flags, unsigned mask, struct statx *told) {
-    if (fails("statx", path)) return -1;
+    char room[256];
+    if (fails("statx", *path ? path : name_of(folder, room, sizeof room))) return -1;
     return NEXT(int (*)(int, const char *, int, unsigned, struct statx *), "statx")(
         folder, path, flags, mask, told);
 }

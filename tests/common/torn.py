@@ -64,9 +64,13 @@ class End:
 
 # By the function and what it is about. The folder beside the socket is .0, and the socket in it s.
 ENDINGS = {
+    "statx image": End(FILE),
+    "open image.lock": End(FILE),
+    "flock image.lock": End(FILE),
     "open image": End(FILE),
     "read image": End(FILE),
     "open entropy": End(ENTROPY),
+    "statx entropy": End(ENTROPY),
     "read entropy": End(ENTROPY),
     "clock_gettime": End(ENTROPY),
     "mkdir .0": End(SOCKET),
@@ -99,6 +103,9 @@ ERRORS = {
     "accept4": errno.EMFILE,
     "write image.new": errno.ENOSPC,
 }
+
+# The files of a run that stay, whatever comes of it.
+OWN = {"image", "image.lock", "entropy"}
 
 # What the connections send. A command in words, or bytes that are none: of another tag, with a byte
 # too few, and with a size that ends the connection.
@@ -221,7 +228,7 @@ def served(program, library, text, at=0, error=0):
     ending = ended(process)
     held = {path.name: path for path in ROOM.iterdir()}
     saved = held["image"].read_bytes() if "image" in held else None
-    others = sorted(set(held) - {"image", "entropy"})
+    others = sorted(set(held) - OWN)
     return Service(ending, tuple(map(tuple, answers)), saved, tuple(others))
 
 
@@ -323,7 +330,7 @@ def check_next(program, library, label, saved):
     talked(process, [])
     ending = ended(process)
     text = (ROOM / "image").read_bytes()
-    left = {path.name for path in ROOM.iterdir()} - {"image", "entropy", ".0"}
+    left = {path.name for path in ROOM.iterdir()} - OWN - {".0"}
     if ending != WELL or left or told_of(text) != (saved or Model(None).image):
         fail(f"{label}, the next run: {ending}, {left}, {text.hex()}")
 
@@ -381,11 +388,12 @@ def check_words(program, library, label, words, stdin=b""):
 
 
 class Rival:
-    """A run that serves many connections, whose call of a number waits for the file `go`."""
+    """A run that serves many connections, whose call of a number waits for the file `go`. The file of
+    one word, `image` or `socket`, is its own."""
 
-    def __init__(self, program, library, name, at=0):
+    def __init__(self, program, library, name, own, at=0):
         self.calls = ROOM / f"{name}.calls"
-        words = [f"{name}.image" if it == "image" else it for it in SERVE]
+        words = [f"{name}.{own}" if it == own else it for it in SERVE]
         words = [program, *words, "1000"]
         told = {"AT": at, "ERROR": 0, "CALLS": self.calls.resolve()}
         told["WAIT_FOR"] = (ROOM / "go").resolve()
@@ -414,29 +422,39 @@ def await_that(is_so, seconds):
         time.sleep(0.001)
 
 
-def begin_beside_left():
-    """An empty folder, with a socket at which nobody answers."""
+def begin_anew():
+    """A folder with random bytes alone."""
     shutil.rmtree(ROOM, ignore_errors=True)
     ROOM.mkdir()
     (ROOM / "entropy").write_bytes(bytes(2 * RANDOM_BYTES))
+
+
+def begin_beside_left():
+    """The same with a socket at which nobody answers."""
+    begin_anew()
     left = socket.socket(socket.AF_UNIX, socket.SOCK_STREAM)
     left.bind(str(ROOM / "socket"))
     left.close()
 
 
-def check_rivals(program, library):
-    """Of two runs over a socket that was left, one goes on, wherever the other one is meanwhile."""
-    begin_beside_left()
-    alone = Rival(program, library, "first")
+def check_rivals(program, library, begin, own, wanted, at_most):
+    """Of two runs of which each has its own image or its own socket, and which share the other, one
+    goes on, wherever the first one is meanwhile. The second is given this long, in seconds, before
+    the first goes on. Gives the numbers of the calls at which it needed the first.
+    """
+    begin()
+    alone = Rival(program, library, "first", own)
     await_that(alone.is_settled, AT_MOST)
     alone.end()
-    calls = alone.noted
+    calls, waited = alone.noted, []
     for at in range(1, calls.index("accept4 ") + 1):
-        begin_beside_left()
-        first = Rival(program, library, "first", at)
+        begin()
+        first = Rival(program, library, "first", own, at)
         await_that(lambda: len(first.noted) == at, AT_MOST)
-        second = Rival(program, library, "second")
-        await_that(second.is_settled, A_WHILE)
+        second = Rival(program, library, "second", own)
+        await_that(second.is_settled, at_most)
+        if not second.is_settled():
+            waited.append(calls[at - 1])
         (ROOM / "go").touch()
         for rival in (first, second):
             await_that(rival.is_settled, AT_MOST)
@@ -444,9 +462,21 @@ def check_rivals(program, library):
         endings = [rival.end() for rival in (first, second) if not rival.serves]
         for rival in going:
             rival.end()
-        if len(going) != 1 or endings != [SOCKET]:
+        if len(going) != 1 or endings != [wanted]:
             fail(f"a second run while the first one waits at {calls[at - 1]}: {len(going)} go on")
+    return waited
+
+
+def check_socket_rivals(program, library):
+    check_rivals(program, library, begin_beside_left, "image", SOCKET, A_WHILE)
     print("two runs over a socket that was left: one goes on, the other ends with tpmsim: socket")
+
+
+def check_image_rivals(program, library):
+    waited = check_rivals(program, library, begin_anew, "socket", FILE, AT_MOST)
+    if waited:
+        fail(f"a second run on an image waits for the first one at {waited}")
+    print("two runs on one image: one goes on, the other ends with tpmsim: file at once")
 
 
 def main():
@@ -460,7 +490,8 @@ def main():
     check_words(program, library, "a help", ["--help"])
     check_service(program, library, "a device that is made", None)
     check_service(program, library, "a device from an image", image(new_device(random_of(0))))
-    check_rivals(program, library)
+    check_socket_rivals(program, library)
+    check_image_rivals(program, library)
 
 
 if __name__ == "__main__":

@@ -26,6 +26,9 @@ WELL = Ending(0)
 FILE, ENTROPY = Ending(3, error=b"tpmsim: file\n"), Ending(3, error=b"tpmsim: entropy\n")
 HALF = 0
 
+# The files of a run that stay, whatever comes of it.
+OWN = {"image", "image.lock", "entropy"}
+
 LINES = [
     "do Startup 0",
     "do HierarchyChangeAuth OWNER pw:- 6f6e65",
@@ -111,7 +114,7 @@ def ran(program, library, text, at=0, error=0):
     ending = ended(process)
     held = {path.name: path for path in ROOM.iterdir()}
     saved = held["image"].read_bytes() if "image" in held else None
-    return Result(ending, tuple(answers), saved, tuple(sorted(set(held) - {"image", "entropy"})))
+    return Result(ending, tuple(answers), saved, tuple(sorted(set(held) - OWN)))
 
 
 def fault_of(call):

@@ -70,11 +70,14 @@ class Blobs:
         return True
 
     def replaced(self, base, script):
-        """Puts a device in the place of another one, of which the image stays beside."""
+        """Puts a device in the place of another one, of which the image stays beside. Meanwhile no
+        program runs on the image.
+        """
         device, record = self.board.device, self.board.record
         device.end()
-        files.replace(device.image + ".before", files.read(device.image))
-        files.replace(device.image, base)
+        with files.locked(device.image + ".lock", "another run"):
+            files.replace(device.image + ".before", files.read(device.image))
+            files.replace(device.image, base)
         device.begin()
         printed = device.play(script)
         self.board.log.say(f"took up a state, {len(printed) // 2} commands behind its power cycle")

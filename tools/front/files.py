@@ -79,11 +79,14 @@ def remove(path):
         raise Fault(FILES, f"{path}: {error.strerror}") from None
 
 
-def locked(path):
-    """A lock that lasts while anybody has its descriptor open, a child of this process too."""
+def locked(path, holder):
+    """A lock that lasts while anybody has its descriptor open, a child of this process too. `holder`
+    is whoever may have it.
+    """
     lock = appended(path)
     try:
         fcntl.flock(lock, fcntl.LOCK_EX | fcntl.LOCK_NB)
     except OSError:
-        raise Fault(FILES, f"{path}: another front, or its device, is using this state") from None
+        lock.close()
+        raise Fault(FILES, f"{path}: {holder} is using this state") from None
     return lock

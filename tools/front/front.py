@@ -55,7 +55,8 @@ class Front:
         options, warn = self.options, self.log.warn
         if not os.path.isdir(options.folder):
             raise Fault(FILES, f"{options.folder}: no folder")
-        lock = files.locked(os.path.join(options.folder, "tpm.lock"))
+        path = os.path.join(options.folder, "tpm.lock")
+        lock = files.locked(path, "another front, or its device,")
         image = os.path.join(options.folder, "tpm.image")
         self.device = Device(self.program, image, lock, options.lines, warn)
         self.device.begin()

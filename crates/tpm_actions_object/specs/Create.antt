@@ -1,7 +1,7 @@
 -- TPM2_Create. TPM 2.0 Library, Part 3, section 12.1.
 use Rattle.std.specs.Prelude.{ℕ, ◌+◌, List, take, drop, None, Result, Ok}
 use Rattle.tpm_bytes.specs.Reading.{◌>>=◌}
-use Rattle.tpm_types_object.specs.ObjectName.{object_name}
+use Rattle.tpm_name.specs.ObjectName.{object_name}
 use Rattle.tpm_object.specs.declared.areas.Created.{Created}
 use Rattle.tpm_object.specs.declared.object.Object.{Object}
 use Rattle.tpm_object.specs.Areas.{created}

@@ -3,7 +3,7 @@ use Rattle.tpm_types.specs.declared.action_check.ActionCheck.TheVariants as acti
 use Rattle.std.specs.Prelude.{ℕ, ◌++◌, true, Some, Result, Ok, ok_or}
 use Rattle.tpm_bytes.specs.Reading.{◌>>=◌}
 use Rattle.tpm_bytes.specs.Writing.{sized_text}
-use Rattle.tpm_types_object.specs.ObjectName.{object_name}
+use Rattle.tpm_name.specs.ObjectName.{object_name}
 use Rattle.tpm_object.specs.declared.object.Object.{Object}
 use Rattle.tpm_object.specs.Primary.{primary_object}
 use Rattle.tpm_types.specs.declared.handle.Handle.{Handle}

@@ -8,8 +8,8 @@ use Rattle.tpm_bytes.specs.Writing.{sized_text}
 use Rattle.tpm_mac.specs.declared.algorithm.HashAlg.TheVariants.{Sha256}
 use Rattle.tpm_mac.specs.Digest.{hash_of}
 use Rattle.tpm_mac.specs.Hmac.{hmac_of}
-use Rattle.tpm_name.specs.Name.{handle_name}
-use Rattle.tpm_types_object.specs.ObjectName.{object_name}
+use Rattle.tpm_types_name.specs.Name.{handle_name}
+use Rattle.tpm_name.specs.ObjectName.{object_name}
 use Rattle.tpm_object.specs.declared.object.Object.{Object}
 use Rattle.tpm_pcr.specs.Banks.{select_digest_of}
 use Rattle.tpm_types_object.specs.declared.creation_data.CreationData.{CreationData}

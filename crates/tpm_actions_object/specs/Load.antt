@@ -2,7 +2,7 @@
 use Rattle.tpm_types.specs.declared.action_check.ActionCheck.TheVariants as action
 use Rattle.std.specs.Prelude.{ℕ, List, Some, Result, Ok}
 use Rattle.tpm_bytes.specs.Reading.{◌>>=◌, or_fault}
-use Rattle.tpm_types_object.specs.ObjectName.{object_name}
+use Rattle.tpm_name.specs.ObjectName.{object_name}
 use Rattle.tpm_object.specs.declared.object.Object.{Object}
 use Rattle.tpm_object.specs.Object.{loaded_object}
 use Rattle.tpm_object.specs.PrivateArea.{unwrapped}

@@ -2,7 +2,7 @@
 use Rattle.std.specs.Prelude.{◌++◌, Result, Ok}
 use Rattle.tpm_bytes.specs.Reading.{◌>>=◌}
 use Rattle.tpm_bytes.specs.Writing.{sized_text}
-use Rattle.tpm_types_object.specs.ObjectName.{object_name}
+use Rattle.tpm_name.specs.ObjectName.{object_name}
 use Rattle.tpm_object.specs.declared.object.Object.{Object}
 use Rattle.tpm_types_object.specs.Public.{public_text}
 use Rattle.tpm_record.specs.Record.{Record}

@@ -45,7 +45,7 @@ pub fn create<K: Keep>(keep: &mut K, call: &Call, answer: &mut Answer) -> Result
     let drawn = drawn_by(&asked.template, &asked.given);
     let created = create_areas(&asked.template, &asked.given, call.random);
     let iv = initial_vector(call.random, drawn);
-    let name = created.public.name();
+    let name = tpm_name::of_object(&created.public);
     let private = wrap_named(parent, &name, &created.sensitive, &iv);
     let text = &mut answer.parameters;
     let _ = text.put_sized(private.as_slice());

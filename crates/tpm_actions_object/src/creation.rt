@@ -4,7 +4,7 @@
 ghost use Rattle.tpm_bytes.specs.Reading.{Gives};
 ghost use Rattle.std.specs.Prelude.{◌≡◌, ◌+◌, ◌≤◌, ◌++◌, length};
 ghost use Rattle.tpm_bytes.specs.Writing.{sized_text};
-ghost use Rattle.tpm_types_object.specs.ObjectName.{object_name};
+ghost use Rattle.tpm_name.specs.ObjectName.{object_name};
 ghost use Rattle.tpm_types.specs.Locality.{locality_number};
 ghost use Rattle.tpm_actions_object.specs.Creation.{creation_data, creation_text, hierarchy_parent, object_parent, parameters_in, parameters_of, ticket_text};
 

@@ -5,7 +5,7 @@ ghost use Rattle.std.specs.Prelude.{◌≡◌};
 ghost use Rattle.tpm_actions_base.specs.Answer.{IsEmpty};
 ghost use Rattle.tpm_actions_base.specs.Request.{request_of};
 ghost use Rattle.tpm_actions_base.specs.Rows.{ActsIfRoom};
-ghost use Rattle.tpm_types_object.specs.ObjectName.{object_name};
+ghost use Rattle.tpm_name.specs.ObjectName.{object_name};
 ghost use Rattle.tpm_actions_object.specs.Load.{load_row, sensitive_of};
 
 use crate::checks::public_passes;
@@ -54,7 +54,7 @@ pub fn load<K: Keep>(keep: &mut K, call: &Call, answer: &mut Answer) -> Result<(
     end(&text)?;
     check_parent(parent)?;
     public_passes(1, &public, is_fixed(parent))?;
-    let name = public.name();
+    let name = tpm_name::of_object(&public);
     let sensitive = sensitive_of(parent, &public, &name, private)?;
     let above = parent.qualified_name.as_slice();
     let object = Object::loaded_named(parent.hierarchy, public, &name, &sensitive, above);

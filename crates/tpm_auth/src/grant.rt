@@ -17,12 +17,12 @@ use crate::comparison::{check_of, failure, is_locked_out, is_password_of, lockou
 use crate::entries::{any_decrypts, check_entries, reference_of};
 use crate::session_grant::{Grant, Sent, check_session};
 use arrayvec::ArrayVec;
-use tpm_name::Name;
 use tpm_policy::Demand;
 use tpm_record::{Keep, Means, auth_value_of, is_available, name_of, protection_of};
 use tpm_session::{HashedParameters, ParameterHashes, Protection, first_size};
 use tpm_types::{Check, Handle, Locality, Refused, ResponseCode, SessionKind};
 use tpm_types_command::{AuthEntry, Command, CommandCode};
+use tpm_types_name::Name;
 
 /// What the entries of a command authorize, each a handle or nothing.
 #[derive(Drop)]

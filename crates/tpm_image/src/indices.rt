@@ -20,7 +20,7 @@ use crate::fault::{FillFault, Malformed};
 use crate::fields::{Text, read_auth_value, read_sized, read_u16, write_sized, write_u16};
 use crate::version::Version;
 use tpm_bytes::Cursor;
-use tpm_nv::{DefineFault, Head, Indices, has_type_size};
+use tpm_nv::{Head, Indices, RestoreFault, has_type_size};
 use tpm_types::{AuthValue, NV_DATA_LIMIT};
 use tpm_types_nv::{NvAttribute, NvPublic};
 
@@ -107,8 +107,8 @@ fn add_index<N: Indices>(indices: &mut N, lowest: u64, text: &mut Cursor) -> Res
     }
     match indices.restore(index.public, index.auth_value, index.bytes) {
         Ok(()) => Ok(number + 1),
-        Err(DefineFault::Space) => Err(FillFault::Malformed),
-        Err(DefineFault::Defined | DefineFault::NoMemory) => Err(FillFault::NoMemory),
+        Err(RestoreFault::Space) => Err(FillFault::Malformed),
+        Err(RestoreFault::Defined | RestoreFault::NoMemory) => Err(FillFault::NoMemory),
     }
 }
 

@@ -1,5 +1,5 @@
 -- lockoutAuth: how a wrong try closes it, and how it opens again. TPM 2.0 Library, Part 1, section
--- 19.8.6 (lockoutAuth and lockoutRecovery).
+-- 19.8 (dictionary attack protection: lockoutAuth and lockoutRecovery).
 use Rattle.std.specs.Prelude.{ℕ, ◌+◌, ◌==◌, ◌&&◌, not, nat_le, Bool, true, false, if◌then◌else◌}
 use Rattle.tpm_lockout.specs.Lockout.{LockoutState, milliseconds}
 use Rattle.tpm_lockout.specs.Tries.{forgiven_after}

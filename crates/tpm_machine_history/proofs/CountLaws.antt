@@ -1,12 +1,12 @@
 -- What holds of counters by the history alone.
 use Rattle.std.proofs.Common.{arith, ◌≡◌, ◌⊎◌, ℕ, ◌+◌, ◌<◌, ◌≤◌, Bool, true, false, List, [], ◌∷◌, ◌++◌, Option, Some, None, Result, Ok, Err, refl, sym, ap, subst, ◌∙◌, inl, inr}
-use Rattle.std.proofs.lemmas.Bool.{cases_eq, eq-eqb, false≢true}
+use Rattle.std.proofs.lemmas.Bool.{cases_eq, eq-eqb, eqb-true, false≢true}
 use Rattle.tpm_types.specs.declared.handle.Handle.{Handle}
 use Rattle.tpm_types.specs.declared.refused.Refused.{Refused}
 use Rattle.tpm_types_command.specs.declared.command_code.CommandCode.{CommandCode}
 use Rattle.tpm_types_command.specs.declared.command_code.CommandCode.TheVariants as command
 use Rattle.tpm_actions_base.specs.Request.{Request, second_handle}
-use Rattle.tpm_machine_history.specs.Counters.{AllBelow, CountLaws, Counters, StaysDefined, begun_at, count_at, counted_at, counters_by, counters_of, counts_of, defined_handle, defines, defines_by, is_named, largest, next_count}
+use Rattle.tpm_machine_history.specs.Counters.{AllBelow, CountLaws, Counters, HasNoDefinition, IsDefinition, begun_at, count_at, counted_at, counters_by, counters_of, counts_of, defined_handle, defines, defines_by, is_named, largest, next_count}
 use Rattle.tpm_machine_history.specs.HandleMap.{by_handle}
 use Rattle.tpm_machine_history.specs.History.{Done, History, PastEvent, PowerCycled}
 use Rattle.tpm_machine_history.proofs.HandleMap.{at_other, at_same, same_handle}
@@ -98,60 +98,109 @@ history_within (Done c ∷ history) handle n some =
     command_within c.command.code c.request (counters_of history) (history_within history) handle n some
 history_within (PowerCycled ∷ history) handle n some = history_within history handle n some
 
--- ---- since some time, while a counter stays defined
+-- ---- while no index is defined anew
 
--- the least that it has had since, where it has another value, or has one at all
-abbrev floor : (most : ℕ) → Option ℕ → ℕ
-floor most None = most + 1
-floor most (Some n) = n
+-- It has a value, no less than this one.
+abbrev Since : (least : ℕ) → (now : Option ℕ) → Type 0
+Since least now = (n : ℕ) × (now ≡ Some n) × (least ≤ n)
 
-floor_next : (most more : ℕ) (was : Option ℕ) → most ≤ more → floor most was ≤ next_count more was
-floor_next most more None grown = omega (arith, grown)
-floor_next most more (Some n) grown = omega arith
-
--- It has what it had then, or no less than that least.
-abbrev Since : (most : ℕ) → (was now : Option ℕ) → Type 0
-Since most was now = (now ≡ was) ⊎ ((n : ℕ) × (now ≡ Some n) × (floor most was ≤ n))
-
-one_since : (most : ℕ) (was : Option ℕ) (c d : Counters) (handle : Handle) → most ≤ largest c.all → Moves c d false handle → Since most was (c.at handle) → Since most was (d.at handle)
-one_since most was c d handle grown (inl same) since = subst (λ now. Since most was now) (sym same) since
-one_since most was c d handle grown (inr (inl counts)) (inl still) =
+one_since : (least : ℕ) (c d : Counters) (handle : Handle) → Moves c d false handle → Since least (c.at handle) → Since least (d.at handle)
+one_since least c d handle (inl same) since = subst (Since least) (sym same) since
+one_since least c d handle (inr (inl counts)) (n, at, low) =
     let next : Option ℕ → Option ℕ = λ o. Some (next_count (largest c.all) o) in
-    inr (next_count (largest c.all) was, counts.0 ∙ ap next still, floor_next most (largest c.all) was grown)
-one_since most was c d handle grown (inr (inl counts)) (inr (n, at, low)) =
-    let next : Option ℕ → Option ℕ = λ o. Some (next_count (largest c.all) o) in
-    inr (n + 1, counts.0 ∙ ap next at, omega (arith, low))
-one_since most was c d handle grown (inr (inr begun)) since = absurd (false≢true begun.1)
+    (n + 1, counts.0 ∙ ap next at, omega (arith, low))
+one_since least c d handle (inr (inr begun)) since = absurd (false≢true begun.1)
 
-all_since : (old new : History) (handle : Handle) → StaysDefined handle new → Since (largest (counts_of old)) (count_at old handle) (count_at (new ++ old) handle)
-all_since old [] handle stays = inl refl
-all_since old (one ∷ new) handle stays =
+never_down : (old new : History) (handle : Handle) (n : ℕ) → count_at old handle ≡ Some n → HasNoDefinition handle new → Since n (count_at (new ++ old) handle)
+never_down old [] handle n some none = (n, some, omega arith)
+never_down old (one ∷ new) handle n some none =
     let before = counters_of (new ++ old) in
     let after = counters_of (one ∷ new ++ old) in
-    one_since (largest (counts_of old)) (count_at old handle) before after handle (history_grows old new)
-    (subst (λ defined. Moves before after defined handle) stays.0 (event_moves (new ++ old) one handle)) (all_since old new handle stays.1)
+    one_since n before after handle
+    (subst (λ defined. Moves before after defined handle) none.0 (event_moves (new ++ old) one handle)) (never_down old new handle n some none.1)
 
--- ---- the laws
+-- ---- since it had no value
+
+-- It has no value, or one above all these.
+abbrev Above : (most : ℕ) → (now : Option ℕ) → Type 0
+Above most now = (now ≡ None) ⊎ ((n : ℕ) × (now ≡ Some n) × (most < n))
+
+one_above : (most : ℕ) (c d : Counters) (defined : Bool) (handle : Handle) → most ≤ largest c.all → Moves c d defined handle → Above most (c.at handle) → Above most (d.at handle)
+one_above most c d defined handle grown (inl same) above = subst (Above most) (sym same) above
+one_above most c d defined handle grown (inr (inl counts)) (inl none) =
+    let next : Option ℕ → Option ℕ = λ o. Some (next_count (largest c.all) o) in
+    inr (largest c.all + 1, counts.0 ∙ ap next none, omega (arith, grown))
+one_above most c d defined handle grown (inr (inl counts)) (inr (n, at, low)) =
+    let next : Option ℕ → Option ℕ = λ o. Some (next_count (largest c.all) o) in
+    inr (n + 1, counts.0 ∙ ap next at, omega (arith, low))
+one_above most c d defined handle grown (inr (inr begun)) above = inl begun.0
+
+all_above : (old new : History) (handle : Handle) → count_at old handle ≡ None → Above (largest (counts_of old)) (count_at (new ++ old) handle)
+all_above old [] handle none = inl none
+all_above old (one ∷ new) handle none =
+    one_above (largest (counts_of old)) (counters_of (new ++ old)) (counters_of (one ∷ new ++ old)) (defines one handle) handle (history_grows old new)
+    (event_moves (new ++ old) one handle) (all_above old new handle none)
 
 all_below : (ns : List ℕ) (n : ℕ) → largest ns < n → AllBelow n ns
 all_below [] n below = tt
 all_below (m ∷ ns) n below = (omega (arith, below), all_below ns n (omega (arith, below)))
 
-first_exceeds : (old new : History) (handle : Handle) (n : ℕ) → count_at old handle ≡ None → StaysDefined handle new → count_at (new ++ old) handle ≡ Some n → AllBelow n (counts_of old)
-first_exceeds old new handle n none stays some =
-    by (subst (λ was. Since (largest (counts_of old)) was (count_at (new ++ old) handle)) none (all_since old new handle stays))
+first_exceeds : (old new : History) (handle : Handle) (n : ℕ) → count_at old handle ≡ None → count_at (new ++ old) handle ≡ Some n → AllBelow n (counts_of old)
+first_exceeds old new handle n none some = by (all_above old new handle none)
   where
-    by : Since (largest (counts_of old)) None (count_at (new ++ old) handle) → AllBelow n (counts_of old)
+    by : Above (largest (counts_of old)) (count_at (new ++ old) handle) → AllBelow n (counts_of old)
     by (inl still) = absurd (some_none n (sym still ∙ some))
     by (inr (m, at, low)) = let same : m ≡ n = some_same m n (sym at ∙ some) in all_below (counts_of old) n (omega (arith, same, low))
 
-never_down : (old new : History) (handle : Handle) (n : ℕ) → count_at old handle ≡ Some n → StaysDefined handle new → (m : ℕ) × (count_at (new ++ old) handle ≡ Some m) × (n ≤ m)
-never_down old new handle n some stays =
-    by (subst (λ was. Since (largest (counts_of old)) was (count_at (new ++ old) handle)) some (all_since old new handle stays))
-  where
-    by : Since (largest (counts_of old)) (Some n) (count_at (new ++ old) handle) → (m : ℕ) × (count_at (new ++ old) handle ≡ Some m) × (n ≤ m)
-    by (inl still) = (n, still, omega arith)
-    by (inr reached) = reached
+-- ---- a definition
+
+-- what is named is another handle or this one
+named_is : (named : Result Handle Refused) (handle : Handle) → is_named named handle ≡ true → (h : Handle) × (named ≡ Ok h) × (h.number ≡ handle.number)
+named_is (Ok h) handle is = (h, refl, eqb-true h.number handle.number is)
+named_is (Err e) handle is = absurd (false≢true is)
+
+begun_none : (named : Result Handle Refused) (c : Counters) (handle : Handle) → is_named named handle ≡ true → ((by_handle named begun_at c).at handle ≡ None) × ((by_handle named begun_at c).all ≡ c.all)
+begun_none (Ok h) c handle is = (at_same h handle None c.at (sym (eqb-true h.number handle.number is)), refl)
+begun_none (Err e) c handle is = absurd (false≢true is)
+
+code_begins : (code : CommandCode) (q : Request) (c : Counters) (handle : Handle) → defines_by code q handle ≡ true → ((counters_by code q c).at handle ≡ None) × ((counters_by code q c).all ≡ c.all)
+code_begins command.NvDefineSpace q c handle is = begun_none (defined_handle q.parameters) c handle is
+code_begins _ q c handle is = absurd (false≢true is)
+
+-- what is defined has no value yet, and no counter counts
+definition_begins : (old : History) (one : PastEvent) (handle : Handle) → defines one handle ≡ true → (count_at (one ∷ old) handle ≡ None) × (counts_of (one ∷ old) ≡ counts_of old)
+definition_begins old (Done c) handle is = code_begins c.command.code c.request (counters_of old) handle is
+definition_begins old PowerCycled handle is = absurd (false≢true is)
+
+defined_exceeds : (old new : History) (definition : PastEvent) (handle : Handle) (n : ℕ) → defines definition handle ≡ true → count_at (new ++ definition ∷ old) handle ≡ Some n → AllBelow n (counts_of old)
+defined_exceeds old new definition handle n is some =
+    let (none, same) = definition_begins old definition handle is in
+    subst (AllBelow n) same (first_exceeds (definition ∷ old) new handle n none some)
+
+code_defines : (code : CommandCode) (q : Request) (handle : Handle) → defines_by code q handle ≡ true → (code ≡ command.NvDefineSpace) × ((h : Handle) × (defined_handle q.parameters ≡ Ok h) × (h.number ≡ handle.number))
+code_defines command.NvDefineSpace q handle is = (refl, named_is (defined_handle q.parameters) handle is)
+code_defines _ q handle is = absurd (false≢true is)
+
+is_definition : (one : PastEvent) (handle : Handle) → defines one handle ≡ true → IsDefinition one handle
+is_definition (Done c) handle is =
+    let found = code_defines c.command.code c.request handle is in
+    record { accepted = c; named = found.1.0; is = refl; code = found.0; defined = found.1.1; same = found.1.2 }
+is_definition PowerCycled handle is = absurd (false≢true is)
+
+defines_it : (one : PastEvent) (handle : Handle) → IsDefinition one handle → defines one handle ≡ true
+defines_it one handle d =
+    ap (λ (p : PastEvent). defines p handle) d.is
+    ∙ ap (λ (code : CommandCode). defines_by code d.accepted.request handle) d.code
+    ∙ ap (λ (named : Result Handle Refused). is_named named handle) d.defined
+    ∙ eq-eqb d.named.number handle.number d.same
+
+-- ---- the laws
 
 pub count_laws : CountLaws
-count_laws = record { first_exceeds = first_exceeds; never_down = never_down; within = history_within }
+count_laws = record {
+  definitions = λ one handle. (is_definition one handle, defines_it one handle);
+  first_exceeds = first_exceeds;
+  defined_exceeds = defined_exceeds;
+  never_down = never_down;
+  within = history_within;
+}

@@ -1,5 +1,5 @@
 -- The counters of a device are those of its history, so that none goes down.
-use Rattle.std.proofs.Common.{ℕ, List, [], ◌∷◌, ◌++◌, refl, sym, ap, subst, ◌∙◌}
+use Rattle.std.proofs.Common.{◌≡◌, ℕ, List, [], ◌∷◌, ◌++◌, append_assoc, refl, sym, ap, subst, ◌∙◌}
 use Rattle.tpm_sorted_map.specs.SortedMap.{Ascends}
 use Rattle.tpm_types.specs.declared.handle.Handle.{Handle}
 use Rattle.tpm_nv.specs.Index.{NvIndex}
@@ -9,8 +9,8 @@ use Rattle.tpm_machine_step.specs.Table.{row_of}
 use Rattle.tpm_machine_laws.specs.Acceptance.{IsAcceptance}
 use Rattle.tpm_machine_laws.proofs.Binding.{ok_at}
 use Rattle.tpm_machine_laws.proofs.Leaving.{success_leaves}
-use Rattle.tpm_machine_history.specs.Counters.{Counters, counters_by, counters_of}
-use Rattle.tpm_machine_history.specs.DeviceCounters.{AreCounted, BeginsAbove, HasCounters, KeepsCounter}
+use Rattle.tpm_machine_history.specs.Counters.{Counters, count_at, counters_by, counters_of}
+use Rattle.tpm_machine_history.specs.DeviceCounters.{AreCounted, BeginsAbove, ExceedsEarlier, HasCounters, KeepsCounter}
 use Rattle.tpm_machine_history.specs.History.{Done, History, command_of}
 use Rattle.tpm_machine_history.proofs.CountedIndices.{row_counts}
 use Rattle.tpm_machine_history.proofs.CountLaws.{count_laws}
@@ -34,8 +34,15 @@ keeps_counter old new history meanwhile handle before after had has found counte
     let (m, at, up) = count_laws.never_down history meanwhile handle n (sym was.value ∙ some) stays in
     (m, is.value ∙ at, up)
 
-pub begins_above : (old new : Record) (history meanwhile : History) (handle : Handle) (before after : NvIndex) → HasCounters old history → HasCounters new (meanwhile ++ history) → BeginsAbove old new history meanwhile handle before after
-begins_above old new history meanwhile handle before after had has found counter there still stays none n some =
+pub begins_above : (old new : Record) (history meanwhile : History) (handle : Handle) (before after : NvIndex) → HasCounters old history → HasCounters new (meanwhile ++ history) → BeginsAbove old new history handle before after
+begins_above old new history meanwhile handle before after had has found counter none there still n some =
     let was = had.each handle before found counter in
     let is = has.each handle after there still in
-    count_laws.first_exceeds history meanwhile handle n (sym was.value ∙ none) stays (sym is.value ∙ some)
+    count_laws.first_exceeds history meanwhile handle n (sym was.value ∙ none) (sym is.value ∙ some)
+
+pub exceeds_earlier : (new : Record) (history meanwhile : History) (handle : Handle) (after : NvIndex) → HasCounters new (meanwhile ++ history) → ExceedsEarlier new history meanwhile handle after
+exceeds_earlier new history meanwhile handle after has earlier later definition parts defines there still n some =
+    let is = has.each handle after there still in
+    let whole : meanwhile ++ history ≡ later ++ definition ∷ (earlier ++ history) = ap (λ (h : History). h ++ history) parts ∙ append_assoc later (definition ∷ earlier) history in
+    count_laws.defined_exceeds (earlier ++ history) later definition handle n defines
+    (ap (λ (h : History). count_at h handle) (sym whole) ∙ sym is.value ∙ some)

@@ -1,6 +1,6 @@
 -- The sessions of a device are those of its history.
-use Rattle.std.proofs.Common.{◌≡◌, ℕ, Bool, true, false, cond, List, [], ◌∷◌, length, drop, map, Option, Some, None, option_map, refl, ap, sym, subst, ◌∙◌}
-use Rattle.std.proofs.lemmas.Bool.{false≢true}
+use Rattle.std.proofs.Common.{arith, ◌≡◌, ◌⊎◌, ◌≤◌, ℕ, Bool, true, false, cond, List, [], ◌∷◌, length, length-drop, drop, map, Option, Some, None, option_map, refl, ap, sym, subst, ◌∙◌, inl, inr}
+use Rattle.std.proofs.lemmas.Bool.{cases_Bool, false≢true}
 use Rattle.std.specs.List.{zip}
 use Rattle.tpm_session.specs.Sessions.{session_at}
 use Rattle.tpm_session.specs.declared.session.Session.{Session}
@@ -15,10 +15,13 @@ use Rattle.tpm_actions_base.specs.Request.{Request}
 use Rattle.tpm_actions_base.specs.Rows.{Success}
 use Rattle.tpm_machine_step.specs.Answer.{Written, answer_to, written_of}
 use Rattle.tpm_machine_step.specs.Entries as device
+use Rattle.tpm_machine_step.specs.General.{is_startup}
 use Rattle.tpm_machine_step.specs.Step.{Accepted, success_step}
 use Rattle.tpm_machine_step.specs.Table.{row_of}
 use Rattle.tpm_machine_laws.specs.Acceptance.{IsAcceptance}
+use Rattle.tpm_machine_laws.specs.Draws.{draws_of}
 use Rattle.tpm_machine_laws.proofs.Binding.{ok_at}
+use Rattle.tpm_machine_laws.proofs.Draws.{row_draws_so, startup_alone}
 use Rattle.tpm_machine_history.specs.AuthValues.{auth_of}
 use Rattle.tpm_machine_history.specs.DevicePcrs.{HasPcrs}
 use Rattle.tpm_machine_history.specs.DeviceSessions.{AreLive, HasSessions, IsLive, SessionFacts, facts_of, session_facts}
@@ -67,12 +70,33 @@ module _ (r : Record) (a : Accepted) (locality : ℕ) (random : List ℕ) (histo
       many pcrs has.live a.command.code)
       is.row refl
 
+  -- the row drew what the command's code and parameters say, or it has no entries, and draws none
+  drew : (a.success.answer.drawn ≡ draws_of a.command.code a.request) ⊎ ((a.command.entries ≡ []) × (draws_of a.command.code a.request ≡ 0))
+  drew =
+      elim (cases_Bool (is_startup a.command.code)) [
+        | inl startup ↦ let alone = startup_alone a.command.code a.request startup in inr (is.alone alone.0, alone.1)
+        | inr other ↦
+            inl (ok_at (λ (s : Success). s.answer.drawn ≡ draws_of a.command.code a.request) (row_of r a.command.code a.request) a.success (row_draws_so r a.command.code a.request other) is.row)
+      ]
+
+  abbrev bytes_left : List ℕ
+  bytes_left = drop (draws_of a.command.code a.request) a.request.random
+
+  rolled_same : (entries_rolled effect a.command.entries (drop a.success.answer.drawn random)).sessions ≡ (entries_rolled effect a.command.entries bytes_left).sessions
+  rolled_same = by drew
+    where
+      by : (a.success.answer.drawn ≡ draws_of a.command.code a.request) ⊎ ((a.command.entries ≡ []) × (draws_of a.command.code a.request ≡ 0)) → (entries_rolled effect a.command.entries (drop a.success.answer.drawn random)).sessions ≡ (entries_rolled effect a.command.entries bytes_left).sessions
+      by (inl same) =
+          ap (λ (n : ℕ). (entries_rolled effect a.command.entries (drop n random)).sessions) same
+          ∙ ap (λ (bytes : List ℕ). (entries_rolled effect a.command.entries (drop (draws_of a.command.code a.request) bytes)).sessions) same_random
+      by (inr none) = rw none.0 refl
+
   done_live : AreLive (success_step a random).after.sessions (sessions_of (Done c ∷ history))
   done_live =
       let written : Written = written_of a.success.answer in
       let x : Record = (answer_to a.command a.grants written a.success.after random).after in
       settled_live (shape_of a.command.code).keeps_shutdown (sessions_of (Done c ∷ history)) x
-      (subst (λ (bytes : List ℕ). AreLive x.sessions (entries_ended (entries_rolled effect a.command.entries (drop a.success.answer.drawn bytes)).sessions (zip a.command.entries a.grants))) same_random
+      (subst (λ (rolled : LiveSessions). AreLive x.sessions (entries_ended rolled (zip a.command.entries a.grants))) rolled_same
       (answer_told a.command a.grants written a.success.after random effect after_row))
 
   pub sessions_done : HasSessions (success_step a random).after (Done (command_of r a) ∷ history)
@@ -81,11 +105,17 @@ module _ (r : Record) (a : Accepted) (locality : ℕ) (random : List ℕ) (histo
     asleep = λ asleep. absurd (false≢true (sym asleep ∙ is_started r a locality random is));
   }
 
-  pub left_over : (device.entries_rolled a.success.after a.command.entries (drop a.success.answer.drawn random)).left ≡ (rolled_by (command_of r a) history (sessions_of history)).left
-  left_over =
-      let left : List ℕ = drop a.success.answer.drawn random in
-      (entries_roll a.success.after a.command.entries left effect after_row).1
-      ∙ ap (λ (bytes : List ℕ). (entries_rolled effect a.command.entries (drop a.success.answer.drawn bytes)).left) same_random
+  -- what is left after the nonces is enough
+  pub left_enough : 64 ≤ length (device.entries_rolled a.success.after a.command.entries (drop a.success.answer.drawn random)).left → 64 ≤ length (rolled_by (command_of r a) history (sessions_of history)).left
+  left_enough some = by drew (subst (λ (bytes : List ℕ). 64 ≤ length bytes) (entries_roll a.success.after a.command.entries (drop a.success.answer.drawn random) effect after_row).1 some)
+    where
+      by : (a.success.answer.drawn ≡ draws_of a.command.code a.request) ⊎ ((a.command.entries ≡ []) × (draws_of a.command.code a.request ≡ 0)) → 64 ≤ length (entries_rolled effect a.command.entries (drop a.success.answer.drawn random)).left → 64 ≤ length (entries_rolled effect a.command.entries bytes_left).left
+      by (inl same) some =
+          subst (λ (bytes : List ℕ). 64 ≤ length (entries_rolled effect a.command.entries (drop (draws_of a.command.code a.request) bytes)).left) same_random
+          (subst (λ (n : ℕ). 64 ≤ length (entries_rolled effect a.command.entries (drop n random)).left) same some)
+      by (inr none) some =
+          let all : 64 ≤ length (drop a.success.answer.drawn random) = rw none.0 at some in
+          rw (none.0, none.1, sym same_random) (omega (arith, all, length-drop a.success.answer.drawn random))
 
 -- ---- a session lives
 

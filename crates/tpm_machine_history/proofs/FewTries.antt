@@ -1,10 +1,13 @@
 -- In a stretch of events without a reset few tries fail.
-use Rattle.std.proofs.Common.{arith, ◌≡◌, ◌≢◌, ℕ, ◌+◌, Bool, true, false, cond, List, [], ◌∷◌, ◌++◌, Result, Ok, Err, IfOk, refl, sym, subst, ◌∙◌, inl}
+use Rattle.std.proofs.Common.{arith, ◌≡◌, ◌≢◌, ◌⊎◌, ℕ, ◌+◌, Bool, true, false, cond, List, [], ◌∷◌, ◌++◌, Result, Ok, Err, IfOk, refl, sym, subst, ap, ◌∙◌, inl, inr}
 use Rattle.std.specs.List.{AllByRecursion}
+use Rattle.std.proofs.lemmas.Bool.{false≢true}
 use Rattle.std.proofs.lemmas.List.Sums.{sum_by-cons}
 use Rattle.tpm_lockout.specs.Lockout.{LockoutState, times_restarted}
 use Rattle.tpm_lockout.specs.Tries.{is_locked}
 use Rattle.tpm_types_command.specs.CommandCode.{shape_of}
+use Rattle.tpm_types_command.specs.declared.command_code.CommandCode.{CommandCode}
+use Rattle.tpm_types_command.specs.declared.command_code.CommandCode.TheVariants as command
 use Rattle.tpm_record.specs.Record.{Record}
 use Rattle.tpm_record.specs.Tick.{ticked}
 use Rattle.tpm_machine_step.specs.Events.{PlainEvent, Given, Cycled}
@@ -14,9 +17,9 @@ use Rattle.tpm_machine_step.specs.declared.refused_command.RefusedCommand.{Refus
 use Rattle.tpm_machine_laws.specs.Acceptance.{IsAcceptance}
 use Rattle.tpm_machine_laws.proofs.Acceptance.{accepted_is}
 use Rattle.tpm_machine_history.specs.Executions.{Execution, Leads, history_after, with_execution}
-use Rattle.tpm_machine_history.specs.History.{PastEvent, recorded, with_command}
+use Rattle.tpm_machine_history.specs.History.{Done, PastEvent, PowerCycled, recorded, with_command}
 use Rattle.tpm_machine_history.specs.Potential.{IsForgiving, Pays}
-use Rattle.tpm_machine_history.specs.Tries.{FailsFew, FailsWithin, HasNoReset, counts_try, elapsed_in, elapsed_of, failures_in, fails_try, is_reset}
+use Rattle.tpm_machine_history.specs.Tries.{FailsFew, FailsWithin, HasNoReset, IsReset, counts_try, elapsed_in, elapsed_of, failures_in, fails_try, is_reset, resets_tries, tries_at_most, tries_within}
 use Rattle.tpm_machine_history.proofs.Balance.{IsPaid, cycle_pays, few_fail, pays_more, refusal_pays, same_pays, tick_pays}
 use Rattle.tpm_machine_history.proofs.FailedTries.{try_of, unlocked_of}
 use Rattle.tpm_machine_history.proofs.Forgiving.{same_done}
@@ -109,3 +112,26 @@ fails_within can old executions new is leads quiet counts =
 
 pub fails_few : (can : Bool) (old : Record) (executions : List Execution) (new : Record) → IsForgiving old.fixed.lockout → FailsFew can old executions new
 fails_few can old executions new is leads quiet counts = omega (arith, fails_within can old executions new is leads quiet counts)
+
+pub one_more : (old : Record) (executions : List Execution) → tries_at_most old executions ≡ tries_within old executions + 1
+one_more old executions = omega arith
+
+-- ---- what is no reset
+
+code_resets : (code : CommandCode) → resets_tries code ≡ true → (code ≡ command.DictionaryAttackLockReset) ⊎ (code ≡ command.DictionaryAttackParameters) ⊎ (code ≡ command.Clear)
+code_resets command.DictionaryAttackLockReset is = inl refl
+code_resets command.DictionaryAttackParameters is = inr (inl refl)
+code_resets command.Clear is = inr (inr refl)
+code_resets _ is = absurd (false≢true is)
+
+pub resets_so : (one : PastEvent) → is_reset one ≡ true → IsReset one
+resets_so (Done c) is = record { accepted = c; is = refl; code = code_resets c.command.code is }
+resets_so PowerCycled is = absurd (false≢true is)
+
+pub reset_is : (one : PastEvent) → IsReset one → is_reset one ≡ true
+reset_is one r = ap is_reset r.is ∙ by r.code
+  where
+    by : (r.accepted.command.code ≡ command.DictionaryAttackLockReset) ⊎ (r.accepted.command.code ≡ command.DictionaryAttackParameters) ⊎ (r.accepted.command.code ≡ command.Clear) → resets_tries r.accepted.command.code ≡ true
+    by (inl is) = ap resets_tries is
+    by (inr (inl is)) = ap resets_tries is
+    by (inr (inr is)) = ap resets_tries is

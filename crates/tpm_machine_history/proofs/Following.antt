@@ -33,13 +33,13 @@ use Rattle.tpm_machine_laws.proofs.Binding.{ok_at}
 use Rattle.tpm_machine_laws.proofs.SizedSteps.{cycled_sized, execution_sized, manufactured_sized}
 use Rattle.tpm_machine_history.specs.AuthValues.{auth_of}
 use Rattle.tpm_machine_history.specs.Executions.{Execution, Leads, history_after}
-use Rattle.tpm_machine_history.specs.Follows.{Follows, RunFollows, Shape, Tells}
+use Rattle.tpm_machine_history.specs.Follows.{Follows, RunFollows, Shape, StretchFollows, Tells}
 use Rattle.tpm_machine_history.specs.Sessions.{rolled_by, sessions_of}
 use Rattle.tpm_machine_history.specs.History.{AcceptedCommand, Done, History, PowerCycled, command_of, recorded, with_command}
 use Rattle.tpm_machine_history.proofs.DeviceAuthValues.{auth_values_done, cycled_auth_values, handles_auth_values, handles_present, manufactured_auth_values}
-use Rattle.tpm_machine_history.proofs.DeviceCounters.{begins_above, counters_done, keeps_counter, manufactured_counters}
+use Rattle.tpm_machine_history.proofs.DeviceCounters.{begins_above, counters_done, exceeds_earlier, keeps_counter, manufactured_counters}
 use Rattle.tpm_machine_history.proofs.DevicePcrs.{cycled_pcrs, manufactured_pcrs, pcrs_done}
-use Rattle.tpm_machine_history.proofs.DeviceSessions.{cycled_sessions, left_over, manufactured_sessions, sessions_done}
+use Rattle.tpm_machine_history.proofs.DeviceSessions.{cycled_sessions, left_enough, manufactured_sessions, sessions_done}
 use Rattle.tpm_machine_history.proofs.Forgiving.{forgives_counted, forgives_cycled, forgives_done, forgives_ticked, manufactured_forgives}
 use Rattle.tpm_machine_history.proofs.Leading.{history_apart, leads_keep}
 use Rattle.tpm_machine_history.proofs.FewTries.{fails_few, fails_within}
@@ -82,7 +82,7 @@ command_follows r a locality random history is some sound follows =
     let from : c.request.locality ≡ locality = ap (λ (q : Request). q.locality) is.requested in
     let present = handles_present r (shape_of a.command.code).handles a.command.handles is.fits in
     let granted : IsGranting r a.command locality a.grants = ok_at (IsGranting r a.command locality) (authorize r a.command locality) a.grants (granting r a.command locality) is.granted in
-    let left : 64 ≤ length (rolled_by c history (sessions_of history)).left = subst (λ (bytes : List ℕ). 64 ≤ length bytes) (left_over r a locality random history is follows.shape.sessions_many values follows.pcrs follows.sessions) some in
+    let left : 64 ≤ length (rolled_by c history (sessions_of history)).left = left_enough r a locality random history is follows.shape.sessions_many values follows.pcrs follows.sessions some in
     let shows : ShowsHmacs history c = record { hmacs = hmacs_shown r c history locality from refl values follows.pcrs follows.sessions.live follows.updates present a.grants granted; left = left } in
     record {
       counters = counters_done r a locality random history is follows.shape.indices_ascend follows.counters;
@@ -204,6 +204,24 @@ execution_follows can old event x history executes follows =
         subst (λ (y : Stepped). Follows y.after (recorded old event y.row.check history)) (sym same)
         (step_follows refused old event history (leaves_after old event (step_where refused old event).row.check executes.happens (λ passes. executes.modest (ap (λ (y : Stepped). y.row.check) same ∙ passes))) (subst (λ (y : Stepped). IsSound y.after) same sound) follows)
 
+-- ---- a stretch of events
+
+pub stretch_follows : (can : Bool) (old : Record) (executions : List Execution) (new : Record) (history : History) → Leads can old executions new → Follows old history → StretchFollows can old executions new history
+stretch_follows can old executions new history leads follows =
+    let meanwhile : History = history_after [] executions in
+    let now : Follows new (history_after history executions) = leads_keep Follows execution_follows can old executions new history leads follows in
+    let apart = subst (Follows new) (history_apart executions history) now in
+    record {
+      leads = leads;
+      follows = now;
+      counters_stay = λ handle before after. keeps_counter old new history meanwhile handle before after follows.counters apart.counters;
+      counters_begin = λ handle before after. begins_above old new history meanwhile handle before after follows.counters apart.counters;
+      counters_exceed = λ handle after. exceeds_earlier new history meanwhile handle after apart.counters;
+      few_fail = fails_few can old executions new follows.forgiving;
+      fail_within = fails_within can old executions new follows.forgiving;
+      replays = run_replays_repeat can old executions new history leads now.hmacs;
+    }
+
 -- ---- a run
 
 -- the executions of a run, told to its closure
@@ -222,21 +240,18 @@ run_leads g can old p (event ∷ events) new q (outcome, mid, next, executes, ca
 pub run_follows : {F : Type 0} (g : Mut F (Bor Outcome × Unit {0}) (Unit {0})) (can : Bool) (old : Record) (p : F) (events : List PlainEvent) (new : Record) (q : F) (history : History) → Runs g can old p events new q → Follows old history → RunFollows g can old p events new q history
 run_follows g can old p events new q history run follows =
     let (executions, are, leads, told) = run_leads g can old p events new q run in
-    let meanwhile : History = history_after [] executions in
-    let now : Follows new (history_after history executions) = leads_keep Follows execution_follows can old executions new history leads follows in
-    let apart = subst (Follows new) (history_apart executions history) now in
     record {
       executions = executions;
       events_are = are;
-      leads = leads;
       told = told;
-      follows = now;
-      counters_stay = λ handle before after. keeps_counter old new history meanwhile handle before after follows.counters apart.counters;
-      counters_exceed = λ handle before after. begins_above old new history meanwhile handle before after follows.counters apart.counters;
-      few_fail = fails_few can old executions new follows.forgiving;
-      fail_within = fails_within can old executions new follows.forgiving;
-      replays = run_replays_repeat can old executions new history leads now.hmacs;
+      stretch = stretch_follows can old executions new history leads follows;
     }
+
+-- what was told of executions is a run of their events
+pub told_runs : {F : Type 0} (g : Mut F (Bor Outcome × Unit {0}) (Unit {0})) (can : Bool) (old : Record) (p : F) (executions : List Execution) (new : Record) (q : F) → Leads can old executions new → Tells g p executions q → Runs g can old p (map (λ (one : Execution). one.event) executions) new q
+told_runs g can old p [] new q leads told = (leads, told)
+told_runs g can old p (one ∷ executions) new q (first, executes, leads) (outcome, next, is, called, told) =
+    (outcome, one.seen.after, next, subst (Executes can old one.event) is executes, called, told_runs g can one.seen.after next executions new q leads told)
 
 -- ---- from a manufactured device
 

@@ -24,6 +24,9 @@ pub mod Balance
 pub mod FailedTries
 pub mod Forgiving
 pub mod FewTries
+pub mod PowerCycles
+pub mod SessionStarts
+pub mod FailedRun
 pub mod Following
 pub mod LivingOn
 pub mod UseGrounds

@@ -18,6 +18,7 @@ use Rattle.tpm_actions_base.specs.Request.{first_handle}
 use Rattle.tpm_actions_device.specs.FlushContext.{flushed_handle}
 use Rattle.tpm_actions_device.specs.StartAuthSession.{Parameters, parameters_in}
 use Rattle.tpm_actions_policy.specs.Assertions.{asserts, session_handle}
+use Rattle.tpm_machine_laws.specs.Draws.{draws_of}
 use Rattle.tpm_machine_history.specs.AuthValues.{auth_of}
 use Rattle.tpm_machine_history.specs.HandleMap.{by_handle, with_at}
 use Rattle.tpm_machine_history.specs.History.{AcceptedCommand, Done, History}
@@ -214,7 +215,7 @@ module _ (c : AcceptedCommand) (history : History) (some : 1 ≤ length (rolled_
   effect = sessions_by c.command.code c history (sessions_of history)
 
   abbrev left : List ℕ
-  left = drop c.answer.drawn c.request.random
+  left = drop (draws_of c.command.code c.request) c.request.random
 
   abbrev rolled : LiveSessions
   rolled = (rolled_by c history (sessions_of history)).sessions

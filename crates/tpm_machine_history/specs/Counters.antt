@@ -1,6 +1,6 @@
 -- NV counters by the history alone. TPM 2.0 Library, Part 3, sections 31.2 and 31.8 (NV counters,
 -- TPM2_NV_Increment).
-use Rattle.std.specs.Prelude.{◌≡◌, ℕ, ◌+◌, ◌<◌, ◌≤◌, ◌==◌, max, Bool, false, List, [], ◌∷◌, ◌++◌, Option, Some, None, Result, Ok, Err}
+use Rattle.std.specs.Prelude.{◌≡◌, ◌↔◌, ℕ, ◌+◌, ◌<◌, ◌≤◌, ◌==◌, max, Bool, true, false, List, [], ◌∷◌, ◌++◌, Option, Some, None, Result, Ok, Err}
 use Rattle.std.specs.List.{AllByRecursion}
 use Rattle.tpm_bytes.specs.Reading.{◌>>=◌}
 use Rattle.tpm_types.specs.declared.handle.Handle.{Handle}
@@ -10,7 +10,7 @@ use Rattle.tpm_types_command.specs.declared.command_code.CommandCode.TheVariants
 use Rattle.tpm_actions_base.specs.Request.{Request, second_handle}
 use Rattle.tpm_nvactions.specs.NvDefineSpace.{parameters_in}
 use Rattle.tpm_machine_history.specs.HandleMap.{by_handle, with_at}
-use Rattle.tpm_machine_history.specs.History.{Done, History, PastEvent, PowerCycled}
+use Rattle.tpm_machine_history.specs.History.{AcceptedCommand, Done, History, PastEvent, PowerCycled}
 
 -- the value of the counter at each handle since its definition, none before its first increment;
 -- and all values that any counter ever had, the latest first
@@ -85,9 +85,18 @@ abbrev pub defines : PastEvent → Handle → Bool
 defines (Done c) handle = defines_by c.command.code c.request handle
 defines PowerCycled handle = false
 
--- No index is defined at a handle in this part of a history.
-abbrev pub StaysDefined : Handle → History → Type 0
-StaysDefined handle history =
+-- An event is an accepted TPM2_NV_DefineSpace of an index with this handle.
+pub record IsDefinition (one : PastEvent) (handle : Handle) : Type 0 where
+  pub accepted : AcceptedCommand
+  pub named : Handle
+  pub is : one ≡ Done accepted
+  pub code : accepted.command.code ≡ command.NvDefineSpace
+  pub defined : defined_handle accepted.request.parameters ≡ Ok named
+  pub same : named.number ≡ handle.number
+
+-- No index is defined under a handle in this part of a history.
+abbrev pub HasNoDefinition : Handle → History → Type 0
+HasNoDefinition handle history =
     AllByRecursion (λ (one : PastEvent). defines one handle ≡ false) history
 
 -- Each of these numbers is below this one.
@@ -96,17 +105,24 @@ AllBelow n numbers = AllByRecursion (λ m. m < n) numbers
 
 -- what holds of the counters of every history
 pub record CountLaws : Type 0 where
+  -- an index is defined by an accepted TPM2_NV_DefineSpace, and by nothing else
+  pub definitions : (one : PastEvent) (handle : Handle)
+      → (defines one handle ≡ true ↔ IsDefinition one handle)
   -- a counter that has no value yet exceeds, once it has one, all that any counter had before,
   -- whatever happened meanwhile
   pub first_exceeds : (old new : History) (handle : Handle) (n : ℕ)
       → count_at old handle ≡ None
-      → StaysDefined handle new
       → count_at (new ++ old) handle ≡ Some n
       → AllBelow n (counts_of old)
-  -- a counter does not go down as long as it stays defined
+  -- and one that was defined exceeds all that any counter had before its definition
+  pub defined_exceeds : (old new : History) (definition : PastEvent) (handle : Handle) (n : ℕ)
+      → defines definition handle ≡ true
+      → count_at (new ++ definition ∷ old) handle ≡ Some n
+      → AllBelow n (counts_of old)
+  -- a counter does not go down as long as no index is defined anew under its handle
   pub never_down : (old new : History) (handle : Handle) (n : ℕ)
       → count_at old handle ≡ Some n
-      → StaysDefined handle new
+      → HasNoDefinition handle new
       → (m : ℕ) × (count_at (new ++ old) handle ≡ Some m) × (n ≤ m)
   -- and its value is at most the largest that any had
   pub within : (history : History) (handle : Handle) (n : ℕ)

@@ -1,5 +1,5 @@
 -- The NV counters of a device, as a history tells of them.
-use Rattle.std.specs.Prelude.{◌≡◌, ℕ, ◌≤◌, false, Option, Some, None, if◌then◌else◌}
+use Rattle.std.specs.Prelude.{◌≡◌, ℕ, ◌≤◌, true, false, List, ◌∷◌, ◌++◌, Option, Some, None, if◌then◌else◌}
 use Rattle.std.specs.Int.{w64, from_be_bytes}
 use Rattle.tpm_types.specs.declared.handle.Handle.{Handle}
 use Rattle.tpm_types_nv.specs.NvAttributes.{index_type}
@@ -8,8 +8,8 @@ use Rattle.tpm_types_nv.specs.declared.nv_type.NvType.TheVariants as type
 use Rattle.tpm_nv.specs.Access.{index_has}
 use Rattle.tpm_nv.specs.Index.{NvContents, NvIndex, index_at}
 use Rattle.tpm_record.specs.Record.{Record}
-use Rattle.tpm_machine_history.specs.Counters.{AllBelow, Counters, StaysDefined, counters_of, counts_of, largest}
-use Rattle.tpm_machine_history.specs.History.{History}
+use Rattle.tpm_machine_history.specs.Counters.{AllBelow, Counters, HasNoDefinition, counters_of, counts_of, defines, largest}
+use Rattle.tpm_machine_history.specs.History.{History, PastEvent}
 
 abbrev pub IsCounter : NvIndex → Type 0
 IsCounter index = index_type index.public.attributes ≡ Some type.Counter
@@ -36,7 +36,8 @@ pub record AreCounted (contents : NvContents) (c : Counters) : Type 0 where
 abbrev pub HasCounters : Record → History → Type 0
 HasCounters r history = AreCounted r.nv (counters_of history)
 
--- A counter that a device had has become no less, as long as it stayed defined.
+-- A counter that a device had has become no less, as long as no index was defined anew under its
+-- handle.
 abbrev pub KeepsCounter : (old new : Record) → (meanwhile : History) → Handle
     → NvIndex → NvIndex → Type 0
 KeepsCounter old new meanwhile handle before after =
@@ -44,21 +45,35 @@ KeepsCounter old new meanwhile handle before after =
     → IsCounter before
     → index_at new.nv handle ≡ Some after
     → IsCounter after
-    → StaysDefined handle meanwhile
+    → HasNoDefinition handle meanwhile
     → (n : ℕ)
     → stored_count before ≡ Some n
     → (m : ℕ) × (stored_count after ≡ Some m) × (n ≤ m)
 
--- And one that had no value yet has then one that exceeds all that any counter had before.
-abbrev pub BeginsAbove : (old new : Record) → (history meanwhile : History) → Handle
+-- One that had no value when a stretch of events began exceeds, once it has one, all that any counter
+-- had before the stretch.
+abbrev pub BeginsAbove : (old new : Record) → (history : History) → Handle
     → NvIndex → NvIndex → Type 0
-BeginsAbove old new history meanwhile handle before after =
+BeginsAbove old new history handle before after =
     index_at old.nv handle ≡ Some before
     → IsCounter before
+    → stored_count before ≡ None
     → index_at new.nv handle ≡ Some after
     → IsCounter after
-    → StaysDefined handle meanwhile
-    → stored_count before ≡ None
     → (n : ℕ)
     → stored_count after ≡ Some n
     → AllBelow n (counts_of history)
+
+-- And one that was defined in the stretch exceeds all that any counter had before its definition,
+-- in the stretch and before it.
+abbrev pub ExceedsEarlier : (new : Record) → (history meanwhile : History) → Handle → NvIndex
+    → Type 0
+ExceedsEarlier new history meanwhile handle after =
+    (earlier later : History) (definition : PastEvent)
+    → meanwhile ≡ later ++ definition ∷ earlier
+    → defines definition handle ≡ true
+    → index_at new.nv handle ≡ Some after
+    → IsCounter after
+    → (n : ℕ)
+    → stored_count after ≡ Some n
+    → AllBelow n (counts_of (earlier ++ history))

@@ -1,9 +1,9 @@
 -- Events one after another, and the history that they make.
 use Rattle.std.specs.Prelude.{◌≡◌, Bool, List, [], ◌∷◌}
 use Rattle.tpm_record.specs.Record.{Record}
-use Rattle.tpm_machine_step.specs.Events.{PlainEvent}
+use Rattle.tpm_machine_step.specs.Events.{PlainEvent, Cycled}
 use Rattle.tpm_machine_step.specs.Execution.{Executes}
-use Rattle.tpm_machine_step.specs.Step.{Stepped}
+use Rattle.tpm_machine_step.specs.Step.{Stepped, step}
 use Rattle.tpm_machine_history.specs.History.{History, recorded}
 
 -- an event that was executed on this record, and what was seen of it
@@ -19,6 +19,10 @@ Leads can old [] new = new ≡ old
 Leads can old (one ∷ executions) new =
     (one.before ≡ old) × Executes can old one.event one.seen
     × Leads can one.seen.after executions new
+
+-- power going off and on again, at this record
+abbrev pub power_cycle : Record → Execution
+power_cycle r = record { before = r; event = Cycled; seen = step r Cycled }
 
 -- the history after one more execution, and after these, the first of them first
 abbrev pub with_execution : Execution → History → History

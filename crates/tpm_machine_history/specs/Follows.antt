@@ -14,7 +14,7 @@ use Rattle.tpm_machine_step.specs.Step.{Stepped, outcome_step}
 use Rattle.tpm_machine_step.specs.declared.event.Outcome.{Outcome}
 use Rattle.tpm_machine_laws.specs.Sizes.{AreSized}
 use Rattle.tpm_machine_history.specs.DeviceAuthValues.{HasAuthValues}
-use Rattle.tpm_machine_history.specs.DeviceCounters.{BeginsAbove, HasCounters, KeepsCounter}
+use Rattle.tpm_machine_history.specs.DeviceCounters.{BeginsAbove, ExceedsEarlier, HasCounters, KeepsCounter}
 use Rattle.tpm_machine_history.specs.DevicePcrs.{HasPcrs}
 use Rattle.tpm_machine_history.specs.DeviceSessions.{HasSessions}
 use Rattle.tpm_machine_history.specs.EntryHmacs.{AllShowHmacs}
@@ -62,6 +62,26 @@ After Holds old event x =
     (history : History) → Follows old history
     → Holds x.after (recorded old event x.row.check history)
 
+-- ---- a stretch of events
+
+-- Executions led from a device that follows a history to one that follows the history after them. No
+-- counter went down under whose handle none was defined anew; one that had no value, or was defined,
+-- begins above all values before; few tries failed; and every replay repeats a nonce or an HMAC.
+pub record StretchFollows (can : Bool) (old : Record) (executions : List Execution) (new : Record)
+    (history : History) : Type 0
+  where
+    pub leads : Leads can old executions new
+    pub follows : Follows new (history_after history executions)
+    pub counters_stay : (handle : Handle) (before after : NvIndex)
+        → KeepsCounter old new (history_after [] executions) handle before after
+    pub counters_begin : (handle : Handle) (before after : NvIndex)
+        → BeginsAbove old new history handle before after
+    pub counters_exceed : (handle : Handle) (after : NvIndex)
+        → ExceedsEarlier new history (history_after [] executions) handle after
+    pub few_fail : FailsFew can old executions new
+    pub fail_within : FailsWithin can old executions new
+    pub replays : RunReplaysRepeat history executions
+
 -- ---- a run
 
 -- The outcomes of these executions were told to a closure in state p, in order, once each, which
@@ -73,22 +93,13 @@ Tells {F} g p (one ∷ executions) q =
     (outcome : Outcome) × (next : F) × (one.seen ≡ outcome_step one.seen.after outcome)
     × CalledAt g p outcome tt next × Tells g next executions q
 
--- The events ran from a device that follows a history to one that follows the history after them.
--- No counter went down that stayed defined, one that had no value begins above all values before;
--- few tries failed; and every replay repeats a nonce or an HMAC.
+-- The events ran from a device that follows a history to one that follows the history after them,
+-- and a closure was told each outcome.
 pub record RunFollows {F : Type 0} (g : Mut F (Bor Outcome × Unit {0}) (Unit {0})) (can : Bool)
     (old : Record) (p : F) (events : List PlainEvent) (new : Record) (q : F) (history : History)
     : Type 0
   where
     pub executions : List Execution
     pub events_are : map (λ (one : Execution). one.event) executions ≡ events
-    pub leads : Leads can old executions new
     pub told : Tells g p executions q
-    pub follows : Follows new (history_after history executions)
-    pub counters_stay : (handle : Handle) (before after : NvIndex)
-        → KeepsCounter old new (history_after [] executions) handle before after
-    pub counters_exceed : (handle : Handle) (before after : NvIndex)
-        → BeginsAbove old new history (history_after [] executions) handle before after
-    pub few_fail : FailsFew can old executions new
-    pub fail_within : FailsWithin can old executions new
-    pub replays : RunReplaysRepeat history executions
+    pub stretch : StretchFollows can old executions new history

@@ -1,4 +1,5 @@
--- What a device has accepted, and nothing of its state.
+-- What a device has accepted. Of its state an entry tells what the command was answered, what
+-- everybody could read of its handles, and the sensitive area that a TPM2_Load takes in.
 use Rattle.std.specs.Prelude.{ℕ, zero, suc, List, ◌∷◌, map, Option, Some, None, Result, Ok, Err}
 use Rattle.tpm_bytes.specs.Reading.{◌>>=◌}
 use Rattle.tpm_types.specs.declared.refused.Refused.{Refused}

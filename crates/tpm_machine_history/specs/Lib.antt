@@ -21,3 +21,4 @@ pub mod Potential
 pub mod Tries
 pub mod Follows
 pub mod PolicyLaws
+pub mod FailedRun

@@ -54,8 +54,8 @@ abbrev pub IsAmong : {X : Type 0} → X → List X → Type 0
 IsAmong x [] = ⊥
 IsAmong x (y ∷ ys) = (x ≡ y) ⊎ IsAmong x ys
 
--- A session has a nonceTPM again that it had at an earlier time: the one that it has now is that one,
--- and stands among its earlier ones.
+-- The nonceTPM that a session has now is the one that it had at an earlier time, and stands among those
+-- that it had before.
 abbrev pub HasNonceAgain : (earlier now : LiveSession) → Type 0
 HasNonceAgain earlier now =
     (now.nonce_tpm ≡ earlier.nonce_tpm) × IsAmong now.nonce_tpm now.earlier_nonces

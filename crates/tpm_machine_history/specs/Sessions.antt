@@ -1,6 +1,6 @@
 -- Sessions by the history alone. TPM 2.0 Library, Part 1, sections 19.6 (session nonces and keys,
 -- bound sessions) and 19.7 (policies). No session is salted: tpmKey is TPM_RH_NULL.
-use Rattle.std.specs.Prelude.{ℕ, ◌==◌, is_some, List, [], ◌∷◌, length, take, drop, fold, map, if◌then◌else◌, Option, Some, None, option_map, Result, Ok, Err, ok_or}
+use Rattle.std.specs.Prelude.{◌≡◌, ℕ, ◌==◌, is_some, List, [], ◌∷◌, length, take, drop, fold, map, if◌then◌else◌, Option, Some, None, option_map, Result, Ok, Err, ok_or}
 use Rattle.std.specs.List.{zip}
 use Rattle.std.specs.Option.{option_map_or}
 use Rattle.tpm_mac.specs.Digest.{digest_size}
@@ -27,6 +27,7 @@ use Rattle.tpm_actions_base.specs.Request.{first_handle}
 use Rattle.tpm_actions_device.specs.FlushContext.{flushed_handle}
 use Rattle.tpm_actions_device.specs.StartAuthSession.{Parameters, parameters_in}
 use Rattle.tpm_actions_policy.specs.Assertions.{session_handle}
+use Rattle.tpm_machine_laws.specs.Draws.{draws_of}
 use Rattle.tpm_machine_history.specs.AuthValues.{auth_of}
 use Rattle.tpm_machine_history.specs.HandleMap.{by_handle, changed_at, with_at}
 use Rattle.tpm_machine_history.specs.History.{AcceptedCommand, Done, History, PowerCycled}
@@ -101,6 +102,11 @@ started_with p bound nonce_tpm = record {
   earlier_nonces = [];
   assertions = [];
 }
+
+-- A session has had no nonceTPM before, and nothing is asserted on it.
+pub record IsNewSession (s : LiveSession) : Type 0 where
+  pub no_earlier : s.earlier_nonces ≡ []
+  pub no_assertion : s.assertions ≡ []
 
 -- its first nonceTPM is drawn first, and as long as nonceCaller
 abbrev pub started_by : Result Parameters Refused → Option Bound → (random : List ℕ)
@@ -210,12 +216,12 @@ entries_ended live granted = fold (λ live g. entry_ended live g.0 g.1) live gra
 
 -- ---- a history
 
--- new nonces come from the event's random bytes after those that the row drew, in the order of the
--- entries
+-- new nonces come from the event's random bytes after those that the command itself draws, in the
+-- order of the entries
 abbrev pub rolled_by : AcceptedCommand → History → LiveSessions → Rolled
 rolled_by c history live =
     entries_rolled (sessions_by c.command.code c history live) c.command.entries
-    (drop c.answer.drawn c.request.random)
+    (drop (draws_of c.command.code c.request) c.request.random)
 
 -- the sessions that live after a history. A command that asserts on a session and uses it asserts
 -- first

@@ -1,6 +1,6 @@
 -- Failed tries among the events of a device. TPM 2.0 Library, Part 1, section 19.8 (dictionary
 -- attacks).
-use Rattle.std.specs.Prelude.{◌≡◌, ◌≢◌, ◌≤◌, ◌+◌, ◌/◌, ℕ, Bool, true, false, List, [], Option, Some, None, slice_get, Result, Ok, Err}
+use Rattle.std.specs.Prelude.{◌≡◌, ◌≢◌, ◌⊎◌, ◌≤◌, ◌+◌, ◌/◌, ℕ, Bool, true, false, List, [], Option, Some, None, slice_get, Result, Ok, Err}
 use Rattle.std.specs.List.{AllByRecursion, count_by, sum_by}
 use Rattle.std.specs.Option.{option_map_or}
 use Rattle.tpm_policy.specs.declared.state.Demand.{Demand}
@@ -36,7 +36,7 @@ use Rattle.tpm_machine_step.specs.Step.{Accepted, Stepped, accepted}
 use Rattle.tpm_machine_step.specs.declared.refused_command.RefusedCommand.{RefusedCommand}
 use Rattle.tpm_machine_history.specs.EntryHmacs.{used_in}
 use Rattle.tpm_machine_history.specs.Executions.{Execution, Leads, history_after}
-use Rattle.tpm_machine_history.specs.History.{Done, History, PastEvent, PowerCycled}
+use Rattle.tpm_machine_history.specs.History.{AcceptedCommand, Done, History, PastEvent, PowerCycled}
 use Rattle.tpm_machine_history.specs.Potential.{period}
 
 -- ---- an event that fails a try
@@ -58,8 +58,13 @@ fails_try r (Given buffer locality elapsed random) =
     counts_try (accepted (ticked r elapsed) buffer locality random)
 fails_try r Cycled = false
 
--- how that is protected which a session's entry touches that is to authorize a handle, by what the
--- session demands for it: nothing is compared where the session may not authorize it
+-- What an entry touches is what its comparison uses: the authorization value of the entity that it is
+-- to authorize, where the password is compared with it or it is part of the HMAC's key; and else that
+-- of the entity to which its session was bound at the start. Where a session may not authorize the
+-- entity nothing is compared, and so nothing touched.
+
+-- how that is protected which a session's entry touches, where it is to authorize this handle, by what
+-- the session demands for that, or by why it may not
 abbrev pub touched_where : Record → Session → Handle → Result Demand Refused → Protection
 touched_where r s handle (Ok demand) =
     entry_protection r s (Some (record { handle = handle; demand = demand }))
@@ -168,11 +173,22 @@ FailsWithin can old executions new =
     → failures_in executions ≤ tries_within old executions
 
 -- So they are at most maxTries, one more, and one for each recoveryTime that passes.
+abbrev pub tries_at_most : Record → List Execution → ℕ
+tries_at_most old executions =
+    old.fixed.lockout.fields.max_tries + 1
+    + elapsed_in executions / period old.fixed.lockout
+
 abbrev pub FailsFew : Bool → Record → List Execution → Record → Type 0
 FailsFew can old executions new =
     Leads can old executions new
     → HasNoReset (history_after [] executions)
     → old.fixed.lockout.fields.recovery_time ≢ 0
-    → failures_in executions
-    ≤ old.fixed.lockout.fields.max_tries + 1
-    + elapsed_in executions / period old.fixed.lockout
+    → failures_in executions ≤ tries_at_most old executions
+
+-- An event is an accepted command that takes tries back, or sets their parameters.
+pub record IsReset (one : PastEvent) : Type 0 where
+  pub accepted : AcceptedCommand
+  pub is : one ≡ Done accepted
+  pub code : (accepted.command.code ≡ command.DictionaryAttackLockReset)
+      ⊎ (accepted.command.code ≡ command.DictionaryAttackParameters)
+      ⊎ (accepted.command.code ≡ command.Clear)

@@ -2,11 +2,11 @@
 -- Part 3, sections 12.4 (TPM2_ReadPublic) and 31.6 (TPM2_NV_ReadPublic).
 use Rattle.std.specs.Prelude.{ℕ, List, [], slice_get}
 use Rattle.std.specs.Option.{option_map_or}
-use Rattle.tpm_name.specs.Name.{handle_name}
+use Rattle.tpm_types_name.specs.Name.{handle_name}
 use Rattle.tpm_types.specs.declared.handle.Handle.{Handle}
-use Rattle.tpm_types_nv.specs.NvName.{nv_name}
+use Rattle.tpm_name.specs.NvName.{nv_name}
 use Rattle.tpm_types_nv.specs.declared.nv_public.NvPublic.{NvPublic}
-use Rattle.tpm_types_object.specs.ObjectName.{object_name}
+use Rattle.tpm_name.specs.ObjectName.{object_name}
 use Rattle.tpm_types_object.specs.declared.public.Public.{Public}
 use Rattle.tpm_record.specs.Entity.{AnIndex, AnObject, Entity, Permanent, entity_at}
 use Rattle.tpm_record.specs.Record.{Record}

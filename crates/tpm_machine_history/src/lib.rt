@@ -9,7 +9,7 @@
 //! set what a history tells. The calls of tpm_machine, and of tpm_image and tpm_wire above it, carry
 //! them.
 
-ghost use Rattle.std.specs.Prelude.{◌≡◌, ◌↔◌, ◌++◌, ℕ, Bool, true, false, List, [], ◌∷◌, None, Some, map};
+ghost use Rattle.std.specs.Prelude.{◌≡◌, ◌↔◌, ◌+◌, ◌++◌, ℕ, Bool, true, false, List, [], ◌∷◌, None, Some, map};
 ghost use Rattle.tpm_mac.specs.declared.algorithm.HashAlg.{HashAlg};
 ghost use Rattle.tpm_nv.specs.Index.{NvIndex};
 ghost use Rattle.tpm_session.specs.Sessions.{session_at};
@@ -19,6 +19,7 @@ ghost use Rattle.tpm_types.specs.Handle.{hierarchy_auth_of};
 ghost use Rattle.tpm_types.specs.declared.handle.Handle.{Handle};
 ghost use Rattle.tpm_record.specs.Cycle.{cycled};
 ghost use Rattle.tpm_record.specs.Entity.{auth_value_of, is_present, names_kept};
+ghost use Rattle.tpm_record.specs.IsRecord.{IsRecord};
 ghost use Rattle.tpm_record.specs.Record.{Record, manufactured};
 ghost use Rattle.tpm_machine_step.specs.Events.{Given, PlainEvent};
 ghost use Rattle.tpm_machine_step.specs.Execution.{Executes};
@@ -27,20 +28,25 @@ ghost use Rattle.tpm_machine_step.specs.Step.{Stepped};
 ghost use Rattle.tpm_machine_history.specs.AuthValues.{auth_of};
 ghost use Rattle.tpm_machine_history.specs.Counters.{CountLaws};
 ghost use Rattle.tpm_machine_history.specs.DeviceAuthValues.{HasAuthValues};
-ghost use Rattle.tpm_machine_history.specs.DeviceCounters.{BeginsAbove, HasCounters, KeepsCounter};
+ghost use Rattle.tpm_machine_history.specs.DeviceCounters.{BeginsAbove, ExceedsEarlier, HasCounters};
+ghost use Rattle.tpm_machine_history.specs.DeviceCounters.{KeepsCounter};
 ghost use Rattle.tpm_machine_history.specs.DeviceSessions.{HasSessions, IsLive};
-ghost use Rattle.tpm_machine_history.specs.Executions.{Execution, Leads, history_after};
-ghost use Rattle.tpm_machine_history.specs.Follows.{After, Follows, RunFollows};
+ghost use Rattle.tpm_machine_history.specs.Executions.{Execution, Leads, history_after, power_cycle};
+ghost use Rattle.tpm_machine_history.specs.FailedRun.{IsFailedRun};
+ghost use Rattle.tpm_machine_history.specs.Follows.{After, Follows, RunFollows, StretchFollows, Tells};
 ghost use Rattle.tpm_machine_history.specs.Grounds.{AllHaveGrounds};
-ghost use Rattle.tpm_machine_history.specs.History.{AcceptedCommand, Done, History, PowerCycled};
+ghost use Rattle.tpm_machine_history.specs.History.{AcceptedCommand, Done, History, PastEvent};
+ghost use Rattle.tpm_machine_history.specs.History.{PowerCycled};
 ghost use Rattle.tpm_machine_history.specs.History.{recorded};
 ghost use Rattle.tpm_machine_history.specs.Pcrs.{before_shutdown, pcr_of, pcrs_after};
 ghost use Rattle.tpm_machine_history.specs.PolicyLaws.{KeepsQuietValues, UsesItsCommand};
 ghost use Rattle.tpm_machine_history.specs.PolicyLaws.{UsesAsWritten, UsesPcrsAsTheyAre};
 ghost use Rattle.tpm_machine_history.specs.Potential.{IsForgiving};
 ghost use Rattle.tpm_machine_history.specs.RunReplays.{IsRecorded, RunReplaysRepeat};
-ghost use Rattle.tpm_machine_history.specs.Tries.{FailsFew, FailsWithin, IsAnsweredTry};
-ghost use Rattle.tpm_machine_history.specs.Tries.{IsRefusedTry, fails_try};
+ghost use Rattle.tpm_machine_history.specs.Sessions.{IsNewSession, LiveSession, started};
+ghost use Rattle.tpm_machine_history.specs.Tries.{FailsFew, FailsWithin, IsAnsweredTry, IsReset};
+ghost use Rattle.tpm_machine_history.specs.Tries.{IsRefusedTry, fails_try, is_reset};
+ghost use Rattle.tpm_machine_history.specs.Tries.{tries_at_most, tries_within};
 ghost use Rattle.tpm_machine_history.specs.View.{view_of};
 ghost use Rattle.tpm_machine_history.specs.Views.{TellsOf};
 
@@ -57,13 +63,39 @@ pub fn following_laws()
         → Follows r history → Follows (cycled r) (PowerCycled ∷ history) }
 {}
 
+/// Power going off and on again, and the opening of what was saved, is one execution more of a stretch
+/// of events; two stretches, of which the second begins where the first ended, are one; and a stretch
+/// in which no memory can be refused is one in which it may be.
+#[inline(always)]
+pub fn stretch_laws()
+    ensures power_cycle { (can : Bool) (r : Record)
+        → IsRecord r → Leads can r (power_cycle r ∷ []) (cycled r) }
+    ensures joined { (can : Bool) (old : Record) (first : List Execution) (mid : Record)
+        (second : List Execution) (new : Record)
+        → Leads can old first mid → Leads can mid second new → Leads can old (first ++ second) new }
+    ensures wider { (can : Bool) (old : Record) (executions : List Execution) (new : Record)
+        → Leads false old executions new → Leads can old executions new }
+{}
+
+/// A stretch of events leads a device that follows a history to one that follows the history with all
+/// of them that were accepted; and what else holds of such a stretch.
+#[inline(always)]
+pub fn stretch_history_laws()
+    ensures { (can : Bool) (old : Record) (executions : List Execution) (new : Record)
+        (history : History) → Leads can old executions new → Follows old history
+        → StretchFollows can old executions new history }
+{}
+
 /// A run executes its events one after another, and leads to the history with all of them that
-/// were accepted.
+/// were accepted. And executions that lead so, each outcome of which was told, are a run.
 #[inline(always)]
 pub fn run_history_laws<F: FnMut(&Outcome)>()
-    ensures { (can : Bool) (old : Record) (p : F) (events : List PlainEvent) (new : Record) (q : F)
-        (history : History) → Runs F.FnMut can old p events new q → Follows old history
+    ensures follows { (can : Bool) (old : Record) (p : F) (events : List PlainEvent) (new : Record)
+        (q : F) (history : History) → Runs F.FnMut can old p events new q → Follows old history
         → RunFollows F.FnMut can old p events new q history }
+    ensures runs { (can : Bool) (old : Record) (p : F) (executions : List Execution) (new : Record)
+        (q : F) → Leads can old executions new → Tells F.FnMut p executions q
+        → Runs F.FnMut can old p (map (λ (one : Execution). one.event) executions) new q }
 {}
 
 /// What everybody may read of a handle tells what the record has: the Name, the policy, the
@@ -110,15 +142,16 @@ pub fn auth_value_laws()
 {}
 
 /// By the history alone the first value of a counter exceeds all that any counter had before it,
-/// and a counter does not go down as long as it stays defined.
+/// and a counter does not go down as long as no index is defined anew under its handle.
 #[inline(always)]
 #[tactic(auto, using(crate::proofs::CountLaws::count_laws))]
 pub fn count_laws()
     ensures { CountLaws }
 {}
 
-/// So no counter of a device goes down as long as it stays defined, and one that has no value yet
-/// begins above all that any counter had.
+/// So no counter of a device goes down as long as no index is defined anew under its handle; one
+/// that has no value yet begins above all that any counter had; and so does one that is defined
+/// meanwhile.
 #[inline(always)]
 pub fn counter_laws()
     ensures keeps { (old new : Record) (history meanwhile : History) (handle : Handle)
@@ -128,7 +161,10 @@ pub fn counter_laws()
     ensures begins { (old new : Record) (history meanwhile : History) (handle : Handle)
         (before after : NvIndex) → HasCounters old history
         → HasCounters new (meanwhile ++ history)
-        → BeginsAbove old new history meanwhile handle before after }
+        → BeginsAbove old new history handle before after }
+    ensures exceeds { (new : Record) (history meanwhile : History) (handle : Handle)
+        (after : NvIndex) → HasCounters new (meanwhile ++ history)
+        → ExceedsEarlier new history meanwhile handle after }
 {}
 
 /// What an execution with check 0 accepted is recorded, and the event's buffer spells it.
@@ -181,6 +217,27 @@ pub fn failed_try_laws()
         → Executes can old event x → fails_try old event ≡ true → IsAnsweredTry old event x }
 {}
 
+/// A session that starts has had no nonceTPM before, and nothing is asserted on it.
+#[inline(always)]
+pub fn session_start_laws()
+    ensures { (c : AcceptedCommand) (auth_values : List (List ℕ)) (s : LiveSession)
+        → started c auth_values ≡ Some s → IsNewSession s }
+{}
+
+/// What takes tries back, or sets their parameters, is an accepted TPM2_DictionaryAttackLockReset,
+/// TPM2_DictionaryAttackParameters or TPM2_Clear, and nothing else.
+#[inline(always)]
+pub fn reset_laws()
+    ensures { (one : PastEvent) → (is_reset one ≡ true ↔ IsReset one) }
+{}
+
+/// As many tries can fail as the sharper bound says: a run of reads of an NV index with a wrong password,
+/// worked out.
+#[inline(always)]
+pub fn failed_run_laws()
+    ensures { IsFailedRun }
+{}
+
 /// In a stretch of events in which no TPM2_DictionaryAttackLockReset, no
 /// TPM2_DictionaryAttackParameters and no TPM2_Clear is accepted, where recoveryTime is not 0, at
 /// most maxTries tries fail, and one for each recoveryTime that passes; so at most one more than
@@ -191,4 +248,6 @@ pub fn few_tries_laws()
         → IsForgiving old.fixed.lockout → FailsWithin can old executions new }
     ensures few { (can : Bool) (old : Record) (executions : List Execution) (new : Record)
         → IsForgiving old.fixed.lockout → FailsFew can old executions new }
+    ensures one_more { (old : Record) (executions : List Execution)
+        → tries_at_most old executions ≡ tries_within old executions + 1 }
 {}

@@ -1,5 +1,5 @@
 -- A command has few entries, and its row draws few random bytes.
-use Rattle.std.proofs.Common.{rules, arith, ◌≤◌, ◌+◌, ℕ, zero, suc, Bool, true, false, cond, List, [], ◌∷◌, length, IfOk}
+use Rattle.std.proofs.Common.{rules, arith, ◌≡◌, ◌≤◌, ◌+◌, ℕ, zero, suc, Bool, true, false, cond, List, [], ◌∷◌, length, Result, Ok, Err, IfOk, refl, sym, ap}
 use Rattle.std.specs.Prelude.{min, nat_lt}
 use Rattle.std.specs.Int.{w32}
 use Rattle.tpm_bytes.specs.Reading.{bytes_at, number_at, or_fault, refused_if}
@@ -12,6 +12,7 @@ use Rattle.tpm_types.specs.declared.rc.ResponseCode.TheVariants as code
 use Rattle.tpm_types_command.specs.AuthArea.{area_at, entries_in}
 use Rattle.tpm_types_command.specs.AuthEntry.{entry_at}
 use Rattle.tpm_types_command.specs.Command.{sessions_at}
+use Rattle.tpm_types_command.specs.CommandCode.{shape_of}
 use Rattle.tpm_types_command.specs.Header.{header_at}
 use Rattle.tpm_types_command.specs.declared.header.Header.{Header}
 use Rattle.tpm_types_command.specs.declared.command_code.CommandCode.{CommandCode}
@@ -24,7 +25,8 @@ use Rattle.tpm_types_object.specs.declared.public.Public.{Public}
 use Rattle.tpm_types_object.specs.declared.public.PublicParameters.{PublicParameters}
 use Rattle.tpm_types_object.specs.declared.public.PublicParameters.TheVariants as parameters_of
 use Rattle.tpm_record.specs.Record.{Record}
-use Rattle.tpm_actions_base.specs.Request.{Request, second_handle}
+use Rattle.tpm_types.specs.declared.refused.Refused.{Refused}
+use Rattle.tpm_actions_base.specs.Request.{Request, first_handle, second_handle}
 use Rattle.tpm_actions_device.specs.Startup.{start_draws as startup_drawn, startup_row}
 use Rattle.tpm_actions_device.specs.declared.startup.Start.{Start}
 use Rattle.tpm_actions_device.specs.declared.startup.Start.TheVariants.{Reset, Restart, Resume}
@@ -44,7 +46,10 @@ use Rattle.tpm_actions_device.specs.HierarchyChangeAuth.{hierarchy_change_auth_r
 use Rattle.tpm_actions_device.specs.StartAuthSession.{parameters_in, parameters_pass, session_place, start_auth_session_row}
 use Rattle.tpm_actions_object.specs.Clear.{clear_row}
 use Rattle.tpm_actions_capability.specs.GetCapability.{get_capability_row}
+use Rattle.tpm_actions_object.specs.Checks.{given_passes, public_passes}
 use Rattle.tpm_actions_object.specs.Create.{create_row}
+use Rattle.tpm_actions_object.specs.Creation.{parameters_in as creation_parameters}
+use Rattle.tpm_actions_object.specs.Loaded.{is_fixed, loaded_at, parent_passes}
 use Rattle.tpm_actions_object.specs.CreatePrimary.{create_primary_row}
 use Rattle.tpm_actions_object.specs.EvictControl.{evict_control_row}
 use Rattle.tpm_actions_object.specs.Hmac.{hmac_row}
@@ -68,6 +73,7 @@ use Rattle.tpm_nvactions.specs.NvWrite.{nv_write_row}
 use Rattle.tpm_nvactions.specs.NvWriteLock.{nv_write_lock_row}
 use Rattle.tpm_machine_step.specs.Table.{row_of}
 use Rattle.tpm_types.specs.Refused.{checked}
+use Rattle.tpm_machine_laws.specs.Draws.{bytes_requested, draws_of, read_or_none}
 use Rattle.tpm_machine_laws.proofs.Binding.{ok_bind, ok_bind_is, ok_checked, ok_in_command, ok_then}
 use Rattle.tpm_machine_laws.proofs.SizedParts.{digest_few, nonce_few}
 use Rattle.tpm_machine_laws.proofs.SizedRows.{caller_sized}
@@ -154,3 +160,45 @@ unfolding row_of startup_row shutdown_row self_test_row read_clock_row clear_row
 row_draws r command.StartAuthSession q = start_draws r q
 row_draws r command.Startup q = search draws
 row_draws r _ q = search draws
+
+-- ---- which bytes
+
+-- what was read is what the parameters say
+read_so : {P : Type 0} (count : P → ℕ) (x : Result P Refused) (p : P) → x ≡ Ok p → count p ≡ read_or_none count x
+read_so count x p is = sym (ap (read_or_none count) is)
+
+random_so : (r : Record) (q : Request) → IfOk (get_random_row r q) (λ s. s.answer.drawn ≡ draws_of command.GetRandom q)
+unfolding get_random_row
+random_so r q = ok_bind_is _ (bytes_requested q.parameters) _ (λ requested is. read_so (λ n. min n 32) (bytes_requested q.parameters) requested is)
+
+start_so : (r : Record) (q : Request) → IfOk (start_auth_session_row r q) (λ s. s.answer.drawn ≡ draws_of command.StartAuthSession q)
+unfolding start_auth_session_row
+start_so r q =
+    ok_bind _ (second_handle q.handles) _ (λ bind.
+    ok_bind_is _ (parameters_in q.parameters) _ (λ p is.
+    ok_bind _ (parameters_pass p) _ (λ passed.
+    ok_bind _ (session_place r.sessions) _ (λ place. read_so (λ p. length p.nonce_caller) (parameters_in q.parameters) p is))))
+
+create_so : (r : Record) (q : Request) → IfOk (create_row r q) (λ s. s.answer.drawn ≡ draws_of command.Create q)
+unfolding create_row
+create_so r q =
+    ok_bind _ (first_handle q.handles) _ (λ handle.
+    ok_bind _ (loaded_at r handle) _ (λ parent.
+    ok_bind_is _ (creation_parameters q.parameters) _ (λ p is.
+    ok_bind _ (parent_passes parent) _ (λ a1.
+    ok_bind _ (public_passes 1 (is_fixed parent) p.template) _ (λ t.
+    ok_bind _ (given_passes 4 p.given p.template) _ (λ c. read_so (λ p. drawn_by p.template p.given + 16) (creation_parameters q.parameters) p is))))))
+
+pub row_draws_so : (r : Record) (c : CommandCode) (q : Request) → is_startup c ≡ false → IfOk (row_of r c q) (λ s. s.answer.drawn ≡ draws_of c q)
+unfolding row_of shutdown_row self_test_row read_clock_row clear_row clear_control_row get_capability_row pcr_read_row pcr_extend_row pcr_event_row pcr_reset_row dictionary_attack_lock_reset_row dictionary_attack_parameters_row flush_context_row hierarchy_change_auth_row create_primary_row evict_control_row hmac_row load_row read_public_row unseal_row assertion_row policy_get_digest_row policy_restart_row nv_change_auth_row nv_define_space_row nv_extend_row nv_increment_row nv_read_row nv_read_lock_row nv_read_public_row nv_set_bits_row nv_undefine_space_row nv_write_row nv_write_lock_row
+row_draws_so r command.Startup q apart = absurd cc
+row_draws_so r command.GetRandom q apart = random_so r q
+row_draws_so r command.StartAuthSession q apart = start_so r q
+row_draws_so r command.Create q apart = create_so r q
+row_draws_so r _ q apart = search (rules, ok_bind)
+
+-- TPM2_Startup forbids sessions, and is said to draw none
+pub startup_alone : (c : CommandCode) (q : Request) → is_startup c ≡ true → ((shape_of c).forbids_sessions ≡ true) × (draws_of c q ≡ 0)
+unfolding shape_of
+startup_alone command.Startup q is = (refl, refl)
+startup_alone _ q is = absurd cc

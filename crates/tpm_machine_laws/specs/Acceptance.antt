@@ -1,5 +1,5 @@
 -- What an accepted command is, and what follows its row.
-use Rattle.std.specs.Prelude.{◌≡◌, ℕ, true, false, List, Ok}
+use Rattle.std.specs.Prelude.{◌≡◌, ℕ, true, false, List, [], Ok}
 use Rattle.tpm_types_command.specs.CommandCode.{shape_of}
 use Rattle.tpm_types_command.specs.declared.command_code.CommandCode.{CommandCode}
 use Rattle.tpm_types_command.specs.declared.command_code.CommandCode.TheVariants as command
@@ -14,11 +14,13 @@ abbrev pub IsDue : CommandCode → Record → Type 0
 IsDue command.Startup r = r.fixed.started ≡ false
 IsDue _ r = r.fixed.started ≡ true
 
--- A command that is accepted is due, its handles fit its shape, its entries authorize what they are
--- granted, and its row, asked with its parameters in plain, succeeds.
+-- A command that is accepted is due, its handles fit its shape, it has no entries where its shape
+-- forbids sessions, its entries authorize what they are granted, and its row, asked with its
+-- parameters in plain, succeeds.
 pub record IsAcceptance (r : Record) (locality : ℕ) (random : List ℕ) (a : Accepted) : Type 0 where
   pub due : IsDue a.command.code r
   pub fits : HandlesFit r (shape_of a.command.code).handles a.command.handles
+  pub alone : (shape_of a.command.code).forbids_sessions ≡ true → a.command.entries ≡ []
   pub granted : authorize r a.command locality ≡ Ok a.grants
   pub requested : a.request ≡ request_in r a.command a.grants locality random
   pub row : row_of r a.command.code a.request ≡ Ok a.success

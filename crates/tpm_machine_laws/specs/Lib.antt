@@ -6,3 +6,4 @@ pub mod Handles
 pub mod Grants
 pub mod Sizes
 pub mod Acceptance
+pub mod Draws

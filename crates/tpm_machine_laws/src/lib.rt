@@ -28,12 +28,13 @@ ghost use Rattle.tpm_actions_base.specs.Request.{Request, first_handle, second_h
 ghost use Rattle.tpm_machine_step.specs.Answer.{Written, answer_to};
 ghost use Rattle.tpm_machine_step.specs.Events.{PlainEvent, IsEvent};
 ghost use Rattle.tpm_machine_step.specs.Execution.{Executes};
-ghost use Rattle.tpm_machine_step.specs.General.{general};
+ghost use Rattle.tpm_machine_step.specs.General.{general, is_startup};
 ghost use Rattle.tpm_machine_step.specs.Run.{Runs, after_all};
 ghost use Rattle.tpm_machine_step.specs.Step.{Accepted, Stepped, acceptance, accepted};
 ghost use Rattle.tpm_machine_step.specs.Step.{step, step_where, success_step};
 ghost use Rattle.tpm_machine_laws.specs.Acceptance.{IsAcceptance, LeavesEffect, OnlySessions};
 ghost use Rattle.tpm_machine_step.specs.Table.{row_of};
+ghost use Rattle.tpm_machine_laws.specs.Draws.{draws_of};
 ghost use Rattle.tpm_machine_laws.specs.Footprint.{Touches, part_of};
 ghost use Rattle.tpm_machine_laws.specs.Grants.{GrantsFit};
 ghost use Rattle.tpm_machine_laws.specs.Handles.{FitsRule, HandlesFit};
@@ -230,12 +231,17 @@ pub fn new_device_size_laws()
     ensures cycled { (r : Record) → AreSized (cycled r) }
 {}
 
-/// A success draws at most 96 of the event's 256 random bytes.
+/// A success draws at most 96 of the event's 256 random bytes; and as many as its command's code and
+/// parameters say, but for TPM2_Startup, which has no entries for whose nonces it would count.
 #[inline(always)]
-#[tactic(auto, using(crate::proofs::Draws::row_draws))]
+#[tactic(auto, using(crate::proofs::Draws::row_draws, crate::proofs::Draws::row_draws_so))]
 pub fn draw_laws()
-    ensures { (r : Record) (c : CommandCode) (q : Request)
+    ensures few { (r : Record) (c : CommandCode) (q : Request)
         → IfOk (row_of r c q) (λ s. s.answer.drawn ≤ 96) }
+    ensures drawn { (r : Record) (c : CommandCode) (q : Request) → is_startup c ≡ false
+        → IfOk (row_of r c q) (λ s. s.answer.drawn ≡ draws_of c q) }
+    ensures startup { (c : CommandCode) (q : Request) → is_startup c ≡ true
+        → ((shape_of c).forbids_sessions ≡ true) × (draws_of c q ≡ 0) }
 {}
 
 /// A success leaves sessions of their sizes, where there are random bytes enough for a nonce.

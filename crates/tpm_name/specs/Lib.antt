@@ -1,4 +1,5 @@
-pub mod Name
-pub use Rattle.tpm_mac.specs.Digest
-pub use Rattle.tpm_types.specs.Algorithm
-pub use Rattle.tpm_types.specs.Handle
+pub mod ObjectName
+pub mod NvName
+pub use Rattle.tpm_types_name.specs.Name
+pub use Rattle.tpm_types_object.specs.Public
+pub use Rattle.tpm_types_nv.specs.NvPublic

@@ -1,11 +1,15 @@
 #![tactic(auto)]
 
-//! The Names of entities (TPM 2.0 Library, Part 1, section 16), by which a command's parameters are
-//! bound to what its handles name.
+//! The Names of objects and of NV indices (TPM 2.0 Library, Part 1, section 16), which follow from
+//! their public areas.
 //!
-//! It stands on `tpm_types` for handles and on `tpm_mac` for digests; the Name of an object is a
-//! call of its public area, in `tpm_types_object`. No call here takes memory or refuses.
+//! It stands on `tpm_types_object` and `tpm_types_nv` for public areas, and on `tpm_types_name` for
+//! what a Name is, which it passes on with the Names of other handles and qualified Names. No call
+//! here takes memory or refuses.
 
-mod name;
+mod nv_name;
+mod object_name;
 
-pub use name::Name;
+pub use nv_name::of_nv;
+pub use object_name::of_object;
+pub use tpm_types_name::Name;

@@ -123,11 +123,6 @@ readable index = do
   unlocked ← refused_if (index_has index attribute.ReadLocked) Locked
   refused_if (not (index_has index attribute.Written)) Uninitialized
 
-unfoldable pub check_readable : NvContents → Handle → Result (Unit {0}) NvFault
-check_readable contents handle = do
-  index ← index_or_fault contents handle
-  readable index
-
 -- a number of bytes of the data, from an offset on
 unfoldable pub read_at : NvContents → Handle → (offset size : ℕ) → Result (List ℕ) NvFault
 read_at contents handle offset size = do

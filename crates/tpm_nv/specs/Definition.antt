@@ -19,7 +19,9 @@ use Rattle.tpm_types_nv.specs.declared.nv_type.NvType.{NvType}
 use Rattle.tpm_types_nv.specs.declared.nv_type.NvType.TheVariants as type
 use Rattle.tpm_nv.specs.Index.{NvContents, NvIndex, has_room, index_at, with_index}
 use Rattle.tpm_nv.specs.declared.fault.DefineFault.{DefineFault}
-use Rattle.tpm_nv.specs.declared.fault.DefineFault.TheVariants.{Defined, Space, NoMemory}
+use Rattle.tpm_nv.specs.declared.fault.DefineFault.TheVariants as define
+use Rattle.tpm_nv.specs.declared.fault.RestoreFault.{RestoreFault}
+use Rattle.tpm_nv.specs.declared.fault.RestoreFault.TheVariants.{Defined, Space, NoMemory}
 use Rattle.tpm_nv.specs.declared.definition.DefinitionFault.{DefinitionFault}
 use Rattle.tpm_nv.specs.declared.definition.DefinitionFault.TheVariants as fault
 
@@ -90,7 +92,7 @@ abbrev pub defined_index : NvPublic → List ℕ → NvIndex
 defined_index public auth_value = record { public = public; auth_value = auth_value; bytes = [] }
 
 -- whether there is room for an index, or why there is none
-abbrev pub HasRoomFor : NvContents → NvPublic → Result (Unit {0}) DefineFault → Type 0
+abbrev pub HasRoomFor : NvContents → NvPublic → Result (Unit {0}) RestoreFault → Type 0
 HasRoomFor contents public (Ok done) =
     (index_at contents public.nv_index ≡ None) × (has_room contents public.data_size ≡ true)
 HasRoomFor contents public (Err Defined) = is_some (index_at contents public.nv_index) ≡ true
@@ -100,20 +102,42 @@ HasRoomFor contents public (Err NoMemory) = ⊥
 
 -- An index was put under its handle, or nothing changed: the handle has an index, or there is no
 -- room for it, or there was room and memory was refused.
-abbrev pub Defines : Bool → NvContents → NvIndex → Result (Unit {0}) DefineFault → NvContents
+abbrev pub Restores : Bool → NvContents → NvIndex → Result (Unit {0}) RestoreFault → NvContents
     → Type 0
-Defines can old index (Ok done) new =
+Restores can old index (Ok done) new =
     (index_at old index.public.nv_index ≡ None)
     × (has_room old index.public.data_size ≡ true)
     × (new ≡ with_index old index.public.nv_index index)
-Defines can old index (Err Defined) new =
+Restores can old index (Err Defined) new =
     (is_some (index_at old index.public.nv_index) ≡ true) × (new ≡ old)
-Defines can old index (Err Space) new =
+Restores can old index (Err Space) new =
     (index_at old index.public.nv_index ≡ None)
     × (has_room old index.public.data_size ≡ false)
     × (new ≡ old)
-Defines can old index (Err NoMemory) new =
+Restores can old index (Err NoMemory) new =
     (index_at old index.public.nv_index ≡ None)
     × (has_room old index.public.data_size ≡ true)
     × (can ≡ true)
     × (new ≡ old)
+
+-- what an index can have as it is defined: it is not written, and has the size of its type
+abbrev pub IsDefinable : NvPublic → Type 0
+IsDefinable public = (has public.attributes attribute.Written ≡ false) × (has_type_size public ≡ true)
+
+-- An index was defined, or nothing changed: it is marked as written; or its size is not that of its
+-- type; or else it was not put under its handle.
+abbrev pub Defines : Bool → NvContents → NvIndex → Result (Unit {0}) DefineFault → NvContents
+    → Type 0
+Defines can old index (Ok done) new = IsDefinable index.public × Restores can old index (Ok done) new
+Defines can old index (Err define.Written) new =
+    (has index.public.attributes attribute.Written ≡ true) × (new ≡ old)
+Defines can old index (Err define.DataSize) new =
+    (has index.public.attributes attribute.Written ≡ false)
+    × (has_type_size index.public ≡ false)
+    × (new ≡ old)
+Defines can old index (Err define.Defined) new =
+    IsDefinable index.public × Restores can old index (Err Defined) new
+Defines can old index (Err define.Space) new =
+    IsDefinable index.public × Restores can old index (Err Space) new
+Defines can old index (Err define.NoMemory) new =
+    IsDefinable index.public × Restores can old index (Err NoMemory) new

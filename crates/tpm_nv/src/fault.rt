@@ -1,4 +1,4 @@
-//! Why a call on an NV index, or the definition of one, is refused.
+//! Why a call on an NV index is refused, or the definition of one, or its return from what was kept.
 
 /// Why a call on an index was refused.
 #[derive(Clone, Copy, Debug, PartialEq, Eq)]
@@ -18,6 +18,21 @@ pub enum NvFault {
 /// Why an index was not defined.
 #[derive(Clone, Copy, Debug, PartialEq, Eq)]
 pub enum DefineFault {
+    /// It is marked as written, which no index is as it is defined.
+    Written,
+    /// Its data have not the size that an index of its type has.
+    DataSize,
+    /// The handle has an index.
+    Defined,
+    /// There are as many indices as there may be, or too few bytes are left.
+    Space,
+    /// Memory was refused.
+    NoMemory,
+}
+
+/// Why an index was not put back.
+#[derive(Clone, Copy, Debug, PartialEq, Eq)]
+pub enum RestoreFault {
     /// The handle has an index.
     Defined,
     /// There are as many indices as there may be, or too few bytes are left.

@@ -4,9 +4,9 @@
 ghost use Rattle.tpm_bytes.specs.Reading.{Gives};
 ghost use Rattle.std.specs.Prelude.{◌≡◌, ◌<◌, ◌≤◌, ◌^◌, ℕ, [], Bool, false, true, is_some, if◌then◌else◌};
 ghost use Rattle.std.specs.Prelude.{length, option_copied, option_map, OnOk};
-ghost use Rattle.tpm_nv.specs.Access.{ChangesContents, bits_set, check_readable, extended, incremented, read_at, read_locked, with_auth_value, write_locked, written};
+ghost use Rattle.tpm_nv.specs.Access.{ChangesContents, bits_set, extended, incremented, read_at, read_locked, with_auth_value, write_locked, written};
 ghost use Rattle.tpm_nv.specs.Clear.{cleared};
-ghost use Rattle.tpm_nv.specs.Definition.{Defines, defined_index, has_type_size};
+ghost use Rattle.tpm_nv.specs.Definition.{Defines, Restores, defined_index, has_type_size};
 ghost use Rattle.tpm_nv.specs.Head.{head_of, heads_of, indices_of};
 ghost use Rattle.tpm_nv.specs.Index.{NvContents, data_bytes, index_at, next_index, no_indices, without_index};
 ghost use Rattle.tpm_nv.specs.IsContents.{IsContents};
@@ -15,7 +15,7 @@ ghost use Rattle.tpm_types_nv.specs.NvAttributes.{has};
 ghost use Rattle.tpm_types_nv.specs.NvPublic.{IsNvPublic};
 ghost use Rattle.tpm_types_nv.specs.declared.nv_attributes.NvAttribute.TheVariants as attribute;
 
-use crate::fault::{DefineFault, NvFault};
+use crate::fault::{DefineFault, NvFault, RestoreFault};
 use crate::head::Head;
 use std::alloc::Global;
 use tpm_types::{AuthValue, Handle};
@@ -54,12 +54,10 @@ pub trait Indices: Drop + Sized {
     fn next(&self, handle: Handle) -> Option<u32>
         ensures { result ≡ next_index (contents self.now) handle.number };
 
-    /// Defines an index that is not yet written (TPM 2.0 Library, Part 3, section 31.3). Its public
-    /// area has the size of its type, as [`crate::definition::check_definition`] sees to.
+    /// Defines an index, which has no data yet (TPM 2.0 Library, Part 3, section 31.3). What else its
+    /// definition is to pass, [`crate::definition::check_definition`] says.
     fn define(&mut self, public: NvPublic, auth_value: AuthValue) -> Result<(), DefineFault>
-        requires named { IsNvPublic public }
-        requires sized { has_type_size public ≡ true }
-        requires unwritten { has public.attributes attribute.Written ≡ false }
+        requires { IsNvPublic public }
         ensures { Defines can_refuse (contents self.old) (defined_index public auth_value) result
             (contents self.new) };
 
@@ -69,12 +67,12 @@ pub trait Indices: Drop + Sized {
         public: NvPublic,
         auth_value: AuthValue,
         bytes: &[u8],
-    ) -> Result<(), DefineFault>
+    ) -> Result<(), RestoreFault>
         requires named { IsNvPublic public }
         requires sized { has_type_size public ≡ true }
         requires data_size { length bytes.now
             ≡ (if has public.attributes attribute.Written then public.data_size else 0) }
-        ensures { Defines can_refuse (contents self.old)
+        ensures { Restores can_refuse (contents self.old)
             (record { public = public; auth_value = auth_value; bytes = bytes.now }) result
             (contents self.new) };
 
@@ -102,10 +100,6 @@ pub trait Indices: Drop + Sized {
     fn extend(&mut self, handle: Handle, bytes: &[u8]) -> Result<(), NvFault>
         ensures { ChangesContents (extended (contents self.old) handle bytes.now) (contents self.old)
             result (contents self.new) };
-
-    /// Whether an index may be read.
-    fn check_readable(&self, handle: Handle) -> Result<(), NvFault>
-        ensures { result ≡ check_readable (contents self.now) handle };
 
     /// A number of bytes of the data from an offset on (Part 3, section 31.13).
     fn read(&self, handle: Handle, offset: u16, size: u16) -> Result<&[u8], NvFault>

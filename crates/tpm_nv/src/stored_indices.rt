@@ -17,7 +17,8 @@ ghost use Rattle.tpm_types_nv.specs.declared.nv_attributes.NvAttribute.TheVarian
 
 use crate::area::Area;
 use crate::clear::{PlatformIndices, keep_bytes};
-use crate::fault::{DefineFault, NvFault};
+use crate::definition::has_type_size;
+use crate::fault::{DefineFault, NvFault, RestoreFault};
 use crate::head::Head;
 use crate::heads::{auth_value_fits, found_at, put_head, set_attributes, set_auth_value, start_of};
 use crate::indices::Indices;
@@ -47,7 +48,7 @@ pub struct StoredIndices<H: SortedMap<Head, NV_INDEX_LIMIT>, R: Area> {
 pub type ListIndices = StoredIndices<ListMap<Head, NV_INDEX_LIMIT>, ListArea>;
 
 /// NV indices in as many places as there can be. No memory is ever taken, so none can be refused.
-/// They are some twelve thousand bytes long: they are made once, and lent.
+/// They are some 23,600 bytes long, the data of all among them: they are made once, and lent.
 pub type SlotIndices = StoredIndices<SlotMap<Head, NV_INDEX_LIMIT>, SlotArea>;
 
 impl<H: SortedMap<Head, NV_INDEX_LIMIT>, R: Area> Model for StoredIndices<H, R> {
@@ -160,14 +161,14 @@ impl<H: SortedMap<Head, NV_INDEX_LIMIT>, R: Area> StoredIndices<H, R> {
     }
 
     /// Whether an index may be put under its handle.
-    fn check_room(&self, public: &NvPublic) -> Result<(), DefineFault>
+    fn check_room(&self, public: &NvPublic) -> Result<(), RestoreFault>
         ensures { HasRoomFor self.now public.now result }
     {
         if let Some(_) = self.head(public.nv_index) {
-            return Err(DefineFault::Defined);
+            return Err(RestoreFault::Defined);
         }
         if !self.has_room(usize::from(public.data_size)) {
-            return Err(DefineFault::Space);
+            return Err(RestoreFault::Space);
         }
         Ok(())
     }
@@ -274,7 +275,18 @@ impl<H: SortedMap<Head, NV_INDEX_LIMIT>, R: Area> Indices for StoredIndices<H, R
     }
 
     fn define(&mut self, public: NvPublic, auth_value: AuthValue) -> Result<(), DefineFault> {
-        self.restore(public, auth_value, &[])
+        if public.attributes.has(NvAttribute::Written) {
+            return Err(DefineFault::Written);
+        }
+        if !has_type_size(&public) {
+            return Err(DefineFault::DataSize);
+        }
+        match self.restore(public, auth_value, &[]) {
+            Ok(()) => Ok(()),
+            Err(RestoreFault::Defined) => Err(DefineFault::Defined),
+            Err(RestoreFault::Space) => Err(DefineFault::Space),
+            Err(RestoreFault::NoMemory) => Err(DefineFault::NoMemory),
+        }
     }
 
     fn restore(
@@ -282,11 +294,11 @@ impl<H: SortedMap<Head, NV_INDEX_LIMIT>, R: Area> Indices for StoredIndices<H, R
         public: NvPublic,
         auth_value: AuthValue,
         bytes: &[u8],
-    ) -> Result<(), DefineFault> {
+    ) -> Result<(), RestoreFault> {
         self.check_room(&public)?;
         match self.add(public, auth_value, bytes) {
             Ok(()) => Ok(()),
-            Err(NoMemory) => Err(DefineFault::NoMemory),
+            Err(NoMemory) => Err(RestoreFault::NoMemory),
         }
     }
 
@@ -344,20 +356,6 @@ impl<H: SortedMap<Head, NV_INDEX_LIMIT>, R: Area> Indices for StoredIndices<H, R
         let place = found.place();
         let digest = self.extended_digest(found, bytes);
         self.set_data(handle, place, digest.as_slice());
-        Ok(())
-    }
-
-    #[tactic(auto, unfolding(crate::specs::Access::check_readable))]
-    fn check_readable(&self, handle: Handle) -> Result<(), NvFault> {
-        let Some(head) = self.head(handle) else {
-            return Err(NvFault::Undefined);
-        };
-        if head.public.attributes.has(NvAttribute::ReadLocked) {
-            return Err(NvFault::Locked);
-        }
-        if !head.public.attributes.has(NvAttribute::Written) {
-            return Err(NvFault::Uninitialized);
-        }
         Ok(())
     }
 

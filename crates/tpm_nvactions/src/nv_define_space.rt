@@ -82,6 +82,8 @@ pub fn nv_define_space<K: Keep>(
     }
     match keep.nv_mut().define(asked.public, asked.auth_value) {
         Ok(()) => Ok(()),
+        Err(DefineFault::Written) => Err(definition_refusal(DefinitionFault::Attributes)),
+        Err(DefineFault::DataSize) => Err(definition_refusal(DefinitionFault::DataSize)),
         Err(DefineFault::Defined) => Err(action_refusal(
             ActionCheck::Fifth,
             ResponseCode::NvDefined.anywhere(),

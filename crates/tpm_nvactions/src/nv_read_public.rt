@@ -33,6 +33,8 @@ pub fn nv_read_public<K: Keep>(
     };
     end(&Cursor::new(call.parameters))?;
     let _ = answer.parameters.put_sized(head.public.text().as_slice());
-    let _ = answer.parameters.put_sized(head.public.name().as_slice());
+    let _ = answer
+        .parameters
+        .put_sized(tpm_name::of_nv(&head.public).as_slice());
     Ok(())
 }

@@ -5,10 +5,10 @@ pub mod Creation
 pub mod Areas
 pub mod Primary
 pub mod PrivateArea
-pub use Rattle.tpm_name.specs.Name
+pub use Rattle.tpm_types_name.specs.Name
 pub use Rattle.tpm_types.specs.AuthValue
 pub use Rattle.tpm_types_object.specs.Filled
-pub use Rattle.tpm_types_object.specs.ObjectName
+pub use Rattle.tpm_name.specs.ObjectName
 pub use Rattle.tpm_types.specs.Handle
 pub use Rattle.tpm_types_object.specs.ObjectAttributes
 pub use Rattle.tpm_types_object.specs.Public

@@ -1,7 +1,7 @@
 -- Objects. TPM 2.0 Library, Part 1, section 23 (the protected storage hierarchy).
 use Rattle.std.specs.Prelude.{ℕ, ◌≤◌, ◌&&◌, not, Bool, true, false, List, length}
-use Rattle.tpm_name.specs.Name.{qualified_name}
-use Rattle.tpm_types_object.specs.ObjectName.{object_name}
+use Rattle.tpm_types_name.specs.Name.{qualified_name}
+use Rattle.tpm_name.specs.ObjectName.{object_name}
 use Rattle.tpm_types.specs.Limits.{sensitive_limit}
 use Rattle.tpm_types.specs.AuthValue.{IsAuthValue, trimmed}
 use Rattle.tpm_types_object.specs.ObjectAttributes.{has}

@@ -4,7 +4,7 @@
 use Rattle.std.specs.Prelude.{ℕ, ◌+◌, List, [], ◌∷◌, take, drop}
 use Rattle.tpm_mac.specs.Digest.{digest_size, hash_of}
 use Rattle.tpm_mac.specs.Kdf.{kdfa_of}
-use Rattle.tpm_name.specs.Name.{handle_name}
+use Rattle.tpm_types_name.specs.Name.{handle_name}
 use Rattle.tpm_types.specs.Handle.{hierarchy_handle}
 use Rattle.tpm_types_object.specs.Public.{public_text}
 use Rattle.tpm_types_object.specs.SensitiveCreate.{SensitiveValues, sensitive_create_text}

@@ -4,7 +4,7 @@
 //! from a seed or from random bytes, and how its sensitive area is protected by its parent.
 //!
 //! It stands on `tpm_types_object` for the areas of objects, on `tpm_mac` and `tpm_aes` for
-//! digests, keys and encryption, on `tpm_name` for Names, and on `tpm_types`. Each call equals its
+//! digests, keys and encryption, on `tpm_types_name` for Names, and on `tpm_types`. Each call equals its
 //! definition in `specs/`. Unwrapping a private area gives back the sensitive area that was wrapped
 //! for a public area of its type, as that of each object that is made, and accepts nothing but what
 //! its parent wraps. No call here takes memory.

@@ -2,7 +2,7 @@
 //! 2.0 Library, Part 1, section 23).
 
 ghost use Rattle.std.specs.Prelude.{◌≡◌};
-ghost use Rattle.tpm_types_object.specs.ObjectName.{object_name};
+ghost use Rattle.tpm_name.specs.ObjectName.{object_name};
 ghost use Rattle.tpm_object.specs.Object.{are_of_cipher, is_cipher, is_keyed_hash, is_storage_parent, loaded_object};
 
 use tpm_mac::HashAlg;
@@ -122,7 +122,7 @@ impl Object {
         ensures { result ≡ loaded_object hierarchy public sensitive.now
             parent_qualified_name.now }
     {
-        let name = public.name();
+        let name = tpm_name::of_object(&public);
         Object::loaded_named(hierarchy, public, &name, sensitive, parent_qualified_name)
     }
 
@@ -171,6 +171,6 @@ impl Object {
     pub fn name(&self) -> Name
         ensures { result ≡ object_name self.now.public }
     {
-        self.public.name()
+        tpm_name::of_object(&self.public)
     }
 }

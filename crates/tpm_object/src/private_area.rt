@@ -5,7 +5,7 @@ ghost use Rattle.tpm_bytes.specs.Reading.{Gives};
 ghost use Rattle.std.specs.Prelude.{◌≡◌, ◌≢◌, ◌≤◌, length, Ok, Err, IfOk};
 ghost use Rattle.tpm_aes.specs.Cfb.{cfb_decrypt_of, cfb_encrypt_of};
 ghost use Rattle.tpm_bytes.specs.Writing.{sized_text};
-ghost use Rattle.tpm_types_object.specs.ObjectName.{object_name};
+ghost use Rattle.tpm_name.specs.ObjectName.{object_name};
 ghost use Rattle.tpm_types_object.specs.Public.{object_type};
 ghost use Rattle.tpm_types_object.specs.Sensitive.{IsSensitive, sensitive_text};
 ghost use Rattle.tpm_types_object.specs.declared.public.Public.{Public};
@@ -130,7 +130,7 @@ pub fn wrap(parent: &Object, public: &Public, sensitive: &Sensitive, iv: &[u8; 1
     ensures other_type { object_type public.now ≢ sensitive.now.object_type
         → unwrapped parent.now public.now result ≡ Err integrity_fault }
 {
-    wrap_named(parent, &public.name(), sensitive, iv)
+    wrap_named(parent, &tpm_name::of_object(public), sensitive, iv)
 }
 
 /// The private area of the object of this Name, where that is known.
@@ -240,7 +240,7 @@ pub fn unwrap(parent: &Object, public: &Public, private: &[u8]) -> Result<Sensit
     ensures only { (area : Sensitive) → IsWrapped parent.now public.now private.now area
         → result ≡ Ok area }
 {
-    unwrap_named(parent, public, &public.name(), private)
+    unwrap_named(parent, public, &tpm_name::of_object(public), private)
 }
 
 /// Unwraps the private area of an object whose Name is known.

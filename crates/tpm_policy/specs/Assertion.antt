@@ -113,8 +113,8 @@ abbrev pub is_other_hash : Option (List ℕ) → List ℕ → Bool
 is_other_hash None hash = false
 is_other_hash (Some recorded) hash = not (bytes_eq recorded hash)
 
--- whether it is recorded that an index is to be written, or is not to be, and this is not so; no value
--- is found where there is no index
+-- whether one state of an index, written or not yet written, is recorded, and another is found; where
+-- there is no index, none is found
 abbrev pub is_other_written : Option Bool → Option Bool → Bool
 is_other_written None found = false
 is_other_written (Some recorded) None = true
@@ -169,7 +169,8 @@ auth_value_asserted hash policy = demanding hash demand.AuthValue policy
 unfoldable pub password_asserted : HashAlg → Policy → Policy
 password_asserted hash policy = demanding hash demand.Password policy
 
--- TPM2_PolicyCommandCode (section 23.11): only this command
+-- TPM2_PolicyCommandCode (section 23.11): only this command. Both checks are made in a trial session
+-- too (this device's own)
 unfoldable pub command_code_asserted : HashAlg → (number : ℕ)
     → Policy → Result Policy ActionFault
 command_code_asserted hash number policy = do
@@ -178,7 +179,8 @@ command_code_asserted hash number policy = do
   Ok (record (extended hash served.PolicyCommandCode (to_be_bytes w32 number) policy) { command = Some number })
 
 -- TPM2_PolicyLocality (section 23.8): only those of these localities that were still allowed, of
--- which there must be one; extended localities, 32 and up, are not served
+-- which there must be one, in a trial session too (this device's own); extended localities, 32 and up,
+-- are not served
 unfoldable pub locality_asserted : HashAlg → (localities : ℕ)
     → Policy → Result Policy ActionFault
 locality_asserted hash localities policy = do

@@ -7,9 +7,9 @@ ghost use Rattle.tpm_policy.specs.Assertion.{Asserts, asserted, nv_arguments, nv
 use crate::comparison::compares;
 use crate::state::PolicyState;
 use tpm_mac::{Digest, HashAlg, digest_parts};
-use tpm_name::Name;
 use tpm_types::{ActionCheck, ActionFault, Operation, ResponseCode};
 use tpm_types_command::CommandCode;
+use tpm_types_name::Name;
 
 /// What TPM2_PolicyNV is about.
 #[derive(Clone, Copy)]

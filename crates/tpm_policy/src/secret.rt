@@ -7,9 +7,9 @@ ghost use Rattle.tpm_policy.specs.Assertion.{Asserts, asserted, is_other_hash, s
 use crate::state::PolicyState;
 use tpm_bytes::{copied, is_equal};
 use tpm_mac::{Digest, HashAlg, digest_parts};
-use tpm_name::Name;
 use tpm_types::{ActionCheck, ActionFault, ResponseCode};
 use tpm_types_command::CommandCode;
+use tpm_types_name::Name;
 
 /// What TPM2_PolicySecret is about. A buffer of no byte gives nothing.
 #[derive(Clone, Copy)]

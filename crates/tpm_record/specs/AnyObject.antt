@@ -1,15 +1,17 @@
--- Objects of a record, transient and persistent: what adding and removing one does. TPM 2.0
+-- Objects of a record, transient and persistent: what adding and removing one does, and which comes
+-- next. TPM 2.0
 -- Library, Part 1, sections 15.6 (transient objects) and 37.3 (persistent objects).
-use Rattle.tpm_types.specs.Limits.{persistent_limit}
-use Rattle.std.specs.Prelude.{◌≡◌, Bool, if◌then◌else◌, Result}
+use Rattle.tpm_types.specs.Limits.{object_limit, persistent_limit}
+use Rattle.std.specs.Prelude.{◌≡◌, ℕ, zero, suc, ◌&&◌, nat_le, Bool, is_some, if◌then◌else◌, List, Option, Some, None, option_map, Result}
 use Rattle.tpm_object.specs.declared.object.Object.{Object}
+use Rattle.tpm_slots.specs.Numbered.{number_of}
 use Rattle.tpm_slots.specs.declared.slots.SlotFault.{SlotFault}
 use Rattle.tpm_sorted_map.specs.SortedMap.{PutsKey}
 use Rattle.tpm_sorted_map.specs.declared.sorted_map.KeyFault.{KeyFault}
 use Rattle.tpm_types.specs.Handle.{is_persistent}
 use Rattle.tpm_types.specs.declared.handle.Handle.{Handle}
-use Rattle.tpm_record.specs.Objects.{Adds, without_object}
-use Rattle.tpm_record.specs.Persistent.{without_persistent}
+use Rattle.tpm_record.specs.Objects.{Adds, object_at, object_handle, without_object}
+use Rattle.tpm_record.specs.Persistent.{next_persistent, without_persistent}
 use Rattle.tpm_record.specs.Record.{Record}
 
 -- A transient object was added, or that was refused; nothing else of the record changed.
@@ -30,3 +32,29 @@ without_object_of r handle =
     if is_persistent handle
     then record r { persistent = without_persistent r.persistent handle }
     else record r { objects = without_object r.objects handle }
+
+-- ---- the next
+
+-- the first that there is
+abbrev pub or_else : {X : Type 0} → Option X → Option X → Option X
+or_else (Some x) other = Some x
+or_else None other = other
+
+-- the least number below this one that passes a test
+abbrev pub least_below : (ℕ → Bool) → ℕ → Option ℕ
+least_below test zero = None
+least_below test (suc n) = or_else (least_below test n) (if test n then Some n else None)
+
+-- whether an object is in a place, under a handle of this number or a higher one
+abbrev pub is_from : List (Option Object) → (number place : ℕ) → Bool
+is_from objects number place =
+    nat_le number (number_of 0x80 place) && is_some (object_at objects (object_handle place))
+
+-- the lowest handle of a transient object from a number on
+abbrev pub next_transient : List (Option Object) → ℕ → Option ℕ
+next_transient objects number =
+    option_map (number_of 0x80) (least_below (is_from objects number) object_limit)
+
+-- the lowest handle of an object from a number on: each transient one is below each persistent one
+abbrev pub next_object : Record → ℕ → Option ℕ
+next_object r number = or_else (next_transient r.objects number) (next_persistent r.persistent number)

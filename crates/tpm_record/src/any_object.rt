@@ -1,17 +1,19 @@
-//! Objects of a keep, transient and persistent, added and removed by one call each.
+//! Objects of a keep, transient and persistent, added, removed and found one after another by one
+//! call each.
 
 ghost use Rattle.std.specs.Prelude.{◌≡◌, is_some, true};
-ghost use Rattle.tpm_record.specs.AnyObject.{AddsObject, AddsPersistent, without_object_of};
+ghost use Rattle.tpm_record.specs.AnyObject.{AddsObject, AddsPersistent, next_object, next_transient};
+ghost use Rattle.tpm_record.specs.AnyObject.{without_object_of};
 ghost use Rattle.tpm_record.specs.Entity.{object_of};
 ghost use Rattle.tpm_record.specs.Persistent.{can_persist};
 ghost use Rattle.tpm_types.specs.Handle.{is_persistent};
 
 use crate::keep::Keep;
 use crate::persistent::PersistentObjects;
-use tpm_object::Object;
-use tpm_slots::SlotFault;
+use tpm_object::{Object, TRANSIENT_BYTE};
+use tpm_slots::{SlotFault, numbered};
 use tpm_sorted_map::KeyFault;
-use tpm_types::Handle;
+use tpm_types::{Handle, OBJECT_LIMIT};
 
 /// Adds a transient object under the lowest free handle, which it gives.
 pub fn add_object<K: Keep>(keep: &mut K, object: Object) -> Result<Handle, SlotFault>
@@ -41,4 +43,31 @@ pub fn remove_object<K: Keep>(keep: &mut K, handle: Handle) -> bool
     } else {
         keep.objects_mut().remove(handle)
     }
+}
+
+/// The number of the lowest handle of an object, transient or persistent, from this one on.
+pub fn next_object<K: Keep>(keep: &K, from: Handle) -> Option<u32>
+    ensures { result ≡ next_object (K.record_of keep.now) from.number }
+{
+    match next_transient(keep, from) {
+        Some(number) => Some(number),
+        None => keep.persistent().next(from),
+    }
+}
+
+/// That of a transient object.
+#[tactic(auto, using(crate::proofs::Searching::none_more, crate::proofs::Searching::found_least))]
+fn next_transient<K: Keep>(keep: &K, from: Handle) -> Option<u32>
+    ensures { result ≡ next_transient (K.record_of keep.now).objects from.number }
+{
+    for place in 0..OBJECT_LIMIT as u32 {
+        let handle = Handle {
+            number: numbered::number_of(TRANSIENT_BYTE, place as usize),
+        };
+        let is_there = keep.objects().get(handle).is_some();
+        if from.number <= handle.number && is_there {
+            return Some(handle.number);
+        }
+    }
+    None
 }

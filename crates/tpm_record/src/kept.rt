@@ -41,7 +41,7 @@ pub type ListKeep = Kept<
 >;
 
 /// The record in fixed places, one for each thing that there can be. No memory is ever taken, so
-/// none can be refused. It is some twenty-eight thousand bytes long: it is made once, and lent.
+/// none can be refused. It is some 40,300 bytes long: it is made once, and lent.
 pub type SlotKeep = Kept<
     FixedSlots<Session, SESSION_LIMIT>,
     FixedSlots<Object, OBJECT_LIMIT>,

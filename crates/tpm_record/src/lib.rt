@@ -29,7 +29,7 @@ pub mod record;
 pub mod saved;
 pub mod tick;
 
-pub use any_object::{add_object, add_persistent, remove_object};
+pub use any_object::{add_object, add_persistent, next_object, remove_object};
 pub use cycle::power_cycle;
 pub use entity::{
     Means, absence_rc, auth_value_of, copied_auth_value, is_available, is_present, name_of,

@@ -29,7 +29,7 @@ abbrev pub mask_label : List ℕ
 mask_label = 0x58 ∷ 0x4f ∷ 0x52 ∷ []
 
 -- KDFa(authHash, sessionKey || authValue, "XOR", nonceNewer, nonceOlder, as many bits as a parameter
--- of this size has)
+-- of this size has). A check of TPM2_StartAuthSession makes the hash of XOR authHash
 unfoldable pub mask_bytes : Session → (auth_value newer older : List ℕ) → (size : ℕ) → List ℕ
 mask_bytes session auth_value newer older size =
     kdfa_of session.hash (session.key ++ auth_value) mask_label newer older size

@@ -54,7 +54,7 @@ impl Session {
         ensures iv { result.iv
             ≡ cipher_iv (cipher_bytes self.now auth_value.now newer.now older.now) }
     {
-        let key = self.key_with(auth_value);
+        let key = self.entry_key(auth_value);
         let mut bytes = [0; 32];
         kdfa(
             self.hash,
@@ -79,7 +79,7 @@ impl Session {
             (mask_bytes self.now auth_value.now newer.now older.now (length bytes.old))
             ≡ length bytes.old }
     {
-        let key = self.key_with(auth_value);
+        let key = self.entry_key(auth_value);
         let mut room = [0; BUFFER_LIMIT];
         let mask = &mut room[..bytes.len()];
         kdfa(self.hash, key.as_slice(), MASK_LABEL, newer, older, mask);
@@ -88,7 +88,7 @@ impl Session {
 
     /// Decrypts a parameter in place, or refuses and leaves it where the session has no symmetric
     /// algorithm. The authorization value is that of the entity that the session authorizes too, or
-    /// empty (TPM 2.0 Library, Part 1, section 21.3).
+    /// empty (TPM 2.0 Library, Part 1, sections 21.2 and 21.3).
     #[tactic(auto, unfolding(crate::specs::Encryption::plain_parameter))]
     pub fn open_parameter(
         &self,

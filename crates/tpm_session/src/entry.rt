@@ -5,6 +5,7 @@ ghost use Rattle.std.specs.Prelude.{◌≡◌, ◌≤◌, IsTrue, ◌↔◌, len
 ghost use Rattle.tpm_bytes.specs.Writing.{Puts};
 ghost use Rattle.tpm_mac.specs.Digest.{digest_size};
 ghost use Rattle.tpm_mac.specs.Hmac.{hmac_of};
+ghost use Rattle.tpm_session.specs.EntryText.{entry_text};
 
 use crate::session::Session;
 use arrayvec::ArrayVec;
@@ -49,31 +50,31 @@ impl<'a> Model for EntryText<'a> {
         entry_text t.hash.now t.newer.now t.older.now t.decrypt.now t.encrypt.now t.attributes };
 }
 
-impl<'a> EntryText<'a> {
-    ghost use Rattle.tpm_session.specs.EntryText.{entry_text};
-
-    /// The text of these parts, of which none is copied.
-    pub fn of(
-        hash: &'a [u8],
-        newer: &'a [u8],
-        older: &'a [u8],
-        decrypt: &'a [u8],
-        encrypt: &'a [u8],
-        attributes: SessionAttributes,
-    ) -> EntryText<'a>
-        ensures { result
-            ≡ entry_text hash.now newer.now older.now decrypt.now encrypt.now attributes }
-    {
-        EntryText {
-            hash,
-            newer,
-            older,
-            decrypt,
-            encrypt,
-            attributes,
-        }
+/// The text of an entry's HMAC, of these parts, of which none is copied: the hash of the command or
+/// the response, the nonces of the entry's session, the newer first, and those of the sessions that
+/// decrypt and encrypt, where they stand in it.
+pub fn entry_text<'a>(
+    hash: &'a [u8],
+    newer: &'a [u8],
+    older: &'a [u8],
+    decrypt: &'a [u8],
+    encrypt: &'a [u8],
+    attributes: SessionAttributes,
+) -> EntryText<'a>
+    ensures { result
+        ≡ entry_text hash.now newer.now older.now decrypt.now encrypt.now attributes }
+{
+    EntryText {
+        hash,
+        newer,
+        older,
+        decrypt,
+        encrypt,
+        attributes,
     }
+}
 
+impl<'a> EntryText<'a> {
     /// Whether there is room for it.
     fn fits(&self, room: usize) -> bool
         ensures { IsTrue result ↔ (length self.now ≤ room) }
@@ -119,8 +120,8 @@ impl<'a> EntryText<'a> {
 impl Session {
     ghost use Rattle.tpm_session.specs.EntryText.{command_mac_of, command_text, entry_key, parts_of, response_mac_of, response_text};
 
-    /// The session's key, and after it an authorization value.
-    pub(crate) fn key_with(&self, auth_value: &[u8]) -> ArrayVec<u8, 64>
+    /// The key of an entry's HMAC: the session's key, and after it an authorization value.
+    pub fn entry_key(&self, auth_value: &[u8]) -> ArrayVec<u8, 64>
         requires { length auth_value.now ≤ 32 }
         ensures { result.items ≡ entry_key self.now auth_value.now }
     {
@@ -134,7 +135,7 @@ impl Session {
     pub fn command_text<'a>(&'a self, text: &CommandText<'a>) -> EntryText<'a>
         ensures { result ≡ command_text self.now (parts_of text.now) }
     {
-        EntryText::of(
+        entry_text(
             text.hash,
             text.nonce_caller,
             self.nonce_tpm.as_slice(),
@@ -154,7 +155,7 @@ impl Session {
         ensures { result ≡ response_text self.now hash.now nonce_caller.now attributes }
     {
         let newer = self.nonce_tpm.as_slice();
-        EntryText::of(hash, newer, nonce_caller, &[], &[], attributes)
+        entry_text(hash, newer, nonce_caller, &[], &[], attributes)
     }
 
     /// The HMAC of a command's entry by this session.
@@ -164,7 +165,7 @@ impl Session {
         ensures value { result.items ≡ command_mac_of self.now auth_value.now (parts_of text.now) }
         ensures size { length result.items ≡ digest_size self.now.hash }
     {
-        let key = self.key_with(auth_value);
+        let key = self.entry_key(auth_value);
         self.command_text(text).mac(self.hash, key.as_slice())
     }
 
@@ -182,7 +183,7 @@ impl Session {
             ≡ response_mac_of self.now auth_value.now hash.now nonce_caller.now attributes }
         ensures size { length result.items ≡ digest_size self.now.hash }
     {
-        let key = self.key_with(auth_value);
+        let key = self.entry_key(auth_value);
         let text = self.response_text(hash, nonce_caller, attributes);
         text.mac(self.hash, key.as_slice())
     }

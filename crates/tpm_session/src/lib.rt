@@ -4,7 +4,7 @@
 //! by their handles, the HMAC of an entry by a session, and parameters that a session encrypts.
 //!
 //! It stands on `tpm_policy` for the state of a policy session, on `tpm_mac` and `tpm_aes` for
-//! HMACs, keys and encryption, on `tpm_name` for the Names in a command's hash, on `tpm_slots` for
+//! HMACs, keys and encryption, on `tpm_types_name` for the Names in a command's hash, on `tpm_slots` for
 //! the places of sessions, and on `tpm_types`. Contracts see the sessions of
 //! [`sessions::Sessions`] as places, each free or with a session, whatever keeps them
 //! (`tpm_slots::slots::Slots`). A refused start changes nothing. Only the start of a session may
@@ -21,7 +21,7 @@ pub mod session;
 pub mod sessions;
 
 pub use encryption::SymmetricFault;
-pub use entry::CommandText;
+pub use entry::{CommandText, entry_text};
 pub use first_buffer::first_size;
 pub use key::{SessionKey, is_nonce_size};
 pub use nonce::Nonce;

@@ -6,7 +6,7 @@ ghost use Rattle.tpm_mac.specs.Digest.{digest_size};
 ghost use Rattle.tpm_session.specs.ParameterHash.{command_hash_of, response_hash_of};
 
 use tpm_mac::{Digest, HashAlg, digest_parts};
-use tpm_name::Name;
+use tpm_types_name::Name;
 
 /// The bytes of the Name in a place, and no byte after the last.
 fn name_at(names: &[Name], place: usize) -> &[u8]

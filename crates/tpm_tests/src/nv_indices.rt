@@ -3,9 +3,10 @@
 
 use super::comparison::check;
 use std::process::Abort;
-use tpm_bytes::Cursor;
+use tpm_bytes::{Cursor, Sink};
 use tpm_nv::{
-    DefineFault, DefinitionFault, Indices, ListIndices, NvFault, SlotIndices, check_definition,
+    DefineFault, DefinitionFault, Indices, ListIndices, NvFault, SlotIndices, auth,
+    check_definition, public,
 };
 use tpm_types::{AuthValue, Handle};
 use tpm_types_nv::NvPublic;
@@ -60,9 +61,23 @@ fn is_read<N: Indices>(indices: &N, handle: Handle, size: u16, bytes: &[u8]) -> 
     }
 }
 
+/// Why the first byte of an index is not read.
+fn read_fault<N: Indices>(indices: &N, handle: Handle) -> Option<NvFault> {
+    indices.read(handle, 0, 1).err()
+}
+
 fn has_auth<N: Indices>(indices: &N, handle: Handle, bytes: &[u8]) -> bool {
-    match indices.get(handle) {
-        Some(head) => head.auth_value.is_same(bytes),
+    match auth(indices, handle) {
+        Some(value) => value.is_same(bytes),
+        None => false,
+    }
+}
+
+/// Whether an index has the public area that a text spells.
+fn has_public<N: Indices>(indices: &N, handle: Handle, text: &[u8]) -> bool {
+    let mut sink: Sink<46> = Sink::new();
+    match public(indices, handle) {
+        Some(area) => area.write(&mut sink).is_ok() && sink.as_slice() == text,
         None => false,
     }
 }
@@ -79,10 +94,12 @@ fn ordinary<N: Indices>(rt: &impl Abort, mut indices: N) {
         defined(&mut indices, ORDINARY),
         Outcome::Answered(Err(DefineFault::Defined)),
     );
+    check(rt, has_public(&indices, FIRST, ORDINARY), true);
+    check(rt, has_public(&indices, SECOND, ORDINARY), false);
     check(
         rt,
-        indices.check_readable(FIRST),
-        Err(NvFault::Uninitialized),
+        read_fault(&indices, FIRST),
+        Some(NvFault::Uninitialized),
     );
     check(rt, indices.write(FIRST, 2, b"\x5a"), Ok(()));
     check(
@@ -132,12 +149,12 @@ fn counters<N: Indices>(rt: &impl Abort, mut indices: N) {
     check(rt, indices.lock_write(FIRST), Ok(()));
     check(rt, indices.set_bits(FIRST, 1), Err(NvFault::Locked));
     check(rt, indices.lock_read(SECOND), Ok(()));
-    check(rt, indices.check_readable(SECOND), Err(NvFault::Locked));
+    check(rt, read_fault(&indices, SECOND), Some(NvFault::Locked));
     indices.startup();
     check(
         rt,
-        indices.check_readable(FIRST),
-        Err(NvFault::Uninitialized),
+        read_fault(&indices, FIRST),
+        Some(NvFault::Uninitialized),
     );
     check(rt, indices.set_bits(FIRST, 1), Ok(()));
     check(

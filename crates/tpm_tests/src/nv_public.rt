@@ -51,7 +51,7 @@ fn is_rewritten(text: &[u8]) -> bool {
 
 fn has_name(text: &[u8], name: &[u8]) -> bool {
     match public_of(text) {
-        Some(public) => public.name().as_slice() == name,
+        Some(public) => tpm_name::of_nv(&public).as_slice() == name,
         None => false,
     }
 }

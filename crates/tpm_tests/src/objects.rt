@@ -5,12 +5,12 @@ use super::comparison::check;
 use arrayvec::ArrayVec;
 use tpm_bytes::{Cursor, Sink};
 use tpm_mac::HashAlg;
-use tpm_name::Name;
 use tpm_object::{
     CreationFault, Object, TemplateFault, check_creation, check_template, create, derive_primary,
     drawn_by, is_storage_parent, unwrap, wrap,
 };
 use tpm_types::HierarchyHandle;
+use tpm_types_name::Name;
 use tpm_types_object::{CreationData, Public, Sensitive, SensitiveCreate};
 
 /// The owner's seed of a device that is manufactured with the bytes 00 to ff.

@@ -3,12 +3,12 @@
 use super::comparison::check;
 use tpm_bytes::Cursor;
 use tpm_mac::HashAlg;
-use tpm_name::Name;
 use tpm_policy::{Demand, EntityPolicy, PcrAssertion, PolicyState, SecretAssertion, Use};
 use tpm_types::{
     ActionCheck, ActionFault, DigestList, Handle, Locality, PcrSelection, Rc, ResponseCode, Role,
     SessionType,
 };
+use tpm_types_name::Name;
 
 /// TPM2_PolicyAuthValue.
 const AUTH_VALUE: &[u8] = b"\x8f\xcd\x21\x69\xab\x92\x69\x4e\x0c\x63\x3f\x1a\xb7\x72\x84\x2b\

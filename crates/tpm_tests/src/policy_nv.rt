@@ -3,9 +3,9 @@
 use super::comparison::check;
 use std::process::Abort;
 use tpm_mac::HashAlg;
-use tpm_name::Name;
 use tpm_policy::{NvAssertion, PolicyState};
 use tpm_types::{ActionCheck, ActionFault, Handle, Operation, ResponseCode};
+use tpm_types_name::Name;
 
 /// The digest of two bytes at offset 3 that are at most 01 02, under the Name 01000001.
 const AT_MOST: &[u8] = b"\x8e\xc7\xd7\xf4\x74\x50\xa5\xf1\xda\x63\x48\xb0\x33\x5b\x9c\x69\

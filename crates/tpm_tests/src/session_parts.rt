@@ -8,7 +8,6 @@ use std::alloc::Global;
 use std::process::Abort;
 use tpm_bytes::Sink;
 use tpm_mac::HashAlg;
-use tpm_name::Name;
 use tpm_policy::PolicyState;
 use tpm_session::{
     Binding, CommandText, Nonce, Protection, Session, SessionKey, Sessions, Start, StartFault,
@@ -18,6 +17,7 @@ use tpm_slots::{FixedSlots, ListSlots, Slots};
 use tpm_types::{
     AuthValue, Handle, SESSION_LIMIT, SessionAttributes, SessionType, SymmetricDefinition,
 };
+use tpm_types_name::Name;
 
 type InList = ListSlots<Session, SESSION_LIMIT>;
 

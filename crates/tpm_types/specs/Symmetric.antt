@@ -1,5 +1,6 @@
--- Symmetric definitions. TPM 2.0 Library, Part 2, section 11.1.6 (TPMT_SYM_DEF) and section 6.3
--- (TPM_ALG_ID: NULL 0010, AES 0006, CFB 0043, XOR 000A).
+-- Symmetric definitions. TPM 2.0 Library, Part 2, sections 11.1.6 (TPMT_SYM_DEF, of a session),
+-- 11.1.7 (TPMT_SYM_DEF_OBJECT, of an object) and 6.3 (TPM_ALG_ID: NULL 0010, AES 0006, CFB 0043,
+-- XOR 000A).
 use Rattle.std.specs.Prelude.{ℕ, ◌==◌, not, Bool, true, false, List, ◌++◌, if◌then◌else◌, Result, Ok, Err}
 use Rattle.std.specs.Int.{w16, to_be_bytes}
 use Rattle.tpm_bytes.specs.Reading.{◌>>=◌, number_at, or_fault, refused_if}
@@ -51,7 +52,7 @@ symmetric_at text = do
   algorithm ← or_fault (number_at w16 text) (plain code.Insufficient)
   behind_at algorithm.0 algorithm.1
 
--- a cipher, which is AES, and what is after it: the one that a storage key can have
+-- a cipher, which is AES, and what is after it: the one that a storage key or a SYMCIPHER key can have
 unfoldable pub cipher_at : List ℕ → Result (SymmetricDefinition × List ℕ) Rc
 cipher_at text = do
   algorithm ← or_fault (number_at w16 text) (plain code.Insufficient)

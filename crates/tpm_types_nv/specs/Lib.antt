@@ -2,8 +2,6 @@ pub mod NvType
 pub mod NvAttributes
 pub mod AreNvAttributes
 pub mod NvPublic
-pub mod NvName
 pub use Rattle.tpm_bytes.specs.Reading
 pub use Rattle.tpm_bytes.specs.Writing
-pub use Rattle.tpm_name.specs.Name
 pub use Rattle.tpm_types_object.specs.Filled

@@ -1,5 +1,4 @@
-//! The public area of an NV index, and the Name that follows from it (TPMS_NV_PUBLIC; TPM 2.0
-//! Library, Part 2, section 13.5).
+//! The public area of an NV index (TPMS_NV_PUBLIC; TPM 2.0 Library, Part 2, section 13.5).
 
 ghost use Rattle.std.specs.Prelude.{◌≡◌, ℕ, ◌≤◌, List, ◌++◌, length, Ok, IfOk};
 ghost use Rattle.tpm_bytes.specs.Reading.{Reads};
@@ -8,7 +7,6 @@ ghost use Rattle.tpm_bytes.specs.Writing.{Puts, sized_text};
 use crate::nv_attributes::NvAttributes;
 use tpm_bytes::{Cursor, Full, Readable, Sink};
 use tpm_mac::HashAlg;
-use tpm_name::Name;
 use tpm_types::{Handle, Octets, Rc, ResponseCode, bytes_fit, hash_number, read_hash};
 use tpm_types_object::read_filled;
 
@@ -26,7 +24,6 @@ pub struct NvPublic {
 }
 
 impl NvPublic {
-    ghost use Rattle.tpm_types_nv.specs.NvName.{nv_name};
     ghost use Rattle.tpm_types_nv.specs.NvPublic.{IsNvPublic, nv_index_at, nv_public_at, nv_public_text};
     ghost use Rattle.tpm_types_nv.specs.declared.nv_public.NvPublic.{NvPublic};
     ghost use Rattle.tpm_types_object.specs.Filled.{filled_by};
@@ -127,14 +124,6 @@ impl NvPublic {
         let _ = text.put_sized(self.auth_policy.as_slice());
         let _ = text.put_u16(self.data_size);
         text
-    }
-
-    /// The Name of its index: the algorithm of the Name, and the digest of this text by it.
-    #[tactic(auto, unfolding(crate::specs::NvName::nv_name))]
-    pub fn name(&self) -> Name
-        ensures { result ≡ nv_name self.now }
-    {
-        Name::hashed(self.name_alg, &[self.text().as_slice()])
     }
 
     /// Writes the public area at the end, at most 46 bytes, or nothing where it does not fit.

@@ -1,11 +1,9 @@
 pub mod Filled
 pub mod ObjectAttributes
 pub mod Public
-pub mod ObjectName
 pub mod Sensitive
 pub mod SensitiveCreate
 pub mod CreationData
 pub use Rattle.tpm_bytes.specs.Reading
 pub use Rattle.tpm_bytes.specs.Writing
-pub use Rattle.tpm_name.specs.Name
 pub use Rattle.tpm_types.specs.PcrSelection

@@ -1,13 +1,12 @@
 #![tactic(auto)]
 
 //! The areas of objects (TPM 2.0 Library, Part 2, section 12): public and sensitive areas, the
-//! attributes of objects, what a caller gives for a new object, and creation data; and the Name of
-//! an object.
+//! attributes of objects, what a caller gives for a new object, and creation data.
 //!
-//! It stands on `tpm_types` for the structures that these have, and on `tpm_name` for Names. A read
-//! gives the value or the first fault, as the response code that the standard has for it, and a
-//! refused read or write changes nothing. Each structure has one text a value: what is read was
-//! spelled so, and what is spelled so is read. No call here takes memory.
+//! It stands on `tpm_types` for the structures that these have. A read gives the value or the first
+//! fault, as the response code that the standard has for it, and a refused read or write changes
+//! nothing. Each structure has one text a value: what is read was spelled so, and what is spelled
+//! so is read. No call here takes memory.
 
 pub mod creation_data;
 pub mod filled;

@@ -1,5 +1,5 @@
-//! The public area of an object, with its type and its parameters, and the Name that follows from
-//! it (TPMT_PUBLIC; TPM 2.0 Library, Part 2, section 12.2).
+//! The public area of an object, with its type and its parameters (TPMT_PUBLIC; TPM 2.0 Library,
+//! Part 2, section 12.2).
 
 ghost use Rattle.std.specs.Prelude.{◌≡◌, ℕ, ◌≤◌, List, ◌++◌, length, Ok, IfOk};
 ghost use Rattle.tpm_bytes.specs.Reading.{Reads};
@@ -9,7 +9,6 @@ use crate::filled::read_filled;
 use crate::object_attributes::ObjectAttributes;
 use tpm_bytes::{Cursor, Full, Readable, Sink};
 use tpm_mac::HashAlg;
-use tpm_name::Name;
 use tpm_types::{Octets, Rc, ResponseCode, SymmetricDefinition, bytes_fit, hash_number, read_hash};
 
 /// The type of an object: TPMI_ALG_PUBLIC of TPM 2.0 Library, Part 2, section 12.2.2.
@@ -181,7 +180,6 @@ pub struct Public {
 
 impl Public {
     ghost use Rattle.tpm_types_object.specs.Public.{IsPublic, object_type, public_at, public_text};
-    ghost use Rattle.tpm_types_object.specs.ObjectName.{object_name};
     ghost use Rattle.tpm_types_object.specs.Filled.{filled_by};
     ghost use Rattle.tpm_types_object.specs.declared.public.Public.{Public};
 
@@ -269,14 +267,6 @@ impl Public {
         let _ = self.parameters.write(&mut text);
         let _ = text.put_sized(self.unique.as_slice());
         text
-    }
-
-    /// The Name of its object: the algorithm of the Name, and the digest of this text by it.
-    #[tactic(auto, unfolding(crate::specs::ObjectName::object_name))]
-    pub fn name(&self) -> Name
-        ensures { result ≡ object_name self.now }
-    {
-        Name::hashed(self.name_alg, &[self.text().as_slice()])
     }
 
     /// Writes the public area at the end, at most 82 bytes, or nothing where it does not fit.

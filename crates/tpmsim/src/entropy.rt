@@ -2,7 +2,7 @@
 
 use crate::fault::Fault;
 use std::fs::File;
-use std::io::{BufReader, Read};
+use std::io::{BufReader, ErrorKind, Read};
 use std::{fs, io};
 use tpm_machine::Machine;
 use tpm_record::SlotKeep;
@@ -17,9 +17,9 @@ pub struct Entropy {
 }
 
 impl Entropy {
-    /// Opens the file at this path.
+    /// Opens the file at this path, which may be a device or a pipe, and no folder.
     pub fn open(rt: &HostRuntime, path: &str) -> Result<Entropy, Fault> {
-        let file = fs::open(rt, path).map_err(|error| Fault::of_io(error, Fault::Entropy))?;
+        let file = open_bytes(rt, path).map_err(|error| Fault::of_io(error, Fault::Entropy))?;
         let reader = BufReader::with_capacity(rt.alloc(), READ_SIZE, file).map_err(
             |error| Fault::of_io(error, Fault::Entropy),
         )?;
@@ -40,4 +40,13 @@ impl Entropy {
             .map_err(|error| Fault::of_io(error, Fault::Entropy))?;
         Ok(Machine::manufacture(rt.alloc(), &random)?)
     }
+}
+
+/// Opens what is at a path, if that has bytes to read: a folder can be opened, and never read.
+fn open_bytes(rt: &HostRuntime, path: &str) -> io::Result<File> {
+    let file = fs::open(rt, path)?;
+    if file.metadata()?.is_dir() {
+        return Err(io::Error::from(ErrorKind::IsADirectory));
+    }
+    Ok(file)
 }

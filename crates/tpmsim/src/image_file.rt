@@ -1,8 +1,9 @@
-//! The file with the device's image: it is opened at the start, and put in place as a whole at each
-//! save, so that a fault leaves the old one.
+//! The file with the device's image: it is locked and opened at the start, and put in place as a
+//! whole at each save, so that a fault leaves the old one.
 
 use crate::fault::Fault;
 use crate::folder::folder_of;
+use crate::image_lock::ImageLock;
 use std::fs::{File, OpenOptions};
 use std::io::ErrorKind;
 use std::os::unix::fs::OpenOptionsExt;
@@ -16,24 +17,31 @@ use tpm_record::{Keep, SlotKeep};
 /// seeds and every authorization value.
 const OWNER_ALONE: u32 = 0o600;
 
-/// The file of an image. It has the paths that a save needs, so that a save takes no memory: once a
-/// device is served, it is not lost for want of memory.
+/// The file of an image, which no other run has while this is there. It has the paths that a save
+/// needs, so that a save takes no memory: once a device is served, it is not lost for want of memory.
 #[derive(Drop)]
 pub struct ImageFile<'a> {
     path: &'a str,
     /// The new file beside it.
     new: String,
     folder: String,
+    _lock: ImageLock,
 }
 
 impl<'a> ImageFile<'a> {
-    /// The file at this path, whether there is one or not.
-    pub fn at(rt: &HostRuntime, path: &'a str) -> Result<ImageFile<'a>, Fault> {
+    /// Takes the file at this path, whether there is one or not. The lock is on a file beside it,
+    /// since each save puts another file in its place. Where another run has it, nothing is touched.
+    pub fn take(rt: &HostRuntime, path: &'a str) -> Result<ImageFile<'a>, Fault> {
         let folder = folder_of(path);
+        let new = format!(in rt.alloc(); "{path}.new")?;
+        let folder = format!(in rt.alloc(); "{folder}.")?;
+        let lock = format!(in rt.alloc(); "{path}.lock")?;
+        let locked = lock_image(rt, path, lock.as_str());
         Ok(ImageFile {
             path,
-            new: format!(in rt.alloc(); "{path}.new")?,
-            folder: format!(in rt.alloc(); "{folder}.")?,
+            new,
+            folder,
+            _lock: locked.map_err(|error| Fault::of_io(error, Fault::File))?,
         })
     }
 
@@ -55,6 +63,19 @@ impl<'a> ImageFile<'a> {
             |error| Fault::of_io(error, Fault::File),
         )
     }
+}
+
+/// Takes the lock of an image, where its path may have one. What is no regular file is never opened,
+/// as a pipe would wait for whoever writes to it.
+fn lock_image(rt: &HostRuntime, path: &str, lock: &str) -> io::Result<ImageLock> {
+    match fs::metadata(rt, path) {
+        Ok(metadata) if !metadata.is_file() => return Err(io::Error::from(ErrorKind::InvalidInput)),
+        Err(error) if error.kind() != ErrorKind::NotFound || folder_of(path) == path => {
+            return Err(error);
+        }
+        _ => {}
+    }
+    ImageLock::take(rt, lock)
 }
 
 /// Writes the image of a device to a file that is made anew, and forces it to the disk.

@@ -18,6 +18,7 @@ mod entropy;
 mod fault;
 mod folder;
 mod image_file;
+mod image_lock;
 mod image_saver;
 mod running;
 mod serving;

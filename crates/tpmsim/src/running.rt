@@ -31,7 +31,7 @@ pub fn run_kept(
     trace: bool,
     storage: &Storage,
 ) -> Result<(), Fault> {
-    let file = ImageFile::at(rt, storage.image)?;
+    let file = ImageFile::take(rt, storage.image)?;
     let opened = file.open(rt)?;
     let mut entropy = match storage.entropy {
         Some(path) => Some(Entropy::open(rt, path)?),

@@ -14,7 +14,7 @@ use tpmsim_arguments::Service;
 /// Serves a device on a socket: the one whose image is in the file, or a new one where there is no
 /// file. Removes the socket's file in the end, if it is still at its path.
 pub fn serve_device(rt: &HostRuntime, service: &Service) -> Result<(), Fault> {
-    let file = ImageFile::at(rt, service.image)?;
+    let file = ImageFile::take(rt, service.image)?;
     let opened = file.open(rt)?;
     let mut entropy = Entropy::open(rt, service.entropy)?;
     let machine = match opened {

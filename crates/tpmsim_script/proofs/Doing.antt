@@ -7,7 +7,9 @@ use Rattle.std.specs.Prelude.{OnOk, OnErr}
 use Rattle.tpm_machine_step.specs.Events.{Cycled}
 use Rattle.tpm_machine_step.specs.Step.{Stepped, step}
 use Rattle.tpmsim_script.specs.Line.{Meaning, line_meaning}
-use Rattle.tpmsim_script.specs.Player.{Did}
+use Rattle.tpmsim_script.specs.Answers.{CutOff}
+use Rattle.tpmsim_script.specs.Player.{Did, Told}
+use Rattle.tpmsim_script.proofs.CutText.{cut_after, cut_behind, cut_longer}
 use Rattle.tpmsim_script.specs.declared.line_fault.LineFault.{LineFault}
 use Rattle.tpmsim_script.specs.declared.line_fault.LineFault.TheVariants.{Bad, Write, Save}
 use Rattle.tpmsim_script.specs.Script.{Playing, Effect, answer, command_of, cycle, cycle_to, execute, perform, perform_line, printed_response, printed_trace}
@@ -39,8 +41,8 @@ pub did_said : (p : Playing) (line : List ℕ) (said : Meaning) (old : Option (L
     → length line ≤ 65536 → line_meaning line ≡ Some said → Did (perform p said) old before result new after → Did (perform_line p line) old before result new after
 did_said p line said old before (Ok done) new after short e did = (did.0, said_done p line said short e ∙ did.1, did.2, did.3)
 did_said p line said old before (Err Bad) new after short e did = (said_done p line said short e ∙ did.0, did.1, did.2)
-did_said p line said old before (Err Write) new after short e did = tt
-did_said p line said old before (Err Save) new after short e did = tt
+did_said p line said old before (Err Write) new after short e did = (did.0, said_done p line said short e ∙ did.1, did.2, did.3)
+did_said p line said old before (Err Save) new after short e did = did
 
 abbrev is_bad : Result (Unit {0}) LineFault → Bool
 is_bad (Err Bad) = true
@@ -56,6 +58,9 @@ is_write other = false
 ok_is_no_write : (done : Unit {0}) → (let ok : Result (Unit {0}) LineFault = Ok done in ok ≡ Err Write) → ⊥
 ok_is_no_write done e = false≢true (ap is_write e)
 
+save_is_no_write : (let save : Result (Unit {0}) LineFault = Err Save in save ≡ Err Write) → ⊥
+save_is_no_write e = false≢true (ap is_write e)
+
 -- what was appended in two turns
 appended_twice : (old mid new : Option (List ℕ)) (first more : List ℕ) → Appends old mid first → Appends mid new more → Appends old new (first ++ more)
 appended_twice None mid new first more h k = tt
@@ -65,26 +70,44 @@ appended_twice (Some old) (Some mid) (Some new) first more h k = k ∙ ap (λ (l
 
 -- a command that was executed, whose trace was printed where that is asked for, and then its response
 pub executed : (p : Playing) (buffer : List ℕ) (s : Stepped) (old mid : Option (List ℕ)) (result : Result (Unit {0}) LineFault) (new : Option (List ℕ)) (after : Playing)
-    → s ≡ step p.device (command_of p buffer) → Appends old mid (printed_trace p.traced (command_of p buffer) s) → OnOk result (Appends mid new (printed_response s.response))
+    → s ≡ step p.device (command_of p buffer) → Appends old mid (printed_trace p.traced (command_of p buffer) s) → OnOk result (Appends mid new (printed_response s.response)) → OnErr result (CutOff mid new)
     → after ≡ (answer p (command_of p buffer) s).next → OnErr result (result ≡ Err Write) → Did (Some (execute p buffer)) old p result new after
-executed p buffer s old mid (Ok done) new after is traced printed next err =
+executed p buffer s old mid (Ok done) new after is traced printed cut next err =
     (answer p (command_of p buffer) s, ap (λ s. Some (answer p (command_of p buffer) s)) (sym is), appended_twice old mid new _ _ traced printed, next)
-executed p buffer s old mid (Err Bad) new after is traced printed next err = absurd (bad_is_no_write err)
-executed p buffer s old mid (Err Write) new after is traced printed next err = tt
-executed p buffer s old mid (Err Save) new after is traced printed next err = tt
+executed p buffer s old mid (Err Bad) new after is traced printed cut next err = absurd (bad_is_no_write err)
+executed p buffer s old mid (Err Write) new after is traced printed cut next err =
+    (answer p (command_of p buffer) s, ap (λ s. Some (answer p (command_of p buffer) s)) (sym is), cut_after old mid new _ _ traced (cut_longer mid new _ cut), next)
+executed p buffer s old mid (Err Save) new after is traced printed cut next err = absurd (save_is_no_write err)
 
 -- and what could not be printed
-pub untraced : (line : Option Effect) (p : Playing) (old : Option (List ℕ)) (result : Result (Unit {0}) LineFault) (new : Option (List ℕ)) (after : Playing) → result ≡ Err Write → Did line old p result new after
-untraced line p old (Ok done) new after e = absurd (ok_is_no_write done e)
-untraced line p old (Err Bad) new after e = absurd (bad_is_no_write e)
-untraced line p old (Err Write) new after e = tt
-untraced line p old (Err Save) new after e = tt
+pub untraced : (p : Playing) (buffer : List ℕ) (s : Stepped) (old : Option (List ℕ)) (result : Result (Unit {0}) LineFault) (new : Option (List ℕ)) (after : Playing)
+    → s ≡ step p.device (command_of p buffer) → OnErr result (CutOff old new) → after ≡ (answer p (command_of p buffer) s).next → result ≡ Err Write → Did (Some (execute p buffer)) old p result new after
+untraced p buffer s old (Ok done) new after is cut next e = absurd (ok_is_no_write done e)
+untraced p buffer s old (Err Bad) new after is cut next e = absurd (bad_is_no_write e)
+untraced p buffer s old (Err Write) new after is cut next e =
+    (answer p (command_of p buffer) s, ap (λ s. Some (answer p (command_of p buffer) s)) (sym is), cut_longer old new _ cut, next)
+untraced p buffer s old (Err Save) new after is cut next e = absurd (save_is_no_write e)
 
 -- a power cycle, whose trace was printed where that is asked for
 pub cycled : (p : Playing) (s : Stepped) (old : Option (List ℕ)) (result : Result (Unit {0}) LineFault) (new : Option (List ℕ)) (after : Playing)
-    → s ≡ step p.device Cycled → OnOk result (Appends old new (printed_trace p.traced Cycled s)) → after ≡ (cycle_to p s).next → OnErr result (result ≡ Err Write)
+    → s ≡ step p.device Cycled → OnOk result (Appends old new (printed_trace p.traced Cycled s)) → OnErr result (CutOff old new) → after ≡ (cycle_to p s).next → OnErr result (result ≡ Err Write)
     → Did (Some (cycle p)) old p result new after
-cycled p s old (Ok done) new after is printed next err = (cycle_to p s, ap (λ s. Some (cycle_to p s)) (sym is), printed, next)
-cycled p s old (Err Bad) new after is printed next err = absurd (bad_is_no_write err)
-cycled p s old (Err Write) new after is printed next err = tt
-cycled p s old (Err Save) new after is printed next err = tt
+cycled p s old (Ok done) new after is printed cut next err = (cycle_to p s, ap (λ s. Some (cycle_to p s)) (sym is), printed, next)
+cycled p s old (Err Bad) new after is printed cut next err = absurd (bad_is_no_write err)
+cycled p s old (Err Write) new after is printed cut next err = (cycle_to p s, ap (λ s. Some (cycle_to p s)) (sym is), cut_longer old new _ cut, next)
+cycled p s old (Err Save) new after is printed cut next err = absurd (save_is_no_write err)
+
+-- ---- what the saver was told
+
+-- where nothing but the writer can fail yet
+pub told_then : {S : Type 0} (tells : S → Type 0) (old : S) (result : Result (Unit {0}) LineFault) (new : S) → OnErr result (result ≡ Err Write) → tells new → Told tells old result new
+told_then tells old (Ok done) new err told = told
+told_then tells old (Err Bad) new err told = absurd (bad_is_no_write err)
+told_then tells old (Err Write) new err told = told
+told_then tells old (Err Save) new err told = tt
+
+pub told_unwritten : {S : Type 0} (tells : S → Type 0) (old : S) (result : Result (Unit {0}) LineFault) (new : S) → result ≡ Err Write → tells new → Told tells old result new
+told_unwritten tells old (Ok done) new err told = told
+told_unwritten tells old (Err Bad) new err told = absurd (bad_is_no_write err)
+told_unwritten tells old (Err Write) new err told = told
+told_unwritten tells old (Err Save) new err told = tt

@@ -5,3 +5,4 @@ pub mod Answers
 pub mod Script
 pub mod Player
 pub mod Run
+pub mod Keeping

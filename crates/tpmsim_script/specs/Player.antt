@@ -1,9 +1,10 @@
 -- What a player is seen as, and what a line did.
 use Rattle.std.specs.Prelude.{◌≡◌, ℕ, Bool, true, List, Option, Some, None, Result, Ok, Err}
-use Rattle.std.specs.Io.KnownBytes.{Appends}
+use Rattle.std.specs.Io.KnownBytes.{Appends, append_known}
 use Rattle.tpm_bytes.specs.Tap.{Marks}
 use Rattle.tpm_machine.specs.State.{state_of}
 use Rattle.tpm_record.specs.Record.{Record}
+use Rattle.tpmsim_script.specs.Answers.{CutOff}
 use Rattle.tpmsim_script.specs.Script.{Playing, Effect, playing}
 use Rattle.tpmsim_script.specs.declared.line_fault.LineFault.{LineFault}
 use Rattle.tpmsim_script.specs.declared.line_fault.LineFault.TheVariants.{Bad, Write, Save}
@@ -14,8 +15,9 @@ abbrev pub playing_of : {K S O P N : Type 0} → (K → Record) → Player K S O
 playing_of record_of player =
     playing player.traced player.script (state_of record_of player.machine)
 
--- A line had its effect and printed its text, from known bytes to known ones; or it is bad, and did
--- and printed nothing. Of a writer or a saver that failed nothing is said.
+-- A line had its effect and printed its text, from known bytes to known ones; or the writer failed,
+-- and the text was cut off; or the line is bad, and did and printed nothing. Where the saver failed,
+-- nothing was printed.
 abbrev pub Did : Option Effect
     → Option (List ℕ) → Playing
     → Result (Unit {0}) LineFault → Option (List ℕ) → Playing → Type 0
@@ -23,8 +25,18 @@ Did line old before (Ok done) new after =
     (effect : Effect) × (line ≡ Some effect)
     × Appends old new effect.text × (after ≡ effect.next)
 Did line old before (Err Bad) new after = (line ≡ None) × (new ≡ old) × (after ≡ before)
-Did line old before (Err Write) new after = Unit {0}
-Did line old before (Err Save) new after = Unit {0}
+Did line old before (Err Write) new after =
+    (effect : Effect) × (line ≡ Some effect)
+    × CutOff (append_known old effect.text) new × (after ≡ effect.next)
+Did line old before (Err Save) new after = new ≡ old
+
+-- The saver was told, where a line had its effect, and is as before where the line is bad. Of a
+-- save that failed nothing is said.
+abbrev pub Told : {S : Type 0} → (S → Type 0) → S → Result (Unit {0}) LineFault → S → Type 0
+Told tells old (Ok done) new = tells new
+Told tells old (Err Bad) new = new ≡ old
+Told tells old (Err Write) new = tells new
+Told tells old (Err Save) new = Unit {0}
 
 -- Write is answered only where the writer failed, and Save only where the saver did.
 abbrev pub IsTheirs : Result (Unit {0}) LineFault → (writer : Marks) → (unsaved : Bool) → Type 0

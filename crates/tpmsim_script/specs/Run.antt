@@ -20,6 +20,16 @@ abbrev pub OnUnread : {X : Type 0} → Result X ScriptFault → Type 0 → Type 
 OnUnread (Err fault.Read) fact = fact
 OnUnread other fact = Unit {0}
 
+-- the fact, where the writer failed
+abbrev pub OnUnwritten : {X : Type 0} → Result X ScriptFault → Type 0 → Type 0
+OnUnwritten (Err fault.Write) fact = fact
+OnUnwritten other fact = Unit {0}
+
+-- whether a save failed
+abbrev pub is_unsaved : Result (Unit {0}) ScriptFault → Bool
+is_unsaved (Err fault.Save) = true
+is_unsaved other = false
+
 -- the fact, where there are too many lines
 abbrev pub OnTooMany : {X : Type 0} → Result X ScriptFault → Type 0 → Type 0
 OnTooMany (Err fault.TooManyLines) fact = fact

@@ -26,7 +26,7 @@ impl Answers {
     ghost use Rattle.std.specs.Prelude.{IfOk, OnErr, OnOk, true};
     ghost use Rattle.std.specs.Io.KnownBytes.{Appends, Keeps};
     ghost use Rattle.tpm_bytes.specs.Tap.{device_of, marks_of};
-    ghost use Rattle.tpmsim_script.specs.Answers.{backlog, printout};
+    ghost use Rattle.tpmsim_script.specs.Answers.{CutOff, backlog, printout};
 
     pub fn new(alloc: Global) -> Result<Answers, AllocError>
         ensures { IfOk result (λ answers. backlog answers ≡ []) }
@@ -39,6 +39,9 @@ impl Answers {
     pub fn put<W: Write>(&mut self, writer: &mut Tap<W>, response: &[u8]) -> Result<(), Failed>
         requires { length response.now ≤ buffer_limit }
         ensures failed { OnErr result ((marks_of writer.new).failed ≡ true) }
+        ensures cut_off { OnErr result (CutOff
+            (printout (W.contents (device_of writer.old)) self.old)
+            (printout (W.contents (device_of writer.new)) self.new)) }
         ensures printed { OnOk result (Appends
             (printout (W.contents (device_of writer.old)) self.old)
             (printout (W.contents (device_of writer.new)) self.new)
@@ -53,6 +56,9 @@ impl Answers {
     pub fn put_text<W: Write>(&mut self, writer: &mut Tap<W>, text: &[u8]) -> Result<(), Failed>
         requires { length text.now ≤ buffer_limit }
         ensures failed { OnErr result ((marks_of writer.new).failed ≡ true) }
+        ensures cut_off { OnErr result (CutOff
+            (printout (W.contents (device_of writer.old)) self.old)
+            (printout (W.contents (device_of writer.new)) self.new)) }
         ensures printed { OnOk result (Appends
             (printout (W.contents (device_of writer.old)) self.old)
             (printout (W.contents (device_of writer.new)) self.new)
@@ -67,6 +73,9 @@ impl Answers {
     fn make_room<W: Write>(&mut self, writer: &mut Tap<W>, size: usize) -> Result<(), Failed>
         requires { size ≤ CAPACITY }
         ensures failed { OnErr result ((marks_of writer.new).failed ≡ true) }
+        ensures cut_off { OnErr result (CutOff
+            (printout (W.contents (device_of writer.old)) self.old)
+            (printout (W.contents (device_of writer.new)) self.new)) }
         ensures room { OnOk result (self.new.used + size ≤ CAPACITY) }
         ensures printed { OnOk result (Keeps
             (printout (W.contents (device_of writer.old)) self.old)
@@ -100,7 +109,10 @@ impl Answers {
     pub fn flush<W: Write>(&mut self, writer: &mut Tap<W>) -> Result<(), Failed>
         ensures unmarked { OnOk result (marks_of writer.new ≡ marks_of writer.old) }
         ensures failed { OnErr result ((marks_of writer.new).failed ≡ true) }
-        ensures empty { OnOk result (backlog self.new ≡ []) }
+        ensures cut_off { OnErr result (CutOff
+            (printout (W.contents (device_of writer.old)) self.old)
+            (printout (W.contents (device_of writer.new)) self.new)) }
+        ensures empty { backlog self.new ≡ [] }
         ensures printed { OnOk result (Keeps
             (printout (W.contents (device_of writer.old)) self.old)
             (printout (W.contents (device_of writer.new)) self.new)) }
@@ -115,6 +127,9 @@ impl Answers {
     fn write<W: Write>(&mut self, writer: &mut Tap<W>) -> Result<(), Failed>
         ensures unmarked { OnOk result (marks_of writer.new ≡ marks_of writer.old) }
         ensures failed { OnErr result ((marks_of writer.new).failed ≡ true) }
+        ensures cut_off { OnErr result (CutOff
+            (printout (W.contents (device_of writer.old)) self.old)
+            (printout (W.contents (device_of writer.new)) self.new)) }
         ensures empty { self.new.used ≡ 0 }
         ensures printed { OnOk result (Keeps
             (printout (W.contents (device_of writer.old)) self.old)

@@ -6,13 +6,14 @@
 //! A script is a text whose lines are read one after another ([`lines`], [`line`]), set what the
 //! next command is given ([`script`]) and are performed on the device ([`player`]), a command in
 //! [`room`] for its bytes; the responses, and traces where they are asked for, gather in a buffer
-//! ([`answers`]) that is written before more of the script is read ([`run`]). The device is saved
-//! on the way ([`saver`]).
+//! ([`answers`]) that is written before more of the script is read ([`run`]). A saver is told the
+//! device on the way.
 //!
-//! It stands on `tpm_machine` for the device, on `tpm_text` for commands in words and traces, and
-//! on `tpm_hex`. What is written is what `specs/` says that the script prints, to its end or to its
-//! first bad line, for a device that is never refused memory; whatever the fault, the lines before
-//! it were run. But for the device's own, memory is taken at the start alone.
+//! It stands on `tpm_machine` for the device, on `tpm_saver` for what saves it, on `tpm_text` for
+//! commands in words and traces, and on `tpm_hex`. What is written is what `specs/` says that the
+//! script prints, to its end or to its first bad line, for a device that is never refused memory;
+//! whatever the fault, the lines before it were run, and the saver was told the device at each of
+//! them. But for the device's own, memory is taken at the start alone.
 
 mod answers;
 pub mod fault;
@@ -22,9 +23,7 @@ mod lines;
 mod player;
 mod room;
 pub mod run;
-pub mod saver;
 mod script;
 
 pub use fault::ScriptFault;
 pub use run::{new_machine, run_device, run_script};
-pub use saver::{Saver, Unsaved};

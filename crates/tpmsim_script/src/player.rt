@@ -8,9 +8,10 @@ ghost use Rattle.tpm_machine.specs.State.{state_of};
 ghost use Rattle.tpm_machine_step.specs.Events.{plain_event};
 ghost use Rattle.tpm_machine_step.specs.Step.{outcome_step};
 ghost use Rattle.tpm_text.specs.Trace.{IsTraceable};
-ghost use Rattle.tpmsim_script.specs.Answers.{backlog, printout};
-ghost use Rattle.tpmsim_script.specs.Line.{hex_of, meaning_of};
-ghost use Rattle.tpmsim_script.specs.Player.{Did, IsTheirs, playing_of};
+ghost use Rattle.tpmsim_script.specs.Answers.{CutOff, backlog, printout};
+ghost use Rattle.tpmsim_script.specs.Keeping.{Tells};
+ghost use Rattle.tpmsim_script.specs.Line.{hex_of, line_meaning, meaning_of};
+ghost use Rattle.tpmsim_script.specs.Player.{Did, IsTheirs, Told, playing_of};
 ghost use Rattle.tpmsim_script.specs.Script.{at_first, cycle, execute, perform, perform_line};
 ghost use Rattle.tpmsim_script.specs.Script.{printed_trace, set_entropy};
 
@@ -19,7 +20,6 @@ use crate::fault::ScriptFault;
 use crate::line::Line;
 use crate::line_fault::LineFault;
 use crate::room::Room;
-use crate::saver::Saver;
 use crate::script::Script;
 use std::alloc::{AllocError, Global};
 use std::io::Write;
@@ -27,6 +27,7 @@ use tpm_bytes::Tap;
 use tpm_machine::Machine;
 use tpm_machine_step::{Event, Outcome};
 use tpm_record::Keep;
+use tpm_saver::Saver;
 use tpm_text::{trace_text, traceable_laws};
 
 /// A device, by a way of keeping its state, and what the lines of a script so far say of its next
@@ -68,7 +69,7 @@ impl<K: Keep> Player<K> {
 
     /// Does what a line says, and prints the response to a command, and traces where they are asked
     /// for. What is written in hex or in words goes to `room`. Of a keep that can be refused memory
-    /// nothing is said.
+    /// no effect is said.
     #[tactic(auto, using(crate::proofs::Doing::unsaid_done))]
     pub fn line<W: Write, S: Saver>(
         &mut self,
@@ -79,6 +80,8 @@ impl<K: Keep> Player<K> {
     ) -> Result<(), LineFault>
         requires { length line.now ≤ 65536 }
         ensures failed { IsTheirs result (marks_of writer.new) (S.has_failed saver.new) }
+        ensures told { Told (Tells S.saves S.saves_change (line_meaning line.now)
+            (state_of K.record_of self.new.machine) saver.old) saver.old result saver.new }
         ensures did { K.can_refuse ≡ false → Did
             (perform_line (playing_of K.record_of self.old) line.now)
             (printout (W.contents (device_of writer.old)) self.old.answers) (playing_of K.record_of self.old)
@@ -95,7 +98,10 @@ impl<K: Keep> Player<K> {
         ensures unmarked { OnOk result (marks_of writer.new ≡ marks_of writer.old) }
         ensures failed { OnErr result ((marks_of writer.new).failed ≡ true) }
         ensures playing { playing_of K.record_of self.new ≡ playing_of K.record_of self.old }
-        ensures empty { OnOk result (backlog self.new.answers ≡ []) }
+        ensures empty { backlog self.new.answers ≡ [] }
+        ensures cut_off { OnErr result (CutOff
+            (printout (W.contents (device_of writer.old)) self.old.answers)
+            (printout (W.contents (device_of writer.new)) self.new.answers)) }
         ensures printed { OnOk result (Keeps
             (printout (W.contents (device_of writer.old)) self.old.answers)
             (printout (W.contents (device_of writer.new)) self.new.answers)) }
@@ -114,6 +120,8 @@ impl<K: Keep> Player<K> {
     ) -> Result<(), LineFault>
         requires { length (hex_of (meaning_of line)) ≤ 65536 }
         ensures failed { IsTheirs result (marks_of writer.new) (S.has_failed saver.new) }
+        ensures told { Told (Tells S.saves S.saves_change (Some (meaning_of line.entry))
+            (state_of K.record_of self.new.machine) saver.old) saver.old result saver.new }
         ensures did { K.can_refuse ≡ false → Did
             (perform (playing_of K.record_of self.old) (meaning_of line.entry))
             (printout (W.contents (device_of writer.old)) self.old.answers) (playing_of K.record_of self.old)
@@ -141,8 +149,9 @@ impl<K: Keep> Player<K> {
         saver: &mut S,
     ) -> Result<(), LineFault>
         ensures failed { IsTheirs result (marks_of writer.new) (S.has_failed saver.new) }
-        ensures saved { OnOk result
-            (S.holds saver.new (state_of K.record_of self.new.machine)) }
+        ensures told { Told
+            (S.saves_change saver.old (state_of K.record_of self.new.machine))
+            saver.old result saver.new }
         ensures did { K.can_refuse ≡ false → Did
             (Some (execute (playing_of K.record_of self.old) buffer.now))
             (printout (W.contents (device_of writer.old)) self.old.answers) (playing_of K.record_of self.old)
@@ -170,8 +179,8 @@ impl<K: Keep> Player<K> {
         saver: &mut S,
     ) -> Result<(), LineFault>
         ensures failed { IsTheirs result (marks_of writer.new) (S.has_failed saver.new) }
-        ensures saved { OnOk result
-            (S.holds saver.new (state_of K.record_of self.new.machine)) }
+        ensures told { Told
+            (S.saves saver.old (state_of K.record_of self.new.machine)) saver.old result saver.new }
         ensures did { K.can_refuse ≡ false → Did
             (Some (cycle (playing_of K.record_of self.old)))
             (printout (W.contents (device_of writer.old)) self.old.answers) (playing_of K.record_of self.old)
@@ -195,6 +204,9 @@ impl<K: Keep> Player<K> {
         ensures fault { OnErr result (result ≡ Err LineFault.Write) }
         ensures failed { OnErr result ((marks_of writer.new).failed ≡ true) }
         ensures kept { self.new ≡ record self.old { answers = self.new.answers } }
+        ensures cut_off { OnErr result (CutOff
+            (printout (W.contents (device_of writer.old)) self.old.answers)
+            (printout (W.contents (device_of writer.new)) self.new.answers)) }
         ensures printed { OnOk result (Appends
             (printout (W.contents (device_of writer.old)) self.old.answers)
             (printout (W.contents (device_of writer.new)) self.new.answers)

@@ -5,25 +5,26 @@ ghost use Rattle.std.specs.Prelude.{◌≡◌, [], false, IfOk, OnErr, OnOk, tru
 ghost use Rattle.std.specs.Io.KnownBytes.{Keeps};
 ghost use Rattle.tpm_bytes.specs.Tap.{device_of, marks_of};
 ghost use Rattle.tpm_machine.specs.State.{state_of};
-ghost use Rattle.tpmsim_script.specs.Answers.{backlog, printout};
+ghost use Rattle.tpmsim_script.specs.Answers.{CutOff, backlog, printout};
+ghost use Rattle.tpmsim_script.specs.Keeping.{KeepsDevice, kept};
 ghost use Rattle.tpmsim_script.specs.Lines.{Agrees, LosesStart, line_of, rest_of, text_left};
 ghost use Rattle.tpmsim_script.specs.Player.{playing_of};
 ghost use Rattle.tpmsim_script.specs.Run.{AreTheirs, NextFound, OnNoMemory, OnTooMany, OnUnread};
-ghost use Rattle.tpmsim_script.specs.Run.{PlaysAllAllowed, PlaysToFailure, UnlessFailed, Ran};
-ghost use Rattle.tpmsim_script.specs.Run.{end_at_limit};
+ghost use Rattle.tpmsim_script.specs.Run.{OnUnwritten, PlaysAllAllowed, PlaysToFailure, Ran};
+ghost use Rattle.tpmsim_script.specs.Run.{UnlessFailed, end_at_limit, is_unsaved};
 ghost use Rattle.tpmsim_script.specs.Script.{Plays, at_first, new_device, script_bytes};
 
 use crate::fault::ScriptFault;
 use crate::lines::{Lines, Next};
 use crate::player::Player;
 use crate::room::Room;
-use crate::saver::{Saver, SavesNothing};
 use std::alloc::{AllocError, Global};
 use std::array;
 use std::io::{Read, Write};
 use tpm_bytes::{NoMemory, Tap};
 use tpm_machine::Machine;
 use tpm_record::Keep;
+use tpm_saver::{Saver, SavesNothing};
 
 /// How many lines a script may have.
 pub const SCRIPT_LINES: u32 = 1_048_576;
@@ -74,8 +75,9 @@ fn first_bytes() -> [u8; 256]
 /// response, and that of each power cycle. The device is saved before a response goes out, where
 /// something changed that has to be saved; at each power cycle; and at the end, whatever that was.
 /// But for the keep memory is taken at the start alone. Whatever the fault, the lines before it
-/// were run, and their responses written, but for those that a `Write` or a `Save` fault cut off.
-/// Of a script of more than [`SCRIPT_LINES`] lines the first [`SCRIPT_LINES`] are run.
+/// were run, and their responses written, but for those that a `Write` or a `Save` fault cut off;
+/// where there are both, it is `Save`. Of a script of more than [`SCRIPT_LINES`] lines the first
+/// [`SCRIPT_LINES`] are run.
 pub fn run_device<K: Keep, S: Saver, R: Read, W: Write>(
     alloc: Global,
     machine: Machine<K>,
@@ -103,6 +105,14 @@ pub fn run_device<K: Keep, S: Saver, R: Read, W: Write>(
         (R.remaining (device_of reader.old)) (W.contents (device_of writer.old)) (W.contents (device_of writer.new))
         (at_first trace (state_of K.record_of machine))) }
 
+    // The saver was told the device at each line that was played, and at last where they ended;
+    // what was written is what these lines print, up to the first whose save failed.
+    ensures kept { K.can_refuse ≡ false → KeepsDevice S.saves S.saves_change
+        (R.remaining (device_of reader.old)) (R.remaining (device_of reader.new))
+        (W.contents (device_of writer.old)) (W.contents (device_of writer.new)) (marks_of writer.new)
+        (kept (at_first trace (state_of K.record_of machine)) saver.old) result
+        (λ end. S.saves end.saver end.playing.device saver.new) }
+
     // Read is answered only where the reader failed, Write only where the writer did, and Save only
     // where the saver did.
     ensures failed { AreTheirs result (marks_of reader.new) (marks_of writer.new)
@@ -119,8 +129,18 @@ pub fn run_device<K: Keep, S: Saver, R: Read, W: Write>(
     let Ok(()) = saver.save(run.player.machine()) else {
         return Err(ScriptFault::Save);
     };
+    if is_unsaved(outcome) {
+        return Err(ScriptFault::Save);
+    }
     flushed?;
     outcome
+}
+
+/// Whether a run ended since a save failed.
+fn is_unsaved(outcome: Result<(), ScriptFault>) -> bool
+    ensures { result ≡ is_unsaved outcome }
+{
+    matches!(outcome, Err(ScriptFault::Save))
 }
 
 /// A script, and what plays it.
@@ -169,6 +189,12 @@ impl<K: Keep> Run<K> {
             (printout (W.contents (device_of writer.old)) self.old.player.answers)
             (printout (W.contents (device_of writer.new)) self.new.player.answers)
             (playing_of K.record_of self.old.player)) }
+        ensures kept { K.can_refuse ≡ false → KeepsDevice S.saves S.saves_change
+            (text_left (R.remaining (device_of reader.old)) self.old.lines) (R.remaining (device_of reader.new))
+            (printout (W.contents (device_of writer.old)) self.old.player.answers)
+            (printout (W.contents (device_of writer.new)) self.new.player.answers) (marks_of writer.new)
+            (kept (playing_of K.record_of self.old.player) saver.old) result
+            (λ end. end ≡ kept (playing_of K.record_of self.new.player) saver.new) }
         ensures failed { AreTheirs result (marks_of reader.new) (marks_of writer.new)
             (S.has_failed saver.new) }
         ensures memory { OnNoMemory result ⊥ }
@@ -204,6 +230,9 @@ impl<K: Keep> Run<K> {
             (text_left (R.remaining (device_of reader.new)) self.new.lines) }
         ensures agrees { OnOk result (Agrees (R.remaining (device_of reader.new)) self.new.lines) }
         ensures printed { UnlessFailed result (Keeps
+            (printout (W.contents (device_of writer.old)) self.old.player.answers)
+            (printout (W.contents (device_of writer.new)) self.new.player.answers)) }
+        ensures cut_off { OnUnwritten result (CutOff
             (printout (W.contents (device_of writer.old)) self.old.player.answers)
             (printout (W.contents (device_of writer.new)) self.new.player.answers)) }
         ensures read { OnUnread result (LosesStart

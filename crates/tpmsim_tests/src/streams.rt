@@ -12,7 +12,8 @@ use std::test::Fail;
 use tpm_bytes::Tap;
 use tpm_machine::Machine;
 use tpm_record::Keep;
-use tpmsim_script::{Saver, ScriptFault, Unsaved, new_machine, run_device, run_script};
+use tpm_saver::{Saver, Unsaved};
+use tpmsim_script::{ScriptFault, new_machine, run_device, run_script};
 
 const STARTUP: &[u8] = b"cmd 80010000000c000001440000\ncmd";
 
@@ -183,7 +184,9 @@ impl Shelf {
 }
 
 impl Saver for Shelf {
-    ghost holds = { λ _ _. Unit {0} };
+    ghost saves = { λ _ _ _. Unit {0} };
+
+    ghost saves_change = { λ _ _ _. Unit {0} };
 
     ghost has_failed = { λ shelf. shelf.is_full };
 

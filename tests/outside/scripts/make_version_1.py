@@ -4,16 +4,14 @@
     python3 tests/outside/scripts/make_version_1.py PROGRAM
 
 PROGRAM is one that writes this version. It serves the device of each script NAME.tpm in
-tests/version_1: a run up to each `power` line, of the script's random bytes and at its times, by
-Debian's `faketime`. The image that it saves at the end, and that of the device in Python behind the
-same commands, have to be the same. Where there is no NAME.hex, they are written there; where there
-is one, they have to be those of it.
+tests/version_1: a run up to each `power` line, of the script's random bytes and at its times, which
+tests/common/clock.c tells it; `cc` builds that. The image that it saves at the end, and that of the
+device in Python behind the same commands, have to be the same. Where there is no NAME.hex, they are
+written there; where there is one, they have to be those of it.
 """
 
-import datetime
 import os
 import pathlib
-import shutil
 import subprocess
 import sys
 import tempfile
@@ -27,10 +25,7 @@ import version_1
 from device import MANUFACTURED, Device
 
 RANDOM_BYTES = 256
-FIRST_TIME = datetime.datetime(2026, 1, 1)
-
-# What else passes before each command but the first, so that no millisecond is missed by rounding.
-MARGIN = datetime.timedelta(microseconds=400)
+FIRST_SECOND = 1_000_000
 
 
 @dataclass(frozen=True)
@@ -77,40 +72,43 @@ def played(runs):
 
 
 class Served:
-    """A device that a program serves in a folder, at times that stand in a file of it."""
+    """A device that a program serves in a folder, at times that stand in a file of it. They are in
+    milliseconds since the first command of a run.
+    """
 
     WORDS = "serve --socket socket --image image --entropy entropy --locality 0 --connections 1"
 
     def __init__(self, program, path):
         self.program, self.path = os.path.abspath(program), pathlib.Path(path)
+        self.shim, source = self.path / "clock.so", paths.TESTS / "common/clock.c"
+        subprocess.run(["cc", "-O1", "-shared", "-fPIC", "-o", self.shim, source], check=True)
 
     def is_now(self, time):
         """The host's clock stands there until it is told another time."""
-        (self.path / "clock.new").write_text(time.isoformat(" ", "microseconds") + "\n", "ascii")
+        seconds, milliseconds = divmod(time, 1000)
+        told = f"{FIRST_SECOND + seconds} {milliseconds * 1_000_000}\n"
+        (self.path / "clock.new").write_text(told, "ascii")
         (self.path / "clock.new").replace(self.path / "clock")
 
     def began(self):
-        times = ["env", "-u", "FAKETIME", "FAKETIME_NO_CACHE=1"]
-        times.append(f"FAKETIME_TIMESTAMP_FILE={self.path / 'clock'}")
+        told = {"LD_PRELOAD": str(self.shim), "CLOCK": str(self.path / "clock")}
         return subprocess.Popen(
-            ["faketime", "-f", str(FIRST_TIME), *times, self.program, *self.WORDS.split()],
-            cwd=self.path,
-            env={**os.environ, "TZ": "UTC"},
+            [self.program, *self.WORDS.split()], cwd=self.path, env={**os.environ, **told}
         )
 
     def serve(self, run):
         """The responses in a run, one connection of it."""
         random = b"" if (self.path / "image").exists() else MANUFACTURED
         (self.path / "entropy").write_bytes(random + b"".join(it.random for it in run))
-        time = FIRST_TIME
+        time = 0
         self.is_now(time)
         process = self.began()
         try:
             with serving.connected(str(self.path / "socket"), process) as client:
                 answers = []
                 for event in run:
-                    time += datetime.timedelta(milliseconds=event.elapsed)
-                    self.is_now(time + MARGIN if answers else time)
+                    time += event.elapsed
+                    self.is_now(time)
                     client.sendall(event.buffer)
                     answers.append(client.recv(4096))
             if process.wait(serving.SECONDS):
@@ -130,8 +128,6 @@ def served(program, runs):
 
 
 def main(program):
-    if not shutil.which("faketime"):
-        sys.exit("faketime is not there")
     for name in version_1.NAMES:
         runs = runs_of(version_1.script(name))
         wanted, given = played(runs), served(program, runs)

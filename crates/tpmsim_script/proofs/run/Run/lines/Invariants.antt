@@ -5,9 +5,12 @@ use Rattle.tpmsim_script.specs.Lines.{Agrees, text_left}
 use Rattle.tpmsim_script.specs.Player.{playing_of}
 use Rattle.tpmsim_script.specs.Script.{Plays}
 use Rattle.tpmsim_script.proofs.Plays.{Leads}
+use Rattle.tpmsim_script.specs.Keeping.{kept}
+use Rattle.tpmsim_script.proofs.Keeping.{SoFar}
 use Rattle.tpmsim_script.proofs.run.Run.lines.Given as goal
 
--- what is left to be played decides about the whole, where no memory can be refused
+-- what is left to be played decides about the whole, and so far the device was kept, where no
+-- memory can be refused
 abbrev pub invariant-loop-number : goal.invariant-loop-number
 invariant-loop-number g l =
     let remaining = g.R.Read.remaining in
@@ -20,5 +23,9 @@ invariant-loop-number g l =
       leads : g.K.Keep.can_refuse ≡ false → (new : Option (List ℕ))
           → Leads (text_left (remaining (device_of l.reader)) l.self.lines) (printout (contents (device_of l.writer)) l.self.player.answers) (playing_of record_of l.self.player) l.number
           (text_left (remaining (device_of l.fn.reader)) l.fn.self.lines) (printout (contents (device_of l.fn.writer)) l.fn.self.player.answers) (playing_of record_of l.fn.self.player) new;
+      keeps : g.K.Keep.can_refuse ≡ false
+          → SoFar g.S.Saver.saves g.S.Saver.saves_change (text_left (remaining (device_of l.fn.reader)) l.fn.self.lines) (text_left (remaining (device_of l.reader)) l.self.lines)
+          (printout (contents (device_of l.fn.writer)) l.fn.self.player.answers) (printout (contents (device_of l.writer)) l.self.player.answers) l.number
+          (kept (playing_of record_of l.fn.self.player) l.fn.saver) (kept (playing_of record_of l.self.player) l.saver);
       agrees : Agrees (remaining (device_of l.reader)) l.self.lines;
     }

@@ -4,7 +4,7 @@
 ghost use Rattle.std.specs.Prelude.{◌≡◌, ◌≤◌, [], length};
 ghost use Rattle.std.specs.Str.{bytes_eq};
 ghost use Rattle.tpm_mac.specs.Digest.{joined_text};
-ghost use Rattle.tpm_name.specs.Name.{handle_name, hashed_name, qualified_name};
+ghost use Rattle.tpm_types_name.specs.Name.{handle_name, hashed_name, qualified_name};
 
 use arrayvec::ArrayVec;
 use std::marker::Model;

@@ -1,4 +1,11 @@
-//! What saves the device of a script while it is played.
+#![tactic(auto)]
+
+//! What saves a device while it is used: [`Saver`] is told the device, and [`SavesNothing`] is one
+//! that nobody asks for it.
+//!
+//! Those who use a device, as a script or a client of a socket does, ask a saver at each change and
+//! at the end. Contracts see what each call told: those of users of a saver say which devices it
+//! was told, in which order, and each saver says what it makes of them. It stands on `tpm_machine`.
 
 ghost use Rattle.std.specs.Prelude.{◌≡◌, Bool, OnErr, OnOk, false, true};
 ghost use Rattle.tpm_machine.specs.State.{state_of};
@@ -11,25 +18,29 @@ use tpm_record::Keep;
 #[derive(Clone, Copy, Debug, PartialEq, Eq)]
 pub struct Unsaved;
 
-/// What saves the device of a script while it is played. Contracts see which records it holds:
-/// those that keep without power what was saved last, but for the clock.
+/// What saves a device while it is used. Contracts see each call that went well as a relation: the
+/// saver before, the record of the device that it was told, and the saver after.
 pub trait Saver {
-    /// Whether it has saved what a record keeps.
-    ghost holds: { Self → Record → Type 0 };
+    /// It was told a device, its clock too.
+    ghost saves: { Self → Record → Self → Type 0 };
+
+    /// It was told a device, of which the clock alone may be unsaved.
+    ghost saves_change: { Self → Record → Self → Type 0 };
 
     /// Whether a save has failed, which stays so.
     ghost has_failed: { Self → Bool };
 
-    /// Saves a device that has executed a command, unless it is held already. The response goes out
-    /// behind that.
+    /// Saves a device that has executed a command, if more than its clock changed. The response
+    /// goes out behind that.
     fn save_change<K: Keep>(&mut self, machine: &Machine<K>) -> Result<(), Unsaved>
-        ensures saved { OnOk result (holds self.new (state_of K.record_of machine.now)) }
+        ensures told { OnOk result
+            (saves_change self.old (state_of K.record_of machine.now) self.new) }
         ensures failed { OnErr result (has_failed self.new ≡ true) }
         ensures stays { has_failed self.old ≡ true → has_failed self.new ≡ true };
 
     /// Saves a device, its clock too.
     fn save<K: Keep>(&mut self, machine: &Machine<K>) -> Result<(), Unsaved>
-        ensures saved { OnOk result (holds self.new (state_of K.record_of machine.now)) }
+        ensures told { OnOk result (saves self.old (state_of K.record_of machine.now) self.new) }
         ensures failed { OnErr result (has_failed self.new ≡ true) }
         ensures stays { has_failed self.old ≡ true → has_failed self.new ≡ true };
 }
@@ -39,7 +50,9 @@ pub trait Saver {
 pub struct SavesNothing;
 
 impl Saver for SavesNothing {
-    ghost holds = { λ _ _. Unit {0} };
+    ghost saves = { λ old _ new. new ≡ old };
+
+    ghost saves_change = { λ old _ new. new ≡ old };
 
     ghost has_failed = { λ _. false };
 

@@ -1,0 +1,14 @@
+use Rattle.std.proofs.Common.{rules, of_calls, arith, ◌≡◌, ℕ, Bool, true, sym, ap, ◌∙◌}
+use Rattle.std.specs.Prelude.{Option, Some, option_map}
+use Rattle.tpm_slots.specs.Numbered.{number_of}
+use Rattle.tpm_types.specs.Limits.{object_limit}
+use Rattle.tpm_record.specs.AnyObject.{is_from, next_transient}
+use Rattle.tpm_record.proofs.Searching.{found_least}
+use Rattle.tpm_record.proofs.any_object.next_transient.Goals as goal
+
+pub returns-then-is_there : goal.returns-then-is_there
+returns-then-is_there g c =
+    let test : ℕ → Bool = is_from (g.K.Keep.record_of c.args.keep.now).objects c.args.from.number in
+    let passes : test c.loop-place.place ≡ true = search (rules, of_calls) in
+    ap (λ (n : ℕ). Some n) c.number_of.ensures
+    ∙ sym (ap (option_map (number_of 0x80)) (found_least test c.loop-place.place object_limit c.loop-place.invariant passes (omega arith)))

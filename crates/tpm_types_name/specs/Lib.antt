@@ -1,0 +1,4 @@
+pub mod Name
+pub use Rattle.tpm_mac.specs.Digest
+pub use Rattle.tpm_types.specs.Algorithm
+pub use Rattle.tpm_types.specs.Handle

@@ -1,0 +1,44 @@
+//! The lock of an image: of all runs on one image one goes on at a time.
+
+use std::fs::{File, OpenOptions};
+use std::io;
+use std::io::ErrorKind;
+use std::os::unix::fs::OpenOptionsExt;
+
+/// The permissions of the file: who may open it may lock it, and so keep the image from its owner.
+const OWNER_ALONE: u32 = 0o600;
+
+/// A lock that nobody else holds while this is there. It is one on an open file, so that the system
+/// takes it back when the process ends, however that comes.
+#[derive(Drop)]
+pub struct ImageLock {
+    _file: File,
+}
+
+impl ImageLock {
+    /// Takes the lock whose file is at this path, or fails at once where another one holds it. The
+    /// file is made where there is none. It stays: a lock on a file that was removed is not seen
+    /// by those who make a new one.
+    pub fn take(rt: &HostRuntime, path: &str) -> io::Result<ImageLock> {
+        let file = open_or_create(rt, path)?;
+        file.try_lock()?;
+        Ok(ImageLock { _file: file })
+    }
+}
+
+/// The file at a path, which is made where there is none, but not where a link leads to. It is
+/// opened to be read and written, so that a pipe there does not wait for its other end.
+fn open_or_create(rt: &HostRuntime, path: &str) -> io::Result<File> {
+    let made = OpenOptions::new()
+        .read(true)
+        .write(true)
+        .create_new(true)
+        .mode(OWNER_ALONE)
+        .open(rt, path);
+    match made {
+        Err(error) if error.kind() == ErrorKind::AlreadyExists => {
+            OpenOptions::new().read(true).write(true).open(rt, path)
+        }
+        made => made,
+    }
+}

@@ -1,0 +1,102 @@
+-- How a script keeps its device: what saves it was told the device line by line, and of what was
+-- told the text was written.
+use Rattle.std.specs.Prelude.{◌≡◌, ℕ, ◌+◌, Bool, true, false, List, [], ◌∷◌, ◌++◌, length}
+use Rattle.std.specs.Prelude.{Option, Some, None, IfSome, Result, Ok, Err}
+use Rattle.std.specs.Io.KnownBytes.{Appends, append_known}
+use Rattle.tpm_bytes.specs.Tap.{Marks}
+use Rattle.tpm_record.specs.Record.{Record}
+use Rattle.tpmsim_script.specs.Answers.{CutOff}
+use Rattle.tpmsim_script.specs.Line.{Meaning, Executes, ExecutesWords, CyclesPower}
+use Rattle.tpmsim_script.specs.Line.{line_meaning, lines_of}
+use Rattle.tpmsim_script.specs.Lines.{IsUnbroken}
+use Rattle.tpmsim_script.specs.Script.{Effect, Playing, perform_line}
+use Rattle.tpmsim_script.specs.declared.fault.ScriptFault.{ScriptFault}
+use Rattle.tpmsim_script.specs.declared.fault.ScriptFault.TheVariants as fault
+
+-- a script that is being played, and what saves its device
+pub record Kept (S : Type 0) : Type 0 where
+  pub playing : Playing
+  pub saver : S
+
+abbrev pub kept : {S : Type 0} → Playing → S → Kept S
+kept playing saver = record { playing = playing; saver = saver }
+
+-- What the saver was told after a line, with the device that the line left: of a command the
+-- device, of a power cycle its clock too. After another line the saver is as before.
+abbrev pub Tells : {S : Type 0} → (saves saves_change : S → Record → S → Type 0)
+    → Option Meaning → Record → S → S → Type 0
+Tells saves saves_change (Some (Executes digits)) device old new = saves_change old device new
+Tells saves saves_change (Some (ExecutesWords words)) device old new = saves_change old device new
+Tells saves saves_change (Some CyclesPower) device old new = saves old device new
+Tells saves saves_change other device old new = new ≡ old
+
+-- A line was played: it is not bad, it prints this text, and the saver was told.
+pub record PlaysLine {S : Type 0} (saves saves_change : S → Record → S → Type 0)
+    (old : Kept S) (line text : List ℕ) (new : Kept S) : Type 0 where
+  pub performed : perform_line old.playing line ≡ Some (record { text = text; next = new.playing })
+  pub told : Tells saves saves_change (line_meaning line) new.playing.device old.saver new.saver
+
+-- Lines were played in order, and this is all that they print.
+abbrev pub PlaysLines : {S : Type 0} → (saves saves_change : S → Record → S → Type 0)
+    → Kept S → List (List ℕ) → List ℕ → Kept S → Type 0
+PlaysLines saves saves_change old [] text new = (text ≡ []) × (new ≡ old)
+PlaysLines {S = S} saves saves_change old (line ∷ lines) text new =
+    (first : List ℕ) × (mid : Kept S) × (more : List ℕ) × (text ≡ first ++ more)
+    × PlaysLine saves saves_change old line first mid
+    × PlaysLines saves saves_change mid lines more new
+
+-- How many lines were played: those before a bad line, or as many as a script may have.
+abbrev pub Counts : Result (Unit {0}) ScriptFault → ℕ → Type 0
+Counts (Err (fault.Line number)) count = number ≡ count + 1
+Counts (Err fault.TooManyLines) count = count ≡ 1048576
+Counts other count = Unit {0}
+
+-- Which lines were not played, from this state on: none where the run ended well, those from the
+-- bad line on, those from the start of a line on that the reader gave before it failed (left is
+-- what it has left), or some where there are too many.
+abbrev pub Leaves : Result (Unit {0}) ScriptFault → (left : Option (List ℕ)) → Playing
+    → List (List ℕ) → Type 0
+Leaves (Ok done) left p rest = rest ≡ []
+Leaves (Err (fault.Line number)) left p rest =
+    (line : List ℕ) × (others : List (List ℕ)) × (rest ≡ line ∷ others)
+    × (perform_line p line ≡ None)
+Leaves (Err fault.Read) left p rest =
+    (start : List ℕ) × IsUnbroken start × IfSome left (λ more. rest ≡ lines_of (start ++ more))
+Leaves (Err fault.TooManyLines) left p rest =
+    (line : List ℕ) × (others : List (List ℕ)) × (rest ≡ line ∷ others)
+Leaves (Err other) left p rest = Unit {0}
+
+-- What was written of this text: all of it, or where the writer failed a part from the front.
+abbrev pub Writes : Result (Unit {0}) ScriptFault
+    → Option (List ℕ) → Option (List ℕ) → List ℕ → Type 0
+Writes (Err fault.Write) old new text = CutOff (append_known old text) new
+Writes other old new text = Appends old new text
+
+-- Lines of a text were played from start to an end of which Last holds, and what they print was
+-- written after what the writer held (old).
+pub record Played {S : Type 0} (saves saves_change : S → Record → S → Type 0)
+    (text left old new : Option (List ℕ)) (start : Kept S)
+    (result : Result (Unit {0}) ScriptFault) (Last : Kept S → Type 0) : Type 0 where
+  pub lines : List (List ℕ)
+  pub print : List ℕ
+  pub end : Kept S
+  pub played : PlaysLines saves saves_change start lines print end
+  pub count : Counts result (length lines)
+  pub others : IfSome text (λ text. (rest : List (List ℕ)) × (lines_of text ≡ lines ++ rest)
+      × Leaves result left end.playing rest)
+  pub written : Writes result old new print
+  pub last : Last end
+
+-- A run kept its device: what was written is what the lines print that were played, and so were
+-- told to the saver; where they ended, Last holds. Where a save failed, the line that it was for
+-- is none of them, and nothing that it prints was written; Last may not hold then, and of a writer
+-- that failed too nothing is said.
+abbrev pub KeepsDevice : {S : Type 0} → (saves saves_change : S → Record → S → Type 0)
+    → (text left old new : Option (List ℕ)) → (writer : Marks) → Kept S
+    → Result (Unit {0}) ScriptFault → (Last : Kept S → Type 0) → Type 0
+KeepsDevice saves saves_change text left old new writer start (Err fault.NoMemory) Last = Unit {0}
+KeepsDevice saves saves_change text left old new writer start (Err fault.Save) Last =
+    writer.failed ≡ false → Played saves saves_change text left old new start (Err fault.Save)
+    (λ end. Unit {0})
+KeepsDevice saves saves_change text left old new writer start result Last =
+    Played saves saves_change text left old new start result Last

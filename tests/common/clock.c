@@ -1,0 +1,16 @@
+/* Stands before the C library's clock_gettime. Each clock stands where the file CLOCK says: its
+ * seconds, and its nanoseconds within them. CLOCK is a variable of the environment. */
+#include <stdio.h>
+#include <stdlib.h>
+#include <time.h>
+
+int clock_gettime(clockid_t clock, struct timespec *now) {
+    long seconds, nanoseconds;
+    FILE *file = fopen(getenv("CLOCK"), "r");
+    if (!file || fscanf(file, "%ld %ld", &seconds, &nanoseconds) != 2) abort();
+    fclose(file);
+    (void)clock;
+    now->tv_sec = seconds;
+    now->tv_nsec = nanoseconds;
+    return 0;
+}
