@@ -84,7 +84,7 @@ impl Trial for OfVersion1 {
 
 #[test]
 fn images_of_version_1(rt: HostRuntime) -> Result<(), Fail> {
-    run_over_both::<OfVersion1>(&rt)
+    run_over_both::<OfVersion1, HostRuntime>(&rt, rt.alloc())
 }
 
 /// The random bytes of a manufacture, 0 to 255.
@@ -111,5 +111,5 @@ impl Trial for OfNewDevice {
 
 #[test]
 fn the_image_of_a_new_device(rt: HostRuntime) -> Result<(), Fail> {
-    run_over_both::<OfNewDevice>(&rt)
+    run_over_both::<OfNewDevice, HostRuntime>(&rt, rt.alloc())
 }

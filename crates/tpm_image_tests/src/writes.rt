@@ -86,5 +86,5 @@ impl Trial for EachWrite {
 
 #[test]
 fn each_write_of_a_save_fails(rt: HostRuntime) -> Result<(), Fail> {
-    run_over_both::<EachWrite>(&rt)
+    run_over_both::<EachWrite, HostRuntime>(&rt, rt.alloc())
 }

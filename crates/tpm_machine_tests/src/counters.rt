@@ -44,5 +44,5 @@ impl Trial for CountersAtTheirEnds {
 
 #[test]
 fn counters_stop_at_their_ends(rt: HostRuntime) -> Result<(), Fail> {
-    run_over_both::<CountersAtTheirEnds>(&rt)
+    run_over_both::<CountersAtTheirEnds, HostRuntime>(&rt, rt.alloc())
 }

@@ -88,7 +88,7 @@ impl Trial for SixteenPersistent {
 
 #[test]
 fn persistent_objects(rt: HostRuntime) -> Result<(), Fail> {
-    run_over_both::<SixteenPersistent>(&rt)
+    run_over_both::<SixteenPersistent, HostRuntime>(&rt, rt.alloc())
 }
 
 struct OfEitherKind;
@@ -97,10 +97,18 @@ impl Trial for OfEitherKind {
     fn run<K: Keep, R: Abort>(rt: &R, alloc: Global) -> Result<(), Fail> {
         let mut keep = K::empty(alloc)?;
         for place in 0..8 {
-            check(rt, add_object(&mut keep, object()), Ok(transient_handle(place)));
+            check(
+                rt,
+                add_object(&mut keep, object()),
+                Ok(transient_handle(place)),
+            );
         }
         check(rt, add_object(&mut keep, object()), Err(SlotFault::Full));
-        check(rt, add_persistent(&mut keep, persistent_handle(7), object()), Ok(()));
+        check(
+            rt,
+            add_persistent(&mut keep, persistent_handle(7), object()),
+            Ok(()),
+        );
         check(
             rt,
             add_persistent(&mut keep, persistent_handle(7), object()),
@@ -111,12 +119,16 @@ impl Trial for OfEitherKind {
         check(rt, remove_object(&mut keep, persistent_handle(7)), true);
         check(rt, remove_object(&mut keep, persistent_handle(7)), false);
         check(rt, add_object(&mut keep, object()), Ok(transient_handle(1)));
-        check(rt, add_persistent(&mut keep, persistent_handle(7), object()), Ok(()));
+        check(
+            rt,
+            add_persistent(&mut keep, persistent_handle(7), object()),
+            Ok(()),
+        );
         Ok(())
     }
 }
 
 #[test]
 fn objects_of_either_kind(rt: HostRuntime) -> Result<(), Fail> {
-    run_over_both::<OfEitherKind>(&rt)
+    run_over_both::<OfEitherKind, HostRuntime>(&rt, rt.alloc())
 }

@@ -72,5 +72,5 @@ impl Trial for RunOfThree {
 
 #[test]
 fn a_run_tells_each_outcome_once(rt: HostRuntime) -> Result<(), Fail> {
-    run_over_both::<RunOfThree>(&rt)
+    run_over_both::<RunOfThree, HostRuntime>(&rt, rt.alloc())
 }

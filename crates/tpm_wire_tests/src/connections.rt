@@ -71,7 +71,7 @@ impl Trial for TwoInTurn {
 
 #[test]
 fn two_connections_are_fed_a_byte_in_turn(rt: HostRuntime) -> Result<(), Fail> {
-    run_over_both::<TwoInTurn>(&rt)
+    run_over_both::<TwoInTurn, HostRuntime>(&rt, rt.alloc())
 }
 
 /// Whether a turn of a connection gives its end.
@@ -106,7 +106,7 @@ impl Trial for WrongSizes {
 
 #[test]
 fn a_size_that_no_command_has_ends_a_connection(rt: HostRuntime) -> Result<(), Fail> {
-    run_over_both::<WrongSizes>(&rt)
+    run_over_both::<WrongSizes, HostRuntime>(&rt, rt.alloc())
 }
 
 struct NinthConnection;
@@ -128,7 +128,7 @@ impl Trial for NinthConnection {
 
 #[test]
 fn a_ninth_connection_is_refused(rt: HostRuntime) -> Result<(), Fail> {
-    run_over_both::<NinthConnection>(&rt)
+    run_over_both::<NinthConnection, HostRuntime>(&rt, rt.alloc())
 }
 
 struct PowerCycle;
@@ -148,5 +148,5 @@ impl Trial for PowerCycle {
 
 #[test]
 fn a_power_cycle_keeps_bytes(rt: HostRuntime) -> Result<(), Fail> {
-    run_over_both::<PowerCycle>(&rt)
+    run_over_both::<PowerCycle, HostRuntime>(&rt, rt.alloc())
 }

@@ -35,18 +35,12 @@ pub fn feed<K: Keep>(
 }
 
 /// A turn of a connection.
-pub fn turn<K: Keep>(
-    mux: &mut Mux<K>,
-    connection: ConnectionNumber,
-) -> Result<Turn, NoConnection> {
+pub fn turn<K: Keep>(mux: &mut Mux<K>, connection: ConnectionNumber) -> Result<Turn, NoConnection> {
     mux.turn(connection, host())
 }
 
 /// The outcome of a connection's next buffer, which is whole.
-pub fn answer<K: Keep>(
-    mux: &mut Mux<K>,
-    connection: ConnectionNumber,
-) -> Result<Outcome, Fail> {
+pub fn answer<K: Keep>(mux: &mut Mux<K>, connection: ConnectionNumber) -> Result<Outcome, Fail> {
     match turn(mux, connection)? {
         Turn::Answer(outcome) => Ok(outcome),
         _ => Err(Fail::new("no answer")),

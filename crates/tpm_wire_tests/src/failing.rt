@@ -187,7 +187,7 @@ impl Trial for NothingFails {
 
 #[test]
 fn pieces_of_any_size_are_one_stream(rt: HostRuntime) -> Result<(), Fail> {
-    run_over_both::<NothingFails>(&rt)
+    run_over_both::<NothingFails, HostRuntime>(&rt, rt.alloc())
 }
 
 struct EachRead;
@@ -207,7 +207,7 @@ impl Trial for EachRead {
 
 #[test]
 fn each_read_fails(rt: HostRuntime) -> Result<(), Fail> {
-    run_over_both::<EachRead>(&rt)
+    run_over_both::<EachRead, HostRuntime>(&rt, rt.alloc())
 }
 
 /// The command whose response was lost has run.
@@ -227,7 +227,7 @@ impl Trial for EachWrite {
 
 #[test]
 fn each_write_fails(rt: HostRuntime) -> Result<(), Fail> {
-    run_over_both::<EachWrite>(&rt)
+    run_over_both::<EachWrite, HostRuntime>(&rt, rt.alloc())
 }
 
 /// The command whose values the host did not give has not run.
@@ -248,5 +248,5 @@ impl Trial for EachValue {
 
 #[test]
 fn each_value_of_the_host_fails(rt: HostRuntime) -> Result<(), Fail> {
-    run_over_both::<EachValue>(&rt)
+    run_over_both::<EachValue, HostRuntime>(&rt, rt.alloc())
 }

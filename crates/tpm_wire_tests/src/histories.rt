@@ -164,5 +164,5 @@ impl Trial for AllOrders {
 
 #[test]
 fn a_read_is_the_fold_of_what_three_connections_measured(rt: HostRuntime) -> Result<(), Fail> {
-    run_over_both::<AllOrders>(&rt)
+    run_over_both::<AllOrders, HostRuntime>(&rt, rt.alloc())
 }

@@ -92,7 +92,7 @@ impl Trial for NinthConnection {
 
 #[test]
 fn a_ninth_connection_is_not_served(rt: HostRuntime) -> Result<(), Fail> {
-    run_over_both::<NinthConnection>(&rt)
+    run_over_both::<NinthConnection, HostRuntime>(&rt, rt.alloc())
 }
 
 struct WithoutEnd;
@@ -112,5 +112,5 @@ impl Trial for WithoutEnd {
 
 #[test]
 fn a_client_without_end_is_cut_off(rt: HostRuntime) -> Result<(), Fail> {
-    run_over_both::<WithoutEnd>(&rt)
+    run_over_both::<WithoutEnd, HostRuntime>(&rt, rt.alloc())
 }

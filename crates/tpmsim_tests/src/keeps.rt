@@ -12,7 +12,7 @@ pub trait Trial {
 
 /// Runs a trial with the state in lists, and with it in fixed places. No other function here names
 /// a keep: one that does is slow to prove, whatever it does with it.
-pub fn run_over_both<T: Trial>(rt: &HostRuntime) -> Result<(), Fail> {
-    T::run::<ListKeep, HostRuntime>(rt, rt.alloc())?;
-    T::run::<SlotKeep, HostRuntime>(rt, rt.alloc())
+pub fn run_over_both<T: Trial, R: Abort>(rt: &R, alloc: Global) -> Result<(), Fail> {
+    T::run::<ListKeep, R>(rt, alloc)?;
+    T::run::<SlotKeep, R>(rt, alloc)
 }

@@ -87,7 +87,7 @@ impl Trial for ReaderThatEnds {
 
 #[test]
 fn a_reader_is_not_asked_again(rt: HostRuntime) -> Result<(), Fail> {
-    run_over_both::<ReaderThatEnds>(&rt)
+    run_over_both::<ReaderThatEnds, HostRuntime>(&rt, rt.alloc())
 }
 
 /// Takes at most `room` bytes, five at a time, and then fails.
@@ -159,7 +159,7 @@ impl Trial for NarrowWriter {
 
 #[test]
 fn a_writer_may_take_pieces_and_fail(rt: HostRuntime) -> Result<(), Fail> {
-    run_over_both::<NarrowWriter>(&rt)
+    run_over_both::<NarrowWriter, HostRuntime>(&rt, rt.alloc())
 }
 
 /// A saver with room for this many saves: each one after these fails.
@@ -229,5 +229,5 @@ impl Trial for FullShelf {
 
 #[test]
 fn what_is_not_saved_is_not_told(rt: HostRuntime) -> Result<(), Fail> {
-    run_over_both::<FullShelf>(&rt)
+    run_over_both::<FullShelf, HostRuntime>(&rt, rt.alloc())
 }
