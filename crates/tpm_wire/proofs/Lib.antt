@@ -1,5 +1,5 @@
 pub mod Cutting
-pub mod Exchanging
+pub mod Executing
 pub mod Filling
 pub mod Folds
 pub mod Living
