@@ -1,6 +1,7 @@
 pub mod Cutting
-pub mod Exchanging
+pub mod Executing
 pub mod Filling
+pub mod Folds
 pub mod Living
 pub mod Pieces
 pub mod Histories

@@ -1,19 +1,24 @@
 -- Where a schedule of calls leads: one lemma a call, and then all calls.
 use Rattle.std.proofs.Common.{◌≡◌, ◌≢◌, ℕ, zero, suc, ◌+◌, ◌<◌, Bool, true, false, List, [], ◌∷◌, ◌++◌, length, map, take, Option, Some, None, Result, Ok, Err, slice_set, refl, sym, ap, ◌∙◌, subst, append_assoc, get_or, length-append, inl, inr}
 use Rattle.std.specs.Prelude.{◌⊎◌, if◌then◌else◌}
-use Rattle.std.specs.List.{FoldsTo}
+use Rattle.std.specs.List.{AllZip, FoldsTo}
 use Rattle.std.proofs.lemmas.Bool.{cases_eq}
 use Rattle.std.proofs.lemmas.Option.{unwrap_or-slice_get}
 use Rattle.std.proofs.Math.Seq.{get_or-append_seam}
 use Rattle.tpm_slots.specs.Slots.{at_place, free}
 use Rattle.tpm_slots.proofs.SlotLaws.{at_inside, at_set-here, at_set-other, lowest_free-free}
+use Rattle.tpm_record.specs.Cycle.{cycled}
+use Rattle.tpm_record.specs.IsRecord.{IsRecord}
 use Rattle.tpm_record.specs.Record.{Record}
 use Rattle.tpm_machine_step.specs.Execution.{Executes}
 use Rattle.tpm_machine_step.specs.Run.{after_all}
 use Rattle.tpm_machine_step.specs.Step.{Stepped, outcome_step}
 use Rattle.tpm_machine_step.specs.declared.event.Outcome.{Outcome}
+use Rattle.tpm_machine_history.specs.Executions.{Execution, Leads, power_cycle}
+use Rattle.tpm_machine_history.proofs.Following.{stretch_follows}
+use Rattle.tpm_machine_history.proofs.PowerCycles.{power_cycle_executes}
 use Rattle.tpm_wire.specs.Number.{number_of}
-use Rattle.tpm_wire.specs.Schedule.{Call, Closing, Does, Event, Executed, Feeding, IsServed, Leads, Life, Opening, PowerCycled, PowerCycling, Schedules, SchedulesAreRuns, SchedulesAreServed, Turning, buffer_due, events_in, events_of, executed, plain_event_of, lives_after, lives_after_all, new_life, with_life}
+use Rattle.tpm_wire.specs.Schedule.{Call, Closing, Does, Event, Executed, Feeding, IsOf, IsServed, Life, Opening, PowerCycled, PowerCycling, Schedules, SchedulesAreRuns, SchedulesAreServed, SchedulesLead, Turning, buffer_due, events_in, events_of, executed, plain_event_of, lives_after, lives_after_all, new_life, with_life}
 use Rattle.tpm_wire.specs.Stream.{Cut, Cutting, Stream, cut_of, fed, fitting, next_of, opened, uncut}
 use Rattle.tpm_wire.specs.Wire.{ClosesAt, FeedsAt, TurnsAt, TurnsBy, Wire, given, new_wire}
 use Rattle.tpm_wire.specs.declared.fault.NoConnection.{NoConnection}
@@ -22,6 +27,7 @@ use Rattle.tpm_wire.specs.declared.number.ConnectionNumber.{ConnectionNumber}
 use Rattle.tpm_wire.specs.declared.turn.Turn.{Turn}
 use Rattle.tpm_wire.specs.declared.turn.Turn.TheVariants.{Answer, Ended, Wants}
 use Rattle.tpm_wire.proofs.Cutting.{buffers_stay, cut_next, read_more}
+use Rattle.tpm_wire.proofs.Folds.{folds_on}
 
 -- the streams and the lives of all numbers: as many of both, and each connection is served
 record Serve (streams : List (Option Stream)) (lives : List (Option Life)) : Type 0 where
@@ -58,9 +64,14 @@ life_of stream (Some l) served = (l, refl, served)
 life_at : (streams : List (Option Stream)) (lives : List (Option Life)) (n : ℕ) (s : Stream) → Serve streams lives → at_place streams n ≡ Some s → (l : Life) × (at_place lives n ≡ Some l) × IsServed (Some s) (Some l)
 life_at streams lives n s so is = life_of s (at_place lives n) (subst (λ (x : Option Stream). IsServed x (at_place lives n)) is (so.each n))
 
+-- what an event does to a record, be it a record of a device or not
+abbrev Happens : Bool → Record → Event → Record → Type 0
+Happens can old (Executed plain_event outcome) new = Executes can old plain_event (outcome_step new outcome)
+Happens can old PowerCycled new = new ≡ cycled old
+
 -- the wire and the lives, after a call that led over these events
 record Led (can : Bool) (old new : Wire) (lives : List (Option Life)) (events : List Event) : Type 0 where
-  pub machine : FoldsTo (Leads can) old.machine events new.machine
+  pub machine : FoldsTo (Happens can) old.machine events new.machine
   pub served : Serve new.streams lives
 
 stays : (can : Bool) (old new : Wire) (lives : List (Option Life)) → Serve old.streams lives → new ≡ old → Led can old new lives []
@@ -194,17 +205,13 @@ call_led can old new lives (Closing connection (Err e)) so did =
 
 -- ---- all calls
 
-joined : (can : Bool) (old mid new : Record) (first others : List Event) → FoldsTo (Leads can) old first mid → FoldsTo (Leads can) mid others new → FoldsTo (Leads can) old (first ++ others) new
-joined can old mid new [] others run also = rw run also
-joined can old mid new (event ∷ first) others run also = (run.0, run.1, joined can run.0 mid new first others run.2 also)
-
 schedule_led : (can : Bool) (old new : Wire) (lives : List (Option Life)) (calls : List Call) → Serve old.streams lives → Schedules can old calls new → Led can old new (lives_after_all lives calls) (events_in lives calls)
 schedule_led can old new lives [] so run = stays can old new lives so (sym run)
 schedule_led can old new lives (call ∷ calls) so run =
     let one = call_led can old run.0 lives call so run.1 in
     let others = schedule_led can run.0 new (lives_after lives call) calls one.served run.2 in
     record {
-      machine = joined can old.machine run.0.machine new.machine (events_of lives call) (events_in (lives_after lives call) calls) one.machine others.machine;
+      machine = folds_on (Happens can) old.machine run.0.machine new.machine (events_of lives call) (events_in (lives_after lives call) calls) one.machine others.machine;
       served = others.served;
     }
 
@@ -217,21 +224,48 @@ none_served (suc n) (suc number) = none_served n number
 new_served : (r : Record) → Serve (new_wire r).streams (free 8)
 new_served r = record { many = refl; each = none_served 8 }
 
--- Each connection is served, and the machine is where the events lead.
-pub schedules_served : SchedulesAreServed
-schedules_served can r calls new run =
-    let led = schedule_led can (new_wire r) new (free 8) calls (new_served r) run in
-    (led.machine, led.served.each)
+-- where a schedule leads from a new mux
+led_anew : (can : Bool) (r : Record) (calls : List Call) (new : Wire) → Schedules can (new_wire r) calls new → Led can (new_wire r) new (lives_after_all (free 8) calls) (events_in (free 8) calls)
+led_anew can r calls new run = schedule_led can (new_wire r) new (free 8) calls (new_served r) run
 
-leads_run : (r new : Record) (events : List Event) → FoldsTo (Leads false) r events new → new ≡ after_all r (map plain_event_of events)
-leads_run r new [] run = sym run
-leads_run r new (Executed plain_event outcome ∷ events) run =
-    leads_run run.0 new events run.2
+-- Each connection is served.
+pub schedules_served : SchedulesAreServed
+schedules_served can r calls new run = (led_anew can r calls new run).served.each
+
+-- ---- the executions of events
+
+executions_of : (can : Bool) (old new : Record) (events : List Event) → IsRecord old → FoldsTo (Happens can) old events new → (executions : List Execution) × AllZip IsOf events executions × Leads can old executions new
+executions_of can old new [] is run = ([], tt, sym run)
+executions_of can old new (Executed plain_event outcome ∷ events) is run =
+    let one : Execution = record { before = old; event = plain_event; seen = outcome_step run.0 outcome } in
+    let (executions, are, leads) = executions_of can run.0 new events run.1.is_record run.2 in
+    (one ∷ executions, ((refl, refl), are), (refl, run.1, leads))
+executions_of can old new (PowerCycled ∷ events) is run =
+    let executes = power_cycle_executes can old is in
+    let others = subst (λ (r : Record). FoldsTo (Happens can) r events new) run.1 run.2 in
+    let (executions, are, leads) = executions_of can (cycled old) new events executes.is_record others in
+    (power_cycle old ∷ executions, (refl, are), (refl, executes, leads))
+
+-- The machine is where the events lead.
+pub schedules_lead : SchedulesLead
+schedules_lead can r calls new is run =
+    let (executions, are, leads) = executions_of can r new.machine (events_in (free 8) calls) is (led_anew can r calls new run).machine in
+    record {
+      executions = executions;
+      are = are;
+      leads = leads;
+      stretch = λ history follows. stretch_follows can r executions new.machine history leads follows;
+    }
+
+happens_run : (r new : Record) (events : List Event) → FoldsTo (Happens false) r events new → new ≡ after_all r (map plain_event_of events)
+happens_run r new [] run = sym run
+happens_run r new (Executed plain_event outcome ∷ events) run =
+    happens_run run.0 new events run.2
     ∙ ap (λ (m : Record). after_all m (map plain_event_of events)) (ap (λ (x : Stepped). x.after) (run.1.exactly refl))
-leads_run r new (PowerCycled ∷ events) run =
-    leads_run run.0 new events run.2 ∙ ap (λ (m : Record). after_all m (map plain_event_of events)) run.1
+happens_run r new (PowerCycled ∷ events) run =
+    happens_run run.0 new events run.2 ∙ ap (λ (m : Record). after_all m (map plain_event_of events)) run.1
 
 -- Where no memory can be refused, the events are a run.
 pub schedules_run : SchedulesAreRuns
 schedules_run r calls new run =
-    leads_run r new.machine (events_in (free 8) calls) (schedules_served false r calls new run).0
+    happens_run r new.machine (events_in (free 8) calls) (led_anew false r calls new run).machine

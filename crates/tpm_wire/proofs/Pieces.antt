@@ -1,11 +1,13 @@
 -- The pieces in which a stream is read.
 use Rattle.tpm_types.specs.Limits.{buffer_limit}
-use Rattle.std.proofs.Common.{◌≡◌, ℕ, ◌+◌, ◌<◌, ◌≤◌, List, [], ◌∷◌, ◌++◌, length, None, false, refl, sym, ap, ◌∙◌, append-nil, append_assoc, length-append, arith}
+use Rattle.std.proofs.Common.{◌≡◌, ℕ, ◌+◌, ◌<◌, ◌≤◌, List, [], ◌∷◌, ◌++◌, length, None, false, refl, sym, ap, subst, ◌∙◌, append-nil, append_assoc, length-append, arith}
 use Rattle.std.proofs.lemmas.Fn.{FoldsTo-push}
 use Rattle.std.specs.List.{FoldsTo}
-use Rattle.tpm_wire.specs.Serve.{AreFirst, ReadsPiece}
+use Rattle.tpm_machine_history.specs.Executions.{Execution}
+use Rattle.tpm_wire.specs.Serve.{AreFirst, ReadsPiece, buffers_of}
 use Rattle.tpm_wire.specs.Stream.{Cutting, Stream, cut_of, cut_with, fed, next_of}
 use Rattle.tpm_wire.proofs.Cutting.{cut_last}
+use Rattle.tpm_wire.proofs.Executing.{buffers_more}
 
 first_still : (buffers done more : List (List ℕ)) → AreFirst buffers done → AreFirst buffers (done ++ more)
 first_still buffers done more first =
@@ -18,14 +20,19 @@ pieces_stay done more start (piece ∷ pieces) read run =
     let one = run.1 in
     (run.0, (one.0, one.1, one.2, one.3, first_still _ done more one.4), pieces_stay done more run.0 pieces read run.2)
 
--- One piece more, after which more buffers are executed.
-pub one_piece : (done more pieces : List (List ℕ)) (read bytes : List ℕ) (s : Stream) → FoldsTo (ReadsPiece done) [] pieces read → cut_of read ≡ cut_with done s → next_of s ≡ None → s.ended ≡ false → 0 < length bytes → length (fed s bytes).taken ≤ buffer_limit → FoldsTo (ReadsPiece (done ++ more)) [] (pieces ++ bytes ∷ []) (read ++ bytes)
+one_piece : (done more pieces : List (List ℕ)) (read bytes : List ℕ) (s : Stream) → FoldsTo (ReadsPiece done) [] pieces read → cut_of read ≡ cut_with done s → next_of s ≡ None → s.ended ≡ false → 0 < length bytes → length (fed s bytes).taken ≤ buffer_limit → FoldsTo (ReadsPiece (done ++ more)) [] (pieces ++ bytes ∷ []) (read ++ bytes)
 one_piece done more pieces read bytes s run is none lives some fits =
     let whole = is ∙ cut_last done s none in
     let rest : length (cut_of read).rest ≡ length s.taken = ap (λ (c : Cutting). length c.rest) whole in
     let first : AreFirst (cut_of read).buffers done = ([], ap (λ (c : Cutting). c.buffers) (sym whole) ∙ sym (append-nil _)) in
     FoldsTo-push (ReadsPiece (done ++ more)) [] pieces read bytes (read ++ bytes) (pieces_stay done more [] pieces read run)
     (refl, some, omega (arith, rest, fits, length-append s.taken bytes), ap (λ (c : Cutting). c.ended) whole ∙ lives, first_still _ done more first)
+
+-- One piece more, after which more buffers are executed.
+pub piece_more : (first more : List Execution) (pieces : List (List ℕ)) (read bytes : List ℕ) (s : Stream) → FoldsTo (ReadsPiece (buffers_of first)) [] pieces read → cut_of read ≡ cut_with (buffers_of first) s → next_of s ≡ None → s.ended ≡ false → 0 < length bytes → length (fed s bytes).taken ≤ buffer_limit → FoldsTo (ReadsPiece (buffers_of (first ++ more))) [] (pieces ++ bytes ∷ []) (read ++ bytes)
+piece_more first more pieces read bytes s run is none lives some fits =
+    subst (λ (done : List (List ℕ)). FoldsTo (ReadsPiece done) [] (pieces ++ bytes ∷ []) (read ++ bytes)) (sym (buffers_more first more))
+    (one_piece (buffers_of first) (buffers_of more) pieces read bytes s run is none lives some fits)
 
 -- One piece more is counted, and no more are read than one connection may have.
 pub pieces_fit : (pieces : List (List ℕ)) (piece : List ℕ) (reads : ℕ) → length pieces ≡ reads → reads < 1048576 → (length (pieces ++ piece ∷ []) ≡ reads + 1) × (length (pieces ++ piece ∷ []) ≤ 1048576)

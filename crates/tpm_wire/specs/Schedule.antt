@@ -2,15 +2,18 @@
 -- where that leads the machine.
 use Rattle.std.specs.Prelude.{◌≡◌, ℕ, Bool, false, List, [], ◌∷◌, ◌++◌, length, take, map, slice_set, slice_get}
 use Rattle.std.specs.Prelude.{Option, Some, None, option_map, unwrap_or, Result, Ok}
-use Rattle.std.specs.List.{FoldsTo}
+use Rattle.std.specs.List.{AllZip, FoldsTo}
 use Rattle.tpm_slots.specs.Slots.{at_place, free}
 use Rattle.tpm_record.specs.Cycle.{cycled}
+use Rattle.tpm_record.specs.IsRecord.{IsRecord}
 use Rattle.tpm_record.specs.Record.{Record}
 use Rattle.tpm_machine_step.specs.Events.{PlainEvent, Cycled}
-use Rattle.tpm_machine_step.specs.Execution.{Executes}
 use Rattle.tpm_machine_step.specs.Run.{after_all}
 use Rattle.tpm_machine_step.specs.Step.{outcome_step}
 use Rattle.tpm_machine_step.specs.declared.event.Outcome.{Outcome}
+use Rattle.tpm_machine_history.specs.Executions.{Execution, Leads}
+use Rattle.tpm_machine_history.specs.Follows.{Follows, StretchFollows}
+use Rattle.tpm_machine_history.specs.History.{History}
 use Rattle.tpm_wire.specs.Number.{number_of}
 use Rattle.tpm_wire.specs.Stream.{Stream, cut_of, cut_with}
 use Rattle.tpm_wire.specs.Wire.{Closes, Feeds, Opens, Turns, Wire, given, new_wire}
@@ -100,17 +103,29 @@ abbrev pub events_in : List (Option Life) → List Call → List Event
 events_in lives [] = []
 events_in lives (call ∷ calls) = events_of lives call ++ events_in (lives_after lives call) calls
 
--- ---- the law
+-- ---- the laws
 
--- An event leads from one record to the next.
-abbrev pub Leads : Bool → Record → Event → Record → Type 0
-Leads can old (Executed plain_event outcome) new =
-    Executes can old plain_event (outcome_step new outcome)
-Leads can old PowerCycled new = new ≡ cycled old
+-- An execution is that of an event: of its buffer, with its outcome, or of power that was cycled.
+abbrev pub IsOf : Event → Execution → Type 0
+IsOf (Executed plain_event outcome) one =
+    (one.event ≡ plain_event) × (one.seen ≡ outcome_step one.seen.after outcome)
+IsOf PowerCycled one = one.event ≡ Cycled
 
-abbrev pub plain_event_of : Event → PlainEvent
-plain_event_of (Executed plain_event outcome) = plain_event
-plain_event_of PowerCycled = Cycled
+-- These events were executed one after another, and led from an old record to a new one. Where a
+-- history leads to the old record, they are a stretch of events after that history.
+pub record EventsLead (can : Bool) (old : Record) (events : List Event) (new : Record) : Type 0
+  where
+    pub executions : List Execution
+    pub are : AllZip IsOf events executions
+    pub leads : Leads can old executions new
+    pub stretch : (history : History) → Follows old history
+        → StretchFollows can old executions new history
+
+-- After every schedule of calls on a new mux the machine is where the schedule's events lead.
+abbrev pub SchedulesLead : Type 0
+SchedulesLead = (can : Bool) (r : Record) (calls : List Call) (new : Wire)
+    → IsRecord r → Schedules can (new_wire r) calls new
+    → EventsLead can r (events_in (free 8) calls) new.machine
 
 -- A connection's buffers were executed in order, one an answer, as far as the answers go, and what
 -- it holds is what is left of its bytes after them.
@@ -121,16 +136,17 @@ IsServed (Some s) (Some l) =
 IsServed None (Some l) = ⊥
 IsServed (Some s) None = ⊥
 
--- After every schedule of calls on a new mux the machine is where the schedule's events lead, and
--- each connection is served as far as it was answered.
+-- After every schedule each connection is served as far as it was answered.
 abbrev pub SchedulesAreServed : Type 0
 SchedulesAreServed = (can : Bool) (r : Record) (calls : List Call) (new : Wire)
-    → Schedules can (new_wire r) calls new
-    → FoldsTo (Leads can) r (events_in (free 8) calls) new.machine
-    × ((number : ℕ)
-    → IsServed (at_place new.streams number) (at_place (lives_after_all (free 8) calls) number))
+    → Schedules can (new_wire r) calls new → (number : ℕ)
+    → IsServed (at_place new.streams number) (at_place (lives_after_all (free 8) calls) number)
 
--- Where no memory can be refused, this is where the run of the events leads.
+abbrev pub plain_event_of : Event → PlainEvent
+plain_event_of (Executed plain_event outcome) = plain_event
+plain_event_of PowerCycled = Cycled
+
+-- Where no memory can be refused, the machine is where the run of the events leads.
 abbrev pub SchedulesAreRuns : Type 0
 SchedulesAreRuns = (r : Record) (calls : List Call) (new : Wire)
     → Schedules false (new_wire r) calls new

@@ -1,16 +1,17 @@
 -- Serving one connection to its end.
 use Rattle.tpm_types.specs.Limits.{buffer_limit}
 use Rattle.std.specs.Prelude.{◌≡◌, ℕ, ◌-◌, ◌≤◌, ◌<◌, ◌⊎◌, Bool, true, false}
-use Rattle.std.specs.Prelude.{List, [], ◌∷◌, ◌++◌, length}
+use Rattle.std.specs.Prelude.{List, [], ◌∷◌, ◌++◌, length, map}
 use Rattle.std.specs.Prelude.{Option, Some, None, Result, Ok, Err}
 use Rattle.std.specs.Fn.{Called, Mut}
-use Rattle.std.specs.List.{FoldsTo}
+use Rattle.std.specs.List.{FoldsTo, flat_map}
 use Rattle.std.specs.Io.KnownBytes.{Appends, Consumes, Keeps}
 use Rattle.tpm_bytes.specs.Tap.{Marks, after_read}
 use Rattle.tpm_record.specs.Record.{Record}
-use Rattle.tpm_machine_step.specs.Execution.{Executes}
-use Rattle.tpm_machine_step.specs.Step.{outcome_step}
-use Rattle.tpm_machine_step.specs.declared.event.Outcome.{Outcome}
+use Rattle.tpm_machine_step.specs.Events.{PlainEvent, Given, Cycled}
+use Rattle.tpm_machine_history.specs.Executions.{Execution, Leads}
+use Rattle.tpm_machine_history.specs.Follows.{Follows, StretchFollows}
+use Rattle.tpm_machine_history.specs.History.{History}
 use Rattle.tpm_wire.specs.Stream.{Cut, Cutting, Stream, cut_of, fed, next_of}
 use Rattle.tpm_wire.specs.Wire.{given}
 use Rattle.tpm_bytes.specs.declared.tap.Failed.{Failed}
@@ -19,32 +20,40 @@ use Rattle.tpm_wire.specs.declared.fault.ServeFault.{ServeFault}
 use Rattle.tpm_wire.specs.declared.fault.ServeFault.TheVariants as fault
 use Rattle.tpm_wire.specs.declared.host.Host.{Host}
 
+-- ---- what is executed
+
+-- the buffer of an event; a power cycle has none
+abbrev pub buffer_in : PlainEvent → List ℕ
+buffer_in (Given buffer locality elapsed random) = buffer
+buffer_in Cycled = []
+
+-- the buffers of executions, in order
+abbrev pub buffers_of : List Execution → List (List ℕ)
+buffers_of executions = map (λ (one : Execution). buffer_in one.event) executions
+
+-- their responses, one behind the other
+abbrev pub responses_of : List Execution → List ℕ
+responses_of executions = flat_map (λ (one : Execution). one.seen.response) executions
+
+-- ---- what the host is asked
+
 -- a closure that is asked for what the host says of a command
 abbrev pub Asking : Type 0 → Type 1
 Asking F = Mut F (Unit {0}) (Result Host HostFault)
 
--- how far a connection is served: the machine's record, the closure that asks the host, and all
--- responses so far
-pub record Serving (F : Type 0) : Type 0 where
-  pub machine : Record
-  pub host : F
-  pub written : List ℕ
+-- The host was asked once, and the buffer was executed with what it said.
+abbrev pub Asks : {F : Type 0} → Asking F → F → Execution → F → Type 0
+Asks g old one new =
+    (host : Host) × Called g old tt (Ok host) new × (one.event ≡ given (buffer_in one.event) host)
 
--- nothing is executed yet
-abbrev pub started : {F : Type 0} → Record → F → Serving F
-started r host = record { machine = r; host = host; written = [] }
+-- It was asked so for each of these executions, in order.
+abbrev pub AsksForEach : {F : Type 0} → Asking F → F → List Execution → F → Type 0
+AsksForEach g old executions new = FoldsTo (Asks g) old executions new
 
--- The host was asked once, the buffer executed with what it said, and the response written after
--- those before; can says whether memory can be refused.
-abbrev pub Exchanges : {F : Type 0} → Asking F → Bool → Serving F → List ℕ → Serving F → Type 0
-Exchanges g can old buffer new =
-    (host : Host) × (outcome : Outcome) × Called g old.host tt (Ok host) new.host
-    × Executes can old.machine (given buffer host) (outcome_step new.machine outcome)
-    × (new.written ≡ old.written ++ outcome.response.items)
-
--- The host was asked once, and answered a fault.
-abbrev pub Faults : {F : Type 0} → Asking F → F → F → Type 0
-Faults g old new = (e : HostFault) × Called g old tt (Err e) new
+-- It was asked once more after these, and answered a fault.
+abbrev pub AsksInVain : {F : Type 0} → Asking F → F → List Execution → F → Type 0
+AsksInVain {F} g old executions new =
+    (last : F) × AsksForEach g old executions last × (e : HostFault) × Called g last tt (Err e) new
 
 -- ---- its parts
 
@@ -59,30 +68,26 @@ Fills had has before after old (Ok count) new =
     × (length new.taken ≤ buffer_limit)
     × (after ≡ after_read {E = Failed} before (Ok count) (buffer_limit - length old.taken))
 
--- The writer failed at the response of the last buffer: all responses before were written whole,
+-- The writer failed at the response of the last execution: all responses before were written whole,
 -- and of this one a part from its front, perhaps none of it.
-abbrev pub LosesLast : {F : Type 0} → Asking F → Bool → Option (List ℕ) → Option (List ℕ)
-    → Serving F → List (List ℕ) → Serving F → Type 0
-LosesLast {F} g can held holds start done end =
-    (answered : List (List ℕ)) × (lost : List ℕ) × (before : Serving F)
-    × (done ≡ answered ++ lost ∷ []) × FoldsTo (Exchanges g can) start answered before
-    × Exchanges g can before lost end
-    × (front : List ℕ) × (rest : List ℕ) × (end.written ≡ before.written ++ front ++ rest)
-    × Appends held holds (before.written ++ front)
+abbrev pub LosesLast : Option (List ℕ) → Option (List ℕ) → List Execution → Type 0
+LosesLast held holds executions =
+    (answered : List Execution) × (lost : Execution) × (executions ≡ answered ++ lost ∷ [])
+    × (front : List ℕ) × (rest : List ℕ) × (lost.seen.response ≡ front ++ rest)
+    × Appends held holds (responses_of answered ++ front)
 
 -- All buffers that are whole were executed, these, and the responses written: how that finished.
-abbrev pub Finishes : {F : Type 0} → Asking F → Bool → Option (List ℕ) → Option (List ℕ)
-    → Marks → Marks → Serving F → List (List ℕ) → Serving F → F → Stream → Result ℕ ServeFault
-    → Type 0
-Finishes g can held holds before after start done end host left (Ok count) =
-    (next_of left ≡ None) × (host ≡ end.host) × (count ≡ length done)
-    × Appends held holds end.written × (after ≡ before)
-Finishes g can held holds before after start done end host left (Err fault.Write) =
-    (host ≡ end.host) × (after.failed ≡ true) × LosesLast g can held holds start done end
-Finishes g can held holds before after start done end host left (Err fault.Host) =
-    ((c : Cut) × (next_of left ≡ Some c)) × Faults g end.host host
-    × Appends held holds end.written × (after ≡ before)
-Finishes g can held holds before after start done end host left (Err e) = ⊥
+abbrev pub Finishes : {F : Type 0} → Asking F → Option (List ℕ) → Option (List ℕ)
+    → Marks → Marks → F → List Execution → F → Stream → Result ℕ ServeFault → Type 0
+Finishes g held holds before after asked executions asking left (Ok count) =
+    (next_of left ≡ None) × AsksForEach g asked executions asking × (count ≡ length executions)
+    × Appends held holds (responses_of executions) × (after ≡ before)
+Finishes g held holds before after asked executions asking left (Err fault.Write) =
+    AsksForEach g asked executions asking × (after.failed ≡ true) × LosesLast held holds executions
+Finishes g held holds before after asked executions asking left (Err fault.Host) =
+    ((c : Cut) × (next_of left ≡ Some c)) × AsksInVain g asked executions asking
+    × Appends held holds (responses_of executions) × (after ≡ before)
+Finishes g held holds before after asked executions asking left (Err e) = ⊥
 
 -- ---- what is read
 
@@ -125,31 +130,38 @@ ReadsNoMore reader cut =
 -- have: the same. Where the writer failed: some buffers were executed, the last without its whole
 -- response. Where the host answered a fault: those before the next buffer, which is whole, with
 -- their responses.
-abbrev pub Ends : {F : Type 0} → Asking F → Bool → Option (List ℕ) → Option (List ℕ)
-    → Marks → Marks → Cutting → Serving F → List (List ℕ) → Serving F → F → Result ℕ ServeFault
-    → Type 0
-Ends g can held holds reader writer cut start done end host (Ok count) =
-    (cut.buffers ≡ done) × IsAtEnd reader cut × (count ≡ length done)
-    × Appends held holds end.written × (host ≡ end.host)
-Ends g can held holds reader writer cut start done end host (Err fault.Read) =
-    (cut.buffers ≡ done) × ReadsNoMore reader cut
-    × Appends held holds end.written × (host ≡ end.host)
-Ends g can held holds reader writer cut start done end host (Err fault.Write) =
-    AreFirst done cut.buffers × (writer.failed ≡ true) × (host ≡ end.host)
-    × LosesLast g can held holds start done end
-Ends g can held holds reader writer cut start done end host (Err fault.Host) =
-    AreFewer done cut.buffers × Faults g end.host host × Appends held holds end.written
-Ends g can held holds reader writer cut start done end host (Err fault.Full) = ⊥
+abbrev pub Ends : {F : Type 0} → Asking F → Option (List ℕ) → Option (List ℕ)
+    → Marks → Marks → Cutting → F → List Execution → F → Result ℕ ServeFault → Type 0
+Ends g held holds reader writer cut asked executions asking (Ok count) =
+    (cut.buffers ≡ buffers_of executions) × IsAtEnd reader cut × (count ≡ length executions)
+    × AsksForEach g asked executions asking × Appends held holds (responses_of executions)
+Ends g held holds reader writer cut asked executions asking (Err fault.Read) =
+    (cut.buffers ≡ buffers_of executions) × ReadsNoMore reader cut
+    × AsksForEach g asked executions asking × Appends held holds (responses_of executions)
+Ends g held holds reader writer cut asked executions asking (Err fault.Write) =
+    AreFirst (buffers_of executions) cut.buffers × (writer.failed ≡ true)
+    × AsksForEach g asked executions asking × LosesLast held holds executions
+Ends g held holds reader writer cut asked executions asking (Err fault.Host) =
+    AreFewer (buffers_of executions) cut.buffers
+    × AsksInVain g asked executions asking × Appends held holds (responses_of executions)
+Ends g held holds reader writer cut asked executions asking (Err fault.Full) = ⊥
 
 -- A connection was served: pieces were read of the reader, each in one read and no more of them
--- than one connection may have; joined they are cut into buffers, those that were executed lead
--- from the machine before to the machine after, and serving ended so.
-abbrev pub Serves : {F : Type 0} → Asking F → Bool
-    → Option (List ℕ) → Option (List ℕ) → Option (List ℕ) → Option (List ℕ) → Marks → Marks
-    → Record → F → Result ℕ ServeFault → Record → F → Type 0
-Serves {F} g can had has held holds reader writer old asked result new asking =
-    (pieces : List (List ℕ)) × (read : List ℕ) × (done : List (List ℕ)) × (end : Serving F)
-    × FoldsTo (ReadsPiece done) [] pieces read × (reader.reads ≡ length pieces)
-    × (length pieces ≤ 1048576) × Consumes had has read
-    × FoldsTo (Exchanges g can) (started old asked) done end × (new ≡ end.machine)
-    × Ends g can held holds reader writer (cut_of read) (started old asked) done end asking result
+-- than one connection may have. Joined they are cut into buffers, and the first of these were
+-- executed. The executions lead from the machine before to the machine after. Where a history leads
+-- to the machine before, they are a stretch of events after that history. Serving ended so.
+pub record Serves {F : Type 0} (g : Asking F) (can : Bool) (had has held holds : Option (List ℕ))
+    (reader writer : Marks) (old : Record) (asked : F) (result : Result ℕ ServeFault)
+    (new : Record) (asking : F) : Type 0
+  where
+    pub pieces : List (List ℕ)
+    pub read : List ℕ
+    pub executions : List Execution
+    pub reads : FoldsTo (ReadsPiece (buffers_of executions)) [] pieces read
+    pub counted : reader.reads ≡ length pieces
+    pub few : length pieces ≤ 1048576
+    pub consumed : Consumes had has read
+    pub leads : Leads can old executions new
+    pub stretch : (history : History) → Follows old history
+        → StretchFollows can old executions new history
+    pub ends : Ends g held holds reader writer (cut_of read) asked executions asking result

@@ -2,15 +2,12 @@
 //! executed, and their responses written.
 
 ghost use Rattle.tpm_types.specs.Limits.{buffer_limit};
-ghost use Rattle.std.specs.Prelude.{◌≡◌, ◌≢◌, ◌+◌, ◌≤◌, Err, IfOk, List, None, OnOk, length, ℕ};
-ghost use Rattle.std.specs.List.{FoldsTo};
+ghost use Rattle.std.specs.Prelude.{◌≡◌, ◌≢◌, ◌+◌, ◌≤◌, Err, IfOk, List, None, OnOk, length};
 ghost use Rattle.tpm_bytes.specs.Tap.{device_of, marks_of, unmarked};
 ghost use Rattle.tpm_machine.specs.State.{state_of};
-ghost use Rattle.tpm_machine_history.specs.Follows.{Follows};
-ghost use Rattle.tpm_machine_history.specs.History.{History};
-ghost use Rattle.tpm_wire.specs.History.{ServeFollows};
+ghost use Rattle.tpm_machine_history.specs.Executions.{Execution, Leads};
 ghost use Rattle.tpm_slots.specs.Slots.{lowest_free};
-ghost use Rattle.tpm_wire.specs.Serve.{Exchanges, Finishes, Serves, Serving, started};
+ghost use Rattle.tpm_wire.specs.Serve.{Finishes, Serves, buffers_of};
 ghost use Rattle.tpm_wire.specs.Stream.{CutsTo};
 ghost use Rattle.tpm_wire.specs.Wire.{wire_of};
 ghost use Rattle.tpm_wire.specs.declared.fault.ServeFault.TheVariants.{Full};
@@ -53,14 +50,6 @@ pub fn serve<K: Keep, R: Read, W: Write, H: FnMut() -> Result<Host, HostFault>>(
         (marks_of reader.new) (marks_of writer.new)
         (wire_of K.record_of mux.old).machine host.old
         result (wire_of K.record_of mux.new).machine host.new }
-
-    // Where the machine followed a history, it follows the history with those of the buffers that
-    // were accepted.
-    ensures history { lowest_free (wire_of K.record_of mux.old).streams ≢ None
-        → (history : History) → Follows (wire_of K.record_of mux.old).machine history
-        → ServeFollows K.can_refuse
-        (R.remaining (device_of reader.old)) (R.remaining (device_of reader.new))
-        (wire_of K.record_of mux.old).machine (wire_of K.record_of mux.new).machine history }
 {
     if free_place(&mux.connections).is_none() {
         return Err(ServeFault::Full);
@@ -121,16 +110,14 @@ fn answer_whole<K: Keep, W: Write, H: FnMut() -> Result<Host, HostFault>>(
     ensures callable { OnOk result (H.IsAlwaysCallable host.new) }
     ensures count { IfOk result
         (λ count. count + length connection.new.taken ≤ length connection.old.taken) }
-    ensures ran { (done : List (List ℕ)) × (end : Serving H)
-        × FoldsTo (Exchanges H.FnMut K.can_refuse)
-        (started (state_of K.record_of machine.old) host.old) done end
-        × (state_of K.record_of machine.new ≡ end.machine)
-        × CutsTo connection.old done connection.new
-        × Finishes H.FnMut K.can_refuse
+    ensures ran { (executions : List Execution)
+        × Leads K.can_refuse (state_of K.record_of machine.old) executions
+        (state_of K.record_of machine.new)
+        × CutsTo connection.old (buffers_of executions) connection.new
+        × Finishes H.FnMut
         (W.contents (device_of writer.old)) (W.contents (device_of writer.new))
         (marks_of writer.old) (marks_of writer.new)
-        (started (state_of K.record_of machine.old) host.old) done end
-        host.new connection.new result }
+        host.old executions host.new connection.new result }
 {
     let mut answered = 0;
     while let Some(front) = connection.front() {

@@ -5,7 +5,8 @@ use Rattle.std.specs.Io.KnownBytes.{Appends, Consumes}
 use Rattle.std.specs.List.{FoldsTo}
 use Rattle.tpm_bytes.specs.Tap.{device_of, marks_of}
 use Rattle.tpm_machine.specs.State.{state_of}
-use Rattle.tpm_wire.specs.Serve.{Exchanges, ReadsPiece, started}
+use Rattle.tpm_machine_history.specs.Executions.{Execution, Leads}
+use Rattle.tpm_wire.specs.Serve.{AsksForEach, ReadsPiece, buffers_of, responses_of}
 use Rattle.tpm_wire.specs.Stream.{cut_of, cut_with, next_of}
 use Rattle.tpm_wire.proofs.serving.serve_connection.Given as goal
 
@@ -18,12 +19,12 @@ invariant-loop g l =
       waits : next_of l.connection ≡ None;
       reads : (marks_of l.reader).reads ≡ l.counter;
       count : l.answered + length l.connection.taken ≤ buffer_limit * l.counter;
-      ran : (pieces : List (List ℕ)) × (read : List ℕ) × (done : List (List ℕ)) × (written : List ℕ)
-          × FoldsTo (ReadsPiece done) [] pieces read × (length pieces ≡ l.counter)
+      ran : (pieces : List (List ℕ)) × (read : List ℕ) × (executions : List Execution)
+          × FoldsTo (ReadsPiece (buffers_of executions)) [] pieces read × (length pieces ≡ l.counter)
           × Consumes (g.R.Read.remaining (device_of l.fn.reader)) (g.R.Read.remaining (device_of l.reader)) read
-          × FoldsTo (Exchanges g.H.FnMut g.K.Keep.can_refuse) (started (state_of record_of l.fn.machine) l.fn.host) done
-          (record { machine = state_of record_of l.machine; host = l.host; written = written })
-          × (cut_of read ≡ cut_with done l.connection)
-          × (l.answered ≡ length done)
-          × Appends (g.W.Write.contents (device_of l.fn.writer)) (g.W.Write.contents (device_of l.writer)) written;
+          × Leads g.K.Keep.can_refuse (state_of record_of l.fn.machine) executions (state_of record_of l.machine)
+          × AsksForEach g.H.FnMut l.fn.host executions l.host
+          × (cut_of read ≡ cut_with (buffers_of executions) l.connection)
+          × (l.answered ≡ length executions)
+          × Appends (g.W.Write.contents (device_of l.fn.writer)) (g.W.Write.contents (device_of l.writer)) (responses_of executions);
     }
