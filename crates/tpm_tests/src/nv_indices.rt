@@ -2,6 +2,7 @@
 //! outside, by Python's `hashlib`.
 
 use super::comparison::check;
+use std::alloc::Global;
 use std::process::Abort;
 use tpm_bytes::{Cursor, Sink};
 use tpm_nv::{
@@ -181,20 +182,20 @@ fn extended<N: Indices>(rt: &impl Abort, mut indices: N) {
     check(rt, is_read(&indices, FIRST, 20, DIGEST), true);
 }
 
-#[test]
-fn ordinary_indices(rt: HostRuntime) {
-    ordinary(&rt, ListIndices::new(rt.alloc()));
-    ordinary(&rt, SlotIndices::new(rt.alloc()));
+/// Each call, of indices that are kept in one way. A function that names the way is slow to prove,
+/// so two name one each.
+fn exercise<N: Indices, R: Abort>(rt: &R, alloc: Global) {
+    ordinary(rt, N::new(alloc));
+    counters(rt, N::new(alloc));
+    extended(rt, N::new(alloc));
 }
 
 #[test]
-fn counters_and_bits(rt: HostRuntime) {
-    counters(&rt, ListIndices::new(rt.alloc()));
-    counters(&rt, SlotIndices::new(rt.alloc()));
+fn in_lists(rt: HostRuntime) {
+    exercise::<ListIndices, HostRuntime>(&rt, rt.alloc());
 }
 
 #[test]
-fn extended_indices(rt: HostRuntime) {
-    extended(&rt, ListIndices::new(rt.alloc()));
-    extended(&rt, SlotIndices::new(rt.alloc()));
+fn in_fixed_places(rt: HostRuntime) {
+    exercise::<SlotIndices, HostRuntime>(&rt, rt.alloc());
 }
