@@ -58,6 +58,11 @@ image=closed/image
 begin 1
 talk 'an image in a folder that may no more be written to' 4096 "$startup" "$back"
 ended 'one connection'
+options=--save-each
+begin 1
+talk 'the same, with --save-each' 4096 "$startup" "$back"
+ended 'one connection'
+options=
 ls -A closed
 cmp closed/image ../image && echo 'the image is as it was, too'
 chmod 755 closed

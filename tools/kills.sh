@@ -1,13 +1,15 @@
 #!/bin/sh
 # Kills a served device at random moments while connections come one after another, and looks at the
-# image that is left behind each kill, as tests/killed.sh does a few times. It is no part of the gate.
-# Needs python3.
+# image that is left behind each kill, as tests/killed.sh does a few times. Then it does so as often to
+# a device that is served with --save-each, straight behind a response, as tests/save_each.sh does. It
+# is no part of the gate. Needs python3.
 #
 #   tools/kills.sh               1,000 kills, of seed 1
 #   tools/kills.sh 5000 7        5,000 kills, of seed 7
 #
 # Its first line says that all went as it must, or what did not; then the last image is left, and it
-# says where. The second line says where the kills fell, which is not the same in each run.
+# says where. The second line says where the kills fell, which is not the same in each run. The others
+# are those of --save-each.
 set -u
 
 top=$(CDPATH='' cd "$(dirname "$0")/.." && pwd -P) || exit 1
@@ -16,9 +18,13 @@ folder=$(mktemp -d) || exit 1
 cd "$folder" || exit 1
 
 export PYTHONDONTWRITEBYTECODE=1
-if python3 "$top/tests/common/kills.py" "$program" "${1:-1000}" "${2:-1}" counts; then
+common=$top/tests/common
+count=${1:-1000}
+mkdir each
+if python3 "$common/kills.py" "$program" "$count" "${2:-1}" counts &&
+    cd each && PYTHONPATH=$top/tests/outside/device python3 "$common/save_each.py" "$program" "$count"; then
     rm -rf "$folder"
 else
-    echo "The image is in $folder"
+    echo "The image is in $PWD"
     exit 1
 fi

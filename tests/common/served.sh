@@ -16,11 +16,13 @@ for octal in 001 002 003 004 005 006 007 010 011 012 013 014 015; do
 done
 
 # begin CONNECTIONS: serves so many connections in the background, from locality 0 and with `image`
-# where the test says no other.
+# where the test says no other, and with the further options that it says.
 begin() {
     rm -f "$room/output" "$room/error"
+    # shellcheck disable=SC2086 # the options are words
     timeout 60 "$program" serve --socket socket --image "${image:-image}" --entropy entropy \
-        --locality "${locality:-0}" --connections "$1" >"$room/output" 2>"$room/error" &
+        --locality "${locality:-0}" --connections "$1" ${options:-} >"$room/output" \
+        2>"$room/error" &
 }
 
 # there: waits until the socket is there.

@@ -1,12 +1,12 @@
 -- Executions one after another, and how serving ends.
-use Rattle.std.proofs.Common.{◌≡◌, ℕ, List, [], ◌∷◌, ◌++◌, Bool, Option, Some, Ok, Err, refl, sym, ap, ◌∙◌, subst, append_assoc, append-nil}
+use Rattle.std.proofs.Common.{◌≡◌, ◌≢◌, ℕ, List, [], ◌∷◌, ◌++◌, Bool, true, false, Option, Some, None, Result, Ok, Err, refl, sym, ap, ◌∙◌, subst, append_assoc, append-nil}
 use Rattle.std.proofs.KnownBytes.{Appends-trans}
+use Rattle.std.proofs.lemmas.Bool.{false≢true}
 use Rattle.std.proofs.lemmas.Fn.{FoldsTo-push}
 use Rattle.std.proofs.lemmas.Grind.{flat_map-append}
 use Rattle.std.proofs.lemmas.List.{map-append}
 use Rattle.std.specs.Fn.{Called}
 use Rattle.std.specs.Io.KnownBytes.{Appends}
-use Rattle.std.specs.List.{FoldsTo}
 use Rattle.tpm_bytes.specs.Tap.{AppendsFront, Marks}
 use Rattle.tpm_record.specs.Record.{Record}
 use Rattle.tpm_machine_step.specs.Execution.{Executes}
@@ -14,7 +14,7 @@ use Rattle.tpm_machine_step.specs.Step.{outcome_step}
 use Rattle.tpm_machine_step.specs.declared.event.Outcome.{Outcome}
 use Rattle.tpm_machine_history.specs.Executions.{Execution, Leads}
 use Rattle.tpm_machine_history.proofs.PowerCycles.{leads_on}
-use Rattle.tpm_wire.specs.Serve.{AreFewer, AreFirst, Asking, Asks, AsksForEach, AsksInVain, Ends, Finishes, LosesLast, buffer_in, buffers_of, responses_of}
+use Rattle.tpm_wire.specs.Serve.{AreFewer, AreFirst, Asking, Asks, AsksForEach, AsksInVain, Delivers, Ends, Finishes, HoldsLastBack, LosesLast, Saves, SavesEach, buffer_in, buffers_of, responses_of}
 use Rattle.tpm_wire.specs.Stream.{Cut, Cutting, CutsTo, Stream, cut_of, cut_with, fed, next_of, uncut}
 use Rattle.tpm_wire.specs.Wire.{given}
 use Rattle.tpm_wire.specs.declared.fault.ServeFault.{ServeFault}
@@ -103,12 +103,67 @@ loses_behind held mid holds first more written (answered, lost, are, front, rest
       (Appends-trans _ _ _ _ _ written also),
 )
 
+-- The last response was held back after those of other executions too.
+holds_back_behind : (held mid holds : Option (List ℕ)) (first more : List Execution) → Appends held mid (responses_of first) → HoldsLastBack mid holds more → HoldsLastBack held holds (first ++ more)
+holds_back_behind held mid holds first more written (answered, last, are, also) = (
+  first ++ answered,
+  last,
+  ap (λ (l : List Execution). first ++ l) are ∙ sym (append_assoc first answered (last ∷ [])),
+  written_more held mid holds first answered written also,
+)
+
 -- Where a part of what was read was not executed to its end, the whole was not.
 pub ends_so : {F : Type 0} (g : Asking F) (held mid holds : Option (List ℕ)) (before after reader : Marks) (cut : Cutting) (asked at : F) (first more : List Execution) (asking : F) (left : Stream) (e : ServeFault) → cut ≡ cut_with (buffers_of (first ++ more)) left → AsksForEach g asked first at → Appends held mid (responses_of first) → Finishes g mid holds before after at more asking left (Err e) → Ends g held holds reader after cut asked (first ++ more) asking (Err e)
 ends_so g held mid holds before after reader cut asked at first more asking left fault.Write is asks written f =
     (are_first cut (buffers_of (first ++ more)) left is, f.1, asks_more g asked at asking first more asks f.0, loses_behind held mid holds first more written f.2)
+ends_so g held mid holds before after reader cut asked at first more asking left fault.Save is asks written f =
+    (are_first cut (buffers_of (first ++ more)) left is, asks_more g asked at asking first more asks f.0, holds_back_behind held mid holds first more written f.1)
 ends_so g held mid holds before after reader cut asked at first more asking left fault.Host is asks written f =
     let vain : AsksInVain g at more asking = f.1 in
     (are_fewer cut (buffers_of (first ++ more)) left f.0.0 is f.0.1, (vain.0, asks_more g asked at vain.0 first more asks vain.1, vain.2, vain.3), written_more held mid holds first more written f.2)
 ends_so g held mid holds before after reader cut asked at first more asking left fault.Full is asks written f = absurd f
 ends_so g held mid holds before after reader cut asked at first more asking left fault.Read is asks written f = absurd f
+
+-- ---- saves
+
+pub saves_one : {S : Type 0} (saves : S → Record → S → Type 0) (old mid new : S) (executions : List Execution) (r after : Record) (buffer : List ℕ) (host : Host) (outcome : Outcome) → SavesEach saves old executions mid → saves mid after new → SavesEach saves old (executions ++ execution_of r buffer host after outcome ∷ []) new
+saves_one {S} saves old mid new executions r after buffer host outcome saved also =
+    FoldsTo-push (λ (p : S) (one : Execution) (q : S). saves p one.seen.after q) old executions mid (execution_of r buffer host after outcome) new saved also
+
+pub saves_more : {S : Type 0} (saves : S → Record → S → Type 0) (old mid new : S) (first more : List Execution) → SavesEach saves old first mid → SavesEach saves mid more new → SavesEach saves old (first ++ more) new
+saves_more {S} saves old mid new first more saved also =
+    folds_on (λ (p : S) (one : Execution) (q : S). saves p one.seen.after q) old mid new first more saved also
+
+-- How it finished, where the response of one execution more was not delivered.
+pub unanswered : {F S : Type 0} (g : Asking F) (saves : S → Record → S → Type 0) (failed : S → Bool) (held mid holds : Option (List ℕ)) (before at after : Marks) (asked asking : F) (saver told new : S) (executions : List Execution) (r left : Record) (buffer : List ℕ) (host : Host) (outcome : Outcome) (stream : Stream) (e : ServeFault) → AsksForEach g asked (executions ++ execution_of r buffer host left outcome ∷ []) asking → Appends held mid (responses_of executions) → SavesEach saves saver executions told → Delivers saves failed mid holds at after left outcome.response.items told (Err e) new → Finishes g held holds before after asked (executions ++ execution_of r buffer host left outcome ∷ []) asking stream (Err e) × Saves saves failed saver (executions ++ execution_of r buffer host left outcome ∷ []) new (Err e)
+unanswered g saves failed held mid holds before at after asked asking saver told new executions r left buffer host outcome stream fault.Write asks written saved delivers =
+    ((asks, delivers.2, lost_last held mid holds executions r left buffer host outcome written delivers.1), saves_one saves saver told new executions r left buffer host outcome saved delivers.0)
+unanswered g saves failed held mid holds before at after asked asking saver told new executions r left buffer host outcome stream fault.Save asks written saved delivers =
+    let one = execution_of r buffer host left outcome in
+    let same : Appends held holds (responses_of executions) = subst (λ (o : Option (List ℕ)). Appends held o (responses_of executions)) (sym delivers.1) written in
+    ((asks, (executions, one, refl, same)), (executions, one, refl, told, saved, delivers.0))
+unanswered g saves failed held mid holds before at after asked asking saver told new executions r left buffer host outcome stream fault.Full asks written saved delivers = absurd delivers
+unanswered g saves failed held mid holds before at after asked asking saver told new executions r left buffer host outcome stream fault.Read asks written saved delivers = absurd delivers
+unanswered g saves failed held mid holds before at after asked asking saver told new executions r left buffer host outcome stream fault.Host asks written saved delivers = absurd delivers
+
+-- Where the saves of a part ended so, those of the whole did.
+pub saves_so : {S : Type 0} (saves : S → Record → S → Type 0) (failed : S → Bool) (old mid new : S) (first more : List Execution) (e : ServeFault) → SavesEach saves old first mid → Saves saves failed mid more new (Err e) → Saves saves failed old (first ++ more) new (Err e)
+saves_so saves failed old mid new first more fault.Save saved (others, last, are, at, also, fails) =
+    (first ++ others, last, ap (λ (l : List Execution). first ++ l) are ∙ sym (append_assoc first others (last ∷ [])), at, saves_more saves old mid at first others saved also, fails)
+saves_so saves failed old mid new first more fault.Full saved also = saves_more saves old mid new first more saved also
+saves_so saves failed old mid new first more fault.Read saved also = saves_more saves old mid new first more saved also
+saves_so saves failed old mid new first more fault.Write saved also = saves_more saves old mid new first more saved also
+saves_so saves failed old mid new first more fault.Host saved also = saves_more saves old mid new first more saved also
+
+-- What cannot fail never ends so.
+pub never_unsaved : {S : Type 0} (saves : S → Record → S → Type 0) (old new : S) (executions : List Execution) (result : Result ℕ ServeFault) → Saves saves (λ _. false) old executions new result → result ≢ Err fault.Save
+never_unsaved saves old new executions (Ok count) saved = λ is. cc
+never_unsaved saves old new executions (Err fault.Save) (others, last, are, at, also, fails) = λ is. false≢true fails
+never_unsaved saves old new executions (Err fault.Full) saved = λ is. cc
+never_unsaved saves old new executions (Err fault.Read) saved = λ is. cc
+never_unsaved saves old new executions (Err fault.Write) saved = λ is. cc
+never_unsaved saves old new executions (Err fault.Host) saved = λ is. cc
+
+pub unsaved_where : (free : Option ℕ) (result : Result ℕ ServeFault) → (free ≡ None → result ≡ Err fault.Full) → (free ≢ None → result ≢ Err fault.Save) → result ≢ Err fault.Save
+unsaved_where None result full served = let is = full refl in λ also. cc
+unsaved_where (Some place) result full served = served (λ none. cc)

@@ -1,5 +1,5 @@
 -- The histories of a machine that connections use.
-use Rattle.std.specs.Prelude.{ℕ, Option, Some, None, Result, Ok, Err}
+use Rattle.std.specs.Prelude.{ℕ, Option, Some, None, Result, Ok}
 use Rattle.tpm_slots.specs.Slots.{at_place}
 use Rattle.tpm_record.specs.Record.{Record}
 use Rattle.tpm_machine_history.specs.History.{History, recorded}

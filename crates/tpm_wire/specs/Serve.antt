@@ -6,7 +6,7 @@ use Rattle.std.specs.Prelude.{Option, Some, None, Result, Ok, Err}
 use Rattle.std.specs.Fn.{Called, Mut}
 use Rattle.std.specs.List.{FoldsTo, flat_map}
 use Rattle.std.specs.Io.KnownBytes.{Appends, Consumes, Keeps}
-use Rattle.tpm_bytes.specs.Tap.{Marks, after_read}
+use Rattle.tpm_bytes.specs.Tap.{AppendsFront, Marks, after_read}
 use Rattle.tpm_record.specs.Record.{Record}
 use Rattle.tpm_machine_step.specs.Events.{PlainEvent, Given, Cycled}
 use Rattle.tpm_machine_history.specs.Executions.{Execution, Leads}
@@ -68,6 +68,20 @@ Fills had has before after old (Ok count) new =
     × (length new.taken ≤ buffer_limit)
     × (after ≡ after_read {E = Failed} before (Ok count) (buffer_limit - length old.taken))
 
+-- One response: a saver was told the device, and then the response was written whole. Where the
+-- device was not saved, nothing was written; where the writer failed, a part of the response from
+-- its front.
+abbrev pub Delivers : {S : Type 0} → (S → Record → S → Type 0) → (S → Bool)
+    → Option (List ℕ) → Option (List ℕ) → Marks → Marks
+    → Record → List ℕ → S → Result (Unit {0}) ServeFault → S → Type 0
+Delivers saves failed held holds before after r response old (Ok done) new =
+    saves old r new × Appends held holds response × (after ≡ before)
+Delivers saves failed held holds before after r response old (Err fault.Save) new =
+    (failed new ≡ true) × (holds ≡ held)
+Delivers saves failed held holds before after r response old (Err fault.Write) new =
+    saves old r new × AppendsFront held holds response × (after.failed ≡ true)
+Delivers saves failed held holds before after r response old (Err e) new = ⊥
+
 -- The writer failed at the response of the last execution: all responses before were written whole,
 -- and of this one a part from its front, perhaps none of it.
 abbrev pub LosesLast : Option (List ℕ) → Option (List ℕ) → List Execution → Type 0
@@ -75,6 +89,13 @@ LosesLast held holds executions =
     (answered : List Execution) × (lost : Execution) × (executions ≡ answered ++ lost ∷ [])
     × (front : List ℕ) × (rest : List ℕ) × (lost.seen.response ≡ front ++ rest)
     × Appends held holds (responses_of answered ++ front)
+
+-- The last execution was not answered: all responses before were written whole, and nothing of its
+-- own.
+abbrev pub HoldsLastBack : Option (List ℕ) → Option (List ℕ) → List Execution → Type 0
+HoldsLastBack held holds executions =
+    (answered : List Execution) × (last : Execution) × (executions ≡ answered ++ last ∷ [])
+    × Appends held holds (responses_of answered)
 
 -- All buffers that are whole were executed, these, and the responses written: how that finished.
 abbrev pub Finishes : {F : Type 0} → Asking F → Option (List ℕ) → Option (List ℕ)
@@ -84,6 +105,8 @@ Finishes g held holds before after asked executions asking left (Ok count) =
     × Appends held holds (responses_of executions) × (after ≡ before)
 Finishes g held holds before after asked executions asking left (Err fault.Write) =
     AsksForEach g asked executions asking × (after.failed ≡ true) × LosesLast held holds executions
+Finishes g held holds before after asked executions asking left (Err fault.Save) =
+    AsksForEach g asked executions asking × HoldsLastBack held holds executions
 Finishes g held holds before after asked executions asking left (Err fault.Host) =
     ((c : Cut) × (next_of left ≡ Some c)) × AsksInVain g asked executions asking
     × Appends held holds (responses_of executions) × (after ≡ before)
@@ -128,8 +151,8 @@ ReadsNoMore reader cut =
 -- At the end of what the reader gives, or of the stream itself: all buffers were executed and all
 -- responses written. Where the reader failed, or gave bytes in as many reads as one connection may
 -- have: the same. Where the writer failed: some buffers were executed, the last without its whole
--- response. Where the host answered a fault: those before the next buffer, which is whole, with
--- their responses.
+-- response. Where the device was not saved: some, the last without its response. Where the host
+-- answered a fault: those before the next buffer, which is whole, with their responses.
 abbrev pub Ends : {F : Type 0} → Asking F → Option (List ℕ) → Option (List ℕ)
     → Marks → Marks → Cutting → F → List Execution → F → Result ℕ ServeFault → Type 0
 Ends g held holds reader writer cut asked executions asking (Ok count) =
@@ -141,6 +164,9 @@ Ends g held holds reader writer cut asked executions asking (Err fault.Read) =
 Ends g held holds reader writer cut asked executions asking (Err fault.Write) =
     AreFirst (buffers_of executions) cut.buffers × (writer.failed ≡ true)
     × AsksForEach g asked executions asking × LosesLast held holds executions
+Ends g held holds reader writer cut asked executions asking (Err fault.Save) =
+    AreFirst (buffers_of executions) cut.buffers
+    × AsksForEach g asked executions asking × HoldsLastBack held holds executions
 Ends g held holds reader writer cut asked executions asking (Err fault.Host) =
     AreFewer (buffers_of executions) cut.buffers
     × AsksInVain g asked executions asking × Appends held holds (responses_of executions)
@@ -165,3 +191,19 @@ pub record Serves {F : Type 0} (g : Asking F) (can : Bool) (had has held holds :
     pub stretch : (history : History) → Follows old history
         → StretchFollows can old executions new history
     pub ends : Ends g held holds reader writer (cut_of read) asked executions asking result
+
+-- ---- what is saved
+
+-- A saver was told the device as each of these executions left it, in order.
+abbrev pub SavesEach : {S : Type 0} → (S → Record → S → Type 0) → S → List Execution → S → Type 0
+SavesEach saves old executions new =
+    FoldsTo (λ before (one : Execution) after. saves before one.seen.after after) old executions new
+
+-- A saver was told the device as each left it. Where serving ended since the device was not saved,
+-- the saver was told so of all but the last, and failed.
+abbrev pub Saves : {S : Type 0} → (S → Record → S → Type 0) → (S → Bool)
+    → S → List Execution → S → Result ℕ ServeFault → Type 0
+Saves {S} saves failed old executions new (Err fault.Save) =
+    (saved : List Execution) × (last : Execution) × (executions ≡ saved ++ last ∷ [])
+    × (mid : S) × SavesEach saves old saved mid × (failed new ≡ true)
+Saves saves failed old executions new result = SavesEach saves old executions new

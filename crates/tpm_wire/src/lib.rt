@@ -4,7 +4,8 @@
 //! command states, and a turn of a connection executes one.
 //!
 //! [`mux::Mux`] is a machine and up to eight connections, which take turns as their caller wants;
-//! [`serving::serve`] serves one connection to its end over any reader and writer. What a
+//! [`serving::serve`] serves one connection to its end over any reader and writer, and
+//! [`serving::serve_saving`] has the device saved before each response. What a
 //! connection holds is [`connection`], and where its next buffer ends [`front`].
 //!
 //! It stands on the machine, and knows nothing of sockets, of images, or of where the host's time
@@ -27,5 +28,5 @@ pub use fault::{Full, HostFault, NoConnection, ServeFault};
 pub use host::Host;
 pub use mux::Mux;
 pub use number::ConnectionNumber;
-pub use serving::serve;
+pub use serving::{serve, serve_saving};
 pub use turn::Turn;

@@ -6,8 +6,7 @@ ghost use Rattle.tpm_wire.specs.Schedule.{SchedulesAreRuns, SchedulesAreServed, 
 /// Does nothing. Its contract is the laws on schedules. Whatever calls are made on a new mux, in
 /// whatever order, each connection's turns execute the buffers that its own bytes are cut into, in
 /// order, each once. The machine is where these and the power cycles lead, and what is said of a
-/// stretch of events holds of them: no counter goes down, few tries fail, and a replay repeats a
-/// nonce or an HMAC.
+/// stretch of events holds of them.
 pub fn schedule_laws()
     ensures leads { SchedulesLead }
     ensures served { SchedulesAreServed }

@@ -7,10 +7,10 @@ ghost use Rattle.tpm_bytes.specs.Tap.{device_of, marks_of, unmarked};
 ghost use Rattle.tpm_machine.specs.State.{state_of};
 ghost use Rattle.tpm_machine_history.specs.Executions.{Execution, Leads};
 ghost use Rattle.tpm_slots.specs.Slots.{lowest_free};
-ghost use Rattle.tpm_wire.specs.Serve.{Finishes, Serves, buffers_of};
+ghost use Rattle.tpm_wire.specs.Serve.{Delivers, Finishes, Saves, Serves, buffers_of};
 ghost use Rattle.tpm_wire.specs.Stream.{CutsTo};
 ghost use Rattle.tpm_wire.specs.Wire.{wire_of};
-ghost use Rattle.tpm_wire.specs.declared.fault.ServeFault.TheVariants.{Full};
+ghost use Rattle.tpm_wire.specs.declared.fault.ServeFault.TheVariants.{Full, Save};
 
 use crate::connection::Connection;
 use crate::fault::{HostFault, ServeFault};
@@ -22,6 +22,7 @@ use tpm_bytes::Tap;
 use tpm_machine::Machine;
 use tpm_machine_step::Outcome;
 use tpm_record::Keep;
+use tpm_saver::{Saver, SavesNothing};
 use tpm_types::BUFFER_LIMIT;
 
 /// In how many reads one connection may give bytes.
@@ -50,28 +51,59 @@ pub fn serve<K: Keep, R: Read, W: Write, H: FnMut() -> Result<Host, HostFault>>(
         (marks_of reader.new) (marks_of writer.new)
         (wire_of K.record_of mux.old).machine host.old
         result (wire_of K.record_of mux.new).machine host.new }
+    ensures unsaved { result ≢ Err Save }
+{
+    serve_saving(mux, reader, writer, host, &mut SavesNothing)
+}
+
+/// The same, where a saver is told of the device before the response of each command is written.
+/// Where it cannot save, nothing of that response is written.
+pub fn serve_saving<K: Keep, R: Read, W: Write, H: FnMut() -> Result<Host, HostFault>, S: Saver>(
+    mux: &mut Mux<K>,
+    reader: &mut Tap<R>,
+    writer: &mut Tap<W>,
+    host: &mut H,
+    saver: &mut S,
+) -> Result<u64, ServeFault>
+    requires callable { H.IsAlwaysCallable host.old }
+    requires unread { marks_of reader.old ≡ unmarked }
+    requires unwritten { marks_of writer.old ≡ unmarked }
+    ensures closed { (wire_of K.record_of mux.new).streams ≡ (wire_of K.record_of mux.old).streams }
+    ensures full { lowest_free (wire_of K.record_of mux.old).streams ≡ None
+        → (result ≡ Err Full) × (mux.new ≡ mux.old) × (reader.new ≡ reader.old)
+        × (writer.new ≡ writer.old) × (host.new ≡ host.old) × (saver.new ≡ saver.old) }
+    ensures served { lowest_free (wire_of K.record_of mux.old).streams ≢ None
+        → ((served : Serves H.FnMut K.can_refuse
+        (R.remaining (device_of reader.old)) (R.remaining (device_of reader.new))
+        (W.contents (device_of writer.old)) (W.contents (device_of writer.new))
+        (marks_of reader.new) (marks_of writer.new)
+        (wire_of K.record_of mux.old).machine host.old
+        result (wire_of K.record_of mux.new).machine host.new)
+        × Saves S.saves_change S.has_failed saver.old served.executions saver.new result) }
 {
     if free_place(&mux.connections).is_none() {
         return Err(ServeFault::Full);
     }
-    serve_connection(&mut mux.machine, reader, writer, host)
+    serve_connection(&mut mux.machine, reader, writer, host, saver)
 }
 
 /// Serves a connection to the machine.
-fn serve_connection<K: Keep, R: Read, W: Write, H: FnMut() -> Result<Host, HostFault>>(
+fn serve_connection<K: Keep, R: Read, W: Write, H: FnMut() -> Result<Host, HostFault>, S: Saver>(
     machine: &mut Machine<K>,
     reader: &mut Tap<R>,
     writer: &mut Tap<W>,
     host: &mut H,
+    saver: &mut S,
 ) -> Result<u64, ServeFault>
     requires callable { H.IsAlwaysCallable host.old }
     requires unread { marks_of reader.old ≡ unmarked }
-    ensures { Serves H.FnMut K.can_refuse
+    ensures { (served : Serves H.FnMut K.can_refuse
         (R.remaining (device_of reader.old)) (R.remaining (device_of reader.new))
         (W.contents (device_of writer.old)) (W.contents (device_of writer.new))
         (marks_of reader.new) (marks_of writer.new)
         (state_of K.record_of machine.old) host.old
-        result (state_of K.record_of machine.new) host.new }
+        result (state_of K.record_of machine.new) host.new)
+        × Saves S.saves_change S.has_failed saver.old served.executions saver.new result }
 {
     let mut connection = Connection::new();
     let mut piece = [0; BUFFER_LIMIT];
@@ -85,7 +117,7 @@ fn serve_connection<K: Keep, R: Read, W: Write, H: FnMut() -> Result<Host, HostF
         if count == 0 {
             return Ok(answered);
         }
-        match answer_whole(machine, &mut connection, writer, host, &mut outcome) {
+        match answer_whole(machine, &mut connection, writer, host, saver, &mut outcome) {
             Ok(count) => answered += count,
             Err(fault) => return Err(fault),
         }
@@ -96,13 +128,14 @@ fn serve_connection<K: Keep, R: Read, W: Write, H: FnMut() -> Result<Host, HostF
     Err(ServeFault::Read)
 }
 
-/// Executes all buffers that a connection holds whole, writes their responses, and says how many
-/// those are. One outcome serves for all.
-fn answer_whole<K: Keep, W: Write, H: FnMut() -> Result<Host, HostFault>>(
+/// Executes all buffers that a connection holds whole, has the device saved after each, writes
+/// their responses, and says how many those are. One outcome serves for all.
+fn answer_whole<K: Keep, W: Write, H: FnMut() -> Result<Host, HostFault>, S: Saver>(
     machine: &mut Machine<K>,
     connection: &mut Connection,
     writer: &mut Tap<W>,
     host: &mut H,
+    saver: &mut S,
     outcome: &mut Outcome,
 ) -> Result<u64, ServeFault>
     requires callable { H.IsAlwaysCallable host.old }
@@ -117,7 +150,8 @@ fn answer_whole<K: Keep, W: Write, H: FnMut() -> Result<Host, HostFault>>(
         × Finishes H.FnMut
         (W.contents (device_of writer.old)) (W.contents (device_of writer.new))
         (marks_of writer.old) (marks_of writer.new)
-        host.old executions host.new connection.new result }
+        host.old executions host.new connection.new result
+        × Saves S.saves_change S.has_failed saver.old executions saver.new result }
 {
     let mut answered = 0;
     while let Some(front) = connection.front() {
@@ -126,10 +160,31 @@ fn answer_whole<K: Keep, W: Write, H: FnMut() -> Result<Host, HostFault>>(
             Err(_) => return Err(ServeFault::Host),
         };
         execute_front(machine, connection, front, said, outcome);
-        let Ok(()) = writer.write_all(outcome.response.as_slice()) else {
-            return Err(ServeFault::Write);
-        };
-        answered += 1;
+        match deliver(machine, outcome.response.as_slice(), writer, saver) {
+            Ok(()) => answered += 1,
+            Err(unsent) => return Err(unsent),
+        }
     }
     Ok(answered)
+}
+
+/// Has the device saved, and then writes its response.
+fn deliver<K: Keep, W: Write, S: Saver>(
+    machine: &Machine<K>,
+    response: &[u8],
+    writer: &mut Tap<W>,
+    saver: &mut S,
+) -> Result<(), ServeFault>
+    ensures { Delivers S.saves_change S.has_failed
+        (W.contents (device_of writer.old)) (W.contents (device_of writer.new))
+        (marks_of writer.old) (marks_of writer.new)
+        (state_of K.record_of machine.now) response.now saver.old result saver.new }
+{
+    let Ok(()) = saver.save_change(machine) else {
+        return Err(ServeFault::Save);
+    };
+    match writer.write_all(response) {
+        Ok(()) => Ok(()),
+        Err(_) => Err(ServeFault::Write),
+    }
 }

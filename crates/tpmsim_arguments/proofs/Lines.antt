@@ -1,5 +1,5 @@
 -- Command lines as people write them.
-use Rattle.std.proofs.Common.{◌≡◌, List, ◌∙◌, ℕ, ◌≤◌, refl, inl, inr, true, false, [], ◌∷◌, Some, None, Option, ap₂, option_map, option_and_then}
+use Rattle.std.proofs.Common.{◌≡◌, Bool, List, ◌∙◌, ℕ, ◌≤◌, refl, inl, inr, true, false, [], ◌∷◌, Some, None, Option, ap₂, option_map, option_and_then}
 use Rattle.std.proofs.lemmas.Bool.{le-leb}
 use Rattle.std.specs.Str.{bytes_eq}
 use Rattle.clap.specs.Lexer.{long_of, short_of, strip_byte}
@@ -8,7 +8,7 @@ use Rattle.clap.proofs.OnLiterals.{clap_on_literals}
 use Rattle.tpm_text.specs.Number.{decimal_of, locality_of}
 use Rattle.tpmsim_arguments.specs.Answers.{AreTaken}
 use Rattle.tpmsim_arguments.specs.Invocation.{Invocation, asked_by, assemble, run, serve, spell}
-use Rattle.tpmsim_arguments.specs.Lines.{AskFor, AskForDevice, IsScript, asm_line, begins_with_hyphen, kept_line, line_line, run_line, joined_line, trace_line}
+use Rattle.tpmsim_arguments.specs.Lines.{AskFor, AskForDevice, AskForSavedDevice, AskForService, IsScript, asm_line, begins_with_hyphen, kept_line, line_line, run_line, joined_line, saving_line, trace_line}
 
 -- a word that begins with no hyphen is no name of an argument
 no_hyphen : (word : Text) → begins_with_hyphen word ≡ false → strip_byte 45 word ≡ None
@@ -53,25 +53,25 @@ locality_is : (number : ℕ) → number ≤ 4 → locality_of number ≡ Some nu
 locality_is number small = rw (le-leb number 4 small) refl
 
 -- a service with these numbers, if they are some
-abbrev pub with_numbers : (socket image entropy : Text) → Option ℕ → Option ℕ → Option Invocation
-with_numbers socket image entropy locality connections = option_map serve (option_and_then (λ l. option_and_then (λ c.
-    Some (record { socket = socket; image = image; entropy = entropy; locality = l; connections = c })) connections)
+abbrev pub with_numbers : (socket image entropy : Text) → Option ℕ → Option ℕ → Bool → Option Invocation
+with_numbers socket image entropy locality connections saves = option_map serve (option_and_then (λ l. option_and_then (λ c.
+    Some (record { socket = socket; image = image; entropy = entropy; locality = l; connections = c; saves_each = saves })) connections)
     (option_and_then locality_of locality))
 
-pub device_is_asked_for : (words : List Text) (socket image entropy locality connections : Text) → AreTaken words
-    → asked_by words ≡ with_numbers socket image entropy (decimal_of locality) (decimal_of connections)
-    → AskForDevice words socket image entropy locality connections
-device_is_asked_for words socket image entropy locality connections right e = λ l c is_l small is_c.
-    (right, e ∙ ap₂ (with_numbers socket image entropy) is_l is_c ∙ given l c (locality_is l small))
+pub device_is_asked_for : (words : List Text) (socket image entropy locality connections : Text) (saves : Bool) → AreTaken words
+    → asked_by words ≡ with_numbers socket image entropy (decimal_of locality) (decimal_of connections) saves
+    → AskForService words socket image entropy locality connections saves
+device_is_asked_for words socket image entropy locality connections saves right e = λ l c is_l small is_c.
+    (right, e ∙ ap₂ (λ l c. with_numbers socket image entropy l c saves) is_l is_c ∙ given l c (locality_is l small))
   where
-    given : (l c : ℕ) → locality_of l ≡ Some l → with_numbers socket image entropy (Some l) (Some c)
-        ≡ Some (serve (record { socket = socket; image = image; entropy = entropy; locality = l; connections = c }))
+    given : (l c : ℕ) → locality_of l ≡ Some l → with_numbers socket image entropy (Some l) (Some c) saves
+        ≡ Some (serve (record { socket = socket; image = image; entropy = entropy; locality = l; connections = c; saves_each = saves }))
     given l c e = rw e refl
 
 joined_is_read : (name socket image entropy locality connections : Text)
     → AreTaken (joined_line name socket image entropy locality connections)
     × (asked_by (joined_line name socket image entropy locality connections)
-    ≡ with_numbers socket image entropy (decimal_of locality) (decimal_of connections))
+    ≡ with_numbers socket image entropy (decimal_of locality) (decimal_of connections) false)
 unfolding clap_on_literals
 joined_is_read name socket image entropy locality connections = (refl, refl)
 
@@ -79,4 +79,17 @@ pub joined_is_served : (name socket image entropy locality connections : Text)
     → AskForDevice (joined_line name socket image entropy locality connections) socket image entropy locality connections
 joined_is_served name socket image entropy locality connections =
     let read = joined_is_read name socket image entropy locality connections in
-    device_is_asked_for (joined_line name socket image entropy locality connections) socket image entropy locality connections read.0 read.1
+    device_is_asked_for (joined_line name socket image entropy locality connections) socket image entropy locality connections false read.0 read.1
+
+saving_is_read : (name socket image entropy locality connections : Text)
+    → AreTaken (saving_line name socket image entropy locality connections)
+    × (asked_by (saving_line name socket image entropy locality connections)
+    ≡ with_numbers socket image entropy (decimal_of locality) (decimal_of connections) true)
+unfolding clap_on_literals
+saving_is_read name socket image entropy locality connections = (refl, refl)
+
+pub saving_is_served : (name socket image entropy locality connections : Text)
+    → AskForSavedDevice (saving_line name socket image entropy locality connections) socket image entropy locality connections
+saving_is_served name socket image entropy locality connections =
+    let read = saving_is_read name socket image entropy locality connections in
+    device_is_asked_for (saving_line name socket image entropy locality connections) socket image entropy locality connections true read.0 read.1

@@ -42,10 +42,11 @@ abbrev pub line_command : Shape
 line_command = with_arguments (codes "line") (operand (codes "hex") ∷ [])
 
 -- serve --socket PATH --image FILE --entropy FILE --locality NUMBER --connections NUMBER
+--     [--save-each]
 abbrev pub serve_command : Shape
 serve_command = with_arguments (codes "serve") (setting (codes "socket")
     ∷ setting (codes "image") ∷ setting (codes "entropy") ∷ setting (codes "locality")
-    ∷ setting (codes "connections") ∷ [])
+    ∷ setting (codes "connections") ∷ flag (codes "save-each") ∷ [])
 
 -- the program, which has a version, and wants one of its commands
 abbrev pub bare_program : App

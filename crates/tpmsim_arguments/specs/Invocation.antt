@@ -20,6 +20,7 @@ pub record Served : Type 0 where
   pub entropy : Text
   pub locality : ℕ
   pub connections : ℕ
+  pub saves_each : Bool
 
 -- the files of a device that a script is played on: that of its image, and that of the random bytes
 -- that a new one is made of
@@ -65,6 +66,7 @@ service_in rows = do
     entropy = entropy;
     locality = locality;
     connections = connections;
+    saves_each = is_set (codes "save-each") rows;
   })
 
 -- Where the device is kept, which may be nowhere. None of random bytes without an image.
@@ -105,6 +107,7 @@ served service = record {
   entropy = service.entropy.now;
   locality = locality_number service.locality;
   connections = service.connections;
+  saves_each = service.saves_each;
 }
 
 abbrev pub stored : Storage → Stored

@@ -1,5 +1,5 @@
 -- Command lines as people write them.
-use Rattle.std.specs.Prelude.{◌≡◌, ◌≤◌, ◌⊎◌, ◌==◌, ◌++◌, ℕ, Bool, false, List, [], ◌∷◌, Some, codes}
+use Rattle.std.specs.Prelude.{◌≡◌, ◌≤◌, ◌⊎◌, ◌==◌, ◌++◌, ℕ, Bool, false, true, List, [], ◌∷◌, Some, codes}
 use Rattle.std.specs.List.{AllByRecursion}
 use Rattle.clap.specs.Words.{Text}
 use Rattle.tpm_text.specs.Number.{decimal_of}
@@ -57,10 +57,18 @@ joined_line name socket image entropy locality connections = name ∷ codes "ser
     ∷ (codes "--entropy=" ++ entropy) ∷ (codes "--locality=" ++ locality)
     ∷ (codes "--connections=" ++ connections) ∷ []
 
--- the words ask for a device with these paths, and with these numbers where they are some
-abbrev pub AskForDevice : (words : List Text) (socket image entropy locality connections : Text)
-    → Type 0
-AskForDevice words socket image entropy locality connections = (place count : ℕ)
+-- the same with --save-each in front
+abbrev pub saving_line : (name socket image entropy locality connections : Text) → List Text
+saving_line name socket image entropy locality connections = name ∷ codes "serve"
+    ∷ codes "--save-each" ∷ (codes "--socket=" ++ socket) ∷ (codes "--image=" ++ image)
+    ∷ (codes "--entropy=" ++ entropy) ∷ (codes "--locality=" ++ locality)
+    ∷ (codes "--connections=" ++ connections) ∷ []
+
+-- the words ask for a device with these paths, with these numbers where they are some, and saved
+-- before each response or not
+abbrev pub AskForService : (words : List Text)
+    (socket image entropy locality connections : Text) (saves_each : Bool) → Type 0
+AskForService words socket image entropy locality connections saves_each = (place count : ℕ)
     → decimal_of locality ≡ Some place → place ≤ 4 → decimal_of connections ≡ Some count
     → AskFor words (serve (record {
       socket = socket;
@@ -68,4 +76,17 @@ AskForDevice words socket image entropy locality connections = (place count : �
       entropy = entropy;
       locality = place;
       connections = count;
+      saves_each = saves_each;
     }))
+
+-- the same where nothing is said of when it is saved
+abbrev pub AskForDevice : (words : List Text) (socket image entropy locality connections : Text)
+    → Type 0
+AskForDevice words socket image entropy locality connections =
+    AskForService words socket image entropy locality connections false
+
+-- the same where it is to be saved before each response
+abbrev pub AskForSavedDevice : (words : List Text)
+    (socket image entropy locality connections : Text) → Type 0
+AskForSavedDevice words socket image entropy locality connections =
+    AskForService words socket image entropy locality connections true

@@ -144,6 +144,7 @@ fn service_of<'a>(options: &ArgMatches<'a>) -> Option<Service<'a>>
         entropy: value(options, "entropy")?,
         locality: locality(value(options, "locality")?.as_bytes())?,
         connections: decimal(value(options, "connections")?.as_bytes())?,
+        saves_each: is_set(options, "save-each"),
     })
 }
 
@@ -166,7 +167,11 @@ fn run_command<'a>(alloc: Global) -> Result<Command<'a>, AllocError>
     Command::new(alloc, "run")
         .about("Runs a script, and prints the responses in hex, one a line")
         .after_help("Example: tpmsim run --trace examples/measured_boot.tpm")
-        .arg(trace_flag(alloc))?
+        .arg(flag(
+            alloc,
+            "trace",
+            "Prints before each response which row of the table the command took",
+        ))?
         .arg(run_option(
             alloc,
             "image",
@@ -180,14 +185,15 @@ fn run_command<'a>(alloc: Global) -> Result<Command<'a>, AllocError>
         .arg(script_operand(alloc))
 }
 
-fn trace_flag<'a>(alloc: Global) -> Arg<'a>
-    ensures rule { rule_of result ≡ flag (codes "trace") }
+/// An option that has no value, and may be left out.
+fn flag<'a>(alloc: Global, name: &'a str, help: &'a str) -> Arg<'a>
+    ensures rule { rule_of result ≡ flag name.entry.now }
     ensures local { result.global ≡ false }
 {
-    Arg::new(alloc, "trace")
-        .long("trace")
+    Arg::new(alloc, name)
+        .long(name)
         .action(ArgAction::SetTrue)
-        .help("Prints before each response which row of the table the command took")
+        .help(help)
 }
 
 fn script_operand<'a>(alloc: Global) -> Arg<'a>
@@ -279,6 +285,11 @@ fn serve_command<'a>(alloc: Global) -> Result<Command<'a>, AllocError>
             "connections",
             "NUMBER",
             "How many connections are served, one after another",
+        ))?
+        .arg(flag(
+            alloc,
+            "save-each",
+            "Saves before each response that tells of a change, not after a connection alone",
         ))
 }
 

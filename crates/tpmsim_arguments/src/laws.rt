@@ -2,10 +2,10 @@
 
 ghost use Rattle.std.specs.Prelude.{◌≡◌, ◌∷◌, List, [], None, Some, ℕ, false, true};
 ghost use Rattle.tpmsim_arguments.specs.Invocation.{assemble, run, spell};
-ghost use Rattle.tpmsim_arguments.specs.Lines.{AskFor, AskForDevice, IsScript};
+ghost use Rattle.tpmsim_arguments.specs.Lines.{AskFor, AskForDevice, AskForSavedDevice, IsScript};
 ghost use Rattle.tpmsim_arguments.specs.Lines.{NoneBeginsWithHyphen, asm_line};
 ghost use Rattle.tpmsim_arguments.specs.Lines.{begins_with_hyphen, joined_line, kept_line};
-ghost use Rattle.tpmsim_arguments.specs.Lines.{line_line, run_line};
+ghost use Rattle.tpmsim_arguments.specs.Lines.{line_line, run_line, saving_line};
 ghost use Rattle.tpmsim_arguments.specs.Lines.{serve_line, trace_line};
 
 /// Command lines as people write them ask for what they say, where no word but the names of
@@ -31,4 +31,7 @@ pub fn usual_line_laws()
     ensures joined { (name socket image entropy locality connections : List ℕ)
         → AskForDevice (joined_line name socket image entropy locality connections) socket image
         entropy locality connections }
+    ensures saving { (name socket image entropy locality connections : List ℕ)
+        → AskForSavedDevice (saving_line name socket image entropy locality connections) socket
+        image entropy locality connections }
 {}

@@ -1,4 +1,5 @@
-//! What a device on a socket is served with: its files, the locality, and how many connections.
+//! What a device on a socket is served with: its files, the locality, how many connections, and
+//! when it is saved.
 
 use tpm_types::Locality;
 
@@ -15,4 +16,6 @@ pub struct Service<'a> {
     pub locality: Locality,
     /// How many connections are served before the program ends.
     pub connections: u32,
+    /// Whether the device is saved before each response, and not after each connection alone.
+    pub saves_each: bool,
 }

@@ -1,43 +1,48 @@
-use Rattle.std.proofs.Common.{rules, of_calls, List, ℕ, [], ◌∷◌, ◌++◌, refl, ◌∙◌, subst, arith, length-append}
+use Rattle.std.proofs.Common.{rules, of_calls, Err, List, ℕ, [], ◌∷◌, ◌++◌, refl, ◌∙◌, subst, arith, length-append}
 use Rattle.std.proofs.KnownBytes.{Appends-nil}
 use Rattle.std.specs.Io.KnownBytes.{Appends}
-use Rattle.tpm_bytes.specs.Tap.{AppendsFront, device_of}
+use Rattle.tpm_bytes.specs.Tap.{device_of, marks_of}
 use Rattle.tpm_machine.specs.State.{state_of}
+use Rattle.tpm_wire.specs.Serve.{Delivers}
 use Rattle.tpm_wire.specs.Stream.{cut_at}
 use Rattle.tpm_wire.proofs.Cutting.{cuts_none, next_shorter}
-use Rattle.tpm_wire.proofs.Executing.{asks_one, cuts_more, execution_of, leads_one, lost_last, written_one}
+use Rattle.tpm_wire.proofs.Executing.{asks_one, cuts_more, execution_of, leads_one, saves_one, unanswered, written_one}
 use Rattle.tpm_wire.proofs.serving.answer_whole.Goals as goal
 
 pub loop-front-init : goal.loop-front-init
 loop-front-init g c = record {
   callable = c.requires.callable;
   count = omega arith;
-  ran = ([], refl, refl, cuts_none c.args.connection.now, refl, Appends-nil _, refl);
+  ran = ([], refl, refl, cuts_none c.args.connection.now, refl, Appends-nil _, refl, refl);
 }
 
 pub returns-in-Err-clause-ran : goal.returns-in-Err-clause-ran
 returns-in-Err-clause-ran g c =
     let i = c.loop-front.invariant.ran in
-    (i.0, i.1, i.3, ((_, c.in-Some.ensures.1), (c.loop-front.host, i.2, c.in-Err.field-0, c.in-Err.ensures), i.5, i.6))
+    (i.0, i.1, i.3, ((_, c.in-Some.ensures.1), (c.loop-front.host, i.2, c.in-Err.field-0, c.in-Err.ensures), i.5, i.6), i.7)
 
-pub returns-in_default-write_all-clause-ran : goal.returns-in_default-write_all-clause-ran
-returns-in_default-write_all-clause-ran g c =
+pub returns-in-Err-deliver-clause-ran : goal.returns-in-Err-deliver-clause-ran
+returns-in-Err-deliver-clause-ran g c =
     let i = c.loop-front.invariant.ran in
     let s = c.loop-front.connection in
     let x = cut_at c.in-Some.front.size c.in-Some.front.last s.taken in
     let state = state_of g.K.Keep.record_of in
     let contents = g.W.Write.contents in
+    let saves = g.S.Saver.saves_change in
+    let failed = g.S.Saver.has_failed in
     let r = state c.loop-front.machine in
     let new = state c.execute_front.new.machine in
-    let outcome = c.execute_front.new.outcome in (
+    let outcome = c.execute_front.new.outcome in
+    let asks = asks_one g.H.FnMut c.args.host.now c.loop-front.host c.host.new.self i.0 r new x.buffer c.in-Ok.said outcome i.2 c.in-Ok.ensures in
+    let held = contents (device_of c.loop-front.writer) in
+    let holds = contents (device_of c.deliver.new.writer) in
+    let delivers = subst (λ (l : List ℕ). Delivers saves failed held holds (marks_of c.loop-front.writer) (marks_of c.deliver.new.writer) new l c.loop-front.saver (Err c.in-Err-deliver.unsent) c.deliver.new.saver) c.as_slice.ensures.value c.in-Err-deliver.ensures in
+    let ends = unanswered g.H.FnMut saves failed (contents (device_of c.args.writer.now)) held holds (marks_of c.args.writer.now) (marks_of c.loop-front.writer) (marks_of c.deliver.new.writer) c.args.host.now c.host.new.self c.args.saver.now c.loop-front.saver c.deliver.new.saver i.0 r new x.buffer c.in-Ok.said outcome c.execute_front.new.connection c.in-Err-deliver.unsent asks i.5 i.7 delivers in (
       i.0 ++ execution_of r x.buffer c.in-Ok.said new outcome ∷ [],
       leads_one g.K.Keep.can_refuse (state c.args.machine.now) r new i.0 x.buffer c.in-Ok.said outcome i.1 c.execute_front.ensures.executes,
       cuts_more c.args.connection.now s c.execute_front.new.connection i.0 r new x c.in-Ok.said outcome i.3 c.in-Some.ensures.1 c.execute_front.ensures.after,
-      (
-        asks_one g.H.FnMut c.args.host.now c.loop-front.host c.host.new.self i.0 r new x.buffer c.in-Ok.said outcome i.2 c.in-Ok.ensures,
-        c.in_default-write_all.ensures.failed,
-        lost_last (contents (device_of c.args.writer.now)) (contents (device_of c.loop-front.writer)) (contents (device_of c.write_all.new.self)) i.0 r new x.buffer c.in-Ok.said outcome i.5 (subst (AppendsFront (contents (device_of c.loop-front.writer)) (contents (device_of c.write_all.new.self))) c.as_slice.ensures.value c.in_default-write_all.ensures.cut_off),
-      ),
+      ends.0,
+      ends.1,
     )
 
 pub overflow_add-answered : goal.overflow_add-answered
@@ -62,6 +67,7 @@ loop-front-preserved g c =
     let one = execution_of r x.buffer c.in-Ok.said new outcome in
     let less = next_shorter s x c.in-Some.ensures.1 in
     let count = c.loop-front.invariant.count in
+    let delivers = c.in-Ok-deliver.ensures in
     record {
       callable = search (rules, of_calls);
       count = rw c.execute_front.ensures.after (omega arith);
@@ -71,8 +77,9 @@ loop-front-preserved g c =
         asks_one g.H.FnMut c.args.host.now c.loop-front.host c.host.new.self i.0 r new x.buffer c.in-Ok.said outcome i.2 c.in-Ok.ensures,
         cuts_more c.args.connection.now s c.execute_front.new.connection i.0 r new x c.in-Ok.said outcome i.3 c.in-Some.ensures.1 c.execute_front.ensures.after,
         omega (arith, i.4, length-append i.0 (one ∷ [])),
-        written_one (contents (device_of c.args.writer.now)) (contents (device_of c.loop-front.writer)) (contents (device_of c.write_all.new.self)) i.0 r new x.buffer c.in-Ok.said outcome i.5 (subst (λ (l : List ℕ). Appends (contents (device_of c.loop-front.writer)) (contents (device_of c.write_all.new.self)) l) c.as_slice.ensures.value c.in-Ok-write_all.ensures.sent),
-        c.in-Ok-write_all.ensures.unmarked ∙ i.6,
+        written_one (contents (device_of c.args.writer.now)) (contents (device_of c.loop-front.writer)) (contents (device_of c.deliver.new.writer)) i.0 r new x.buffer c.in-Ok.said outcome i.5 (subst (λ (l : List ℕ). Appends (contents (device_of c.loop-front.writer)) (contents (device_of c.deliver.new.writer)) l) c.as_slice.ensures.value delivers.1),
+        delivers.2 ∙ i.6,
+        saves_one g.S.Saver.saves_change c.args.saver.now c.loop-front.saver c.deliver.new.saver i.0 r new x.buffer c.in-Ok.said outcome i.7 delivers.0,
       );
     }
 
@@ -82,4 +89,4 @@ returns-clause-count g c = c.loop-front.invariant.count
 pub returns-clause-ran : goal.returns-clause-ran
 returns-clause-ran g c =
     let i = c.loop-front.invariant.ran in
-    (i.0, i.1, i.3, (c.in_default.ensures, i.2, i.4, i.5, i.6))
+    (i.0, i.1, i.3, (c.in_default.ensures, i.2, i.4, i.5, i.6), i.7)

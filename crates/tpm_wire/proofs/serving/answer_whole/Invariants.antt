@@ -4,7 +4,7 @@ use Rattle.std.specs.Io.KnownBytes.{Appends}
 use Rattle.tpm_bytes.specs.Tap.{device_of, marks_of}
 use Rattle.tpm_machine.specs.State.{state_of}
 use Rattle.tpm_machine_history.specs.Executions.{Execution, Leads}
-use Rattle.tpm_wire.specs.Serve.{AsksForEach, buffers_of, responses_of}
+use Rattle.tpm_wire.specs.Serve.{AsksForEach, SavesEach, buffers_of, responses_of}
 use Rattle.tpm_wire.specs.Stream.{CutsTo}
 use Rattle.tpm_wire.proofs.serving.answer_whole.Given as goal
 
@@ -20,7 +20,8 @@ invariant-loop-front g l =
           × CutsTo l.fn.connection (buffers_of executions) l.connection
           × (l.answered ≡ length executions)
           × Appends (g.W.Write.contents (device_of l.fn.writer)) (g.W.Write.contents (device_of l.writer)) (responses_of executions)
-          × (marks_of l.writer ≡ marks_of l.fn.writer);
+          × (marks_of l.writer ≡ marks_of l.fn.writer)
+          × SavesEach g.S.Saver.saves_change l.fn.saver executions l.saver;
     }
 
 abbrev pub decreases-loop-front : goal.decreases-loop-front

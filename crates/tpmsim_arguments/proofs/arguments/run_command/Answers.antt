@@ -1,16 +1,17 @@
 use Rattle.std.proofs.Common.{◌≡◌, rules, ap, codes}
 use Rattle.std.proofs.lemmas.Result.{IfOk-weaker}
 use Rattle.clap.specs.Words.{App, app_of, new_app, rule_of}
-use Rattle.tpmsim_arguments.specs.CommandLine.{choice}
+use Rattle.tpmsim_arguments.specs.CommandLine.{choice, flag}
 use Rattle.tpmsim_arguments.proofs.Commands.{argument_added}
 use Rattle.tpmsim_arguments.proofs.arguments.run_command.Goals as goal
 
 pub returns : goal.returns
 returns c =
     let new_is : app_of c.after_help.result ≡ new_app (codes "run") = search rules in
+    let trace_is : rule_of c.flag.result ≡ flag (codes "trace") = search rules in
     let image_is : rule_of c.run_option.result ≡ choice (codes "image") = search rules in
     let entropy_is : rule_of c.run_option-2.result ≡ choice (codes "entropy") = search rules in
-    let first = argument_added c.in_ok-arg.ensures c.trace_flag.ensures.local new_is c.trace_flag.ensures.rule in
+    let first = argument_added c.in_ok-arg.ensures c.flag.ensures.local new_is trace_is in
     let second = argument_added c.in_ok-arg-2.ensures c.run_option.ensures.local first image_is in
     let third = argument_added c.in_ok-arg-3.ensures c.run_option-2.ensures.local second entropy_is in
     IfOk-weaker c.arg-4.result _ _ (λ command added.

@@ -1,7 +1,7 @@
 use Rattle.std.proofs.Common.{◌≡◌, rules, ap, codes}
 use Rattle.std.proofs.lemmas.Result.{IfOk-weaker}
 use Rattle.clap.specs.Words.{App, app_of, new_app, rule_of}
-use Rattle.tpmsim_arguments.specs.CommandLine.{setting}
+use Rattle.tpmsim_arguments.specs.CommandLine.{flag, setting}
 use Rattle.tpmsim_arguments.proofs.Commands.{argument_added}
 use Rattle.tpmsim_arguments.proofs.arguments.serve_command.Goals as goal
 
@@ -13,9 +13,11 @@ returns c =
     let entropy_is : rule_of c.service_option-3.result ≡ setting (codes "entropy") = search rules in
     let locality_is : rule_of c.service_option-4.result ≡ setting (codes "locality") = search rules in
     let connections_is : rule_of c.service_option-5.result ≡ setting (codes "connections") = search rules in
+    let save_is : rule_of c.flag.result ≡ flag (codes "save-each") = search rules in
     let first = argument_added c.in_ok-arg.ensures c.service_option.ensures.local new_is socket_is in
     let second = argument_added c.in_ok-arg-2.ensures c.service_option-2.ensures.local first image_is in
     let third = argument_added c.in_ok-arg-3.ensures c.service_option-3.ensures.local second entropy_is in
     let fourth = argument_added c.in_ok-arg-4.ensures c.service_option-4.ensures.local third locality_is in
-    IfOk-weaker c.arg-5.result _ _ (λ command added.
-    ap (λ (app : App). app.top) (argument_added added c.service_option-5.ensures.local fourth connections_is)) c.arg-5.ensures
+    let fifth = argument_added c.in_ok-arg-5.ensures c.service_option-5.ensures.local fourth connections_is in
+    IfOk-weaker c.arg-6.result _ _ (λ command added.
+    ap (λ (app : App). app.top) (argument_added added c.flag.ensures.local fifth save_is)) c.arg-6.ensures

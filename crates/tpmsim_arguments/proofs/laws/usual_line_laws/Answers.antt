@@ -1,4 +1,4 @@
-use Rattle.tpmsim_arguments.proofs.Lines.{device_is_kept, digits_are_spelled, joined_is_served, line_is_assembled, script_is_run, script_is_traced}
+use Rattle.tpmsim_arguments.proofs.Lines.{device_is_kept, digits_are_spelled, joined_is_served, line_is_assembled, saving_is_served, script_is_run, script_is_traced}
 use Rattle.tpmsim_arguments.proofs.Settings.{device_is_served}
 use Rattle.tpmsim_arguments.proofs.laws.usual_line_laws.Goals as goal
 
@@ -11,4 +11,5 @@ returns c = record {
   kept = device_is_kept;
   serve = device_is_served;
   joined = joined_is_served;
+  saving = saving_is_served;
 }

@@ -1,0 +1,233 @@
+"""A device that is served with --save-each:
+
+    python3 save_each.py PROGRAM COUNT
+
+The image is looked at behind each response, and behind this many kills, each straight behind a
+response. The device in Python executes the same commands, and says which image has to be there.
+"""
+
+import os
+import pathlib
+import socket
+import subprocess
+import sys
+
+import lines
+from client import connected
+from image import image, open_image
+from streams import new_device, without_clock
+
+IMAGE = pathlib.Path("image")
+SERVE = "serve --socket socket --image image --entropy /dev/zero --locality 0 --connections".split()
+OPTION = "--save-each"
+RANDOM = bytes(256)
+MOST_CONNECTIONS = 4294967295
+SECONDS = 60
+
+INCREMENT = "NV_Increment OWNER 01000002 pw:-"
+LINES = [
+    "Startup 1",
+    "Startup 0",
+    "NV_DefineSpace OWNER pw:- - 01000002000b0002001200000008",
+    INCREMENT,
+    "GetRandom 4",
+    "PCR_Extend 00000003 pw:- sha1:0000000000000000000000000000000000000001",
+    INCREMENT,
+    "NV_Read OWNER 01000002 pw:- 8 0",
+    "PCR_Read sha1:3",
+    "ReadClock",
+    "Shutdown 1",
+]
+
+
+def fail(words):
+    sys.exit(f"WRONG: {words}")
+
+
+def buffer_of(line):
+    return lines.assemble(line.encode("ascii"))
+
+
+def text_of(device):
+    """An image of a device as it is compared: without the clock, which the host tells."""
+    clock = device.clock
+    text = without_clock(device)
+    device.clock = clock
+    return text
+
+
+def identity():
+    """What is another after each save, or nothing where there is no image."""
+    try:
+        told = IMAGE.stat()
+    except FileNotFoundError:
+        return None
+    return told.st_ino, told.st_mtime_ns
+
+
+class Run:
+    """A run of the program, a connection to it, and the same device in Python."""
+
+    def __init__(self, program, connections=MOST_CONNECTIONS, options=(OPTION,)):
+        self.device = open_image(IMAGE.read_bytes()) if IMAGE.exists() else new_device(RANDOM)
+        self.saved = text_of(self.device) if IMAGE.exists() else None
+        self.process = subprocess.Popen(
+            [program, *SERVE, str(connections), *options],
+            stdout=subprocess.PIPE,
+            stderr=subprocess.PIPE,
+        )
+        self.client = connected("socket")
+
+    def wanted(self, line):
+        """What the command is answered. The time of an answer is the host's."""
+        return self.device.execute(buffer_of(line), 0, RANDOM).response
+
+    def answer(self):
+        """A whole response, or nothing where the stream ends before."""
+        text = b""
+        while len(text) < 6 or len(text) < int.from_bytes(text[2:6], "big"):
+            piece = self.client.recv(4096)
+            if not piece:
+                return None
+            text += piece
+        return text
+
+    def tell(self, line):
+        """Tells a command, and compares its response."""
+        self.client.sendall(buffer_of(line))
+        given, wanted = self.answer(), self.wanted(line)
+        if given is None or (given != wanted and line != "ReadClock"):
+            fail(f"{line}: {given}, and not {wanted}")
+
+    def tell_and_look(self, line):
+        """Tells a command, and looks at the image behind it: whether it was saved."""
+        old = identity()
+        self.tell(line)
+        changes = text_of(self.device) != self.saved
+        self.saved = text_of(self.device)
+        if changes:
+            self.check_image(line)
+        elif identity() != old:
+            fail(f"{line}: the image is written, though nothing changed")
+        return changes
+
+    def check_image(self, label):
+        if not IMAGE.exists():
+            fail(f"{label}: there is no image")
+        if text_of(open_image(IMAGE.read_bytes())) != text_of(self.device):
+            fail(f"{label}: the image is another device's")
+        if pathlib.Path("image.new").exists():
+            fail(f"{label}: image.new is there")
+
+    def connect(self):
+        """Closes the connection, and makes another one."""
+        self.close()
+        self.client = connected("socket")
+
+    def close(self):
+        self.client.shutdown(socket.SHUT_WR)
+        if self.client.recv(1):
+            fail("there is more than the responses")
+        self.client.close()
+
+    def kill(self):
+        self.process.kill()
+        self.client.close()
+        self.check_end(-9, b"")
+
+    def check_end(self, status, error):
+        output, given = self.process.communicate(timeout=SECONDS)
+        if (self.process.returncode, output, given) != (status, b"", error):
+            fail(f"it ended with {self.process.returncode}, {output}, {given}")
+
+
+def check_each(program):
+    """Over two connections each change is saved before it is answered, and nothing else."""
+    run = Run(program, 2)
+    first = sum([run.tell_and_look(line) for line in LINES])
+    old = identity()
+    run.connect()
+    second = sum([run.tell_and_look(line) for line in LINES[2:]])
+    if old == identity():
+        fail("the clock is not saved behind a connection")
+    run.close()
+    run.check_end(0, b"")
+    run.check_image("the end")
+    print(f"{len(LINES)} commands, and {first} saves; then {len(LINES) - 2}, and {second}")
+
+
+def check_kills(program, count):
+    """What was answered is in the image, wherever the program is killed behind a response."""
+    for number in range(count):
+        run = Run(program)
+        for line in LINES[: number % len(LINES) + 1]:
+            run.tell(line)
+        run.kill()
+        run.check_image(f"kill {number + 1}, behind {line}")
+    print(f"{count} kills straight behind a response: all that was answered is in the image")
+
+
+def check_pieces(program):
+    """Many commands at once: those that were answered, though not the last, are in the image."""
+    run = Run(program)
+    told = ["Startup 0", *[INCREMENT] * 100]
+    run.client.sendall(b"".join(map(buffer_of, told)))
+    for line in told[:-20]:
+        if run.answer() != run.wanted(line):
+            fail(f"{line}, of many at once")
+    run.process.kill()
+    run.process.wait(SECONDS)
+    given = text_of(open_image(IMAGE.read_bytes()))
+    allowed = [text_of(run.device)]
+    for line in told[-20:]:
+        run.wanted(line)
+        allowed.append(text_of(run.device))
+    if given not in allowed:
+        fail("the image has not all that was answered of many commands at once")
+    print("many commands at once: the same")
+
+
+def check_unsaved(program):
+    """A change that cannot be saved is not answered, and ends the program. What needs no save is
+    answered."""
+    run = Run(program)
+    for line in LINES[:4]:
+        run.tell(line)
+    os.mkdir("image.new")
+    kept, old = IMAGE.read_bytes(), identity()
+    run.tell("GetRandom 4")
+    run.client.sendall(buffer_of(INCREMENT) + buffer_of("GetRandom 4"))
+    if run.answer() is not None:
+        fail("a change that was not saved is answered")
+    run.check_end(3, b"tpmsim: file\n")
+    if (IMAGE.read_bytes(), identity()) != (kept, old):
+        fail("the image is another one, though nothing could be saved")
+    if os.path.lexists("socket"):
+        fail("the socket is still there")
+    os.rmdir("image.new")
+    print("a change that cannot be saved is not answered, and ends the program: tpmsim: file")
+
+
+def check_without(program):
+    """Without the option nothing is saved before a connection ends."""
+    IMAGE.unlink()
+    run = Run(program, options=())
+    for line in LINES:
+        run.tell(line)
+    run.kill()
+    if IMAGE.exists():
+        fail("there is an image, without the option")
+    print("without the option nothing is saved before a connection ends")
+
+
+def main():
+    program, count = sys.argv[1:]
+    check_each(program)
+    check_kills(program, int(count))
+    check_pieces(program)
+    check_unsaved(program)
+    check_without(program)
+
+
+if __name__ == "__main__":
+    main()
