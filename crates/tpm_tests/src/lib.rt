@@ -30,8 +30,6 @@ mod objects;
 #[cfg(test)]
 mod policies;
 #[cfg(test)]
-mod policy_nv;
-#[cfg(test)]
 mod session_parts;
 #[cfg(test)]
 mod types;
