@@ -1,22 +1,26 @@
 //! The saving of a script's device to the file of its image.
 
-ghost use Rattle.std.specs.Prelude.{◌≡◌, OnErr, is_some, true};
+ghost use Rattle.std.specs.Prelude.{◌≡◌, OnErr, OnOk, is_some, true};
 ghost use Rattle.tpm_image.specs.KeptText.{kept_text};
+ghost use Rattle.tpm_machine.specs.State.{state_of};
 
 use crate::fault::Fault;
 use crate::image_file::ImageFile;
 use tpm_image::KeptText;
 use tpm_machine::Machine;
 use tpm_record::Keep;
-use tpmsim_script::{Saver, Unsaved};
+use tpm_saver::{Saver, Unsaved};
 
-/// What saves the device of a script. It knows what the device kept when it was saved last, so that
-/// a command that changes nothing but the clock costs no save.
+/// What saves the device of a script. It notes what it wrote last, so that a command that changes
+/// nothing but the clock costs no save, and a device that is in the file no second one.
 #[derive(Drop)]
 pub struct ImageSaver<'a> {
     rt: &'a HostRuntime,
     file: ImageFile<'a>,
+    /// What the device of the file keeps but for its clock, where that is known.
     kept: KeptText,
+    /// The clock of the device that was written last, where nothing failed since.
+    clock: Option<u64>,
     /// Why a save failed.
     fault: Option<Fault>,
 }
@@ -28,12 +32,16 @@ impl<'a> ImageSaver<'a> {
             rt,
             file,
             kept: KeptText::none(),
+            clock: None,
             fault: None,
         }
     }
 
-    /// Takes note that this device is the one of the file.
-    pub fn opened<K: Keep>(&mut self, machine: &Machine<K>) {
+    /// Takes note that this device is the one of the file. It is written anew all the same where
+    /// its clock is saved too: the file may be of an older version, or open to others.
+    pub fn opened<K: Keep>(&mut self, machine: &Machine<K>)
+        ensures { self.new ≡ record self.old { kept = kept_text (state_of K.record_of machine.now) } }
+    {
         let _ = self.kept.renew(machine);
     }
 
@@ -42,15 +50,32 @@ impl<'a> ImageSaver<'a> {
         self.fault
     }
 
-    /// Saves a device.
+    /// Whether the device that was written last had this clock.
+    fn has_clock(&self, clock: u64) -> bool
+        ensures { result ≡ true → self.now.clock ≡ Some clock }
+    {
+        match self.clock {
+            Some(written) => written == clock,
+            None => false,
+        }
+    }
+
+    /// Writes a device, and notes its clock. Where that fails, it forgets what the file has, so
+    /// that the next save writes.
     fn write<K: Keep>(&mut self, machine: &Machine<K>) -> Result<(), Unsaved>
-        ensures kept { self.new.kept ≡ self.old.kept }
+        ensures written { OnOk result (self.new
+            ≡ record self.old { clock = Some (state_of K.record_of machine.now).fixed.clock }) }
         ensures failed { OnErr result (is_some self.new.fault ≡ true) }
         ensures stays { is_some self.old.fault ≡ true → is_some self.new.fault ≡ true }
     {
         match self.file.save(self.rt, machine) {
-            Ok(()) => Ok(()),
+            Ok(()) => {
+                self.clock = Some(machine.keep().fixed().clock);
+                Ok(())
+            }
             Err(fault) => {
+                self.kept = KeptText::none();
+                self.clock = None;
                 self.fault = Some(fault);
                 Err(Unsaved)
             }
@@ -59,7 +84,16 @@ impl<'a> ImageSaver<'a> {
 }
 
 impl Saver for ImageSaver<'_> {
-    ghost holds = { λ saver r. saver.kept ≡ kept_text r };
+    ghost use Rattle.std.specs.Prelude.{Some, if◌then◌else◌};
+    ghost use Rattle.std.specs.Str.{bytes_eq};
+
+    ghost saves = { λ old r new. new
+        ≡ record old { kept = kept_text r; clock = Some r.fixed.clock } };
+
+    ghost saves_change = { λ old r new. new ≡ record old {
+      kept = kept_text r;
+      clock = (if bytes_eq old.kept (kept_text r) then old.clock else Some r.fixed.clock);
+    } };
 
     ghost has_failed = { λ saver. is_some saver.fault };
 
@@ -71,7 +105,10 @@ impl Saver for ImageSaver<'_> {
     }
 
     fn save<K: Keep>(&mut self, machine: &Machine<K>) -> Result<(), Unsaved> {
-        let _ = self.kept.renew(machine);
+        let changed = self.kept.renew(machine);
+        if !changed && self.has_clock(machine.keep().fixed().clock) {
+            return Ok(());
+        }
         self.write(machine)
     }
 }

@@ -8,8 +8,9 @@ use std::fs;
 use tpm_bytes::Tap;
 use tpm_machine::Machine;
 use tpm_record::SlotKeep;
+use tpm_saver::Saver;
 use tpmsim_arguments::Storage;
-use tpmsim_script::{Saver, new_machine, run_device, run_script};
+use tpmsim_script::{new_machine, run_device, run_script};
 
 /// Runs the script of a file, or on standard input, on a new device that nobody keeps.
 pub fn run_alone(rt: &HostRuntime, script: &str, trace: bool) -> Result<(), Fault> {

@@ -1,7 +1,8 @@
 //! What the host gives for each command: random bytes from a file, the time that has passed, and a
 //! locality.
 
-ghost use Rattle.std.specs.Prelude.{◌≡◌, IfOk};
+ghost use Rattle.std.specs.Prelude.{◌≡◌, IfOk, ℕ};
+ghost use Rattle.tpmsim.specs.Stopwatch.{after_command, told};
 
 use crate::entropy::Entropy;
 use crate::stopwatch::Stopwatch;
@@ -30,9 +31,13 @@ impl Source {
         }
     }
 
-    /// The values of the next command, which came now. Its locality is always the same.
+    /// The values of the next command, which came now. Its locality is always the same, and its
+    /// time is what the stopwatch tells at some time of the host's clock.
     pub fn host(&mut self, clock: &impl Clock) -> io::Result<Host>
         ensures locality { IfOk result (λ host. host.locality ≡ self.old.locality) }
+        ensures elapsed { IfOk result (λ host. (now : ℕ)
+            × (host.elapsed_ms ≡ told now self.old.stopwatch)
+            × (self.new.stopwatch ≡ after_command now self.old.stopwatch)) }
         ensures kept { self.new.locality ≡ self.old.locality }
     {
         let elapsed_ms = self.stopwatch.tell(Instant::now(clock)?);

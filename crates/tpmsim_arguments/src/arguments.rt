@@ -1,7 +1,7 @@
 //! The command line: its subcommands and their settings, and what its words ask for.
 
 ghost use Rattle.std.specs.Prelude.{◌≡◌, codes, false, map, ok_or, option_map, IfOk};
-ghost use Rattle.clap.specs.Words.{app_of, first_of, found_of, rows_of, rule_of, shape_of};
+ghost use Rattle.clap.specs.Words.{app_of, new_app, first_of, found_of, rows_of, rule_of, shape_of};
 ghost use Rattle.clap.specs.Words.{subcommand_rows_of};
 ghost use Rattle.tpm_bytes.specs.Reading.{Gives};
 ghost use Rattle.tpmsim_arguments.specs.Answers.{Answers};
@@ -247,8 +247,9 @@ fn line_command<'a>(alloc: Global) -> Result<Command<'a>, AllocError>
         .arg(digits)
 }
 
-fn serve_command<'a>(alloc: Global) -> Result<Command<'a>, AllocError>
-    ensures { IfOk result (λ command. shape_of command ≡ serve_command) }
+/// The command `serve`, with what its help says around its options, and none of these.
+fn serve_without_options<'a>(alloc: Global) -> Command<'a>
+    ensures { app_of result ≡ new_app (codes "serve") }
 {
     Command::new(alloc, "serve")
         .about("Serves a device on a Unix socket, and keeps its state in an image")
@@ -256,6 +257,12 @@ fn serve_command<'a>(alloc: Global) -> Result<Command<'a>, AllocError>
             "Example: tpmsim serve --socket tpm.sock --image tpm.image --entropy /dev/urandom \
              --locality 0 --connections 1",
         )
+}
+
+fn serve_command<'a>(alloc: Global) -> Result<Command<'a>, AllocError>
+    ensures { IfOk result (λ command. shape_of command ≡ serve_command) }
+{
+    serve_without_options(alloc)
         .arg(service_option(
             alloc,
             "socket",
