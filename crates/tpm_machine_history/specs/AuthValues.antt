@@ -1,4 +1,4 @@
--- Authorization values by the history alone. TPM 2.0 Library, Part 1, section 19.4, and Part 3,
+-- Authorization values by the history alone. TPM 2.0 Library, Part 1, section 19.6.4, and Part 3,
 -- sections 9.3, 12.2, 24.1, 24.6, 24.8, 28.5, 31.3 and 31.15 (the commands that set one).
 use Rattle.std.specs.Prelude.{ℕ, List, [], ◌∷◌, Option, Result, Ok, Err, ok_or}
 use Rattle.tpm_bytes.specs.Reading.{◌>>=◌}

@@ -29,9 +29,9 @@ protected_index = record {
   bytes = [];
 }
 
--- a device that has started with this index, after this many failed tries, of whose next to be
--- forgiven and of whose time so many milliseconds have passed; maxTries is 3, recoveryTime 1,000
--- seconds
+-- a device that has started with this index, after this many failed tries. As many milliseconds as
+-- the second number says have passed for the next try to be forgiven, and the third is the device's
+-- time. Its maxTries is 3, and its recoveryTime 1,000 seconds.
 abbrev pub tried : (failed forgiving time : ℕ) → Record
 tried failed forgiving time =
     let r : Record = manufactured zeros in

@@ -1,4 +1,4 @@
--- What failed tries and time come to, as one sum. TPM 2.0 Library, Part 1, section 19.8.4
+-- What failed tries and time come to, as one sum. TPM 2.0 Library, Part 1, section 19.8
 -- (failedTries, maxTries, recoveryTime).
 use Rattle.std.specs.Prelude.{◌≡◌, ◌≢◌, ◌⊎◌, ◌≤◌, ◌<◌, ◌+◌, ◌*◌, ◌==◌, ℕ, if◌then◌else◌}
 use Rattle.tpm_lockout.specs.Lockout.{LockoutState, milliseconds}

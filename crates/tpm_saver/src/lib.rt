@@ -1,11 +1,12 @@
 #![tactic(auto)]
 
-//! What saves a device while it is used: [`Saver`] is told the device, and [`SavesNothing`] is one
-//! that nobody asks for it.
+//! What saves a device while it is used: a [`Saver`] is told the device, and [`SavesNothing`] is the
+//! saver of a device that nobody keeps.
 //!
-//! Those who use a device, as a script or a client of a socket does, ask a saver at each change and
-//! at the end. Contracts see what each call told: those of users of a saver say which devices it
-//! was told, in which order, and each saver says what it makes of them. It stands on `tpm_machine`.
+//! Who uses a device, as a script or a client of a socket does, tells a saver the device at each
+//! change and at the end. Contracts see what each call told: that of a saver's user says which
+//! devices the saver was told, in which order, and each saver says what it makes of them. The crate
+//! stands on `tpm_machine`.
 
 ghost use Rattle.std.specs.Prelude.{◌≡◌, Bool, OnErr, OnOk, false, true};
 ghost use Rattle.tpm_machine.specs.State.{state_of};
