@@ -2,8 +2,9 @@
 # Tries the patches under wrong/turned: each turns the code of a command and the definition of its
 # row together, and the proofs that spell the row. So the device does something wrong, and all crates
 # below the histories are proved of it; but what its history tells is something else, so a law of
-# tpm_machine_history has to fail. They are run whole before a piece of work is called done. Each is
-# a proof of the crates above what it turns, from nothing. Needs rt, and git.
+# tpm_machine_history has to fail. They are run whole before a piece of work is called done. Those
+# that name different laws are tried in one copy, which is a proof of the crates above what they
+# turn, from nothing. Needs rt, and git.
 #
 #   tools/turned_rows.sh                    all of them
 #   tools/turned_rows.sh pcr_16_restored    one of them, or several
@@ -33,14 +34,23 @@ said() {
     sed -n "/^diff /q; s/^$1: //p" "$2"
 }
 
-# turn PATCH: makes a copy of the crates, without wrong bodies, and turns it.
+# patch_of NAME: its file.
+patch_of() {
+    echo "wrong/turned/$1.patch"
+}
+
+# turn NAME..: makes a copy of the crates, without wrong bodies, and turns it by these patches.
 turn() {
     rm -rf "$room/copy"
     mkdir "$room/copy"
     cp crates.txt HANDLES "$room/copy"
     tar cf - --exclude=out --exclude=incremental --exclude=must-fail crates |
         (cd "$room/copy" && tar xf -)
-    (cd "$room/copy" && git init --quiet && git apply "$top/$1")
+    (cd "$room/copy" && git init --quiet)
+    for name do
+        (cd "$room/copy" && git apply "$top/$(patch_of "$name")") ||
+            { echo "$name: BAD PATCH: it cannot be applied"; return 1; }
+    done
 }
 
 # prove CRATE..: `rt ci` of these crates in the copy, whose words are in the log.
@@ -68,34 +78,72 @@ refused_laws() {
         done | sort -u
 }
 
-# is_refused NAME: whether what a patch makes is refused by the law that it names, and nothing below.
-is_refused() {
-    patch=wrong/turned/$1.patch
-    [ -f "$patch" ] || { echo "$1: there is no $patch"; return 1; }
-    turn "$patch" || { echo "$1: the patch cannot be applied"; return 1; }
-    # shellcheck disable=SC2046 # crates have no spaces in their names
-    if ! prove $(said proves "$patch"); then
-        cat "$room/log"
-        echo "$1: BAD PATCH: what is below the histories is not proved"
-        return 1
-    fi
-    if prove "$history"; then
-        echo "$1: NOT REFUSED"
-        return 1
-    fi
-    law=$(said law "$patch")
-    if grep -qE 'is not in scope|can be named from here' "$room/log" ||
-        ! refused_laws | grep -qFx "$law"; then
-        cat "$room/log"
-        echo "$1: BAD PATCH: $law is not what is refused"
-        return 1
-    fi
-    echo "$1: refused, as it must be: $law"
+# fail_at_laws NAME..: whether each law that these patches name is among the refused ones.
+fail_at_laws() {
+    refused_laws >"$room/laws"
+    for name do
+        law=$(said law "$(patch_of "$name")")
+        if grep -qFx "$law" "$room/laws"; then
+            echo "$name: refused, as it must be: $law"
+            echo "$name" >>"$room/refused"
+        else
+            echo "$name: BAD PATCH: $law is not refused"
+        fi
+    done
 }
 
-refused=0
-for name do
-    ! is_refused "$name" || refused=$((refused + 1))
-done
+# try_together NAME..: turns a copy by these patches. All below the histories has to be proved, and
+# the histories are to be refused at the law of each.
+try_together() {
+    turn "$@" || return 0
+    proves=$(for name do said proves "$(patch_of "$name")"; done | tr ' ' '\n' | sort -u)
+    # shellcheck disable=SC2086 # crates have no spaces in their names
+    if ! prove $proves; then
+        cat "$room/log"
+        echo "$*: BAD PATCH: what is below the histories is not proved"
+    elif prove "$history"; then
+        echo "$*: NOT REFUSED"
+    elif grep -E 'is not in scope|can be named from here' "$room/log"; then
+        echo "$*: BAD PATCH: the histories cannot be read"
+    else
+        fail_at_laws "$@"
+    fi
+}
+
+# laws_of NAME..: the laws that these patches name, a line each.
+laws_of() {
+    for name do
+        said law "$(patch_of "$name")"
+    done
+}
+
+# group NAME..: writes which patches are tried in one copy, a line each: no two of a line name one law.
+group() {
+    : >"$room/groups"
+    for name do
+        [ -f "$(patch_of "$name")" ] || { echo "there is no $(patch_of "$name")" >&2; return 1; }
+        law=$(said law "$(patch_of "$name")")
+        : >"$room/new"
+        placed=
+        while read -r line; do
+            # shellcheck disable=SC2086 # names have no spaces
+            if [ -z "$placed" ] && ! laws_of $line | grep -qFx "$law"; then
+                line="$line $name"
+                placed=yes
+            fi
+            echo "$line" >>"$room/new"
+        done <"$room/groups"
+        [ -n "$placed" ] || echo "$name" >>"$room/new"
+        mv "$room/new" "$room/groups"
+    done
+}
+
+: >"$room/refused"
+group "$@"
+while read -r together; do
+    # shellcheck disable=SC2086 # as above
+    try_together $together </dev/null
+done <"$room/groups"
+refused=$(wc -l <"$room/refused")
 echo "$refused of $# turned rows refused"
 [ "$refused" -eq "$#" ]
