@@ -32,6 +32,12 @@ const BITS: &[u8] = b"\x01\0\0\x01\0\x0b\x08\x04\x40\x24\0\0\0\x08";
 /// What is extended by SHA-1.
 const EXTENDED: &[u8] = b"\x01\0\0\x01\0\x04\0\x04\0\x44\0\0\0\x14";
 
+/// An ordinary index that is said to be written.
+const WRITTEN: &[u8] = b"\x01\0\0\x01\0\x0b\x20\x04\0\x04\0\0\0\x08";
+
+/// A counter of four bytes.
+const SHORT_COUNTER: &[u8] = b"\x01\0\0\x02\0\x0b\0\x04\0\x14\0\0\0\x04";
+
 /// SHA-1 of twenty zeros and "abc".
 const DIGEST: &[u8] =
     b"\x82\x6e\xb4\x34\xa3\xb9\x98\xd5\x2e\x8f\x8d\x6f\xf9\x74\x18\xcb\x60\xd5\x25\x6e";
@@ -52,6 +58,14 @@ fn defined<N: Indices>(indices: &mut N, text: &[u8]) -> Outcome {
     match check_definition(&public, 1, false) {
         Ok(()) => Outcome::Answered(indices.define(public, AuthValue::of(b"a"))),
         Err(fault) => Outcome::Refused(fault),
+    }
+}
+
+/// Defines the index of a public area, without a check of it.
+fn defined_unchecked<N: Indices>(indices: &mut N, text: &[u8]) -> Option<Result<(), DefineFault>> {
+    match NvPublic::read(&mut Cursor::new(text)) {
+        Ok(public) => Some(indices.define(public, AuthValue::of(b"a"))),
+        Err(_) => None,
     }
 }
 
@@ -84,6 +98,16 @@ fn has_public<N: Indices>(indices: &N, handle: Handle, text: &[u8]) -> bool {
 }
 
 fn ordinary<N: Indices>(rt: &impl Abort, mut indices: N) {
+    check(
+        rt,
+        defined_unchecked(&mut indices, WRITTEN),
+        Some(Err(DefineFault::Written)),
+    );
+    check(
+        rt,
+        defined_unchecked(&mut indices, SHORT_COUNTER),
+        Some(Err(DefineFault::DataSize)),
+    );
     check(rt, indices.next(Handle::default()), None);
     check(
         rt,

@@ -1,4 +1,7 @@
-//! Connections that are not served to their end: one beside eight others, and one without end.
+//! Connections that are not served to their end: one beside eight others, one without end, and one
+//! to a device that cannot be saved any more.
+
+ghost use Rattle.std.specs.Prelude.{◌≡◌, Unit, true};
 
 use super::comparison::check;
 use super::device::{host, mux};
@@ -9,8 +12,10 @@ use std::io::{Read, Write};
 use std::process::Abort;
 use std::test::Fail;
 use tpm_bytes::Tap;
+use tpm_machine::Machine;
 use tpm_record::Keep;
-use tpm_wire::{Mux, ServeFault, serve};
+use tpm_saver::{Saver, Unsaved};
+use tpm_wire::{Mux, ServeFault, serve, serve_saving};
 
 /// TPM2_SelfTest(YES), a byte a read, without end.
 #[derive(Drop)]
@@ -113,4 +118,57 @@ impl Trial for WithoutEnd {
 #[test]
 fn a_client_without_end_is_cut_off(rt: HostRuntime) -> Result<(), Fail> {
     run_over_both::<WithoutEnd, HostRuntime>(&rt, rt.alloc())
+}
+
+/// Saves as often as it may, and then fails.
+struct Saves {
+    left: u64,
+    failed: bool,
+}
+
+impl Saver for Saves {
+    ghost saves = { λ _ _ _. Unit {0} };
+
+    ghost saves_change = { λ _ _ _. Unit {0} };
+
+    ghost has_failed = { λ self. self.failed };
+
+    fn save_change<K: Keep>(&mut self, machine: &Machine<K>) -> Result<(), Unsaved> {
+        self.save(machine)
+    }
+
+    fn save<K: Keep>(&mut self, _machine: &Machine<K>) -> Result<(), Unsaved> {
+        let Some(left) = self.left.checked_sub(1) else {
+            self.failed = true;
+            return Err(Unsaved);
+        };
+        self.left = left;
+        Ok(())
+    }
+}
+
+struct ThreeSaves;
+
+impl Trial for ThreeSaves {
+    fn run<K: Keep, R: Abort>(rt: &R, alloc: Global) -> Result<(), Fail> {
+        let mut mux: Mux<K> = mux(alloc)?;
+        let mut reader = Tap::new(Repeated { next: 0 });
+        let mut writer = Tap::new(Counted { bytes: 0 });
+        let mut ask = || Ok(host());
+        let mut saves = Saves {
+            left: 3,
+            failed: false,
+        };
+        let outcome = serve_saving(&mut mux, &mut reader, &mut writer, &mut ask, &mut saves);
+        check(rt, outcome, Err(ServeFault::Save));
+        // The fourth command was executed, and has no response: each is eleven bytes, one a read.
+        check(rt, reader.reads(), 44);
+        check(rt, writer.into_inner().bytes, 30);
+        Ok(())
+    }
+}
+
+#[test]
+fn no_response_goes_out_unsaved(rt: HostRuntime) -> Result<(), Fail> {
+    run_over_both::<ThreeSaves, HostRuntime>(&rt, rt.alloc())
 }
