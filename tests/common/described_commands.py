@@ -463,6 +463,13 @@ WRONG = (
 )
 
 
+def is_missing_one_found(program: Program) -> bool:
+    """Whether a command that is not described is found among those that are served."""
+    with mock.patch.dict(NUMBERED):
+        del NUMBERED[READ]
+        return any(it.described != it.found for it in served(program, [READ]))
+
+
 def main(path: str) -> None:
     program, codes = Program(path), list(CC)
     print(f"{len(codes)} COMMANDS: what is described of them, and how often the program was asked.")
@@ -473,6 +480,7 @@ def main(path: str) -> None:
                 print(f"DIFFERS: {it.what}: described {it.described}, found {it.found}")
         print(f"{what}: {len(asked)}")
     print("WRONG DESCRIPTIONS:")
+    print(f"no {READ.name}: {'found' if is_missing_one_found(program) else 'NOT FOUND'}")
     for it in WRONG:
         found = "found" if it.is_found(program) else "NOT FOUND"
         print(f"{it.what}, of {it.code.name}: {found} by {it.check}")

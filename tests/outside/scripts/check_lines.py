@@ -1,16 +1,14 @@
 #!/usr/bin/env python3
-"""Checks the `do` lines of all scripts under tests/ and examples/, and the lines of docs/table:
+"""Checks the `do` lines of all scripts under tests/ and examples/:
 
     python3 tests/outside/scripts/check_lines.py
 
 Each is assembled. Its buffer, taken apart as the device takes it apart and put together again by
 frames.py, must be the same, and the line that is found for the buffer must assemble to it. In a
 script that a program wrote, a `cmd` line must be one that no words say, unless the script says that
-its commands stand as bytes. In docs/table each command must have the line that its entry in
-commands.py makes.
+its commands stand as bytes.
 """
 
-import re
 import sys
 
 import paths
@@ -18,13 +16,9 @@ import paths
 import frames
 import general
 import lines
-from commands import CC
 from general import Fields
 
 AS_BYTES = "All commands stand as bytes"
-
-
-LINE_IN_TABLE = re.compile(r"^## TPM2_(\w+) \(\w+\)\n\nLine: `(.+)`\.\n\n", re.MULTILINE)
 
 
 def scripts():
@@ -62,12 +56,6 @@ def faults(text):
             yield number
 
 
-def lines_in_table():
-    """The line of each command in docs/table, by its name."""
-    pages = sorted((paths.TOP / "docs" / "table").glob("*.md"))
-    return dict(it for page in pages for it in LINE_IN_TABLE.findall(page.read_text("utf-8")))
-
-
 def main():
     checked = failed = 0
     for path in scripts():
@@ -78,12 +66,6 @@ def main():
             failed += 1
             print(f"{path.relative_to(paths.TOP)}:{number}")
         checked += sum(line.startswith("do ") for line in text.splitlines())
-    table = lines_in_table()
-    for code in CC:
-        checked += 1
-        if table.get(code.name) != lines.form_of(code):
-            failed += 1
-            print(f"docs/table: {code.name}")
     print(f"{checked} lines checked, {failed} wrong")
     return 1 if failed else 0
 

@@ -449,6 +449,8 @@ class Writer(random.Random):
         ),
     }
 
+    assert COMMANDS.keys() == set(CC)
+
     # Entries.
 
     def entries(self, code, handles):
