@@ -12,26 +12,21 @@ from collections.abc import Callable, Iterable
 from dataclasses import dataclass
 
 import lines
-from commands import CC, Fact
+from commands import CC, Fact, HandleKind
 
 TOP = pathlib.Path(__file__).resolve().parent.parent.parent
-README, MAP, TABLE = "README.md", "docs/MAP.md", "docs/table"
+README, TABLE = "README.md", "docs/table"
 LIST, STATE = f"{TABLE}/README.md", f"{TABLE}/state.md"
-POLICIES, REFUSALS = f"{TABLE}/policy_commands.md", f"{TABLE}/order_of_refusals.md"
-ENCRYPTION, NV = f"{TABLE}/parameter_encryption.md", f"{TABLE}/nv_commands.md"
-PARTS = {"policies": POLICIES, "objects": f"{TABLE}/object_commands.md", "NV indices alone": NV}
+REFUSALS = f"{TABLE}/order_of_refusals.md"
+ENCRYPTION, CAPABILITIES = f"{TABLE}/parameter_encryption.md", f"{TABLE}/capabilities.md"
+NV, NV_ACCESS = f"{TABLE}/nv_commands.md", f"{TABLE}/nv.md"
 
 Documents = dict[str, str]
 
 ROW = re.compile(r"^\| \[TPM2_(\w+)\]\((\w+\.md)#(\S+)\) \| (\w+) \| \[.+\]\((\w+\.md)\) \|$", re.M)
 SECTION = re.compile(r"^## TPM2_(\w+) \((\w+)\)$(?:\n\nLine: `(.+)`\.$)?", re.M)
 NAME = re.compile(r"\bTPM2_(\w+)")
-
-ONES = (
-    "no one two three four five six seven eight nine ten eleven twelve thirteen fourteen fifteen "
-    "sixteen seventeen eighteen nineteen"
-).split()
-TENS = "twenty thirty forty fifty sixty seventy eighty ninety".split()
+NV_KINDS = HandleKind.NV_AUTH, HandleKind.NV_INDEX, HandleKind.ENTITY
 
 
 def documents() -> Documents:
@@ -43,13 +38,6 @@ def between(text: str, before: str, behind: str) -> str:
     """What stands between two places, or nothing."""
     _, found, rest = text.partition(before)
     return rest.partition(behind)[0] if found else ""
-
-
-def in_words(count: int) -> str:
-    if count < 20:
-        return ONES[count]
-    tens, ones = TENS[count // 10 - 2], count % 10
-    return f"{tens}-{ONES[ones]}" if ones else tens
 
 
 def names(codes: Iterable[CC]) -> list[str]:
@@ -114,11 +102,6 @@ def groups(texts: Documents) -> List:
     return List(names(CC), [name for row in rows for name in row.split(", ")])
 
 
-def policy_codes(texts: Documents) -> List:
-    text = between(texts[POLICIES], "which are all that are served: POLICY_CC/p1 (1E4):", "Both")
-    return List([f"{int(it):X}" for it in sorted(CC)], text.split(), in_order=True)
-
-
 def decrypted(texts: Documents) -> List:
     text = between(texts[ENCRYPTION], "| decrypt:", " |\n")
     return List(names(it for it in CC if it.takes_sized), NAME.findall(text))
@@ -151,10 +134,7 @@ def not_served(texts: Documents) -> List:
 # the count is written.
 COUNTS = (
     (README, "It serves ", " commands", str),
-    ("docs/DECISIONS.md", "A policy may name any of the ", " commands", str),
-    ("docs/THEOREMS.md", "of the ", " commands none has a second one", str),
-    (f"{TABLE}/capabilities.md", "| how many commands are served, ", " |", "{:X}".format),
-    (REFUSALS, "", " commands are served", lambda count: in_words(count).capitalize()),
+    (CAPABILITIES, "| how many commands are served, ", " |", "{:X}".format),
 )
 
 
@@ -167,27 +147,34 @@ def counts(texts: Documents) -> List:
     return List(wanted, found)
 
 
-def part_counts(texts: Documents) -> List:
-    """How many commands docs/MAP.md says that a part has, and the page of policies itself."""
-    has = {part: in_words(len(SECTION.findall(texts[page]))) for part, page in PARTS.items()}
-    wanted = [*has.items(), ("the page", has["policies"])]
-    said = re.findall(r"the (\w+) commands o[fn] (policies|objects|NV indices alone)\b", texts[MAP])
-    below = re.findall(r"What the (\w+) commands below", texts[POLICIES])
-    return List(wanted, [*((part, it) for it, part in said), *(("the page", it) for it in below)])
+def nv_access(texts: Documents) -> List:
+    """Which commands ask an index that authorizes them for which attributes."""
+    able = [it for it in CC if it.authorized and it.handles[0].kind in NV_KINDS]
+    wanted = [(it.name, nv_access_of(it)) for it in able]
+    section = between(texts[NV_ACCESS], "## By what an index is authorized", "\n## ")
+    rows = re.findall(r"^\| (TPM2_.+?) \| (.+?) \|", section, re.M)
+    found = [(name, by_value) for named, by_value in rows for name in NAME.findall(named)]
+    return List(wanted, found)
+
+
+def nv_access_of(code: CC) -> str:
+    """When the authorization value of an index authorizes a command."""
+    if code.has(Fact.ADMIN):
+        return "never"
+    return "where it has AUTHREAD" if code.has(Fact.READS_NV) else "where it has AUTHWRITE"
 
 
 CHECKS: dict[str, Callable[[Documents], List]] = {
     "docs/table/README.md, the list of commands": the_list,
     "docs/table, the sections and their lines": sections,
     "README.md, the groups": groups,
-    "policy_commands.md, the codes that a policy can name": policy_codes,
     "parameter_encryption.md, decrypt": decrypted,
     "parameter_encryption.md, encrypt": encrypted,
     "order_of_refusals.md, commands without sessions": without_sessions,
     "order_of_refusals.md, commands that are not served": not_served,
     "state.md, commands that keep what was saved": keeping,
-    "counts of all commands": counts,
-    "counts of parts": part_counts,
+    "nv.md, what commands ask of an index": nv_access,
+    "counts of commands": counts,
 }
 
 # A document, a text in it, and what is put in its place once.
@@ -199,14 +186,14 @@ WRONG = (
     (NV, "## TPM2_NV_SetBits (135)", "## TPM2_NV_SetBit (135)"),
     (NV, "NV_SetBits @Entity Index u64", "NV_SetBits Entity Index u64"),
     (README, "GetCapability |", "GetCapability, TestParms |"),
-    (POLICIES, "18C 18F", "18C"),
     (ENCRYPTION, "TPM2_HMAC, TPM2_NV_DefineSpace", "TPM2_NV_DefineSpace"),
     (ENCRYPTION, "TPM2_GetRandom, ", "TPM2_GetRandom, TPM2_ReadClock, "),
     (REFUSALS, "TPM2_FlushContext or ", ""),
     (REFUSALS, "TPM2_Rewrap", "TPM2_Load"),
     (STATE, "TPM2_HMAC, ", "TPM2_HMAC, TPM2_Load, "),
-    ("docs/DECISIONS.md", "any of the 47 commands", "any of the 46 commands"),
-    (MAP, "the twelve commands of policies", "the eleven commands of policies"),
+    (NV_ACCESS, "| TPM2_NV_Read, ", "| "),
+    (README, "It serves 47 commands", "It serves 46 commands"),
+    (CAPABILITIES, "how many commands are served, 2F", "how many commands are served, 30"),
 )
 
 
