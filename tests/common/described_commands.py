@@ -44,8 +44,8 @@ NONCE, NO_POLICY, UNTOLD = "00" * 16, b"", bytes(32)
 
 # A token for each kind of parameter, and those at which one kind begins to differ from another.
 TOKENS = (
-    *("7", "255", "256", "65535", "65536", "0xffffffff", "0x100000000", "18446744073709551615"),
-    *("18446744073709551616", "-", "00", "00+01", "sha256:0", "sha1:" + "00" * 20, "sha256"),
+    *("7", "00", "00+01", "-", "255", "256", "65535", "65536", "0xffffffff", "0x100000000"),
+    *("18446744073709551615", "18446744073709551616", "sha256:0", "sha1:" + "00" * 20, "sha256"),
     *("null", "aes", "xor-sha1", "x"),
 )
 
@@ -112,12 +112,31 @@ def setup() -> list[str]:
     ]
 
 
-def codes_of(program: Program, code: CC, buffers: list[bytes]) -> list[int]:
-    """The response codes of buffers of a command, of which only TPM2_Startup comes first."""
+@dataclass(frozen=True)
+class Answer:
+    """By which check a command was refused, or `ok`, and its response code."""
+
+    check: str
+    code: int
+
+    def is_refusal(self, check: str, name: str) -> bool:
+        return (self.check, self.code) == (check, frames.code_of(name))
+
+    def is_behind(self, check: str, refusal: str) -> bool | str:
+        """Whether it came through a check, which refuses it by this code alone."""
+        if self.is_refusal(check, refusal):
+            return False
+        order = [*(f"G{it}" for it in range(1, 12)), *(f"A{it}" for it in range(1, 8)), "ok"]
+        return order.index(self.check) > order.index(check) or f"{self.check} {self.code:03X}"
+
+
+def answers_of(program: Program, code: CC, buffers: list[bytes]) -> list[Answer]:
+    """What buffers of a command come to, of which only TPM2_Startup comes first."""
     before = [] if code == CC.Startup else setup()
-    printed = program.run([*before, *(f"cmd {it.hex()}" for it in buffers)])
-    assert all(it[12:20] == "00000000" for it in printed[: len(before)]), printed
-    return [int(it[12:20], 16) for it in printed[len(before) :]]
+    printed = program.run([*before, *(f"cmd {it.hex()}" for it in buffers)], "--trace")[::2]
+    answers = [Answer(it.split(" ")[3], int(it.split(" ")[4], 16)) for it in printed]
+    assert all(it.check == "ok" for it in answers[: len(before)]), printed
+    return answers[len(before) :]
 
 
 def takes(handle: Handle, number: int) -> bool:
@@ -231,8 +250,8 @@ def handle_kinds(program: Program, codes: list[CC]) -> Iterator[Asked]:
             for other in (*THERE, *NO_HANDLES):
                 wanted.append((place, other, takes(handle, other)))
                 buffers.append(buffer_of(code, [*right[: place - 1], other]))
-        for (place, other, is_taken), found in zip(wanted, codes_of(program, code, buffers)):
-            is_refused = found == frames.code_of(f"VALUE/h{place}")
+        for (place, other, is_taken), found in zip(wanted, answers_of(program, code, buffers)):
+            is_refused = found.is_refusal("G6", f"VALUE/h{place}")
             yield Asked(f"{code.name} takes {other:08x} in place {place}", is_taken, not is_refused)
 
 
@@ -243,13 +262,13 @@ def authorizations(program: Program, codes: list[CC]) -> Iterator[Asked]:
     for code in codes:
         handles = right_handles(code)
         buffers = [buffer_of(code, handles), buffer_of(code, handles, *[frames.entry()] * 3)]
-        bare, with_entries = codes_of(program, code, buffers)
-        is_missing = bare == frames.code_of("AUTH_MISSING")
-        yield Asked(f"{code.name} needs an entry", code.authorized > 0, is_missing)
+        bare, with_entries = answers_of(program, code, buffers)
+        is_bare = bare.is_behind("G7", "AUTH_MISSING")
+        yield Asked(f"{code.name} needs no entry", not code.authorized, is_bare)
         refusal = f"HANDLE/s{code.authorized + 1}"
         if code.has(Fact.NO_SESSIONS):
             refusal = "AUTH_CONTEXT"
-        found = f"{with_entries:03X}"
+        found = f"{with_entries.code:03X}"
         yield Asked(f"{code.name} by passwords", f"{frames.code_of(refusal):03X}", found)
 
 
@@ -264,8 +283,9 @@ def encryption(program: Program, codes: list[CC]) -> Iterator[Asked]:
             for attribute in (frames.DECRYPT, frames.ENCRYPT)
         ]
         buffers = [buffer_of(code, right_handles(code), *passwords, it) for it in sessions]
-        refused = frames.code_of(f"ATTRIBUTES/s{place}")
-        decrypts, encrypts = (it != refused for it in codes_of(program, code, buffers))
+        refused = f"ATTRIBUTES/s{place}"
+        answered = answers_of(program, code, buffers)
+        decrypts, encrypts = (it.is_behind("G8", refused) for it in answered)
         yield Asked(f"{code.name} takes a sized buffer first", code.takes_sized, decrypts)
         yield Asked(f"{code.name} answers one first", code.answers_sized, encrypts)
 
@@ -279,10 +299,10 @@ def roles(program: Program, codes: list[CC]) -> Iterator[Asked]:
         able = [it for it in (INDEX, OBJECT) if code.authorized and takes(code.handles[0], it)]
         handles = right_handles(code)
         buffers = [buffer_of(code, [it, *handles[1:]], untold) for it in able]
-        for it, found in zip(able, codes_of(program, code, buffers)):
-            is_admin = found == frames.code_of("POLICY_FAIL/s1")
-            what = f"{code.name} is authorized by {it:08x} in the ADMIN role"
-            yield Asked(what, code.has(Fact.ADMIN), is_admin)
+        for it, found in zip(able, answers_of(program, code, buffers)):
+            is_user = found.is_behind("G9", "POLICY_FAIL/s1")
+            what = f"{code.name} is authorized by {it:08x} in the user's role"
+            yield Asked(what, not code.has(Fact.ADMIN), is_user)
 
 
 def nv_attributes(program: Program, codes: list[CC]) -> Iterator[Asked]:
@@ -295,8 +315,8 @@ def nv_attributes(program: Program, codes: list[CC]) -> Iterator[Asked]:
         handles = right_handles(code)
         asked = {READ_INDEX: code.has(Fact.READS_NV), WRITE_INDEX: not code.has(Fact.READS_NV)}
         buffers = [buffer_of(code, [it, *handles[1:]], frames.entry()) for it in asked]
-        for it, found in zip(asked, codes_of(program, code, buffers)):
-            is_able = found != frames.code_of("AUTH_UNAVAILABLE")
+        for it, found in zip(asked, answers_of(program, code, buffers)):
+            is_able = found.is_behind("G9", "AUTH_UNAVAILABLE")
             wanted = asked[it] and not code.has(Fact.ADMIN)
             yield Asked(f"{code.name} is authorized by {it:08x}", wanted, is_able)
 
