@@ -58,9 +58,10 @@ class Kind(enum.Enum):
 
 
 class Fact(enum.Flag):
-    """What else holds of a command: its entries may be none at all; its handle is authorized in
-    the ADMIN role, and not by its user; of an NV index that authorizes it, it asks for the
-    attributes of reading; its success leaves what a shutdown saved.
+    """What else holds of a command. NO_SESSIONS: it takes no entries. ADMIN: its handle is
+    authorized in the ADMIN role, and not in the user's. READS_NV: of an NV index that authorizes
+    it, it asks for the attributes of reading, and not of writing. KEEPS_SAVED: its success does
+    not cancel what a shutdown saved.
     """
 
     NO_SESSIONS = enum.auto()
