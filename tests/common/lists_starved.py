@@ -13,9 +13,9 @@ import pathlib
 import sys
 
 import device
-import frames
 import image
 import lines
+from commands import CC
 from player import Player
 from refusals import Refusals
 from shims import HERE, Ending, fail
@@ -27,11 +27,11 @@ CODE = slice(12, 20)
 # The commands that may be answered MEMORY, and the script that has each of them at each size at
 # which a list grows, and all other commands.
 GROWING = {
-    frames.START_AUTH_SESSION,
-    frames.CREATE_PRIMARY,
-    frames.LOAD,
-    frames.NV_DEFINE_SPACE,
-    frames.EVICT_CONTROL,
+    CC.StartAuthSession,
+    CC.CreatePrimary,
+    CC.Load,
+    CC.NV_DefineSpace,
+    CC.EvictControl,
 }
 SCRIPT = (HERE / "growing.tpm").read_bytes()
 LINES = SCRIPT.splitlines()
@@ -121,9 +121,9 @@ class Script:
     def tell(self):
         for code in sorted(GROWING):
             if not self.refused[code]:
-                fail(f"{lines.NAMES[code]} was never refused memory")
+                fail(f"{code.name} was never refused memory")
             print(
-                f"{lines.NAMES[code]}: growths refused: {self.refused[code]}, each answered MEMORY,"
+                f"{code.name}: growths refused: {self.refused[code]}, each answered MEMORY,"
                 " and the same command then succeeded"
             )
         print(f"{len(device.ROWS) - len(GROWING)} other commands: never answered MEMORY")

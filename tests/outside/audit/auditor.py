@@ -4,11 +4,11 @@ the history alone tells.
 
 import quick_cipher  # it makes the device's cipher quick
 
+from commands import NUMBERED
 from counter_lines import CounterLines
 from entities import Entities
 from ground import Grounds
 from guesses import Guesses
-from lines import NAMES
 from log import Disagreement
 from pcr_lines import PcrLines
 from player import LINES, BadLine, Player
@@ -116,4 +116,4 @@ def named(seen):
     if seen.is_power_cycle:
         return f"script line {seen.line}, power"
     code = seen.outcome.row.code
-    return f"script line {seen.line}" + (f", {NAMES[code]}" if code in NAMES else "")
+    return f"script line {seen.line}" + (f", {NUMBERED[code].name}" if code in NUMBERED else "")

@@ -6,6 +6,7 @@ import frames
 import hmacs
 import nv
 import policy
+from commands import Fact
 from words import HASHES, command_name
 
 
@@ -25,7 +26,7 @@ def findings(use, history, session_lines, pcr_lines):
     if told.update_counter is not None:
         first = session_lines.first_pcr(use.entry.handle)
         yield of_pcrs(told, history.pcrs, first, pcr_lines)
-    if told.code is not None or use.seen.command.shape.is_admin:
+    if told.code is not None or use.seen.command.code.has(Fact.ADMIN):
         yield of_code(told, use.code)
     if told.cp_hash is not None:
         yield of_cp_hash(told, use)

@@ -2,8 +2,8 @@
 
 from dataclasses import dataclass
 
-import frames
 import nv
+from commands import CC
 from history import defined_index
 from lines import handle_word
 
@@ -54,15 +54,15 @@ class CounterLines:
         event = seen.event
         if seen.is_power_cycle:
             return
-        if event.code == frames.NV_DEFINE_SPACE:
+        if event.code == CC.NV_DefineSpace:
             handle = defined_index(event)
             if self.device.indices[handle].public.kind == nv.Type.COUNTER:
                 self.begin(handle, f"of line {seen.line}")
-        elif event.code == frames.NV_INCREMENT:
+        elif event.code == CC.NV_Increment:
             handle = event.handles[1]
             value = self.history.counters.values[handle]
             self.now[handle].count(value, f"line {seen.line}")
-        elif event.code in (frames.NV_UNDEFINE_SPACE, frames.CLEAR):
+        elif event.code in (CC.NV_UndefineSpace, CC.Clear):
             for handle in [it for it in self.now if it not in self.device.indices]:
                 self.now.pop(handle).ended = f"undefined by line {seen.line}"
 

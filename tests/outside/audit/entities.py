@@ -2,9 +2,9 @@
 
 from dataclasses import dataclass, field
 
-import frames
 import nv
 
+from commands import CC
 from history import defined_index
 from lines import handle_word
 from words import entity_words, index_words, means_words, object_words
@@ -50,15 +50,15 @@ class Entities:
         event, since = seen.event, f"of line {seen.line}"
         if seen.is_power_cycle:
             return
-        if event.code == frames.CREATE_PRIMARY:
+        if event.code == CC.CreatePrimary:
             by = entity_words(event.handles[0])
             self.begin(event.answered, seen.line, f"{since} (CreatePrimary, {by})")
-        elif event.code == frames.LOAD:
+        elif event.code == CC.Load:
             parent = entity_words(event.handles[0])
             self.begin(event.answered, seen.line, f"{since} (Load under {parent})")
-        elif event.code == frames.NV_DEFINE_SPACE:
+        elif event.code == CC.NV_DefineSpace:
             self.begin(defined_index(event), seen.line, f"{since} (NV_DefineSpace)")
-        elif event.code == frames.EVICT_CONTROL:
+        elif event.code == CC.EvictControl:
             handle = event.read().next().number(4)
             if handle != event.handles[1]:
                 copied = entity_words(event.handles[1])

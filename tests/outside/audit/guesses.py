@@ -2,14 +2,14 @@
 
 from dataclasses import dataclass, field
 
-import frames
+from commands import CC
 from log import Disagreement
 from protection import MILLISECONDS, TRIES
 
 RESETS = (
-    frames.DICTIONARY_ATTACK_LOCK_RESET,
-    frames.DICTIONARY_ATTACK_PARAMETERS,
-    frames.CLEAR,
+    CC.DictionaryAttackLockReset,
+    CC.DictionaryAttackParameters,
+    CC.Clear,
 )
 
 
@@ -84,7 +84,7 @@ class Guesses:
             return
         self.close(seen.line)
         most, recovery = self.stretch.most, self.stretch.recovery
-        if seen.event.code == frames.DICTIONARY_ATTACK_PARAMETERS:
+        if seen.event.code == CC.DictionaryAttackParameters:
             fields = seen.event.read()
             most, recovery = fields.next().number(4), fields.next().number(4)
         self.stretch = Stretch(seen.line, most, recovery)

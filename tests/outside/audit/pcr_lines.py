@@ -1,9 +1,9 @@
 """Which line of the script wrote the value of each PCR."""
 
-import frames
 import general
 import pcrs
 import state
+from commands import CC
 from frames import SHA1, SHA256
 from history import Pcrs
 from words import HASHES
@@ -26,7 +26,7 @@ class PcrLines:
     def note(self, seen):
         """An event, once the history has it."""
         if self.pcrs.updates > self.updates:
-            is_clear = seen.event.code == frames.CLEAR
+            is_clear = seen.event.code == CC.Clear
             self.last_change = seen.line
             self.last_words = "was an accepted TPM2_Clear" if is_clear else "wrote a PCR"
         self.updates = self.pcrs.updates
@@ -36,9 +36,9 @@ class PcrLines:
         event = seen.event
         for at in written_by(event):
             self.written[at] = f"line {seen.line}"
-        if event.code == frames.SHUTDOWN:
+        if event.code == CC.Shutdown:
             self.saved = dict(self.written)
-        if event.code == frames.STARTUP and event.read().next().number(2) == state.STATE:
+        if event.code == CC.Startup and event.read().next().number(2) == state.STATE:
             for at, was in self.saved.items():
                 if at[1] < state.SAVED_PCRS:
                     self.written[at] = f"{was}, and taken up by line {seen.line}"
@@ -65,8 +65,8 @@ def written_by(event):
     pcr = event.handles[0] if event.handles else None
     if not general.is_pcr(pcr):
         return []
-    if event.code == frames.PCR_EXTEND:
+    if event.code == CC.PCR_Extend:
         return [(bank, pcr) for bank, _ in Pcrs.digests(event.read().next())]
-    if event.code in (frames.PCR_EVENT, frames.PCR_RESET):
+    if event.code in (CC.PCR_Event, CC.PCR_Reset):
         return [(bank, pcr) for bank in BANKS]
     return []

@@ -4,6 +4,7 @@ from dataclasses import dataclass, field
 
 import frames
 import history
+from commands import CC
 from lines import handle_word
 from words import HASHES, KINDS, asserted_words, command_name
 
@@ -50,7 +51,7 @@ class SessionLines:
         handle = event.handles[-1]
         session, begun = self.history.sessions.live[handle], self.live[handle]
         made = history.asserted(event, session, self.history.pcrs)
-        if event.code == frames.POLICY_PCR and begun.first_pcr is None:
+        if event.code == CC.PolicyPCR and begun.first_pcr is None:
             begun.first_pcr = seen.line
         begun.tell(seen.line, f"{asserted_words(event)}: {made.policy.digest.hex()}")
 
@@ -67,14 +68,14 @@ class SessionLines:
             for begun in self.live.values():
                 begun.tell(seen.line, "the power cycle ends it")
             self.live = {}
-        elif event.code == frames.START_AUTH_SESSION:
+        elif event.code == CC.StartAuthSession:
             self.start(seen)
-        elif event.code == frames.POLICY_RESTART:
+        elif event.code == CC.PolicyRestart:
             self.restart(event.handles[0])
             self.live[event.handles[0]].tell(seen.line, "PolicyRestart takes all assertions back")
-        elif event.code == frames.POLICY_GET_DIGEST:
+        elif event.code == CC.PolicyGetDigest:
             self.live[event.handles[0]].tell(seen.line, "PolicyGetDigest tells its digest")
-        elif event.code == frames.FLUSH_CONTEXT:
+        elif event.code == CC.FlushContext:
             self.end(seen, event.read().next().number(4), "FlushContext ends it")
         if not seen.is_power_cycle:
             self.note_uses(seen)

@@ -1,7 +1,7 @@
 """Which line of the script set each authorization value."""
 
-import frames
 import state
+from commands import CC
 from frames import RH_ENDORSEMENT, RH_LOCKOUT, RH_OWNER, RH_PLATFORM
 from history import defined_index
 
@@ -25,16 +25,16 @@ class ValueLines:
 
 def handles_set(event):
     """The handles whose values a command sets."""
-    if event.code in (frames.HIERARCHY_CHANGE_AUTH, frames.NV_CHANGE_AUTH):
+    if event.code in (CC.HierarchyChangeAuth, CC.NV_ChangeAuth):
         return event.handles[:1]
-    if event.code == frames.NV_DEFINE_SPACE:
+    if event.code == CC.NV_DefineSpace:
         return [defined_index(event)]
-    if event.code in (frames.CREATE_PRIMARY, frames.LOAD):
+    if event.code in (CC.CreatePrimary, CC.Load):
         return [event.answered]
-    if event.code == frames.EVICT_CONTROL:
+    if event.code == CC.EvictControl:
         return [event.read().next().number(4)]
-    if event.code == frames.STARTUP and event.read().next().number(2) == state.CLEAR:
+    if event.code == CC.Startup and event.read().next().number(2) == state.CLEAR:
         return [RH_PLATFORM]
-    if event.code == frames.CLEAR:
+    if event.code == CC.Clear:
         return [RH_OWNER, RH_ENDORSEMENT, RH_LOCKOUT]
     return []

@@ -4,6 +4,7 @@ import frames
 import general
 import lines
 import nv
+from commands import CC, NUMBERED
 from frames import KEYEDHASH, SHA1, SHA256
 from general import Fields
 from objects import Attribute
@@ -17,7 +18,7 @@ KINDS = {
 
 
 def command_name(code):
-    return lines.NAMES.get(code, f"{code:08x}")
+    return CC(code).name if code in NUMBERED else f"{code:08x}"
 
 
 def entity_words(handle):
@@ -33,11 +34,11 @@ def plural(count, word):
 
 def asserted_words(event):
     """An assertion as its line has it, without its session and entries."""
-    _, *kinds = lines.COMMANDS[command_name(event.code)]
     fields = Fields(event.parameters)
     handles = [entity_words(it) for it in event.handles[:-1]]
-    said = [command_name(event.code), *handles, *(kind.word(fields) for kind in kinds)]
-    if event.code == frames.POLICY_COMMAND_CODE:
+    parameters = [it.word(fields) for it in lines.words_of_parameters(event.code)]
+    said = [event.code.name, *handles, *parameters]
+    if event.code == CC.PolicyCommandCode:
         code = int.from_bytes(event.parameters, "big")
         said.append(f"({command_name(code)})")
     return " ".join(said)

@@ -22,6 +22,7 @@ import player
 import policy
 import start
 from auditor import Auditor
+from commands import CC
 from device import Device
 from general import Refusal
 from log import Disagreement, Log
@@ -147,10 +148,10 @@ WRONG = (
     (
         "a session begins with a digest",
         "policy_sessions",
-        in_rows(frames.START_AUTH_SESSION, keeps_a_digest),
+        in_rows(CC.StartAuthSession, keeps_a_digest),
     ),
     ("PCR 16 is saved too", "startup_state", in_device("restore_pcrs", restores_16_too)),
-    ("a counter begins at 1", "nv_counters", in_rows(frames.NV_INCREMENT, counts_from_1)),
+    ("a counter begins at 1", "nv_counters", in_rows(CC.NV_Increment, counts_from_1)),
     ("guesses are not counted", "lockout", in_lockout("count", lambda self, touched: None)),
     (
         "guesses are no guesses",

@@ -2,6 +2,7 @@
 
 import frames
 import general
+from commands import CC
 from frames import HMAC_SESSION, NV, PERSISTENT, POLICY_SESSION, TRANSIENT, number
 from general import Answer, Refusal
 from sessions import HASHES
@@ -33,9 +34,8 @@ PLACE_BITS = 0xFF_FFFF
 
 
 def command_attributes(code):
-    shape = general.SHAPES[code]
-    answered = ANSWERED_HANDLE if shape.answers_handle else 0
-    return code | len(shape.handles) << HANDLES_SHIFT | answered
+    answered = ANSWERED_HANDLE if code.answers_handle else 0
+    return code | len(code.handles) << HANDLES_SHIFT | answered
 
 
 class Commands:
@@ -60,7 +60,7 @@ class Commands:
         if capability == HANDLES:
             return [number(it, 4) for it in self.handles_from(wanted)]
         if capability == COMMANDS:
-            codes = sorted(it for it in general.SHAPES if it >= wanted)
+            codes = sorted(it for it in CC if it >= wanted)
             return [number(command_attributes(it), 4) for it in codes]
         if capability == PROPERTIES:
             properties = sorted(self.properties().items())
@@ -95,7 +95,7 @@ class Commands:
         lockout = self.lockout
         return {
             FAMILY_INDICATOR: FAMILY,
-            TOTAL_COMMANDS: number(len(general.SHAPES), 4),
+            TOTAL_COMMANDS: number(len(CC), 4),
             LOCKOUT_COUNTER: number(lockout.failed_tries, 4),
             MAX_AUTH_FAIL: number(lockout.max_tries, 4),
             LOCKOUT_INTERVAL: number(lockout.recovery_time, 4),

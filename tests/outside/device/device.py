@@ -4,6 +4,7 @@ It knows nothing of the product's code, and its rules are those of docs/table.
 """
 
 from dataclasses import dataclass
+from typing import Callable
 
 import aes
 import capability
@@ -19,6 +20,7 @@ import policy_commands
 import protection
 import sessions
 import state
+from commands import CC, Fact
 from frames import DECRYPT, ENCRYPT, RH_ENDORSEMENT, RH_LOCKOUT, RH_NULL, RH_OWNER, RH_PLATFORM
 from frames import RS_PW, TRANSIENT, number, sized
 from general import Answer, Fields, Refusal, Short
@@ -47,26 +49,6 @@ PLACE_BITS = 0xFF_FFFF
 
 # What a command is answered that is refused memory, MEMORY, and how its trace names that.
 STARVED, MEMORY_CHECK = frames.refusal(0x904), "M"
-
-# The successful commands that leave a saved state as it is, beside TPM2_Startup and TPM2_Shutdown,
-# which say themselves what becomes of it: those that only look, and those that only answer.
-KEEPING_SAVED = {
-    frames.STARTUP,
-    frames.SHUTDOWN,
-    frames.SELF_TEST,
-    frames.GET_CAPABILITY,
-    frames.GET_RANDOM,
-    frames.READ_CLOCK,
-    frames.PCR_READ,
-    frames.POLICY_GET_DIGEST,
-    frames.CREATE,
-    frames.READ_PUBLIC,
-    frames.UNSEAL,
-    frames.HMAC,
-    frames.NV_READ_PUBLIC,
-    frames.NV_READ,
-}
-
 
 @dataclass
 class Session:
@@ -174,7 +156,7 @@ class Device(
             self.lockout.count(refusal.touched)
             response = frames.refusal(frames.code_of(refusal.name))
             return Outcome(response, Row.of(buffer, refusal.check), refusal.name)
-        if command.code not in KEEPING_SAVED:
+        if not command.code.has(Fact.KEEPS_SAVED):
             self.saved = state.Saved.NONE
         self.tell(self.accepted(command, shown, plain, answer, random))
         return Outcome(self.success(command, answer, random), Row(command.code, "ok"))
@@ -192,7 +174,7 @@ class Device(
             for _, entry, handle in command.places()
         ]
         answered = int.from_bytes(answer.handle, "big") if answer.handle else None
-        is_loaded = command.code == frames.LOAD
+        is_loaded = command.code == CC.Load
         loaded = self.objects[answered].sensitive.auth_value if is_loaded else None
         return history.Accepted(
             *(command.code, command.handles, *shown, uses, plain),
@@ -337,7 +319,7 @@ class Device(
             session.algorithm, command.code, self.names(command), command.parameters
         )
         use = policy.Use(
-            *(command.code, command.shape.is_admin, cp_hash, self.written(handle)),
+            *(command.code, command.code.has(Fact.ADMIN), cp_hash, self.written(handle)),
             *(self.update_counter, locality),
         )
         policy.check_use(session, self.policy_entity(handle, command.code), use, place)
@@ -506,52 +488,5 @@ class Device(
         return Answer(sized(nonce_tpm), number(handle, 4), drawn=size)
 
 
-ROWS = {
-    frames.STARTUP: Device.startup,
-    frames.GET_RANDOM: Device.get_random,
-    frames.PCR_READ: Device.pcr_read,
-    frames.PCR_EXTEND: Device.pcr_extend,
-    frames.PCR_EVENT: Device.pcr_event,
-    frames.PCR_RESET: Device.pcr_reset,
-    frames.HIERARCHY_CHANGE_AUTH: Device.hierarchy_change_auth,
-    frames.FLUSH_CONTEXT: Device.flush_context,
-    frames.START_AUTH_SESSION: Device.start_auth_session,
-    frames.POLICY_RESTART: Device.policy_restart,
-    frames.POLICY_PCR: Device.policy_pcr,
-    frames.POLICY_OR: Device.policy_or,
-    frames.POLICY_AUTH_VALUE: Device.policy_auth_value,
-    frames.POLICY_PASSWORD: Device.policy_password,
-    frames.POLICY_COMMAND_CODE: Device.policy_command_code,
-    frames.POLICY_CP_HASH: Device.policy_cp_hash,
-    frames.POLICY_NV_WRITTEN: Device.policy_nv_written,
-    frames.POLICY_LOCALITY: Device.policy_locality,
-    frames.POLICY_SECRET: Device.policy_secret,
-    frames.POLICY_GET_DIGEST: Device.policy_get_digest,
-    frames.CREATE_PRIMARY: Device.create_primary,
-    frames.CREATE: Device.create,
-    frames.LOAD: Device.load,
-    frames.READ_PUBLIC: Device.read_public,
-    frames.UNSEAL: Device.unseal,
-    frames.HMAC: Device.hmac,
-    frames.NV_DEFINE_SPACE: Device.nv_define_space,
-    frames.NV_UNDEFINE_SPACE: Device.nv_undefine_space,
-    frames.NV_READ_PUBLIC: Device.nv_read_public,
-    frames.NV_WRITE: Device.nv_write,
-    frames.NV_INCREMENT: Device.nv_increment,
-    frames.NV_SET_BITS: Device.nv_set_bits,
-    frames.NV_EXTEND: Device.nv_extend,
-    frames.NV_READ: Device.nv_read,
-    frames.NV_WRITE_LOCK: Device.nv_write_lock,
-    frames.NV_READ_LOCK: Device.nv_read_lock,
-    frames.NV_CHANGE_AUTH: Device.nv_change_auth,
-    frames.POLICY_NV: Device.policy_nv,
-    frames.DICTIONARY_ATTACK_LOCK_RESET: Device.dictionary_attack_lock_reset,
-    frames.DICTIONARY_ATTACK_PARAMETERS: Device.dictionary_attack_parameters,
-    frames.SHUTDOWN: Device.shutdown,
-    frames.SELF_TEST: Device.self_test,
-    frames.GET_CAPABILITY: Device.get_capability,
-    frames.READ_CLOCK: Device.read_clock,
-    frames.EVICT_CONTROL: Device.evict_control,
-    frames.CLEAR: Device.clear,
-    frames.CLEAR_CONTROL: Device.clear_control,
-}
+# Each command is the method of its name.
+ROWS: dict[CC, Callable] = {it: getattr(Device, it.method_name) for it in CC}

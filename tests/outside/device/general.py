@@ -3,8 +3,10 @@ and the entries of its authorization area, in the order of docs/table/order_of_r
 """
 
 from dataclasses import dataclass
+from typing import Callable
 
 import frames
+from commands import CC, NUMBERED, Fact, HandleKind
 from frames import (
     AUDIT,
     AUDIT_EXCLUSIVE,
@@ -139,78 +141,28 @@ def is_entity(handle):
     return is_authorized_entity(handle) or is_null(handle)
 
 
-@dataclass(frozen=True)
-class Shape:
-    """The kinds of a command's handles, how many of them need authorization, whether it may have
-    sessions, whether its first parameter and its first answer are sized buffers, whether its
-    handle is authorized in the ADMIN role, and whether it answers a handle.
-    """
-
-    handles: tuple = ()
-    authorized: int = 0
-    sessions: bool = True
-    sized_parameter: bool = False
-    sized_answer: bool = False
-    is_admin: bool = False
-    answers_handle: bool = False
+def is_session(handle):
+    """The handle of a session of any type, whether that is there or not."""
+    return first_byte(handle) in (HMAC_SESSION, POLICY_SESSION)
 
 
-SHAPES = {
-    frames.STARTUP: Shape(sessions=False),
-    frames.GET_RANDOM: Shape(sized_answer=True),
-    frames.PCR_READ: Shape(),
-    frames.PCR_EXTEND: Shape((is_pcr_or_null,), 1),
-    frames.PCR_EVENT: Shape((is_pcr_or_null,), 1, sized_parameter=True),
-    frames.PCR_RESET: Shape((is_pcr,), 1),
-    frames.HIERARCHY_CHANGE_AUTH: Shape((is_hierarchy,), 1, sized_parameter=True),
-    frames.FLUSH_CONTEXT: Shape(sessions=False),
-    frames.START_AUTH_SESSION: Shape(
-        (is_null, is_entity), sized_parameter=True, sized_answer=True, answers_handle=True
-    ),
-    frames.POLICY_RESTART: Shape((is_policy,)),
-    frames.POLICY_PCR: Shape((is_policy,), sized_parameter=True),
-    frames.POLICY_OR: Shape((is_policy,)),
-    frames.POLICY_AUTH_VALUE: Shape((is_policy,)),
-    frames.POLICY_PASSWORD: Shape((is_policy,)),
-    frames.POLICY_COMMAND_CODE: Shape((is_policy,)),
-    frames.POLICY_CP_HASH: Shape((is_policy,), sized_parameter=True),
-    frames.POLICY_NV_WRITTEN: Shape((is_policy,)),
-    frames.POLICY_LOCALITY: Shape((is_policy,)),
-    frames.POLICY_SECRET: Shape(
-        (is_authorized_entity, is_policy), 1, sized_parameter=True, sized_answer=True
-    ),
-    frames.POLICY_GET_DIGEST: Shape((is_policy,), sized_answer=True),
-    frames.CREATE_PRIMARY: Shape(
-        (has_primaries,), 1, sized_parameter=True, sized_answer=True, answers_handle=True
-    ),
-    frames.CREATE: Shape((is_object,), 1, sized_parameter=True, sized_answer=True),
-    frames.LOAD: Shape(
-        (is_object,), 1, sized_parameter=True, sized_answer=True, answers_handle=True
-    ),
-    frames.READ_PUBLIC: Shape((is_object,), sized_answer=True),
-    frames.UNSEAL: Shape((is_object,), 1, sized_answer=True),
-    frames.HMAC: Shape((is_object,), 1, sized_parameter=True, sized_answer=True),
-    frames.NV_DEFINE_SPACE: Shape((defines_indices,), 1, sized_parameter=True),
-    frames.NV_UNDEFINE_SPACE: Shape((defines_indices, is_index), 1),
-    frames.NV_READ_PUBLIC: Shape((is_index,), sized_answer=True),
-    frames.NV_WRITE: Shape((uses_indices, is_index), 1, sized_parameter=True),
-    frames.NV_INCREMENT: Shape((uses_indices, is_index), 1),
-    frames.NV_SET_BITS: Shape((uses_indices, is_index), 1),
-    frames.NV_EXTEND: Shape((uses_indices, is_index), 1, sized_parameter=True),
-    frames.NV_READ: Shape((uses_indices, is_index), 1, sized_answer=True),
-    frames.NV_WRITE_LOCK: Shape((uses_indices, is_index), 1),
-    frames.NV_READ_LOCK: Shape((uses_indices, is_index), 1),
-    frames.NV_CHANGE_AUTH: Shape((is_index,), 1, sized_parameter=True, is_admin=True),
-    frames.POLICY_NV: Shape((uses_indices, is_index, is_policy), 1, sized_parameter=True),
-    frames.DICTIONARY_ATTACK_LOCK_RESET: Shape((is_lockout,), 1),
-    frames.DICTIONARY_ATTACK_PARAMETERS: Shape((is_lockout,), 1),
-    frames.SHUTDOWN: Shape(),
-    frames.SELF_TEST: Shape(),
-    frames.GET_CAPABILITY: Shape(),
-    frames.READ_CLOCK: Shape(sessions=False),
-    frames.EVICT_CONTROL: Shape((defines_indices, is_object), 1),
-    frames.CLEAR: Shape((clears,), 1),
-    frames.CLEAR_CONTROL: Shape((clears,), 1),
+# What a handle of each kind has to be.
+IS_OF_KIND: dict[HandleKind, Callable[[int], bool]] = {
+    HandleKind.PCR: is_pcr,
+    HandleKind.PCR_OR_NULL: is_pcr_or_null,
+    HandleKind.NULL: is_null,
+    HandleKind.HIERARCHY_OR_NULL: has_primaries,
+    HandleKind.HIERARCHY_AUTH: is_hierarchy,
+    HandleKind.LOCKOUT: is_lockout,
+    HandleKind.CLEAR: clears,
+    HandleKind.PROVISION: defines_indices,
+    HandleKind.ENTITY: is_authorized_entity,
+    HandleKind.ENTITY_OR_NULL: is_entity,
+    HandleKind.OBJECT: is_object,
+    HandleKind.NV_AUTH: uses_indices,
+    HandleKind.NV_INDEX: is_index,
+    HandleKind.POLICY: is_policy,
+    HandleKind.SESSION: is_session,
 }
 
 
@@ -231,18 +183,14 @@ class Command:
     `authorized` first ones is that of the entry in its place.
     """
 
-    code: int
+    code: CC
     handles: list
     entries: list
     parameters: bytes
 
-    @property
-    def shape(self):
-        return SHAPES[self.code]
-
     def places(self):
         """Each entry with its number and the handle that it authorizes, if any."""
-        authorized = self.handles[: self.shape.authorized]
+        authorized = self.handles[: self.code.authorized]
         for place, entry in enumerate(self.entries or [], 1):
             yield place, entry, authorized[place - 1] if place <= len(authorized) else None
 
@@ -271,19 +219,19 @@ def read_header(fields, length):
         raise Refusal("BAD_TAG", "G2")
     if size != length:
         raise Refusal("COMMAND_SIZE", "G3")
-    if code not in SHAPES:
+    if code not in NUMBERED:
         raise Refusal("COMMAND_CODE", "G4")
-    return tag, code
+    return tag, NUMBERED[code]
 
 
-def read_handles(fields, kinds, sessions, objects, indices):
+def read_handles(fields, wanted, sessions, objects, indices):
     handles = []
-    for place, is_of_kind in enumerate(kinds, 1):
+    for place, it in enumerate(wanted, 1):
         try:
             handle = fields.number(4)
         except Short:
             raise Refusal(f"INSUFFICIENT/h{place}", "G6") from None
-        if not is_of_kind(handle):
+        if not IS_OF_KIND[it.kind](handle):
             raise Refusal(f"VALUE/h{place}", "G6")
         if is_policy(handle) and handle not in sessions:
             raise Refusal(f"REFERENCE_H{place - 1}", "G6")
@@ -315,11 +263,11 @@ def read_area(fields):
 
 def check_entry(command, place, entry, handle, sessions):
     """What is wrong with an entry, whatever its hmac is."""
-    shape, before = command.shape, command.entries[: place - 1]
+    before = command.entries[: place - 1]
     if max(len(entry.nonce), len(entry.hmac)) > MOST_NONCE_OR_HMAC:
         raise Refusal(f"SIZE/s{place}", "G8")
     is_password = entry.handle == RS_PW
-    if not is_password and first_byte(entry.handle) not in (HMAC_SESSION, POLICY_SESSION):
+    if not is_password and not is_session(entry.handle):
         raise Refusal(f"VALUE/s{place}", "G8")
     if not is_password and entry.handle not in sessions:
         raise Refusal(f"REFERENCE_S{place - 1}", "G8")
@@ -333,8 +281,8 @@ def check_entry(command, place, entry, handle, sessions):
     if entry.attributes & (AUDIT_EXCLUSIVE | AUDIT_RESET | AUDIT):
         raise Refusal(f"ATTRIBUTES/s{place}", "G8")
     for attribute, has_buffer in (
-        (DECRYPT, shape.sized_parameter),
-        (ENCRYPT, shape.sized_answer),
+        (DECRYPT, command.code.takes_sized),
+        (ENCRYPT, command.code.answers_sized),
     ):
         taken = any(it.attributes & attribute for it in before)
         if entry.attributes & attribute and (is_password or taken or not has_buffer):
@@ -348,13 +296,12 @@ def decode(buffer, started, sessions, objects, indices):
     """The command of a buffer, or its first refusal that no authorization value decides."""
     fields = Fields(buffer)
     tag, code = read_header(fields, len(buffer))
-    shape = SHAPES[code]
-    if started == (code == frames.STARTUP):
+    if started == (code == CC.Startup):
         raise Refusal("INITIALIZE", "G5")
-    handles = read_handles(fields, shape.handles, sessions, objects, indices)
-    if tag == frames.SESSIONS and not shape.sessions:
+    handles = read_handles(fields, code.handles, sessions, objects, indices)
+    if tag == frames.SESSIONS and code.has(Fact.NO_SESSIONS):
         raise Refusal("AUTH_CONTEXT", "G7")
-    if tag == frames.NO_SESSIONS and shape.authorized:
+    if tag == frames.NO_SESSIONS and code.authorized:
         raise Refusal("AUTH_MISSING", "G7")
     entries = read_area(fields) if tag == frames.SESSIONS else None
     command = Command(code, handles, entries, fields.data)

@@ -14,6 +14,7 @@ import pcrs
 import policy
 import sessions
 import state
+from commands import CC
 from frames import RH_ENDORSEMENT, RH_LOCKOUT, RH_NULL, RH_OWNER, RH_PLATFORM, RS_PW, SHA1, SHA256
 from frames import number
 from general import PCRS
@@ -89,22 +90,22 @@ class Pcrs:
 
     def command(self, it):
         pcr = it.handles[0] if it.handles else None
-        if it.code == frames.STARTUP:
+        if it.code == CC.Startup:
             self.updates = 0
             if it.read().next().number(2) == state.STATE:
                 self.values |= {at: was for at, was in self.saved.items() if at[1] < 16}
-        elif it.code == frames.SHUTDOWN:
+        elif it.code == CC.Shutdown:
             self.saved = dict(self.values)
-        elif it.code == frames.CLEAR:
+        elif it.code == CC.Clear:
             self.updates += 1
         elif pcr == RH_NULL:
             pass
-        elif it.code == frames.PCR_EXTEND:
+        elif it.code == CC.PCR_Extend:
             self.extend(pcr, self.digests(it.read().next()))
-        elif it.code == frames.PCR_EVENT:
+        elif it.code == CC.PCR_Event:
             data = it.read().next().sized(pcrs.EVENT_BYTES)
             self.extend(pcr, [(bank, digest(bank, data)) for bank in (SHA1, SHA256)])
-        elif it.code == frames.PCR_RESET:
+        elif it.code == CC.PCR_Reset:
             for bank in (SHA1, SHA256):
                 self.set(bank, pcr, bytes(digest_bytes(bank)))
 
@@ -138,20 +139,20 @@ class AuthValues:
 
     def command(self, it):
         fields = it.read().next()
-        if it.code in (frames.HIERARCHY_CHANGE_AUTH, frames.NV_CHANGE_AUTH):
+        if it.code in (CC.HierarchyChangeAuth, CC.NV_ChangeAuth):
             self.values[it.handles[0]] = trimmed(fields.sized(DIGEST_BYTES))
-        elif it.code == frames.NV_DEFINE_SPACE:
+        elif it.code == CC.NV_DefineSpace:
             auth_value = trimmed(fields.sized(DIGEST_BYTES))
             self.values[defined_index(it)] = auth_value
-        elif it.code == frames.CREATE_PRIMARY:
+        elif it.code == CC.CreatePrimary:
             self.values[it.answered] = trimmed(objects.read_template(it.read()).user_auth)
-        elif it.code == frames.LOAD:
+        elif it.code == CC.Load:
             self.values[it.answered] = trimmed(it.loaded)
-        elif it.code == frames.EVICT_CONTROL:
+        elif it.code == CC.EvictControl:
             self.values[fields.number(4)] = self.of(it.handles[1])
-        elif it.code == frames.STARTUP and fields.number(2) == state.CLEAR:
+        elif it.code == CC.Startup and fields.number(2) == state.CLEAR:
             self.values[RH_PLATFORM] = b""
-        elif it.code == frames.CLEAR:
+        elif it.code == CC.Clear:
             self.values |= {it: b"" for it in (RH_OWNER, RH_ENDORSEMENT, RH_LOCKOUT)}
 
 
@@ -175,9 +176,9 @@ class Counters:
         pass
 
     def command(self, it):
-        if it.code == frames.NV_DEFINE_SPACE:
+        if it.code == CC.NV_DefineSpace:
             self.values.pop(defined_index(it), None)
-        elif it.code == frames.NV_INCREMENT:
+        elif it.code == CC.NV_Increment:
             value = self.values.get(it.handles[1], self.largest) + 1
             self.values[it.handles[1]] = value
             self.all.append(value)
@@ -214,11 +215,11 @@ class Sessions:
         self.live = {}
 
     def command(self, it, values, auth_values):
-        if it.code == frames.START_AUTH_SESSION:
+        if it.code == CC.StartAuthSession:
             self.live[it.answered] = self.started(it, auth_values)
-        elif it.code == frames.FLUSH_CONTEXT:
+        elif it.code == CC.FlushContext:
             self.live.pop(it.read().next().number(4), None)
-        elif it.code == frames.POLICY_RESTART:
+        elif it.code == CC.PolicyRestart:
             self.change(it.handles[0], restarted)
         elif it.code in ASSERTIONS:
             self.change(it.handles[-1], lambda session: asserted(it, session, values))
@@ -292,7 +293,7 @@ def or_asserted(it, algorithm, kind, old, values):
 
 
 def demand_asserted(it, algorithm, kind, old, values):
-    wants_password = it.code == frames.POLICY_PASSWORD
+    wants_password = it.code == CC.PolicyPassword
     demand = policy.PASSWORD if wants_password else policy.AUTH_VALUE
     return {"digest": policy.after_auth_value(algorithm, old), "demand": demand}
 
@@ -333,16 +334,16 @@ def nv_asserted(it, algorithm, kind, old, values):
 
 
 ASSERTIONS = {
-    frames.POLICY_PCR: pcr_asserted,
-    frames.POLICY_OR: or_asserted,
-    frames.POLICY_AUTH_VALUE: demand_asserted,
-    frames.POLICY_PASSWORD: demand_asserted,
-    frames.POLICY_COMMAND_CODE: command_code_asserted,
-    frames.POLICY_CP_HASH: cp_hash_asserted,
-    frames.POLICY_NV_WRITTEN: nv_written_asserted,
-    frames.POLICY_LOCALITY: locality_asserted,
-    frames.POLICY_SECRET: secret_asserted,
-    frames.POLICY_NV: nv_asserted,
+    CC.PolicyPCR: pcr_asserted,
+    CC.PolicyOR: or_asserted,
+    CC.PolicyAuthValue: demand_asserted,
+    CC.PolicyPassword: demand_asserted,
+    CC.PolicyCommandCode: command_code_asserted,
+    CC.PolicyCpHash: cp_hash_asserted,
+    CC.PolicyNvWritten: nv_written_asserted,
+    CC.PolicyLocality: locality_asserted,
+    CC.PolicySecret: secret_asserted,
+    CC.PolicyNV: nv_asserted,
 }
 
 

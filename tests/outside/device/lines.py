@@ -11,6 +11,7 @@ from typing import Callable
 
 import frames
 import general
+from commands import CC, NUMBERED, HandleKind, Kind
 from frames import AES, ALG_NULL, CONTINUE_SESSION, NO_SESSIONS, RS_PW, SESSIONS, SHA1, SHA256
 from frames import XOR, number, sized
 from general import Fields, Short
@@ -126,9 +127,9 @@ BEHIND_CIPHER = {ALG_NULL: 0, AES: 4, XOR: 2}
 
 
 @dataclass(frozen=True)
-class Kind:
-    """A kind of parameter: its name in docs/table, the bytes that a token spells, and the token of
-    what stands in front of fields.
+class Words:
+    """How a kind of parameter is said: its name in docs/table, the bytes that a token spells, and
+    the token of what stands in front of fields.
     """
 
     name: str
@@ -138,7 +139,7 @@ class Kind:
 
 def integer(size, shown="{}"):
     most = 2 ** (8 * size) - 1
-    return Kind(
+    return Words(
         f"u{8 * size}",
         lambda token: number(number_up_to(most, token), size),
         lambda fields: shown.format(fields.number(size)),
@@ -239,76 +240,56 @@ def cipher_word(fields):
     return word_in(CIPHERS, number(algorithm, 2) + behind)
 
 
-U8, U16, U32 = integer(1), integer(2), integer(4)
-
-# Sets of bits, codes and handles, which are shown in hex.
-BITS8, BITS64, CODE = integer(1, "{:#x}"), integer(8, "{:#x}"), integer(4, "{:#x}")
-HANDLE_NUMBER = integer(4, "{:#010x}")
-
-BUFFER = Kind("Buffer", spelled_buffer, buffer_word)
-LIST = Kind("Buffers", spelled_list, list_word)
-SELECTION = Kind("Selection", spelled_selection, selection_word)
-DIGESTS = Kind("Digests", spelled_digests, digests_word)
-CIPHER = Kind("Cipher", spelled_cipher, cipher_word)
-HASH = Kind(
-    "Hash",
-    lambda token: number(value_in(HASHES_OR_NULL, token), 2),
-    lambda fields: word_in(HASHES_OR_NULL, fields.number(2)),
-)
-
-
-# Commands: each one's code and the kinds of its parameters. Its handles are those of its shape.
-
-COMMANDS = {
-    "Startup": (frames.STARTUP, U16),
-    "Shutdown": (frames.SHUTDOWN, U16),
-    "SelfTest": (frames.SELF_TEST, U8),
-    "GetCapability": (frames.GET_CAPABILITY, CODE, CODE, U32),
-    "GetRandom": (frames.GET_RANDOM, U16),
-    "ReadClock": (frames.READ_CLOCK,),
-    "PCR_Extend": (frames.PCR_EXTEND, DIGESTS),
-    "PCR_Event": (frames.PCR_EVENT, BUFFER),
-    "PCR_Read": (frames.PCR_READ, SELECTION),
-    "PCR_Reset": (frames.PCR_RESET,),
-    "StartAuthSession": (frames.START_AUTH_SESSION, BUFFER, BUFFER, U8, CIPHER, HASH),
-    "FlushContext": (frames.FLUSH_CONTEXT, HANDLE_NUMBER),
-    "PolicyRestart": (frames.POLICY_RESTART,),
-    "PolicyPCR": (frames.POLICY_PCR, BUFFER, SELECTION),
-    "PolicyOR": (frames.POLICY_OR, LIST),
-    "PolicyAuthValue": (frames.POLICY_AUTH_VALUE,),
-    "PolicyPassword": (frames.POLICY_PASSWORD,),
-    "PolicyCommandCode": (frames.POLICY_COMMAND_CODE, CODE),
-    "PolicyCpHash": (frames.POLICY_CP_HASH, BUFFER),
-    "PolicyNvWritten": (frames.POLICY_NV_WRITTEN, U8),
-    "PolicyNV": (frames.POLICY_NV, BUFFER, U16, U16),
-    "PolicyLocality": (frames.POLICY_LOCALITY, BITS8),
-    "PolicySecret": (frames.POLICY_SECRET, BUFFER, BUFFER, BUFFER, U32),
-    "PolicyGetDigest": (frames.POLICY_GET_DIGEST,),
-    "CreatePrimary": (frames.CREATE_PRIMARY, BUFFER, BUFFER, BUFFER, SELECTION),
-    "Create": (frames.CREATE, BUFFER, BUFFER, BUFFER, SELECTION),
-    "Load": (frames.LOAD, BUFFER, BUFFER),
-    "ReadPublic": (frames.READ_PUBLIC,),
-    "Unseal": (frames.UNSEAL,),
-    "HMAC": (frames.HMAC, BUFFER, HASH),
-    "EvictControl": (frames.EVICT_CONTROL, HANDLE_NUMBER),
-    "HierarchyChangeAuth": (frames.HIERARCHY_CHANGE_AUTH, BUFFER),
-    "Clear": (frames.CLEAR,),
-    "ClearControl": (frames.CLEAR_CONTROL, U8),
-    "NV_DefineSpace": (frames.NV_DEFINE_SPACE, BUFFER, BUFFER),
-    "NV_UndefineSpace": (frames.NV_UNDEFINE_SPACE,),
-    "NV_ReadPublic": (frames.NV_READ_PUBLIC,),
-    "NV_Write": (frames.NV_WRITE, BUFFER, U16),
-    "NV_Increment": (frames.NV_INCREMENT,),
-    "NV_SetBits": (frames.NV_SET_BITS, BITS64),
-    "NV_Extend": (frames.NV_EXTEND, BUFFER),
-    "NV_Read": (frames.NV_READ, U16, U16),
-    "NV_WriteLock": (frames.NV_WRITE_LOCK,),
-    "NV_ReadLock": (frames.NV_READ_LOCK,),
-    "NV_ChangeAuth": (frames.NV_CHANGE_AUTH, BUFFER),
-    "DictionaryAttackLockReset": (frames.DICTIONARY_ATTACK_LOCK_RESET,),
-    "DictionaryAttackParameters": (frames.DICTIONARY_ATTACK_PARAMETERS, U32, U32, U32),
+# The words of each kind; sets of bits, codes and handles are shown in hex. A structure that is only
+# answered has none.
+WORDS: dict[Kind, Words] = {
+    Kind.U8: integer(1),
+    Kind.U16: integer(2),
+    Kind.U32: integer(4),
+    Kind.BITS8: integer(1, "{:#x}"),
+    Kind.BITS64: integer(8, "{:#x}"),
+    Kind.CODE: integer(4, "{:#x}"),
+    Kind.HANDLE: integer(4, "{:#010x}"),
+    Kind.BUFFER: Words("Buffer", spelled_buffer, buffer_word),
+    Kind.BUFFERS: Words("Buffers", spelled_list, list_word),
+    Kind.SELECTION: Words("Selection", spelled_selection, selection_word),
+    Kind.DIGESTS: Words("Digests", spelled_digests, digests_word),
+    Kind.CIPHER: Words("Cipher", spelled_cipher, cipher_word),
+    Kind.HASH: Words(
+        "Hash",
+        lambda token: number(value_in(HASHES_OR_NULL, token), 2),
+        lambda fields: word_in(HASHES_OR_NULL, fields.number(2)),
+    ),
 }
-NAMES = {code: name for name, (code, *_) in COMMANDS.items()}
+
+
+# How docs/LINES.md names a handle of each kind.
+HANDLE_WORDS: dict[HandleKind, str] = {
+    HandleKind.PCR: "PCR",
+    HandleKind.PCR_OR_NULL: "PCR",
+    HandleKind.NULL: "NULL",
+    HandleKind.HIERARCHY_OR_NULL: "Hierarchy",
+    HandleKind.HIERARCHY_AUTH: "Hierarchy",
+    HandleKind.LOCKOUT: "LOCKOUT",
+    HandleKind.CLEAR: "Hierarchy",
+    HandleKind.PROVISION: "Hierarchy",
+    HandleKind.ENTITY: "Entity",
+    HandleKind.ENTITY_OR_NULL: "Entity",
+    HandleKind.OBJECT: "Object",
+    HandleKind.NV_AUTH: "Entity",
+    HandleKind.NV_INDEX: "Index",
+    HandleKind.POLICY: "Policy",
+}
+
+
+def form_of(code: CC) -> str:
+    """The form of a command's line, as its section in docs/table has it."""
+    marks = ["@" * it.is_authorized + HANDLE_WORDS[it.kind] for it in code.handles]
+    return " ".join([code.name, *marks, *(it.name for it in words_of_parameters(code))])
+
+
+def words_of_parameters(code: CC) -> list[Words]:
+    return [WORDS[it.kind] for it in code.parameters]
 
 
 # Entries.
@@ -371,24 +352,23 @@ class Tokens:
             raise Fault(BAD_FIELD, self.column)
 
 
-def shape_of(token):
-    """The code of a command, how many handles it has, and its kinds of parameters."""
+def code_of(token):
+    """The command of a line's first token."""
     name = token.decode("ascii", "replace")
-    if name not in COMMANDS:
+    if name not in CC.__members__:
         raise Fault(BAD_NAME)
-    code, *kinds = COMMANDS[name]
-    return code, len(general.SHAPES[code].handles), kinds
+    return CC[name]
 
 
 def assemble(line):
     """The buffer of a line."""
     tokens = Tokens(line)
-    code, handle_count, kinds = tokens.take(shape_of)
-    handles = [number(tokens.take(handle_of), 4) for _ in range(handle_count)]
+    code = tokens.take(code_of)
+    handles = [number(tokens.take(handle_of), 4) for _ in code.handles]
     entries = []
     while len(entries) < general.MOST_ENTRIES and tokens.is_next(is_entry):
         entries.append(tokens.take(spelled_entry))
-    parameters = [tokens.take(kind.spelled) for kind in kinds]
+    parameters = [tokens.take(it.spelled) for it in words_of_parameters(code)]
     tokens.end()
 
     area = frames.area(*entries) if entries else b""
@@ -411,17 +391,15 @@ def line_of(buffer):
 def words_of(fields):
     tag = fields.number(2)
     fields.take(4)
-    code = fields.number(4)
-    if code not in NAMES:
+    code = NUMBERED.get(fields.number(4))
+    if code is None:
         raise NoWords
-    name = NAMES[code]
-    _, *kinds = COMMANDS[name]
-    handles = [handle_word(fields.number(4)) for _ in general.SHAPES[code].handles]
+    handles = [handle_word(fields.number(4)) for _ in code.handles]
     entries = []
     if tag == SESSIONS:
         entries = list(entry_words(Fields(fields.take(fields.number(4)))))
-    parameters = [kind.word(fields) for kind in kinds]
-    return [name, *handles, *entries, *parameters]
+    parameters = [it.word(fields) for it in words_of_parameters(code)]
+    return [code.name, *handles, *entries, *parameters]
 
 
 def entry_words(area):
@@ -437,6 +415,6 @@ def traced(outcome, locality, elapsed):
     """What is traced of a command's event: the name, the locality, the elapsed milliseconds, the
     check and the response code. A command that was refused before it was known has no name.
     """
-    name = NAMES.get(outcome.row.code, "?")
-    code = outcome.response[6:10].hex()
-    return f"{name} L{locality} +{elapsed} {outcome.row.check} {code}"
+    code = NUMBERED.get(outcome.row.code)
+    name = code.name if code else "?"
+    return f"{name} L{locality} +{elapsed} {outcome.row.check} {outcome.response[6:10].hex()}"

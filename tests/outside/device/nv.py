@@ -8,6 +8,7 @@ import enum
 from dataclasses import dataclass, replace
 
 import frames
+from commands import CC, Fact
 from frames import NV, RH_OWNER, RH_PLATFORM, number, sized
 from general import Answer, Refusal, first_byte
 from parameters import DIGEST_BYTES
@@ -76,9 +77,6 @@ NOT_DEFINED = (
     | Attribute.GLOBALLOCK
     | Attribute.ORDERLY
 )
-
-# The commands that ask for the attributes of reading; the others ask for those of writing.
-READING = frames.NV_READ, frames.NV_READ_LOCK, frames.POLICY_NV, frames.POLICY_SECRET
 
 
 def of_type(kind):
@@ -191,15 +189,15 @@ def check_definition(public, auth_value, hierarchy, indices):
 
 
 def takes_auth_value(public, code):
-    if code == frames.NV_CHANGE_AUTH:
+    if code == CC.NV_ChangeAuth:
         return False
-    return public.has(Attribute.AUTHREAD if code in READING else Attribute.AUTHWRITE)
+    return public.has(Attribute.AUTHREAD if code.has(Fact.READS_NV) else Attribute.AUTHWRITE)
 
 
 def takes_policy(public, code):
-    if code == frames.NV_CHANGE_AUTH:
+    if code == CC.NV_ChangeAuth:
         return True
-    return public.has(Attribute.POLICYREAD if code in READING else Attribute.POLICYWRITE)
+    return public.has(Attribute.POLICYREAD if code.has(Fact.READS_NV) else Attribute.POLICYWRITE)
 
 
 # Use.

@@ -6,18 +6,8 @@ is the digest before an assertion; a policy session and a trial session have the
 
 from dataclasses import dataclass
 
-from frames import (
-    POLICY_AUTH_VALUE,
-    POLICY_COMMAND_CODE,
-    POLICY_CP_HASH,
-    POLICY_LOCALITY,
-    POLICY_NV,
-    POLICY_NV_WRITTEN,
-    POLICY_OR,
-    POLICY_PCR,
-    POLICY_SECRET,
-    number,
-)
+from commands import CC
+from frames import number
 from general import Refusal
 from sessions import digest, digest_bytes
 
@@ -29,14 +19,6 @@ PASSWORD, AUTH_VALUE = "password", "authorization value"
 
 # How many digests TPM2_PolicyOR takes.
 LEAST_BRANCHES, MOST_BRANCHES = 2, 8
-
-# The commands that TPM2_PolicyCommandCode knows, which are all that are served.
-COMMANDS = {
-    *(0x120, 0x122, 0x126, 0x127, 0x129, 0x12A, 0x131, 0x134, 0x135, 0x136, 0x137, 0x138, 0x139),
-    *(0x13A, 0x13B, 0x13C, 0x13D, 0x143, 0x144, 0x145, 0x149, 0x14E, 0x14F, 0x151, 0x153, 0x155),
-    *(0x157, 0x15E, 0x165, 0x169, 0x16B, 0x16C, 0x16E, 0x16F, 0x171, 0x173, 0x176, 0x17A, 0x17B),
-    *(0x17E, 0x17F, 0x180, 0x181, 0x182, 0x189, 0x18C, 0x18F),
-}
 
 
 @dataclass
@@ -63,39 +45,39 @@ def starting_state(algorithm):
 
 def after_pcr(algorithm, old, selection, values_digest):
     """`selection` is the text of the selection, as it is sent."""
-    return digest(algorithm, old + number(POLICY_PCR, 4) + selection + values_digest)
+    return digest(algorithm, old + number(CC.PolicyPCR, 4) + selection + values_digest)
 
 
 def after_or(algorithm, branches):
     """What was before is one of the branches, and no more in the digest."""
     zeros = bytes(digest_bytes(algorithm))
-    return digest(algorithm, zeros + number(POLICY_OR, 4) + b"".join(branches))
+    return digest(algorithm, zeros + number(CC.PolicyOR, 4) + b"".join(branches))
 
 
 def after_auth_value(algorithm, old):
     """TPM2_PolicyPassword makes the same digest."""
-    return digest(algorithm, old + number(POLICY_AUTH_VALUE, 4))
+    return digest(algorithm, old + number(CC.PolicyAuthValue, 4))
 
 
 def after_command_code(algorithm, old, code):
-    return digest(algorithm, old + number(POLICY_COMMAND_CODE, 4) + number(code, 4))
+    return digest(algorithm, old + number(CC.PolicyCommandCode, 4) + number(code, 4))
 
 
 def after_cp_hash(algorithm, old, cp_hash):
-    return digest(algorithm, old + number(POLICY_CP_HASH, 4) + cp_hash)
+    return digest(algorithm, old + number(CC.PolicyCpHash, 4) + cp_hash)
 
 
 def after_nv_written(algorithm, old, is_written):
-    return digest(algorithm, old + number(POLICY_NV_WRITTEN, 4) + number(is_written, 1))
+    return digest(algorithm, old + number(CC.PolicyNvWritten, 4) + number(is_written, 1))
 
 
 def after_locality(algorithm, old, localities):
-    return digest(algorithm, old + number(POLICY_LOCALITY, 4) + number(localities, 1))
+    return digest(algorithm, old + number(CC.PolicyLocality, 4) + number(localities, 1))
 
 
 def after_secret(algorithm, old, name, policy_ref):
     """Of the Name of authHandle. Two hashes, also where policyRef is empty."""
-    named = digest(algorithm, old + number(POLICY_SECRET, 4) + name)
+    named = digest(algorithm, old + number(CC.PolicySecret, 4) + name)
     return digest(algorithm, named + policy_ref)
 
 
@@ -104,7 +86,7 @@ def after_nv(algorithm, old, arguments, name):
     that of the index.
     """
     compared = digest(algorithm, arguments)
-    return digest(algorithm, old + number(POLICY_NV, 4) + compared + name)
+    return digest(algorithm, old + number(CC.PolicyNV, 4) + compared + name)
 
 
 # A policy that authorizes.

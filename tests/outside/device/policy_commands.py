@@ -6,6 +6,7 @@ A trial session is told what need not be so.
 import frames
 import nv
 import policy
+from commands import NUMBERED
 from frames import number, sized
 from general import Answer, Refusal
 from parameters import DIGEST_BYTES
@@ -72,7 +73,7 @@ class Commands:
         told = session.policy
         if told.code not in (None, code):
             raise Refusal("VALUE/p1", "A1")
-        if code not in policy.COMMANDS:
+        if code not in NUMBERED:
             raise Refusal("POLICY_CC/p1", "A2")
         told.digest = policy.after_command_code(session.algorithm, told.digest, code)
         told.code = code

@@ -13,6 +13,7 @@ import hashlib
 
 import frames
 import state
+from commands import CC
 from device import Device
 from general import COMMAND_BYTES, HEADER_BYTES
 from image import Fault, image, open_image
@@ -39,7 +40,7 @@ def random_of(buffer):
 
 def without_times(buffer, response):
     """A response as it is compared."""
-    is_clock = buffer[6:10] == frames.number(frames.READ_CLOCK, 4)
+    is_clock = buffer[6:10] == frames.number(CC.ReadClock, 4)
     if is_clock and len(response) == CLOCK_ANSWER_BYTES:
         return response[: TIMES.start] + bytes(16) + response[TIMES.stop :]
     return response

@@ -6,7 +6,8 @@ import hashlib
 import paths
 
 import policy
-from frames import POLICY_NV, RH_OWNER, RH_PLATFORM, SHA256, number, selection
+from commands import CC
+from frames import RH_OWNER, RH_PLATFORM, SHA256, number, selection
 from nv import Attribute
 from nv_caller import NvCaller, counter
 from object_caller import HERE, sealed, storage_key
@@ -46,7 +47,7 @@ def policy_of(version):
     after_pcr = policy.after_pcr(SHA256, bytes(32), selection(*CHOSEN), values)
     compared = version_text(version) + number(0, 2) + number(LESS_OR_EQUAL, 2)
     compared = hashlib.sha256(compared).digest()
-    assertion = after_pcr + number(POLICY_NV, 4) + compared + caller.names[MINIMUM]
+    assertion = after_pcr + number(CC.PolicyNV, 4) + compared + caller.names[MINIMUM]
     return hashlib.sha256(assertion).digest()
 
 

@@ -10,6 +10,7 @@ import re
 import paths
 
 import lines
+from commands import CC
 
 LONG = "PolicyNV OWNER 01000000 03000000 pw:6f s:02000000:-:01:- s:02000001:aa:41:bb 0102 3 0x4"
 SHA1_DIGEST, SHA256_DIGEST = "11" * 20, "Aa" * 32
@@ -63,6 +64,7 @@ NAMES = (
     "DictionaryAttackLockReset LOCKOUT pw:-",
     "DictionaryAttackParameters LOCKOUT pw:- 3 1000 1000",
 )
+assert [it.partition(" ")[0] for it in NAMES] == [it.name for it in CC]
 
 
 def each(before, tokens, after=""):

@@ -11,8 +11,8 @@ from dataclasses import dataclass
 import paths
 
 import frames
-import general
 import lines
+from commands import CC
 from frames import ALG_NULL, KEYEDHASH, number
 from sessions import digest_bytes
 
@@ -132,31 +132,30 @@ def private_area(walk):
 
 # The parameters that hold them, each by its command and its place.
 STRUCTURES = {
-    (frames.CREATE_PRIMARY, 1): sensitive_create,
-    (frames.CREATE_PRIMARY, 2): public_area,
-    (frames.CREATE, 1): sensitive_create,
-    (frames.CREATE, 2): public_area,
-    (frames.LOAD, 1): private_area,
-    (frames.LOAD, 2): public_area,
-    (frames.NV_DEFINE_SPACE, 2): nv_public,
+    (CC.CreatePrimary, 1): sensitive_create,
+    (CC.CreatePrimary, 2): public_area,
+    (CC.Create, 1): sensitive_create,
+    (CC.Create, 2): public_area,
+    (CC.Load, 1): private_area,
+    (CC.Load, 2): public_area,
+    (CC.NV_DefineSpace, 2): nv_public,
 }
 
 
 def numbers(buffer):
     """The sizes and counts of a command behind its header."""
     walk = Walk(buffer)
-    tag, _, code = walk.number(2), walk.number(4), walk.number(4)
-    for _ in general.SHAPES[code].handles:
+    tag, _, code = walk.number(2), walk.number(4), CC(walk.number(4))
+    for _ in code.handles:
         walk.take(4)
     if tag == frames.SESSIONS:
         walk.entries()
-    _, *kinds = lines.COMMANDS[lines.NAMES[code]]
-    for place, kind in enumerate(kinds, 1):
+    for place, it in enumerate(code.parameters, 1):
         name, inside = f"parameter {place}", STRUCTURES.get((code, place))
         if inside:
             walk.sized(name, inside)
         else:
-            FORMS[kind.name](walk, name)
+            FORMS[lines.WORDS[it.kind].name](walk, name)
     assert walk.at == len(buffer)
     return walk.found
 

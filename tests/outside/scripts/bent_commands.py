@@ -10,7 +10,7 @@ import cut_commands
 import cut_nv_commands
 import cut_object_commands
 import cut_state_commands
-import general
+from commands import CC
 from looks import LookingScript
 
 HEAD = (
@@ -54,7 +54,7 @@ def bent(script, whole):
 
 def main():
     codes = {code_of(whole) for *_, cut in SCRIPTS for _, whole in commands_of(cut)}
-    assert codes == set(general.SHAPES), "a command that is served is not bent"
+    assert codes == set(CC), "a command that is served is not bent"
     for path, which, cut in SCRIPTS:
         head = HEAD.format(which=which)
         script = LookingScript(f"tests/{path}.tpm", head, cut.LISTED, "bent_commands")

@@ -5,7 +5,7 @@ or turned, and at times a byte of its text changed. And bent images.
 import paths  # first: it finds the device
 
 import frames
-import general
+from commands import CC
 from expected import buffer_of
 from image import BODY_AT, DIGEST_AT_END, HEAD_BYTES
 from script import line
@@ -77,7 +77,7 @@ def handle_within(random, buffer):
 
 
 def code(random, buffer):
-    return put(buffer, 6, frames.number(random.choice(list(general.SHAPES)), 4))
+    return put(buffer, 6, frames.number(random.choice(list(CC)), 4))
 
 
 def tag(random, buffer):

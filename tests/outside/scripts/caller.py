@@ -13,6 +13,7 @@ import frames
 import general
 import policy
 import sessions
+from commands import CC
 from frames import (
     AES,
     ALG_NULL,
@@ -31,36 +32,7 @@ from general import Entry, Fields
 from sessions import trimmed
 
 NONCE_BYTES = 16
-ON_A_HANDLE = (
-    frames.PCR_EXTEND,
-    frames.PCR_EVENT,
-    frames.PCR_RESET,
-    frames.HIERARCHY_CHANGE_AUTH,
-    frames.POLICY_SECRET,
-    frames.CREATE_PRIMARY,
-    frames.CREATE,
-    frames.LOAD,
-    frames.UNSEAL,
-    frames.HMAC,
-    frames.NV_DEFINE_SPACE,
-    frames.NV_UNDEFINE_SPACE,
-    frames.NV_WRITE,
-    frames.NV_INCREMENT,
-    frames.NV_SET_BITS,
-    frames.NV_EXTEND,
-    frames.NV_READ,
-    frames.NV_WRITE_LOCK,
-    frames.NV_READ_LOCK,
-    frames.NV_CHANGE_AUTH,
-    frames.POLICY_NV,
-    frames.DICTIONARY_ATTACK_LOCK_RESET,
-    frames.DICTIONARY_ATTACK_PARAMETERS,
-    frames.EVICT_CONTROL,
-    frames.CLEAR,
-    frames.CLEAR_CONTROL,
-)
-ANSWERING_A_HANDLE = (frames.START_AUTH_SESSION, frames.CREATE_PRIMARY, frames.LOAD)
-CHANGING_AN_AUTH_VALUE = (frames.HIERARCHY_CHANGE_AUTH, frames.NV_CHANGE_AUTH)
+CHANGING_AN_AUTH_VALUE = (CC.HierarchyChangeAuth, CC.NV_ChangeAuth)
 
 
 @dataclass
@@ -170,7 +142,7 @@ class Caller:
         handles, parameters = frames.start_auth_session(
             *(nonce, bind, algorithm, aes), kind=kind, xor=algorithm if xor else None
         )
-        start = self.prepare(frames.START_AUTH_SESSION, handles, parameters, *uses)
+        start = self.prepare(CC.StartAuthSession, handles, parameters, *uses)
         answer = self.accepted(what, start)
         return self.started(start, answer, nonce, bind, algorithm, kind, cipher)
 
@@ -198,7 +170,7 @@ class Caller:
     @staticmethod
     def authorized(code, handles, place):
         """The handle that the entry of a place authorizes, if any."""
-        return handles[0] if place == 1 and code in ON_A_HANDLE else None
+        return handles[place - 1] if place <= code.authorized else None
 
     def key(self, use, handle):
         """The key of an hmac. In an HMAC session the authorization value is in it, but where the
@@ -283,7 +255,7 @@ class Caller:
         tag, size, code = fields.number(2), fields.number(4), fields.number(4)
         assert (size, code) == (len(response), 0)
         assert tag == (frames.SESSIONS if prepared.entries else frames.NO_SESSIONS)
-        handle = fields.number(4) if prepared.code in ANSWERING_A_HANDLE else None
+        handle = fields.number(4) if prepared.code.answers_handle else None
         self.note_effect(prepared)
         if not prepared.entries:
             return handle, fields.data
@@ -356,22 +328,22 @@ class Caller:
     # The commands of most stories.
 
     def reset(self, *uses, pcr=16):
-        return self.prepare(frames.PCR_RESET, [pcr], b"", *uses)
+        return self.prepare(CC.PCR_Reset, [pcr], b"", *uses)
 
     def event(self, data, *uses, pcr=16):
-        return self.prepare(frames.PCR_EVENT, [pcr], sized(data), *uses)
+        return self.prepare(CC.PCR_Event, [pcr], sized(data), *uses)
 
     def random(self, count, *uses):
-        return self.prepare(frames.GET_RANDOM, [], number(count, 2), *uses)
+        return self.prepare(CC.GetRandom, [], number(count, 2), *uses)
 
     def change_auth(self, hierarchy, new, *uses):
-        return self.prepare(frames.HIERARCHY_CHANGE_AUTH, [hierarchy], sized(new), *uses)
+        return self.prepare(CC.HierarchyChangeAuth, [hierarchy], sized(new), *uses)
 
     def flush(self, session):
         handle = session.handle if isinstance(session, Session) else session
-        return self.prepare(frames.FLUSH_CONTEXT, [], number(handle, 4))
+        return self.prepare(CC.FlushContext, [], number(handle, 4))
 
     def read_pcr(self, pcr, *uses):
         return self.prepare(
-            frames.PCR_READ, [], frames.selection((frames.SHA1, [pcr]), (SHA256, [pcr])), *uses
+            CC.PCR_Read, [], frames.selection((frames.SHA1, [pcr]), (SHA256, [pcr])), *uses
         )

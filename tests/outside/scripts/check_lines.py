@@ -1,16 +1,14 @@
 #!/usr/bin/env python3
-"""Checks the `do` lines of all scripts under tests/ and examples/, and the lines of docs/table:
+"""Checks the `do` lines of all scripts under tests/ and examples/:
 
     python3 tests/outside/scripts/check_lines.py
 
 Each is assembled. Its buffer, taken apart as the device takes it apart and put together again by
 frames.py, must be the same, and the line that is found for the buffer must assemble to it. In a
 script that a program wrote, a `cmd` line must be one that no words say, unless the script says that
-its commands stand as bytes. In docs/table each command must have a line with as many handles, as
-many authorized ones, and the kinds of parameters that lines.py knows.
+its commands stand as bytes.
 """
 
-import re
 import sys
 
 import paths
@@ -23,9 +21,6 @@ from general import Fields
 AS_BYTES = "All commands stand as bytes"
 
 
-LINE_IN_TABLE = re.compile(r"^## TPM2_(\w+) \(\w+\)\n\nLine: `(.+)`\.\n\n", re.MULTILINE)
-
-
 def scripts():
     return sorted([*paths.TESTS.glob("*.tpm"), *(paths.TOP / "examples").glob("*.tpm")])
 
@@ -34,7 +29,7 @@ def put_together(buffer):
     """A buffer once more, from its parts as the device reads them."""
     fields = Fields(buffer)
     tag, code = general.read_header(fields, len(buffer))
-    handles = fields.take(4 * len(general.SHAPES[code].handles))
+    handles = fields.take(4 * len(code.handles))
     area = b""
     if tag == frames.SESSIONS:
         entries = general.read_area(fields)
@@ -61,26 +56,6 @@ def faults(text):
             yield number
 
 
-def lines_in_table():
-    """The line of each command in docs/table, by its name."""
-    pages = sorted((paths.TOP / "docs" / "table").glob("*.md"))
-    return dict(it for page in pages for it in LINE_IN_TABLE.findall(page.read_text("utf-8")))
-
-
-def is_line_of(name, line):
-    code, *kinds = lines.COMMANDS[name]
-    shape = general.SHAPES[code]
-    first, *words = line.split(" ")
-    handles, parameters = words[: len(shape.handles)], words[len(shape.handles) :]
-    authorized = [it for it in words if it.startswith("@")]
-    return (
-        first == name
-        and len(handles) == len(shape.handles)
-        and authorized == handles[: shape.authorized]
-        and parameters == [it.name for it in kinds]
-    )
-
-
 def main():
     checked = failed = 0
     for path in scripts():
@@ -91,12 +66,6 @@ def main():
             failed += 1
             print(f"{path.relative_to(paths.TOP)}:{number}")
         checked += sum(line.startswith("do ") for line in text.splitlines())
-    table = lines_in_table()
-    for name in lines.COMMANDS:
-        checked += 1
-        if name not in table or not is_line_of(name, table[name]):
-            failed += 1
-            print(f"docs/table: {name}")
     print(f"{checked} lines checked, {failed} wrong")
     return 1 if failed else 0
 

@@ -3,7 +3,8 @@
 
 import paths
 
-from frames import CLEAR, RH_ENDORSEMENT, RH_LOCKOUT, RH_NULL, RH_OWNER, RH_PLATFORM, SHA256
+from commands import CC
+from frames import RH_ENDORSEMENT, RH_LOCKOUT, RH_NULL, RH_OWNER, RH_PLATFORM, SHA256
 from frames import command, number, on_handle
 from nv import Attribute
 from nv_caller import BY_OWNER, BY_PLATFORM, BY_VALUE, FIRST, SECOND, THIRD, area, counter
@@ -70,21 +71,21 @@ def primary_of(what, hierarchy):
 
 
 def refusals():
-    says("Before TPM2_Startup", "INITIALIZE", on_handle(CLEAR, RH_PLATFORM))
+    says("Before TPM2_Startup", "INITIALIZE", on_handle(CC.Clear, RH_PLATFORM))
     script.startup()
-    says("No handle", "INSUFFICIENT/h1", command(CLEAR, b""))
+    says("No handle", "INSUFFICIENT/h1", command(CC.Clear, b""))
     says(
         "Who cannot clear",
         "VALUE/h1",
-        *(on_handle(CLEAR, it) for it in (RH_OWNER, RH_ENDORSEMENT, RH_NULL, 0, 0x8000_0000)),
+        *(on_handle(CC.Clear, it) for it in (RH_OWNER, RH_ENDORSEMENT, RH_NULL, 0, 0x8000_0000)),
     )
     for handle in (RH_LOCKOUT, RH_PLATFORM):
         words = "Without sessions" if handle == RH_LOCKOUT else ""
-        says(words, "AUTH_MISSING", command(CLEAR, number(handle, 4)))
+        says(words, "AUTH_MISSING", command(CC.Clear, number(handle, 4)))
     says(
         "A byte behind the handle",
         "SIZE",
-        *(on_handle(CLEAR, it, b"\0") for it in (RH_LOCKOUT, RH_PLATFORM)),
+        *(on_handle(CC.Clear, it, b"\0") for it in (RH_LOCKOUT, RH_PLATFORM)),
     )
     caller.fails("A wrong password", "BAD_AUTH/s1", caller.clearing(RH_PLATFORM, b"x"))
     policy = caller.policy("A policy session")
@@ -93,7 +94,7 @@ def refusals():
     says(
         "TPM2_Clear by the platform, and by lockoutAuth",
         "SUCCESS",
-        *(on_handle(CLEAR, it) for it in (RH_PLATFORM, RH_LOCKOUT)),
+        *(on_handle(CC.Clear, it) for it in (RH_PLATFORM, RH_LOCKOUT)),
     )
 
 

@@ -4,7 +4,8 @@
 import paths
 
 import frames
-from frames import CLEAR, CLEAR_CONTROL, CONTINUE_SESSION, DECRYPT, ENCRYPT, RH_ENDORSEMENT
+from commands import CC
+from frames import CONTINUE_SESSION, DECRYPT, ENCRYPT, RH_ENDORSEMENT
 from frames import RH_LOCKOUT, RH_NULL, RH_OWNER, RH_PLATFORM, command, number, on_handle
 from script import Script
 from state_caller import STATE, StateCaller, wrong
@@ -26,15 +27,15 @@ def says(what, outcome, *buffers):
 
 
 def control(handle, disables):
-    return on_handle(CLEAR_CONTROL, handle, number(disables, 1))
+    return on_handle(CC.ClearControl, handle, number(disables, 1))
 
 
 def clears(what):
-    says(what, "SUCCESS", *(on_handle(CLEAR, it) for it in BOTH))
+    says(what, "SUCCESS", *(on_handle(CC.Clear, it) for it in BOTH))
 
 
 def is_disabled(what):
-    says(what, "DISABLED", *(on_handle(CLEAR, it) for it in BOTH))
+    says(what, "DISABLED", *(on_handle(CC.Clear, it) for it in BOTH))
 
 
 def no_try(what):
@@ -47,15 +48,15 @@ def no_try(what):
 def refusals():
     says("Before TPM2_Startup", "INITIALIZE", control(RH_PLATFORM, YES))
     script.startup()
-    says("No handle", "INSUFFICIENT/h1", command(CLEAR_CONTROL, b""))
+    says("No handle", "INSUFFICIENT/h1", command(CC.ClearControl, b""))
     others = RH_OWNER, RH_ENDORSEMENT, RH_NULL, 0
     says("Who cannot clear", "VALUE/h1", *(control(it, YES) for it in others))
     says(
         "Without sessions",
         "AUTH_MISSING",
-        *(command(CLEAR_CONTROL, number(it, 4) + b"\1") for it in BOTH),
+        *(command(CC.ClearControl, number(it, 4) + b"\1") for it in BOTH),
     )
-    says("No parameter", "INSUFFICIENT/p1", *(on_handle(CLEAR_CONTROL, it) for it in BOTH))
+    says("No parameter", "INSUFFICIENT/p1", *(on_handle(CC.ClearControl, it) for it in BOTH))
     says(
         "Neither YES nor NO",
         "VALUE/p1",
@@ -64,7 +65,7 @@ def refusals():
     says(
         "A byte behind it, also of NO by lockoutAuth",
         "SIZE",
-        *(on_handle(CLEAR_CONTROL, handle, it) for handle in BOTH for it in (b"\0\0", b"\1\0")),
+        *(on_handle(CC.ClearControl, handle, it) for handle in BOTH for it in (b"\0\0", b"\1\0")),
     )
     policy = caller.policy("A policy session")
     caller.fails(
@@ -114,20 +115,20 @@ def order():
     says(
         "A byte behind the handle",
         "SIZE",
-        *(on_handle(CLEAR, it, b"\0") for it in BOTH),
+        *(on_handle(CC.Clear, it, b"\0") for it in BOTH),
     )
     wrong_password = [frames.entry(hmac=b"x")]
     says(
         "A wrong password of the platform",
         "BAD_AUTH/s1",
-        on_handle(CLEAR, RH_PLATFORM, b"", wrong_password),
+        on_handle(CC.Clear, RH_PLATFORM, b"", wrong_password),
     )
     says(
         "One of TPM_RH_LOCKOUT: a try, which is counted",
         "AUTH_FAIL/s1",
-        on_handle(CLEAR, RH_LOCKOUT, b"", wrong_password),
+        on_handle(CC.Clear, RH_LOCKOUT, b"", wrong_password),
     )
-    says("The right one", "LOCKOUT", on_handle(CLEAR, RH_LOCKOUT))
+    says("The right one", "LOCKOUT", on_handle(CC.Clear, RH_LOCKOUT))
     says("Of TPM2_ClearControl, too", "LOCKOUT", control(RH_LOCKOUT, NO), control(RH_LOCKOUT, YES))
     script.wait(1_000_000)
     is_disabled("Behind lockoutRecovery")

@@ -4,7 +4,8 @@
 import paths
 
 import frames
-from frames import READ_CLOCK, command, number
+from commands import CC
+from frames import command, number
 from script import Script
 from state_caller import CLEAR, STATE, StateCaller
 
@@ -33,17 +34,17 @@ def shut_down(kind):
 
 
 def refusals():
-    says("Before TPM2_Startup", "INITIALIZE", command(READ_CLOCK, b""))
+    says("Before TPM2_Startup", "INITIALIZE", command(CC.ReadClock, b""))
     script.startup()
     script.wait(5)
     is_now("Five milliseconds later", 5, 5, 1, 0)
-    says("A byte behind it", "SIZE", command(READ_CLOCK, b"\0"))
+    says("A byte behind it", "SIZE", command(CC.ReadClock, b"\0"))
     says(
         "With an authorization area, right or wrong",
         "AUTH_CONTEXT",
-        command(READ_CLOCK, frames.area(frames.entry()), frames.SESSIONS),
-        command(READ_CLOCK, number(0, 4), frames.SESSIONS),
-        command(READ_CLOCK, b"", frames.SESSIONS),
+        command(CC.ReadClock, frames.area(frames.entry()), frames.SESSIONS),
+        command(CC.ReadClock, number(0, 4), frames.SESSIONS),
+        command(CC.ReadClock, b"", frames.SESSIONS),
     )
     is_now("None of them took any time", 5, 5, 1, 0)
 

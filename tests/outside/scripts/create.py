@@ -7,10 +7,10 @@ import aes
 import frames
 import objects
 from caller import Use
+from commands import CC
 from frames import (
     ALG_NULL,
     CONTINUE_SESSION,
-    CREATE,
     DECRYPT,
     ENCRYPT,
     RH_ENDORSEMENT,
@@ -74,7 +74,7 @@ refused(
 script.command(
     "It has to be authorized: no sessions (tag 8001)",
     "AUTH_MISSING",
-    frames.command(CREATE, number(parent, 4)),
+    frames.command(CC.Create, number(parent, 4)),
 )
 refused("By another password", "BAD_AUTH/s1", under(parent, b"Parent"))
 guarded = caller.create_primary(

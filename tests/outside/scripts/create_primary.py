@@ -4,9 +4,9 @@
 import paths
 
 import frames
+from commands import CC
 from frames import (
     ALG_NULL,
-    CREATE_PRIMARY,
     RH_ENDORSEMENT,
     RH_LOCKOUT,
     RH_NULL,
@@ -59,21 +59,21 @@ jefe = "0008 0000 0004 4A656665 0010 0008 000B 00040440 0000 0005 000B 0000 0000
 script.command(
     "TPM2_CreatePrimary in TPM_RH_OWNER: the object is 80000000",
     "SUCCESS",
-    on_handle(CREATE_PRIMARY, RH_OWNER, bytes.fromhex(jefe)),
+    on_handle(CC.CreatePrimary, RH_OWNER, bytes.fromhex(jefe)),
 )
 FIRST = 0x8000_0000
 answer = script.command(
     'TPM2_HMAC of "what do ya want for nothing?" with SHA-256, which is test case 2 of RFC 4231',
     "SUCCESS",
-    on_handle(frames.HMAC, FIRST, sized(QUESTION) + number(SHA256, 2)),
+    on_handle(CC.HMAC, FIRST, sized(QUESTION) + number(SHA256, 2)),
 )
 assert mac(SHA256, b"Jefe", QUESTION) in answer
 script.command(
     "With SHA-1, which is not its scheme's",
     "VALUE/p2",
-    on_handle(frames.HMAC, FIRST, sized(QUESTION) + number(SHA1, 2)),
+    on_handle(CC.HMAC, FIRST, sized(QUESTION) + number(SHA1, 2)),
 )
-script.command("TPM2_Unseal: it is a key", "ATTRIBUTES/h1", on_handle(frames.UNSEAL, FIRST))
+script.command("TPM2_Unseal: it is a key", "ATTRIBUTES/h1", on_handle(CC.Unseal, FIRST))
 caller.says("It is flushed", "SUCCESS", caller.flush(FIRST))
 
 script.chapter("primaryHandle.")
@@ -92,7 +92,7 @@ caller.says(
 script.command(
     "It has to be authorized: no sessions (tag 8001)",
     "AUTH_MISSING",
-    frames.command(CREATE_PRIMARY, number(RH_OWNER, 4)),
+    frames.command(CC.CreatePrimary, number(RH_OWNER, 4)),
 )
 caller.accepted('The value of TPM_RH_OWNER is "owner"', caller.change_auth(RH_OWNER, b"owner", b""))
 refused("By the empty password", "BAD_AUTH/s1", RH_OWNER, storage_key(), b"")

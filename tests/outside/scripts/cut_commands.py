@@ -9,6 +9,7 @@ import paths
 
 import cuts
 import frames
+from commands import CC
 from cuts import AREA, HANDLE
 from frames import SHA1, SHA256, area, command, digests, entry, number, on_handle, sized
 
@@ -31,7 +32,7 @@ BY_DECRYPTING = [entry(SESSION, bytes(16), frames.CONTINUE_SESSION | frames.DECR
 # A session that masks, instead of encrypting.
 HANDLES, PARAMETERS = frames.start_auth_session(bytes(16), xor=SHA256)
 START_XOR = command(
-    frames.START_AUTH_SESSION, b"".join(number(it, 4) for it in HANDLES) + PARAMETERS
+    CC.StartAuthSession, b"".join(number(it, 4) for it in HANDLES) + PARAMETERS
 )
 
 # Three entries. The last session ends when they are accepted.
@@ -39,14 +40,14 @@ OTHER = 0x0200_0001
 BY_THREE = [entry(), *BY_SESSION, entry(OTHER, nonce=bytes(16), attributes=0)]
 HANDLES, PARAMETERS = frames.start_auth_session(bytes(16), aes=True)
 START = command(
-    frames.START_AUTH_SESSION, b"".join(number(it, 4) for it in HANDLES) + PARAMETERS
+    CC.StartAuthSession, b"".join(number(it, 4) for it in HANDLES) + PARAMETERS
 )
 
 # A trial session, which has the place of the one above when that has ended.
 TRIAL = 0x0300_0000
 HANDLES, PARAMETERS = frames.start_auth_session(bytes(16), kind=frames.SE_TRIAL)
 START_TRIAL = command(
-    frames.START_AUTH_SESSION, b"".join(number(it, 4) for it in HANDLES) + PARAMETERS
+    CC.StartAuthSession, b"".join(number(it, 4) for it in HANDLES) + PARAMETERS
 )
 POLICY_HANDLE = (14, "within policySession", "INSUFFICIENT/h1")
 
@@ -55,7 +56,7 @@ def secret(password):
     """TPM2_PolicySecret of TPM_RH_OWNER."""
     body = number(frames.RH_OWNER, 4) + number(TRIAL, 4) + area(entry(hmac=password))
     body += frames.policy_secret(b"nonce", bytes(32), b"policyRef")
-    return command(frames.POLICY_SECRET, body, frames.SESSIONS)
+    return command(CC.PolicySecret, body, frames.SESSIONS)
 
 
 
@@ -67,49 +68,49 @@ COMMANDS = [
     cuts.STARTUP,
     (
         "TPM2_GetRandom of 32 bytes",
-        command(frames.GET_RANDOM, number(32, 2)),
+        command(CC.GetRandom, number(32, 2)),
         [(12, "within bytesRequested", "INSUFFICIENT/p1")],
         "SUCCESS",
     ),
     (
         "TPM2_PCR_Read of a bank",
-        command(frames.PCR_READ, frames.selection((SHA256, range(24)))),
+        command(CC.PCR_Read, frames.selection((SHA256, range(24)))),
         [(20, "within its selection", "INSUFFICIENT/p1")],
         "SUCCESS",
     ),
     (
         "TPM2_PCR_Read of two banks",
-        command(frames.PCR_READ, frames.selection((SHA1, [0]), (SHA256, [23]))),
+        command(CC.PCR_Read, frames.selection((SHA1, [0]), (SHA256, [23]))),
         [(26, "within its selection", "INSUFFICIENT/p1")],
         "SUCCESS",
     ),
     (
         "TPM2_PCR_Extend by a digest",
-        on_handle(frames.PCR_EXTEND, 10, digests((SHA256, bytes(32)))),
+        on_handle(CC.PCR_Extend, 10, digests((SHA256, bytes(32)))),
         [HANDLE, AREA, (65, "within its digests", "INSUFFICIENT/p1")],
         "SUCCESS",
     ),
     (
         "TPM2_PCR_Extend by two digests",
-        on_handle(frames.PCR_EXTEND, 10, digests((SHA1, bytes(20)), (SHA256, bytes(32)))),
+        on_handle(CC.PCR_Extend, 10, digests((SHA1, bytes(20)), (SHA256, bytes(32)))),
         [HANDLE, AREA, (87, "within its digests", "INSUFFICIENT/p1")],
         "SUCCESS",
     ),
     (
         'TPM2_PCR_Event of "abc"',
-        on_handle(frames.PCR_EVENT, 10, sized(b"abc")),
+        on_handle(CC.PCR_Event, 10, sized(b"abc")),
         [HANDLE, AREA, (32, "within its data", "INSUFFICIENT/p1")],
         "SUCCESS",
     ),
     (
         "TPM2_PCR_Reset of PCR 16",
-        on_handle(frames.PCR_RESET, 16),
+        on_handle(CC.PCR_Reset, 16),
         [HANDLE, AREA],
         "SUCCESS",
     ),
     (
         'TPM2_HierarchyChangeAuth to "abc"',
-        on_handle(frames.HIERARCHY_CHANGE_AUTH, frames.RH_OWNER, sized(b"abc")),
+        on_handle(CC.HierarchyChangeAuth, frames.RH_OWNER, sized(b"abc")),
         [HANDLE, AREA, (32, "within newAuth", "INSUFFICIENT/p1")],
         "SUCCESS",
     ),
@@ -129,13 +130,13 @@ COMMANDS = [
     ),
     (
         "TPM2_PCR_Reset by that session",
-        on_handle(frames.PCR_RESET, 16, b"", BY_SESSION),
+        on_handle(CC.PCR_Reset, 16, b"", BY_SESSION),
         [HANDLE, (43, "within the authorization area", "AUTHSIZE")],
         "SUCCESS",
     ),
     (
         "TPM2_PCR_Event by it, where it decrypts",
-        on_handle(frames.PCR_EVENT, 10, sized(b"abc"), BY_DECRYPTING),
+        on_handle(CC.PCR_Event, 10, sized(b"abc"), BY_DECRYPTING),
         [
             HANDLE,
             (43, "within the authorization area", "AUTHSIZE"),
@@ -146,13 +147,13 @@ COMMANDS = [
     ("TPM2_StartAuthSession of another session", START, [], "SUCCESS"),
     (
         "TPM2_PCR_Reset by the password, with both sessions, the second of which ends",
-        on_handle(frames.PCR_RESET, 16, b"", BY_THREE),
+        on_handle(CC.PCR_Reset, 16, b"", BY_THREE),
         [HANDLE, (77, "within the authorization area", "AUTHSIZE")],
         "SUCCESS",
     ),
     (
         "TPM2_FlushContext",
-        command(frames.FLUSH_CONTEXT, number(SESSION, 4)),
+        command(CC.FlushContext, number(SESSION, 4)),
         [(14, "within flushHandle", "INSUFFICIENT/p1")],
         "SUCCESS",
     ),
@@ -172,7 +173,7 @@ COMMANDS = [
     ),
     (
         "TPM2_PolicyPCR of two banks",
-        policy(frames.POLICY_PCR, sized(bytes(20)) + frames.selection((SHA1, [0]), (SHA256, [1]))),
+        policy(CC.PolicyPCR, sized(bytes(20)) + frames.selection((SHA1, [0]), (SHA256, [1]))),
         [
             POLICY_HANDLE,
             (36, "within pcrDigest", "INSUFFICIENT/p1"),
@@ -182,21 +183,21 @@ COMMANDS = [
     ),
     (
         "TPM2_PolicyOR",
-        policy(frames.POLICY_OR, frames.sized_list(bytes(20), b"", bytes(32))),
+        policy(CC.PolicyOR, frames.sized_list(bytes(20), b"", bytes(32))),
         [POLICY_HANDLE, (76, "within its digests", "INSUFFICIENT/p1")],
         "SUCCESS",
     ),
-    ("TPM2_PolicyAuthValue", policy(frames.POLICY_AUTH_VALUE), [POLICY_HANDLE], "SUCCESS"),
-    ("TPM2_PolicyPassword", policy(frames.POLICY_PASSWORD), [POLICY_HANDLE], "SUCCESS"),
+    ("TPM2_PolicyAuthValue", policy(CC.PolicyAuthValue), [POLICY_HANDLE], "SUCCESS"),
+    ("TPM2_PolicyPassword", policy(CC.PolicyPassword), [POLICY_HANDLE], "SUCCESS"),
     (
         "TPM2_PolicyCommandCode of Unseal",
-        policy(frames.POLICY_COMMAND_CODE, number(frames.UNSEAL, 4)),
+        policy(CC.PolicyCommandCode, number(CC.Unseal, 4)),
         [POLICY_HANDLE, (18, "within code", "INSUFFICIENT/p1")],
         "SUCCESS",
     ),
     (
         "TPM2_PolicyLocality of locality 0",
-        policy(frames.POLICY_LOCALITY, b"\1"),
+        policy(CC.PolicyLocality, b"\1"),
         [POLICY_HANDLE, (15, "before locality", "INSUFFICIENT/p1")],
         "SUCCESS",
     ),
@@ -225,11 +226,11 @@ COMMANDS = [
         ],
         "SUCCESS",
     ),
-    ("TPM2_PolicyGetDigest", policy(frames.POLICY_GET_DIGEST), [POLICY_HANDLE], "SUCCESS"),
-    ("TPM2_PolicyRestart", policy(frames.POLICY_RESTART), [POLICY_HANDLE], "SUCCESS"),
+    ("TPM2_PolicyGetDigest", policy(CC.PolicyGetDigest), [POLICY_HANDLE], "SUCCESS"),
+    ("TPM2_PolicyRestart", policy(CC.PolicyRestart), [POLICY_HANDLE], "SUCCESS"),
     (
         "TPM2_GetRandom with a password",
-        command(frames.GET_RANDOM, area(entry()) + number(4, 2), frames.SESSIONS),
+        command(CC.GetRandom, area(entry()) + number(4, 2), frames.SESSIONS),
         [
             (23, "within the authorization area", "AUTHSIZE"),
             (25, "behind the authorization area", "HANDLE/s1"),
@@ -238,19 +239,19 @@ COMMANDS = [
     ),
     (
         "TPM2_PolicyCpHash",
-        policy(frames.POLICY_CP_HASH, sized(bytes(range(32)))),
+        policy(CC.PolicyCpHash, sized(bytes(range(32)))),
         [POLICY_HANDLE, (48, "within cpHashA", "INSUFFICIENT/p1")],
         "SUCCESS",
     ),
     (
         "TPM2_PolicyNvWritten of an index that is not written",
-        policy(frames.POLICY_NV_WRITTEN, b"\0"),
+        policy(CC.PolicyNvWritten, b"\0"),
         [POLICY_HANDLE, (15, "before writtenSet", "INSUFFICIENT/p1")],
         "SUCCESS",
     ),
     (
         "TPM2_FlushContext of it",
-        command(frames.FLUSH_CONTEXT, number(TRIAL, 4)),
+        command(CC.FlushContext, number(TRIAL, 4)),
         [],
         "SUCCESS",
     ),
@@ -270,7 +271,7 @@ COMMANDS = [
     ),
     (
         "TPM2_PCR_Event by that session, where it decrypts",
-        on_handle(frames.PCR_EVENT, 10, sized(b"abc"), BY_DECRYPTING),
+        on_handle(CC.PCR_Event, 10, sized(b"abc"), BY_DECRYPTING),
         [
             HANDLE,
             (43, "within the authorization area", "AUTHSIZE"),

@@ -8,6 +8,7 @@ import paths
 import frames
 import policy
 from caller import Prepared, Session, Use
+from commands import CC
 from cuts import HEADER_BYTES, with_size
 from frames import CONTINUE_SESSION, DECRYPT, RH_LOCKOUT, RH_OWNER, SHA1, SHA256, sized
 from grounds_caller import GroundsCaller
@@ -170,12 +171,12 @@ def of_what_is_left(session: Session) -> None:
     ):
         script.chapter(f"{words} is right: so the parameters are refused, and that is no try.")
         for left in range(len(whole)):
-            prepared = caller.prepare(frames.NV_WRITE, [FIRST, FIRST], whole[:left], use)
+            prepared = caller.prepare(CC.NV_Write, [FIRST, FIRST], whole[:left], use)
             outcome = f"INSUFFICIENT/{'p1' if left in in_data else 'p2'}"
             refused(f"{left} bytes are left", outcome, NO_TRY, prepared.buffer())
     script.chapter("A wrong password is a try, whatever is left.")
     for left in range(len(whole)):
-        prepared = caller.prepare(frames.NV_WRITE, [FIRST, FIRST], whole[:left], b"x")
+        prepared = caller.prepare(CC.NV_Write, [FIRST, FIRST], whole[:left], b"x")
         refused_alone(f"{left} bytes are left", "AUTH_FAIL/s1", TRY, prepared.buffer())
 
 

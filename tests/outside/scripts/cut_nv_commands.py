@@ -7,6 +7,7 @@ import cuts
 import frames
 import nv
 import policy
+from commands import CC
 from cuts import AREA, HANDLE
 from frames import RH_OWNER, SHA256, command, entry, number, on_handle, on_handles, sized
 from nv import Attribute, Type
@@ -23,7 +24,7 @@ ORDINARY, COUNTER, BITS, EXTENDED = range(0x0100_0001, 0x0100_0005)
 SESSION = 0x0300_0000
 OWNERS = Attribute.OWNERWRITE | Attribute.OWNERREAD
 LOCKS = Attribute.WRITE_STCLEAR | Attribute.READ_STCLEAR
-CHANGING = policy.after_command_code(SHA256, bytes(32), frames.NV_CHANGE_AUTH)
+CHANGING = policy.after_command_code(SHA256, bytes(32), CC.NV_ChangeAuth)
 
 # Two handles, and the area with one empty password behind them.
 NV_HANDLES = [
@@ -41,7 +42,7 @@ def defining(index, kind, size=nv.NUMBER_BYTES, attributes=OWNERS, auth_policy=b
         (AREA[0] + 3, "within auth", "INSUFFICIENT/p1"),
         (AREA[0] + len(parameters), "within publicInfo", "INSUFFICIENT/p2"),
     ]
-    buffer = on_handle(frames.NV_DEFINE_SPACE, RH_OWNER, parameters)
+    buffer = on_handle(CC.NV_DefineSpace, RH_OWNER, parameters)
     return buffer, [HANDLE, AREA, *pieces], "SUCCESS"
 
 
@@ -54,7 +55,7 @@ def by_owner(code, index, parameters=b"", *pieces):
 def session_start():
     handles, parameters = frames.start_auth_session(bytes(16), kind=frames.SE_POLICY)
     return command(
-        frames.START_AUTH_SESSION, b"".join(number(it, 4) for it in handles) + parameters
+        CC.StartAuthSession, b"".join(number(it, 4) for it in handles) + parameters
     )
 
 
@@ -69,14 +70,14 @@ COMMANDS = [
     ("Of an index that is extended", *defining(EXTENDED, Type.EXTEND, 32)),
     (
         "TPM2_NV_ReadPublic",
-        command(frames.NV_READ_PUBLIC, number(ORDINARY, 4)),
+        command(CC.NV_ReadPublic, number(ORDINARY, 4)),
         [(14, "within nvIndex", "INSUFFICIENT/h1")],
         "SUCCESS",
     ),
     (
         "TPM2_NV_Write",
         *by_owner(
-            frames.NV_WRITE,
+            CC.NV_Write,
             ORDINARY,
             frames.nv_write(b"abc", 2),
             (36, "within data", "INSUFFICIENT/p1"),
@@ -86,31 +87,31 @@ COMMANDS = [
     (
         "TPM2_NV_Read",
         *by_owner(
-            frames.NV_READ,
+            CC.NV_Read,
             ORDINARY,
             frames.nv_read(8),
             (33, "within size", "INSUFFICIENT/p1"),
             (35, "within offset", "INSUFFICIENT/p2"),
         ),
     ),
-    ("TPM2_NV_Increment", *by_owner(frames.NV_INCREMENT, COUNTER)),
+    ("TPM2_NV_Increment", *by_owner(CC.NV_Increment, COUNTER)),
     (
         "TPM2_NV_SetBits",
         *by_owner(
-            frames.NV_SET_BITS, BITS, number(5, 8), (39, "within bits", "INSUFFICIENT/p1")
+            CC.NV_SetBits, BITS, number(5, 8), (39, "within bits", "INSUFFICIENT/p1")
         ),
     ),
     (
         "TPM2_NV_Extend",
         *by_owner(
-            frames.NV_EXTEND, EXTENDED, sized(b"abc"), (36, "within data", "INSUFFICIENT/p1")
+            CC.NV_Extend, EXTENDED, sized(b"abc"), (36, "within data", "INSUFFICIENT/p1")
         ),
     ),
     ("TPM2_StartAuthSession of a policy session", session_start(), [], "SUCCESS"),
     (
         "TPM2_PolicyNV: the index is FFFF616263FFFFFF",
         on_handles(
-            frames.POLICY_NV, [RH_OWNER, ORDINARY, SESSION], frames.policy_nv(b"abc", 2, 0)
+            CC.PolicyNV, [RH_OWNER, ORDINARY, SESSION], frames.policy_nv(b"abc", 2, 0)
         ),
         [
             *NV_HANDLES,
@@ -124,20 +125,20 @@ COMMANDS = [
     ),
     (
         "TPM2_PolicyRestart",
-        command(frames.POLICY_RESTART, number(SESSION, 4)),
+        command(CC.PolicyRestart, number(SESSION, 4)),
         [],
         "SUCCESS",
     ),
     (
         "TPM2_PolicyCommandCode of TPM2_NV_ChangeAuth",
-        command(frames.POLICY_COMMAND_CODE, number(SESSION, 4) + number(frames.NV_CHANGE_AUTH, 4)),
+        command(CC.PolicyCommandCode, number(SESSION, 4) + number(CC.NV_ChangeAuth, 4)),
         [],
         "SUCCESS",
     ),
     (
         "TPM2_NV_ChangeAuth by the session, which is bound to nothing and has no hmac",
         on_handle(
-            frames.NV_CHANGE_AUTH, ORDINARY, sized(b"abc"), [entry(SESSION, nonce=bytes(16))]
+            CC.NV_ChangeAuth, ORDINARY, sized(b"abc"), [entry(SESSION, nonce=bytes(16))]
         ),
         [
             (14, "within nvIndex", "INSUFFICIENT/h1"),
@@ -146,9 +147,9 @@ COMMANDS = [
         ],
         "SUCCESS",
     ),
-    ("TPM2_NV_WriteLock", *by_owner(frames.NV_WRITE_LOCK, ORDINARY)),
-    ("TPM2_NV_ReadLock", *by_owner(frames.NV_READ_LOCK, ORDINARY)),
-    ("TPM2_NV_UndefineSpace", *by_owner(frames.NV_UNDEFINE_SPACE, ORDINARY)),
+    ("TPM2_NV_WriteLock", *by_owner(CC.NV_WriteLock, ORDINARY)),
+    ("TPM2_NV_ReadLock", *by_owner(CC.NV_ReadLock, ORDINARY)),
+    ("TPM2_NV_UndefineSpace", *by_owner(CC.NV_UndefineSpace, ORDINARY)),
 ]
 
 

@@ -6,6 +6,7 @@ import paths
 import cuts
 import frames
 import objects
+from commands import CC
 from cuts import AREA, HANDLE
 from device import MANUFACTURED
 from frames import SHA256, command, entry, number, on_handle, sized
@@ -72,19 +73,19 @@ COMMANDS = [
     cuts.STARTUP,
     (
         "TPM2_CreatePrimary of a storage key",
-        on_handle(frames.CREATE_PRIMARY, frames.RH_OWNER, PRIMARY),
+        on_handle(CC.CreatePrimary, frames.RH_OWNER, PRIMARY),
         [HANDLE, AREA, *creating(AREA[0], PRIMARY)],
         "SUCCESS",
     ),
     (
         "TPM2_Create of sealed data",
-        on_object(frames.CREATE, PARENT, SEALED),
+        on_object(CC.Create, PARENT, SEALED),
         [HANDLE, AREA_ABC, *creating(AREA_ABC[0], SEALED)],
         "SUCCESS",
     ),
     (
         "TPM2_Load of what was created",
-        on_object(frames.LOAD, PARENT, LOADED),
+        on_object(CC.Load, PARENT, LOADED),
         [
             HANDLE,
             AREA_ABC,
@@ -95,31 +96,31 @@ COMMANDS = [
     ),
     (
         "TPM2_ReadPublic",
-        command(frames.READ_PUBLIC, number(CHILD, 4)),
+        command(CC.ReadPublic, number(CHILD, 4)),
         [(14, "within objectHandle", "INSUFFICIENT/h1")],
         "SUCCESS",
     ),
     (
         "TPM2_Unseal",
-        on_object(frames.UNSEAL, CHILD),
+        on_object(CC.Unseal, CHILD),
         [HANDLE, AREA_ABC],
         "SUCCESS",
     ),
     (
         "TPM2_FlushContext of it",
-        command(frames.FLUSH_CONTEXT, number(CHILD, 4)),
+        command(CC.FlushContext, number(CHILD, 4)),
         [(14, "within flushHandle", "INSUFFICIENT/p1")],
         "SUCCESS",
     ),
     (
         "TPM2_CreatePrimary of an HMAC key",
-        on_handle(frames.CREATE_PRIMARY, frames.RH_OWNER, KEY),
+        on_handle(CC.CreatePrimary, frames.RH_OWNER, KEY),
         [HANDLE, AREA, *creating(AREA[0], KEY)],
         "SUCCESS",
     ),
     (
         "TPM2_HMAC by it",
-        on_object(frames.HMAC, CHILD, sized(b"data") + number(SHA256, 2)),
+        on_object(CC.HMAC, CHILD, sized(b"data") + number(SHA256, 2)),
         [
             HANDLE,
             AREA_ABC,

@@ -7,6 +7,7 @@ import paths
 
 import cuts
 import frames
+from commands import CC
 from cuts import AREA, HANDLE
 from frames import RH_LOCKOUT, RH_OWNER, RH_PLATFORM, command, number, on_handle, on_handles, sized
 from object_caller import storage_key
@@ -23,7 +24,7 @@ LISTED = frames.PERSISTENT
 OBJECT, KEPT = 0x8000_0000, 0x8100_0000
 
 PRIMARY = on_handle(
-    frames.CREATE_PRIMARY,
+    CC.CreatePrimary,
     RH_OWNER,
     frames.creation(frames.sensitive_create(), sized(storage_key().text)),
 )
@@ -32,13 +33,13 @@ COMMANDS = [
     cuts.STARTUP,
     (
         "TPM2_SelfTest",
-        command(frames.SELF_TEST, b"\1"),
+        command(CC.SelfTest, b"\1"),
         [(11, "within fullTest", "INSUFFICIENT/p1")],
         "SUCCESS",
     ),
     (
         "TPM2_GetCapability",
-        command(frames.GET_CAPABILITY, number(1, 4) + number(0, 4) + number(3, 4)),
+        command(CC.GetCapability, number(1, 4) + number(0, 4) + number(3, 4)),
         [
             (14, "within capability", "INSUFFICIENT/p1"),
             (18, "within property", "INSUFFICIENT/p2"),
@@ -46,17 +47,17 @@ COMMANDS = [
         ],
         "SUCCESS",
     ),
-    ("TPM2_ReadClock", command(frames.READ_CLOCK, b""), [], "SUCCESS"),
+    ("TPM2_ReadClock", command(CC.ReadClock, b""), [], "SUCCESS"),
     (
         "TPM2_Shutdown",
-        command(frames.SHUTDOWN, number(1, 2)),
+        command(CC.Shutdown, number(1, 2)),
         [(12, "within shutdownType", "INSUFFICIENT/p1")],
         "SUCCESS",
     ),
     ("TPM2_CreatePrimary of a storage key", PRIMARY, [], "SUCCESS"),
     (
         "TPM2_EvictControl",
-        on_handles(frames.EVICT_CONTROL, [RH_OWNER, OBJECT], number(KEPT, 4)),
+        on_handles(CC.EvictControl, [RH_OWNER, OBJECT], number(KEPT, 4)),
         [
             (14, "within auth", "INSUFFICIENT/h1"),
             (18, "within objectHandle", "INSUFFICIENT/h2"),
@@ -67,14 +68,14 @@ COMMANDS = [
     ),
     (
         "TPM2_DictionaryAttackLockReset",
-        on_handle(frames.DICTIONARY_ATTACK_LOCK_RESET, RH_LOCKOUT),
+        on_handle(CC.DictionaryAttackLockReset, RH_LOCKOUT),
         [HANDLE, AREA],
         "SUCCESS",
     ),
     (
         "TPM2_DictionaryAttackParameters",
         on_handle(
-            frames.DICTIONARY_ATTACK_PARAMETERS,
+            CC.DictionaryAttackParameters,
             RH_LOCKOUT,
             frames.attack_parameters(3, 1000, 1000),
         ),
@@ -89,11 +90,11 @@ COMMANDS = [
     ),
     (
         "TPM2_ClearControl",
-        on_handle(frames.CLEAR_CONTROL, RH_PLATFORM, b"\0"),
+        on_handle(CC.ClearControl, RH_PLATFORM, b"\0"),
         [HANDLE, AREA, (28, "within disable", "INSUFFICIENT/p1")],
         "SUCCESS",
     ),
-    ("TPM2_Clear", on_handle(frames.CLEAR, RH_LOCKOUT), [HANDLE, AREA], "SUCCESS"),
+    ("TPM2_Clear", on_handle(CC.Clear, RH_LOCKOUT), [HANDLE, AREA], "SUCCESS"),
 ]
 
 

@@ -7,6 +7,7 @@ is refused where it is cut: each command says in words and codes up to which len
 import paths
 
 import frames
+from commands import CC
 from frames import number
 from looks import LookingScript
 
@@ -18,7 +19,7 @@ AREA = (27, "within the authorization area", "AUTHSIZE")
 
 STARTUP = (
     "TPM2_Startup(CLEAR)",
-    frames.command(frames.STARTUP, number(0, 2)),
+    frames.command(CC.Startup, number(0, 2)),
     [(12, "within startupType", "INSUFFICIENT/p1")],
     "SUCCESS",
 )

@@ -5,12 +5,13 @@ import paths
 
 import frames
 from caller import Use
+from commands import CC
 from frames import DECRYPT, ENCRYPT, RH_LOCKOUT, RH_NULL, RH_OWNER, RH_PLATFORM
 from frames import command, number, on_handle
 from script import Script
 from state_caller import StateCaller
 
-LOCK_RESET, PARAMETERS = frames.DICTIONARY_ATTACK_LOCK_RESET, frames.DICTIONARY_ATTACK_PARAMETERS
+LOCK_RESET, PARAMETERS = CC.DictionaryAttackLockReset, CC.DictionaryAttackParameters
 THREE = frames.attack_parameters(3, 1000, 1000)
 COMMANDS = (LOCK_RESET, b""), (PARAMETERS, THREE)
 

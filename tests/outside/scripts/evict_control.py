@@ -5,7 +5,8 @@ import paths
 
 import frames
 from caller import Use
-from frames import EVICT_CONTROL, RH_ENDORSEMENT, RH_LOCKOUT, RH_NULL, RH_OWNER, RH_PLATFORM
+from commands import CC
+from frames import RH_ENDORSEMENT, RH_LOCKOUT, RH_NULL, RH_OWNER, RH_PLATFORM
 from frames import SHA256, command, number, on_handles
 from nv_caller import area
 from object_caller import HERE, OPEN, STORES, hmac_key, sealed, storage_key
@@ -38,7 +39,7 @@ def says(what, outcome, *buffers):
 
 
 def evict(asker, handle, wanted):
-    return on_handles(EVICT_CONTROL, [asker, handle], number(wanted, 4))
+    return on_handles(CC.EvictControl, [asker, handle], number(wanted, 4))
 
 
 def fails(what, outcome, *commands):
@@ -60,13 +61,13 @@ def kept_handles(what, *handles):
 def handles_and_parameter(owners):
     script.chapter("The handles and the parameter.")
     handles = number(RH_OWNER, 4) + number(owners, 4)
-    says("No handle", "INSUFFICIENT/h1", command(EVICT_CONTROL, b""))
+    says("No handle", "INSUFFICIENT/h1", command(CC.EvictControl, b""))
     fails(
         "Who has no persistent objects",
         "VALUE/h1",
         *((it, owners, FIRST) for it in (RH_ENDORSEMENT, RH_LOCKOUT, RH_NULL, 0, owners)),
     )
-    says("No object", "INSUFFICIENT/h2", command(EVICT_CONTROL, handles[:4]))
+    says("No object", "INSUFFICIENT/h2", command(CC.EvictControl, handles[:4]))
     fails(
         "What is no object: PCR 0, an NV index, a session, and a hierarchy",
         "VALUE/h2",
@@ -74,17 +75,17 @@ def handles_and_parameter(owners):
     )
     fails("A transient object that is not there", "REFERENCE_H1", (RH_OWNER, 0x8000_0007, FIRST))
     fails("A persistent object that is not there", "HANDLE/h2", (RH_OWNER, FIRST, FIRST))
-    says("Without sessions", "AUTH_MISSING", command(EVICT_CONTROL, handles + number(FIRST, 4)))
+    says("Without sessions", "AUTH_MISSING", command(CC.EvictControl, handles + number(FIRST, 4)))
     wrong_password = [frames.entry(hmac=b"x")]
     says(
         "A wrong password, and no parameter",
         "BAD_AUTH/s1",
-        on_handles(EVICT_CONTROL, [RH_OWNER, owners], b"", wrong_password),
+        on_handles(CC.EvictControl, [RH_OWNER, owners], b"", wrong_password),
     )
     says(
         "The parameter cut",
         "INSUFFICIENT/p1",
-        *(on_handles(EVICT_CONTROL, [RH_OWNER, owners], bytes([0x81] * it)) for it in (0, 3)),
+        *(on_handles(CC.EvictControl, [RH_OWNER, owners], bytes([0x81] * it)) for it in (0, 3)),
     )
     fails(
         "It is no handle of a persistent object",
@@ -94,12 +95,12 @@ def handles_and_parameter(owners):
     says(
         "That, and a byte behind it",
         "VALUE/p1",
-        on_handles(EVICT_CONTROL, [RH_OWNER, owners], number(owners, 4) + b"\0"),
+        on_handles(CC.EvictControl, [RH_OWNER, owners], number(owners, 4) + b"\0"),
     )
     says(
         "A byte behind a right one",
         "SIZE",
-        on_handles(EVICT_CONTROL, [RH_OWNER, owners], number(FIRST, 4) + b"\0"),
+        on_handles(CC.EvictControl, [RH_OWNER, owners], number(FIRST, 4) + b"\0"),
     )
 
 

@@ -5,7 +5,8 @@ import paths
 
 import frames
 from caller import Caller
-from frames import FLUSH_CONTEXT, RH_NULL, RH_OWNER, RS_PW, SHA1, area, command, entry, number
+from commands import CC
+from frames import RH_NULL, RH_OWNER, RS_PW, SHA1, area, command, entry, number
 from script import Script
 
 script = Script(
@@ -17,11 +18,11 @@ caller = Caller(script)
 
 
 def flush(handle, behind=b""):
-    return command(FLUSH_CONTEXT, number(handle, 4) + behind)
+    return command(CC.FlushContext, number(handle, 4) + behind)
 
 
 def with_sessions(area_text, handle=0x0200_0000):
-    return command(FLUSH_CONTEXT, area_text + number(handle, 4), frames.SESSIONS)
+    return command(CC.FlushContext, area_text + number(handle, 4), frames.SESSIONS)
 
 
 script.command("Before TPM2_Startup", "INITIALIZE", flush(0x0200_0000))
@@ -37,13 +38,13 @@ script.command(
     with_sessions(area(entry())),
     with_sessions(area(entry(session.handle))),
     with_sessions(area()),
-    command(FLUSH_CONTEXT, b"", frames.SESSIONS),
+    command(CC.FlushContext, b"", frames.SESSIONS),
 )
 script.command(
     "No handle, and three bytes of one",
     "INSUFFICIENT/p1",
-    command(FLUSH_CONTEXT, b""),
-    command(FLUSH_CONTEXT, bytes([2, 0, 0])),
+    command(CC.FlushContext, b""),
+    command(CC.FlushContext, bytes([2, 0, 0])),
 )
 script.command(
     "A byte behind it, also where the handle is no session's",

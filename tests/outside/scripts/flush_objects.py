@@ -6,7 +6,8 @@ from dataclasses import replace
 import paths
 
 import frames
-from frames import FLUSH_CONTEXT, RH_NULL, RH_OWNER, command, number
+from commands import CC
+from frames import RH_NULL, RH_OWNER, command, number
 from object_caller import ObjectCaller, hmac_key, sealed, storage_key
 from script import Script
 
@@ -21,7 +22,7 @@ caller = ObjectCaller(script)
 
 
 def flush(handle):
-    return command(FLUSH_CONTEXT, number(handle, 4))
+    return command(CC.FlushContext, number(handle, 4))
 
 
 def place_of(handle):
@@ -45,12 +46,12 @@ script.command("Numbers past the eight", "HANDLE/p1", *map(flush, ABSENT[2:]))
 script.command(
     "With sessions (tag 8002)",
     "AUTH_CONTEXT",
-    command(FLUSH_CONTEXT, frames.area(frames.entry()) + number(parent, 4), frames.SESSIONS),
+    command(CC.FlushContext, frames.area(frames.entry()) + number(parent, 4), frames.SESSIONS),
 )
 script.command(
-    "Three bytes of a handle", "INSUFFICIENT/p1", command(FLUSH_CONTEXT, b"\x80\0\0")
+    "Three bytes of a handle", "INSUFFICIENT/p1", command(CC.FlushContext, b"\x80\0\0")
 )
-script.command("A byte behind it", "SIZE", command(FLUSH_CONTEXT, number(parent, 4) + b"\0"))
+script.command("A byte behind it", "SIZE", command(CC.FlushContext, number(parent, 4) + b"\0"))
 
 script.chapter("In any order. The lowest place that is free is taken first.")
 for places in ((7,), (0,), (3, 1), (2, 5, 4), (6, 0, 7)):

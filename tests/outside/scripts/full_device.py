@@ -6,6 +6,7 @@ import paths
 import frames
 import nv
 import policy
+from commands import CC
 from frames import ALG_NULL, RH_ENDORSEMENT, RH_LOCKOUT, RH_NULL, RH_OWNER, RH_PLATFORM, SE_HMAC
 from frames import SE_POLICY, SE_TRIAL, SHA1, SHA256
 from nv import Attribute as NvAttribute
@@ -131,7 +132,7 @@ def transient():
     for at in range(SESSIONS):
         kind = (SE_HMAC, SE_POLICY, SE_TRIAL)[at % 3]
         caller.start("Sixteen sessions" if at == 0 else "", kind=kind)
-    start = caller.prepare(frames.START_AUTH_SESSION, *frames.start_auth_session(bytes(16)))
+    start = caller.prepare(CC.StartAuthSession, *frames.start_auth_session(bytes(16)))
     caller.fails("One more", "SESSION_MEMORY", start)
 
 

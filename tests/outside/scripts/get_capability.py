@@ -4,7 +4,9 @@
 import paths
 
 import frames
-from frames import CONTINUE_SESSION, DECRYPT, ENCRYPT, GET_CAPABILITY, RH_OWNER
+from capability import command_attributes
+from commands import CC
+from frames import CONTINUE_SESSION, DECRYPT, ENCRYPT, RH_OWNER
 from frames import SE_HMAC, SE_POLICY, SE_TRIAL, command, number
 from nv_caller import BY_VALUE, area
 from object_caller import storage_key
@@ -16,15 +18,8 @@ MOST = 2**32 - 1
 
 # TPMA_CC of each command: its code, the number of its handles from bit 25 on, and bit 28 where it
 # answers a handle.
-ATTRIBUTES = (
-    *(0x04000120, 0x04000122, 0x02000126, 0x02000127, 0x02000129, 0x0200012A, 0x12000131),
-    *(0x04000134, 0x04000135, 0x04000136, 0x04000137, 0x04000138, 0x02000139, 0x0200013A),
-    *(0x0200013B, 0x0200013C, 0x0200013D, 0x00000143, 0x00000144, 0x00000145, 0x06000149),
-    *(0x0400014E, 0x0400014F, 0x04000151, 0x02000153, 0x02000155, 0x12000157, 0x0200015E),
-    *(0x00000165, 0x02000169, 0x0200016B, 0x0200016C, 0x0200016E, 0x0200016F, 0x02000171),
-    *(0x02000173, 0x14000176, 0x0000017A, 0x0000017B, 0x0000017E, 0x0200017F, 0x02000180),
-    *(0x00000181, 0x02000182, 0x02000189, 0x0200018C, 0x0200018F),
-)
+ATTRIBUTES = [command_attributes(it) for it in sorted(CC)]
+
 script = Script(
     "tests/get_capability.tpm",
     "TPM2_GetCapability: handles (1), commands (2), PCRs (5) and properties (6). It answers the "
@@ -68,34 +63,34 @@ def borders(name, capability, wanted, whole):
 
 def refusals():
     asked = number(PROPERTIES, 4) + number(0x100, 4) + number(1, 4)
-    says("Before TPM2_Startup", "INITIALIZE", command(GET_CAPABILITY, asked))
+    says("Before TPM2_Startup", "INITIALIZE", command(CC.GetCapability, asked))
     script.startup()
-    says("As it is asked for", "SUCCESS", command(GET_CAPABILITY, asked))
+    says("As it is asked for", "SUCCESS", command(CC.GetCapability, asked))
     for place in (1, 2, 3):
         says(
             f"Cut within parameter {place}",
             f"INSUFFICIENT/p{place}",
-            *(command(GET_CAPABILITY, asked[: 4 * place - it]) for it in (4, 1)),
+            *(command(CC.GetCapability, asked[: 4 * place - it]) for it in (4, 1)),
         )
-    says("A byte behind them", "SIZE", command(GET_CAPABILITY, asked + b"\0"))
+    says("A byte behind them", "SIZE", command(CC.GetCapability, asked + b"\0"))
     says(
         "Algorithms (0), and others that are not served",
         "VALUE/p1",
         *(
-            command(GET_CAPABILITY, number(it, 4) + asked[4:])
+            command(CC.GetCapability, number(it, 4) + asked[4:])
             for it in (0, 3, 4, 7, 8, 9, 0x100, 0x0100_0001, MOST)
         ),
     )
     says(
         "Such a one and a byte behind it: the bytes are looked at first",
         "SIZE",
-        command(GET_CAPABILITY, bytes(13)),
+        command(CC.GetCapability, bytes(13)),
     )
     says(
         "Handles that begin with another byte than 00, 01, 02, 03, 40, 80 and 81",
         "HANDLE/p2",
         *(
-            command(GET_CAPABILITY, number(HANDLES, 4) + number(it << 24, 4) + number(count, 4))
+            command(CC.GetCapability, number(HANDLES, 4) + number(it << 24, 4) + number(count, 4))
             for it in (0x04, 0x3F, 0x41, 0x7F, 0x82, 0x90, 0xFF)
             for count in (0, 1)
         ),
@@ -103,7 +98,7 @@ def refusals():
     says(
         "A password, as there is nothing to authorize",
         "HANDLE/s1",
-        command(GET_CAPABILITY, frames.area(frames.entry()) + asked, frames.SESSIONS),
+        command(CC.GetCapability, frames.area(frames.entry()) + asked, frames.SESSIONS),
     )
 
 

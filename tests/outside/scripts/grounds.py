@@ -8,8 +8,9 @@ import paths
 
 import policy
 from caller import Use
-from frames import NV_CHANGE_AUTH, NV_READ, NV_WRITE, RH_ENDORSEMENT, RH_LOCKOUT, RH_NULL
-from frames import RH_OWNER, RH_PLATFORM, SHA1, SHA256, UNSEAL
+from commands import CC
+from frames import RH_ENDORSEMENT, RH_LOCKOUT, RH_NULL
+from frames import RH_OWNER, RH_PLATFORM, SHA1, SHA256
 from grounds_caller import AFTER_AUTH_VALUE, AFTER_LOCALITY_1, AFTER_PCR_16, AT_LOCALITY_1, DATA
 from grounds_caller import OWNER, PCR_16, PIN, SECRET, ZEROS, GroundsCaller, after_code
 from grounds_caller import after_equal_data, after_secret
@@ -261,21 +262,21 @@ def command_codes(session):
         "TPM2_PolicyCommandCode: the command is the one that is recorded. So an object and two "
         "indices have each a policy of their own. All three are in the USER role."
     )
-    handle = caller.sealed_object("An object for TPM2_Unseal", after_code(UNSEAL))
+    handle = caller.sealed_object("An object for TPM2_Unseal", after_code(CC.Unseal))
     written = caller.index(
         "An index for TPM2_NV_Write",
         Attribute.POLICYWRITE | Attribute.OWNERREAD,
-        after_code(NV_WRITE),
+        after_code(CC.NV_Write),
     )
     read = caller.written_index(
         "One for TPM2_NV_Read, which the owner writes",
         Attribute.POLICYREAD | Attribute.OWNERWRITE,
-        after_code(NV_READ),
+        after_code(CC.NV_Read),
     )
     for name, code, prepared in (
-        ("TPM2_Unseal", UNSEAL, lambda: caller.unsealing(handle, session)),
-        ("TPM2_NV_Write", NV_WRITE, lambda: caller.writing(written, DATA, session)),
-        ("TPM2_NV_Read", NV_READ, lambda: caller.reading(read, len(DATA), session)),
+        ("TPM2_Unseal", CC.Unseal, lambda: caller.unsealing(handle, session)),
+        ("TPM2_NV_Write", CC.NV_Write, lambda: caller.writing(written, DATA, session)),
+        ("TPM2_NV_Read", CC.NV_Read, lambda: caller.reading(read, len(DATA), session)),
     ):
         caller.asserts_code(session, code, name)
         caller.does(name, prepared())
@@ -287,7 +288,7 @@ def admin_role(session):
         "The ADMIN role, in which TPM2_NV_ChangeAuth alone authorizes: the command is recorded. No "
         "attribute of the index is asked for."
     )
-    code, name = NV_CHANGE_AUTH, "TPM2_NV_ChangeAuth"
+    code, name = CC.NV_ChangeAuth, "TPM2_NV_ChangeAuth"
     recorded = after_code(code)
     index = caller.index("An index whose policy is that command", BY_OWNER, recorded)
     caller.asserts_code(session, code, name)
@@ -414,7 +415,7 @@ def all_at_once(session):
     script.chapter("All at once: a PCR, a locality, a command, a cpHash and the value.")
     auth_policy = AFTER_PCR_16
     auth_policy = policy.after_locality(SHA256, auth_policy, AT_LOCALITY_1)
-    auth_policy = policy.after_command_code(SHA256, auth_policy, NV_WRITE)
+    auth_policy = policy.after_command_code(SHA256, auth_policy, CC.NV_Write)
     auth_policy = policy.after_secret(SHA256, auth_policy, name_of(RH_OWNER), b"")
     auth_policy = policy.after_auth_value(SHA256, auth_policy)
     index = caller.index("An index with this policy", BY_POLICY, auth_policy)
@@ -424,7 +425,7 @@ def all_at_once(session):
         "What the policy says, in its order",
         caller.pcrs(session, PCR_16),
         caller.locality(session, AT_LOCALITY_1),
-        caller.command_code(session, NV_WRITE),
+        caller.command_code(session, CC.NV_Write),
         caller.secret(session, OWNER, of=RH_OWNER, cp_hash=caller.cp_hash(prepared)),
         caller.auth_value_told(session),
     )

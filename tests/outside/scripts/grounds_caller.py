@@ -5,7 +5,8 @@ indices, whose value is "pin", and the policies that they have.
 import frames
 import policy
 from capability import LOCKOUT_COUNTER, PROPERTIES
-from frames import RH_OWNER, RH_PLATFORM, SHA256, UNSEAL, number
+from commands import CC
+from frames import RH_OWNER, RH_PLATFORM, SHA256, number
 from nv_caller import area
 from object_caller import HERE, sealed
 from sessions import command_hash, digest, digest_bytes
@@ -85,7 +86,7 @@ class GroundsCaller(StateCaller):
         """Assertions, in their order."""
         self.says(what, "SUCCESS", *told)
 
-    def asserts_code(self, session, code=UNSEAL, name="TPM2_Unseal"):
+    def asserts_code(self, session, code=CC.Unseal, name="TPM2_Unseal"):
         self.asserts(f"TPM2_PolicyCommandCode of {name}", self.command_code(session, code))
 
     def asserts_pcr(self, session):

@@ -5,8 +5,8 @@ import paths
 
 import frames
 from caller import Caller, Use
+from commands import CC
 from frames import (
-    HIERARCHY_CHANGE_AUTH,
     RH_ENDORSEMENT,
     RH_LOCKOUT,
     RH_NULL,
@@ -36,7 +36,7 @@ caller = Caller(script)
 
 
 def change(handle, new=b"", password=b""):
-    return on_handle(HIERARCHY_CHANGE_AUTH, handle, sized(new), [frames.entry(hmac=password)])
+    return on_handle(CC.HierarchyChangeAuth, handle, sized(new), [frames.entry(hmac=password)])
 
 
 def starts(what, **choices):
@@ -72,18 +72,20 @@ script.command(
     "VALUE/h1",
     *map(change, (RH_NULL, 0, 0x8000_0000, 0x8100_0000, 0x0100_0000, 0x0200_0000, frames.RS_PW)),
 )
-script.command("No handle", "INSUFFICIENT/h1", command(HIERARCHY_CHANGE_AUTH, b"", frames.SESSIONS))
+script.command(
+    "No handle", "INSUFFICIENT/h1", command(CC.HierarchyChangeAuth, b"", frames.SESSIONS)
+)
 script.command(
     "No sessions (tag 8001)",
     "AUTH_MISSING",
-    command(HIERARCHY_CHANGE_AUTH, number(RH_OWNER, 4) + sized(b"abc")),
+    command(CC.HierarchyChangeAuth, number(RH_OWNER, 4) + sized(b"abc")),
 )
 OWNER = [frames.entry(hmac=b"owner")]
 script.command(
     "No newAuth, half its size, and one that is cut",
     "INSUFFICIENT/p1",
     *(
-        on_handle(HIERARCHY_CHANGE_AUTH, RH_OWNER, text, OWNER)
+        on_handle(CC.HierarchyChangeAuth, RH_OWNER, text, OWNER)
         for text in (b"", b"\0", b"\0\x03ab", b"\0\x20" + bytes(31))
     ),
 )
@@ -93,12 +95,12 @@ script.command(
     change(RH_OWNER, b"a" * 33, b"owner"),
     change(RH_OWNER, bytes(33), b"owner"),
     change(RH_OWNER, b"owner" + bytes(28), b"owner"),
-    on_handle(HIERARCHY_CHANGE_AUTH, RH_OWNER, b"\0\x21", OWNER),
+    on_handle(CC.HierarchyChangeAuth, RH_OWNER, b"\0\x21", OWNER),
 )
 script.command(
     "A byte behind it",
     "SIZE",
-    on_handle(HIERARCHY_CHANGE_AUTH, RH_OWNER, sized(b"abc") + b"\0", OWNER),
+    on_handle(CC.HierarchyChangeAuth, RH_OWNER, sized(b"abc") + b"\0", OWNER),
 )
 script.command("None of them changed the value", "SUCCESS", change(RH_OWNER, b"owner", b"owner"))
 

@@ -4,13 +4,12 @@
 import paths
 
 import frames
+from commands import CC
 from frames import ALG_NULL, RH_NULL, RH_OWNER, SHA1, SHA256, SYMCIPHER, number, sized
 from object_caller import HERE, OPEN, ObjectCaller, hmac_key, sealed, storage_key
 from objects import Attribute, Public
 from script import Script
 from sessions import mac
-
-HMAC = frames.HMAC
 
 script = Script(
     "tests/hmac_keys.tpm",
@@ -115,7 +114,7 @@ refused("A byte behind it", "SIZE", whole.but(parameters=whole.parameters + b"\0
 script.command(
     "It has to be authorized: no sessions (tag 8001)",
     "AUTH_MISSING",
-    frames.command(HMAC, number(key, 4) + whole.parameters),
+    frames.command(CC.HMAC, number(key, 4) + whole.parameters),
 )
 refused("By another value", "BAD_AUTH/s1", caller.hmac(key, b"text", SHA256, b"b"))
 caller.flush_objects("It is flushed", key)

@@ -5,6 +5,7 @@ import paths
 
 import frames
 from caller import Caller, Use, flipped
+from commands import CC
 from frames import RH_ENDORSEMENT, RH_OWNER, SHA1, SHA256, sized
 from script import Script
 
@@ -64,7 +65,7 @@ def wrong_bytes(session, right):
     caller.refused(
         "Another command, TPM2_PCR_Event, with the handle PCR 16",
         "BAD_AUTH/s1",
-        right.but(code=frames.PCR_EVENT, handles=[16]),
+        right.but(code=CC.PCR_Event, handles=[16]),
     )
     caller.refused(
         "Another handle, TPM_RH_ENDORSEMENT", "BAD_AUTH/s1", right.but(handles=[RH_ENDORSEMENT])
@@ -228,7 +229,7 @@ script.chapter("The longest response that there is, 601 bytes.")
 caller.accepted(
     "TPM2_PCR_Read of sixteen banks, with three sessions of SHA-256 and nonces of 32 bytes",
     caller.prepare(
-        frames.PCR_READ,
+        CC.PCR_Read,
         [],
         frames.selection((SHA256, range(8)), *15 * [(SHA256, range(24))]),
         *(caller.start("A session with a nonce of 32 bytes", RH_OWNER, size=32) for _ in range(3)),

@@ -6,7 +6,8 @@ from dataclasses import replace
 import paths
 
 import frames
-from frames import LOAD, RH_ENDORSEMENT, RH_NULL, RH_OWNER, SHA1, SHA256, number, sized
+from commands import CC
+from frames import RH_ENDORSEMENT, RH_NULL, RH_OWNER, SHA1, SHA256, number, sized
 from object_caller import HERE, OPEN, STORES, ObjectCaller, hmac_key, sealed, storage_key
 from objects import Attribute
 from script import Script
@@ -55,7 +56,7 @@ refused(
 script.command(
     "It has to be authorized: no sessions (tag 8001)",
     "AUTH_MISSING",
-    frames.command(LOAD, number(parent, 4)),
+    frames.command(CC.Load, number(parent, 4)),
 )
 refused("By the value of the child", "BAD_AUTH/s1", caller.loading(parent, made, b"child"))
 

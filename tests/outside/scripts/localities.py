@@ -6,7 +6,7 @@ Which PCR changes from where is the table of TPM2_PCR_Extend in docs/table/pcrs.
 
 import paths
 
-import frames
+from commands import CC
 from frames import SHA1, SHA256, command, digests, number, on_handle, selection
 from script import line
 
@@ -30,11 +30,11 @@ USES = [
 
 
 def extend(pcr):
-    return on_handle(frames.PCR_EXTEND, pcr, digests((SHA1, bytes(20))))
+    return on_handle(CC.PCR_Extend, pcr, digests((SHA1, bytes(20))))
 
 
 def reset(pcr):
-    return on_handle(frames.PCR_RESET, pcr)
+    return on_handle(CC.PCR_Reset, pcr)
 
 
 def changes(name, of, pcrs, use, accepted):
@@ -47,13 +47,13 @@ def reading(algorithm, name):
     """The 24 PCRs of a bank, eight at a time."""
     text = f"\n# TPM2_PCR_Read of the {name} bank: SUCCESS.\n"
     for first in (0, 8, 16):
-        buffer = command(frames.PCR_READ, selection((algorithm, range(first, first + 8))))
+        buffer = command(CC.PCR_Read, selection((algorithm, range(first, first + 8))))
         text += line(buffer) + "\n"
     return text
 
 
 def script():
-    text = HEAD + line(command(frames.STARTUP, number(0, 2))) + "\n"
+    text = HEAD + line(command(CC.Startup, number(0, 2))) + "\n"
     for locality in range(5):
         text += f"\n# Locality {locality}.\nloc {locality}\n"
         for pcrs, use, extended_from, reset_from in USES:

@@ -3,8 +3,8 @@
 
 import paths
 
-import frames
 import policy
+from commands import CC
 from frames import RH_OWNER, SHA256
 from nv_caller import BY_VALUE, FIRST, SECOND, THIRD, area
 from nv import Attribute as NvAttribute
@@ -305,7 +305,7 @@ def order():
     caller.says(
         "TPM2_PolicyCommandCode of another command",
         "SUCCESS",
-        caller.command_code(session, frames.NV_WRITE),
+        caller.command_code(session, CC.NV_Write),
     )
     caller.fails("Its command code", "POLICY_CC/s1", caller.reading(FIRST, 8, session))
     caller.says("TPM2_PolicyRestart", "SUCCESS", caller.restart(session))

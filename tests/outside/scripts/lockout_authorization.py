@@ -4,7 +4,8 @@
 import paths
 
 import frames
-from frames import HIERARCHY_CHANGE_AUTH, RH_LOCKOUT, RH_OWNER, on_handle, sized
+from commands import CC
+from frames import RH_LOCKOUT, RH_OWNER, on_handle, sized
 from nv_caller import BY_VALUE, FIRST, area
 from script import Script
 from state_caller import StateCaller, wrong
@@ -22,7 +23,7 @@ caller = StateCaller(script)
 
 
 def by_password(handle, password):
-    return on_handle(HIERARCHY_CHANGE_AUTH, handle, sized(b"x"), [frames.entry(hmac=password)])
+    return on_handle(CC.HierarchyChangeAuth, handle, sized(b"x"), [frames.entry(hmac=password)])
 
 
 script.startup()
@@ -102,7 +103,7 @@ caller.refused(
     "AUTH_FAIL/s2",
     wrong(
         caller.prepare(
-            frames.START_AUTH_SESSION, *frames.start_auth_session(bytes(16)), to_owner, bound
+            CC.StartAuthSession, *frames.start_auth_session(bytes(16)), to_owner, bound
         ),
         2,
     ),

@@ -3,9 +3,9 @@
 
 import paths
 
-import frames
 import policy
 from caller import Use
+from commands import CC
 from frames import RH_OWNER, SHA256
 from nv import Attribute as NvAttribute
 from nv_caller import BY_POLICY, BY_VALUE, FIRST, FOURTH, SECOND, THIRD, area, bits, counter
@@ -23,7 +23,7 @@ PARENT, SEALED, KEY = range(0x8000_0000, 0x8000_0003)
 
 # The policy of an index whose value may be changed by who knows it.
 CHANGING = policy.after_auth_value(
-    SHA256, policy.after_command_code(SHA256, bytes(32), frames.NV_CHANGE_AUTH)
+    SHA256, policy.after_command_code(SHA256, bytes(32), CC.NV_ChangeAuth)
 )
 
 script = Script(
@@ -104,7 +104,7 @@ def change_auth():
 
     def prepare():
         caller.says("TPM2_PolicyRestart", "SUCCESS", caller.restart(told))
-        code = caller.command_code(told, frames.NV_CHANGE_AUTH)
+        code = caller.command_code(told, CC.NV_ChangeAuth)
         caller.says("TPM2_PolicyCommandCode", "SUCCESS", code)
         caller.says("TPM2_PolicyAuthValue", "SUCCESS", caller.auth_value_told(told))
         return caller.changing_auth(FIFTH, PIN, Use(told, demand=policy.AUTH_VALUE))

@@ -5,7 +5,8 @@ import paths
 
 import frames
 import policy
-from frames import RH_OWNER, SHA1, SHA256, UNSEAL
+from commands import CC
+from frames import RH_OWNER, SHA1, SHA256
 from policy_caller import HASHES, PolicyCaller, zeros
 from script import Script
 from sessions import digest, name_of
@@ -66,8 +67,8 @@ for algorithm, name in HASHES:
         )
     wanted = policy.after_secret(algorithm, wanted, name_of(RH_OWNER), REFERENCE)
 
-    both("For Unseal", trial, session, lambda it: caller.command_code(it, UNSEAL))
-    wanted = policy.after_command_code(algorithm, wanted, UNSEAL)
+    both("For Unseal", trial, session, lambda it: caller.command_code(it, CC.Unseal))
+    wanted = policy.after_command_code(algorithm, wanted, CC.Unseal)
     both("With a password", trial, session, caller.password_told)
     both("And with the value", trial, session, caller.auth_value_told)
     wanted = policy.after_auth_value(algorithm, policy.after_auth_value(algorithm, wanted))

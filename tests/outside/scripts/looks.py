@@ -9,6 +9,7 @@ import paths
 import capability
 import frames
 import general
+from commands import CC
 from frames import HMAC_SESSION, NV, PERSISTENT, RH_OWNER, SHA1, SHA256, TRANSIENT
 from frames import command, number, on_handles, sized
 from nv import Attribute
@@ -32,12 +33,12 @@ PCRS = (10, 16)
 
 
 def capabilities(kind, first, count=capability.MOST_ELEMENTS):
-    return command(frames.GET_CAPABILITY, number(kind, 4) + number(first, 4) + number(count, 4))
+    return command(CC.GetCapability, number(kind, 4) + number(first, 4) + number(count, 4))
 
 
 def at_pcrs():
     """These PCRs in both banks, and the update counter, which each change of a PCR raises."""
-    return command(frames.PCR_READ, frames.selection((SHA1, PCRS), (SHA256, PCRS)))
+    return command(CC.PCR_Read, frames.selection((SHA1, PCRS), (SHA256, PCRS)))
 
 
 def at_handles(kind):
@@ -52,11 +53,11 @@ def at_protection():
 def at_index(index, owner_auth):
     """The public area of an index, and its data where the owner reads them."""
     public = index.public
-    yield command(frames.NV_READ_PUBLIC, number(public.index, 4))
+    yield command(CC.NV_ReadPublic, number(public.index, 4))
     is_open = public.has(Attribute.WRITTEN) and not public.has(Attribute.READLOCKED)
     if is_open and public.has(Attribute.OWNERREAD):
         yield on_handles(
-            frames.NV_READ,
+            CC.NV_Read,
             [RH_OWNER, public.index],
             frames.nv_read(public.data_size),
             [frames.entry(hmac=owner_auth)],
@@ -69,10 +70,10 @@ def at_all(device):
     for kind in LISTED:
         yield at_handles(kind)
     yield at_protection()
-    yield command(frames.READ_CLOCK, b"")
+    yield command(CC.ReadClock, b"")
     for handle in device.sessions:
         if general.is_policy(handle):
-            yield command(frames.POLICY_GET_DIGEST, number(handle, 4))
+            yield command(CC.PolicyGetDigest, number(handle, 4))
     for index in device.indices.values():
         yield from at_index(index, device.auth_value(RH_OWNER))
 

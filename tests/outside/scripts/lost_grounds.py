@@ -6,8 +6,9 @@ import paths
 import frames
 import policy
 from caller import Use, flipped
-from frames import NV_CHANGE_AUTH, NV_INCREMENT, NV_READ, NV_WRITE, RH_ENDORSEMENT, RH_LOCKOUT
-from frames import RH_NULL, RH_OWNER, RH_PLATFORM, SHA1, SHA256, UNSEAL, digests
+from commands import CC
+from frames import RH_ENDORSEMENT, RH_LOCKOUT
+from frames import RH_NULL, RH_OWNER, RH_PLATFORM, SHA1, SHA256, digests
 from grounds_caller import AFTER_AUTH_VALUE, AFTER_LOCALITY_1, AFTER_PCR_16, AT_LOCALITY_1, DATA
 from grounds_caller import OWNER, PCR_16, PIN, SECRET, ZEROS, GroundsCaller, after_code
 from grounds_caller import after_equal_data, after_secret
@@ -21,7 +22,7 @@ from sessions import name_of
 
 USER = ObjectAttribute.USER_WITH_AUTH
 ENDS = 0x00
-AFTER_UNSEAL = after_code(UNSEAL)
+AFTER_UNSEAL = after_code(CC.Unseal)
 EQUAL, AT_LEAST = 0, 7  # operations of TPM2_PolicyNV
 AT_LOCALITY_0_OR_1 = 0b11
 
@@ -93,7 +94,7 @@ def value_of_no_use(hmac):
     )
     caller.read("TPM2_NV_Read", to_read, DATA, PIN)
     admin = caller.index(
-        "One whose policy is the command TPM2_NV_ChangeAuth", BY_VALUE, after_code(NV_CHANGE_AUTH)
+        "One whose policy is the command TPM2_NV_ChangeAuth", BY_VALUE, after_code(CC.NV_ChangeAuth)
     )
     lost(
         "TPM2_NV_ChangeAuth, which is in the ADMIN role",
@@ -145,7 +146,7 @@ def other_texts(index, unbound):
         ("Other attributes: the session ends", right.but_entry(1, attributes=ENDS)),
         ("Other parameters", right.but(parameters=frames.nv_write(DATA[::-1]))),
         ("Another handle, which has another Name", right.but(handles=[other, other])),
-        ("Another command, TPM2_NV_Increment", right.but(code=NV_INCREMENT)),
+        ("Another command, TPM2_NV_Increment", right.but(code=CC.NV_Increment)),
     ):
         lost(what, "AUTH_FAIL/s1", *bent)
     caller.does("Right, by the nonceTPM that is the same since the first", right)
@@ -224,13 +225,13 @@ def no_policy(openly, session):
     )
     for words, attributes, auth_policy, authorized in (
         ("An index with an empty authPolicy", BY_POLICY, b"", None),
-        ("One of 32 zeros, without POLICYREAD", Attribute.POLICYWRITE, ZEROS, NV_WRITE),
-        ("One of 32 zeros, without POLICYWRITE", Attribute.POLICYREAD, ZEROS, NV_READ),
+        ("One of 32 zeros, without POLICYREAD", Attribute.POLICYWRITE, ZEROS, CC.NV_Write),
+        ("One of 32 zeros, without POLICYWRITE", Attribute.POLICYREAD, ZEROS, CC.NV_Read),
     ):
         index = caller.written_index(words, attributes | BY_OWNER, auth_policy)
         for code, name, prepare in (
-            (NV_WRITE, "TPM2_NV_Write", lambda: caller.writing(index, DATA, session)),
-            (NV_READ, "TPM2_NV_Read", lambda: caller.reading(index, 8, session)),
+            (CC.NV_Write, "TPM2_NV_Write", lambda: caller.writing(index, DATA, session)),
+            (CC.NV_Read, "TPM2_NV_Read", lambda: caller.reading(index, 8, session)),
         ):
             if code == authorized:
                 caller.does(name, prepare())
@@ -239,7 +240,7 @@ def no_policy(openly, session):
 
 
 def extending(pcr, *values):
-    return caller.prepare(frames.PCR_EXTEND, [pcr], digests(*values), b"")
+    return caller.prepare(CC.PCR_Extend, [pcr], digests(*values), b"")
 
 
 def changed_pcrs(session):
@@ -287,9 +288,9 @@ def changed_pcrs(session):
 def other_commands(session):
     script.chapter("The command is another than the one recorded (condition 4).")
     index = caller.written_index(
-        "An index whose policy is TPM2_NV_Read", BY_POLICY | BY_OWNER, after_code(NV_READ)
+        "An index whose policy is TPM2_NV_Read", BY_POLICY | BY_OWNER, after_code(CC.NV_Read)
     )
-    caller.asserts_code(session, NV_READ, "TPM2_NV_Read")
+    caller.asserts_code(session, CC.NV_Read, "TPM2_NV_Read")
     lost("TPM2_NV_Write", "POLICY_CC/s1", caller.writing(index, DATA, session))
     caller.read("TPM2_NV_Read", index, DATA, session)
 
@@ -300,12 +301,12 @@ def admin_role(session):
     lost("TPM2_NV_ChangeAuth", "POLICY_FAIL/s1", caller.changing_auth(index, PIN, session))
     caller.does("TPM2_NV_Write, in the USER role", caller.writing(index, DATA, session))
     admin = caller.index(
-        "One whose policy is TPM2_NV_ChangeAuth", BY_POLICY, after_code(NV_CHANGE_AUTH)
+        "One whose policy is TPM2_NV_ChangeAuth", BY_POLICY, after_code(CC.NV_ChangeAuth)
     )
-    caller.asserts_code(session, NV_READ, "TPM2_NV_Read")
+    caller.asserts_code(session, CC.NV_Read, "TPM2_NV_Read")
     lost("TPM2_NV_ChangeAuth", "POLICY_CC/s1", caller.changing_auth(admin, PIN, session))
     caller.restarts(session)
-    caller.asserts_code(session, NV_CHANGE_AUTH, "TPM2_NV_ChangeAuth")
+    caller.asserts_code(session, CC.NV_ChangeAuth, "TPM2_NV_ChangeAuth")
     caller.does("TPM2_NV_ChangeAuth", caller.changing_auth(admin, PIN, session))
 
 
@@ -372,7 +373,7 @@ def other_hashes(handle, session):
     caller.asserts_code(by_sha1)
     lost("The nameAlg is SHA-256", "POLICY_FAIL/s1", caller.unsealing(handle, by_sha1))
     of_sha1 = caller.sealed_object(
-        "An object with nameAlg SHA-1", after_code(UNSEAL, SHA1), algorithm=SHA1
+        "An object with nameAlg SHA-1", after_code(CC.Unseal, SHA1), algorithm=SHA1
     )
     caller.unseal("It is authorized", of_sha1, SECRET, by_sha1)
     caller.asserts_code(session)

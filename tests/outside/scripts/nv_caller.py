@@ -5,6 +5,7 @@ change with their attributes.
 import frames
 import nv
 from caller import Use
+from commands import CC
 from frames import RH_OWNER, SHA256, number, sized
 from general import Fields
 from nv import Attribute, Type
@@ -21,12 +22,12 @@ BY_POLICY = Attribute.POLICYWRITE | Attribute.POLICYREAD
 
 # What each command leaves in the attributes of the index that it is used on.
 MARKS = {
-    frames.NV_WRITE: Attribute.WRITTEN,
-    frames.NV_INCREMENT: Attribute.WRITTEN,
-    frames.NV_SET_BITS: Attribute.WRITTEN,
-    frames.NV_EXTEND: Attribute.WRITTEN,
-    frames.NV_WRITE_LOCK: Attribute.WRITELOCKED,
-    frames.NV_READ_LOCK: Attribute.READLOCKED,
+    CC.NV_Write: Attribute.WRITTEN,
+    CC.NV_Increment: Attribute.WRITTEN,
+    CC.NV_SetBits: Attribute.WRITTEN,
+    CC.NV_Extend: Attribute.WRITTEN,
+    CC.NV_WriteLock: Attribute.WRITELOCKED,
+    CC.NV_ReadLock: Attribute.READLOCKED,
 }
 
 
@@ -70,43 +71,43 @@ class NvCaller(ObjectCaller):
 
     def defining(self, public, *uses, auth=b"", by=RH_OWNER):
         parameters = frames.nv_define_space(public.text, auth)
-        return self.prepare(frames.NV_DEFINE_SPACE, [by], parameters, *self.by(uses, by))
+        return self.prepare(CC.NV_DefineSpace, [by], parameters, *self.by(uses, by))
 
     def undefining(self, index, *uses, by=RH_OWNER):
-        return self.on_index(frames.NV_UNDEFINE_SPACE, index, b"", uses, by)
+        return self.on_index(CC.NV_UndefineSpace, index, b"", uses, by)
 
     def index_public(self, index, *uses):
-        return self.prepare(frames.NV_READ_PUBLIC, [index], b"", *uses)
+        return self.prepare(CC.NV_ReadPublic, [index], b"", *uses)
 
     def writing(self, index, data, *uses, offset=0, by=None):
-        return self.on_index(frames.NV_WRITE, index, frames.nv_write(data, offset), uses, by)
+        return self.on_index(CC.NV_Write, index, frames.nv_write(data, offset), uses, by)
 
     def incrementing(self, index, *uses, by=None):
-        return self.on_index(frames.NV_INCREMENT, index, b"", uses, by)
+        return self.on_index(CC.NV_Increment, index, b"", uses, by)
 
     def setting(self, index, bits, *uses, by=None):
         parameters = number(bits, nv.NUMBER_BYTES)
-        return self.on_index(frames.NV_SET_BITS, index, parameters, uses, by)
+        return self.on_index(CC.NV_SetBits, index, parameters, uses, by)
 
     def extending(self, index, data, *uses, by=None):
-        return self.on_index(frames.NV_EXTEND, index, sized(data), uses, by)
+        return self.on_index(CC.NV_Extend, index, sized(data), uses, by)
 
     def reading(self, index, size, *uses, offset=0, by=None):
-        return self.on_index(frames.NV_READ, index, frames.nv_read(size, offset), uses, by)
+        return self.on_index(CC.NV_Read, index, frames.nv_read(size, offset), uses, by)
 
     def write_locking(self, index, *uses, by=None):
-        return self.on_index(frames.NV_WRITE_LOCK, index, b"", uses, by)
+        return self.on_index(CC.NV_WriteLock, index, b"", uses, by)
 
     def read_locking(self, index, *uses, by=None):
-        return self.on_index(frames.NV_READ_LOCK, index, b"", uses, by)
+        return self.on_index(CC.NV_ReadLock, index, b"", uses, by)
 
     def changing_auth(self, index, new, *uses):
-        return self.prepare(frames.NV_CHANGE_AUTH, [index], sized(new), *self.by(uses, index))
+        return self.prepare(CC.NV_ChangeAuth, [index], sized(new), *self.by(uses, index))
 
     def comparing(self, session, index, operand, *uses, offset=0, operation=0, by=None):
         """TPM2_PolicyNV; operation 0 is that both are equal."""
         parameters = frames.policy_nv(operand, offset, operation)
-        return self.on_index(frames.POLICY_NV, index, parameters, uses, by, session.handle)
+        return self.on_index(CC.PolicyNV, index, parameters, uses, by, session.handle)
 
     # Sending, with fresh random bytes where a session has an entry.
 
@@ -130,7 +131,7 @@ class NvCaller(ObjectCaller):
         mark = MARKS.get(prepared.code)
         if mark:
             self.note_public(self.publics[prepared.handles[1]].but(added=mark))
-        if prepared.code == frames.NV_UNDEFINE_SPACE:
+        if prepared.code == CC.NV_UndefineSpace:
             self.forget(prepared.handles[1])
 
     def note_public(self, public):

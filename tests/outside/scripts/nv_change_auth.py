@@ -5,18 +5,8 @@ import paths
 
 import policy
 from caller import Use
-from frames import (
-    CONTINUE_SESSION,
-    DECRYPT,
-    NV_CHANGE_AUTH,
-    NV_WRITE,
-    RH_OWNER,
-    RH_PLATFORM,
-    SHA1,
-    SHA256,
-    number,
-    sized,
-)
+from commands import CC
+from frames import CONTINUE_SESSION, DECRYPT, RH_OWNER, RH_PLATFORM, SHA1, SHA256, number, sized
 from nv import Attribute
 from nv_caller import BY_OWNER, BY_POLICY, BY_VALUE, FIRST, SECOND, THIRD, NvCaller, area
 from policy import AUTH_VALUE, PASSWORD
@@ -35,7 +25,7 @@ caller = NvCaller(script)
 def changing_policy(algorithm=SHA256, before=None):
     """The digest of TPM2_PolicyCommandCode, behind what was asserted before."""
     old = before or bytes(digest_bytes(algorithm))
-    return policy.after_command_code(algorithm, old, NV_CHANGE_AUTH)
+    return policy.after_command_code(algorithm, old, CC.NV_ChangeAuth)
 
 
 def says(what, prepared):
@@ -43,7 +33,7 @@ def says(what, prepared):
 
 
 def told(session, what="TPM2_PolicyCommandCode of TPM2_NV_ChangeAuth"):
-    says(what, caller.command_code(session, NV_CHANGE_AUTH))
+    says(what, caller.command_code(session, CC.NV_ChangeAuth))
 
 
 def undefine(*indices):
@@ -72,7 +62,7 @@ caller.fails(
 trial = caller.trial("A trial session")
 told(trial)
 caller.fails("By it", "ATTRIBUTES/s1", caller.changing_auth(FIRST, b"new", trial))
-says("TPM2_PolicyCommandCode of TPM2_NV_Write", caller.command_code(session, NV_WRITE))
+says("TPM2_PolicyCommandCode of TPM2_NV_Write", caller.command_code(session, CC.NV_Write))
 caller.fails("By this session", "POLICY_CC/s1", caller.changing_auth(FIRST, b"new", session))
 says("TPM2_PolicyRestart", caller.restart(session))
 caller.does("The value is as it was: TPM2_NV_Write by it", caller.writing(FIRST, b"x"))
@@ -121,11 +111,11 @@ caller.define(
     area(
         FIRST,
         BY_POLICY,
-        auth_policy=policy.after_command_code(SHA256, bytes(32), NV_WRITE),
+        auth_policy=policy.after_command_code(SHA256, bytes(32), CC.NV_Write),
     ),
 )
 says("TPM2_PolicyRestart", caller.restart(session))
-says("TPM2_PolicyCommandCode of TPM2_NV_Write", caller.command_code(session, NV_WRITE))
+says("TPM2_PolicyCommandCode of TPM2_NV_Write", caller.command_code(session, CC.NV_Write))
 caller.fails("TPM2_NV_ChangeAuth", "POLICY_CC/s1", caller.changing_auth(FIRST, b"new", session))
 caller.does("TPM2_NV_Write", caller.writing(FIRST, b"x", session))
 undefine(FIRST)

@@ -4,6 +4,7 @@
 import paths
 
 import frames
+from commands import CC
 from frames import RH_OWNER
 from nv import Attribute
 from nv_caller import BY_OWNER, FIRST, SECOND, NvCaller, area, bits, extended
@@ -222,7 +223,7 @@ def power_cycles():
     script.command(
         "TPM2_Startup(CLEAR) on a device that is started",
         "INITIALIZE",
-        frames.command(frames.STARTUP, frames.number(0, 2)),
+        frames.command(CC.Startup, frames.number(0, 2)),
     )
     caller.is_now("Changes nothing", FIRST)
     undefine()

@@ -6,17 +6,8 @@ import paths
 import nv
 import policy
 from caller import Use
-from frames import (
-    CONTINUE_SESSION,
-    DECRYPT,
-    ENCRYPT,
-    NV_READ,
-    NV_WRITE,
-    RH_OWNER,
-    SHA1,
-    SHA256,
-    selection,
-)
+from commands import CC
+from frames import CONTINUE_SESSION, DECRYPT, ENCRYPT, RH_OWNER, SHA1, SHA256, selection
 from nv import Attribute
 from nv_caller import BY_OWNER, BY_POLICY, FIRST, SECOND, THIRD, NvCaller, area
 from policy import AUTH_VALUE, PASSWORD
@@ -163,10 +154,10 @@ def by_code_and_pcrs():
         "10 has its value of now."
     )
     chosen = [(SHA256, [10])]
-    to_write = policy.after_command_code(SHA256, after_auth_value(), NV_WRITE)
+    to_write = policy.after_command_code(SHA256, after_auth_value(), CC.NV_Write)
     values = digest(SHA256, bytes(32))
     to_read = policy.after_pcr(SHA256, bytes(32), selection(*chosen), values)
-    to_read = policy.after_command_code(SHA256, to_read, NV_READ)
+    to_read = policy.after_command_code(SHA256, to_read, CC.NV_Read)
     either = policy.after_or(SHA256, [to_write, to_read])
     caller.define("The index", area(FIRST, BY_POLICY, auth_policy=either), auth=b"a")
     session = caller.policy("A policy session")
@@ -176,12 +167,12 @@ def by_code_and_pcrs():
 
     def writer():
         says("TPM2_PolicyAuthValue", caller.auth_value_told(session))
-        says("TPM2_PolicyCommandCode of TPM2_NV_Write", caller.command_code(session, NV_WRITE))
+        says("TPM2_PolicyCommandCode of TPM2_NV_Write", caller.command_code(session, CC.NV_Write))
         or_told()
 
     def reader():
         says("TPM2_PolicyPCR of PCR 10", caller.pcrs(session, chosen))
-        says("TPM2_PolicyCommandCode of TPM2_NV_Read", caller.command_code(session, NV_READ))
+        says("TPM2_PolicyCommandCode of TPM2_NV_Read", caller.command_code(session, CC.NV_Read))
         or_told()
 
     by_value = lambda: Use(session, demand=AUTH_VALUE)
@@ -200,7 +191,7 @@ def by_code_and_pcrs():
     caller.fails("TPM2_NV_Read", "PCR_CHANGED", caller.reading(FIRST, 8, session))
     says("TPM2_PolicyRestart", caller.restart(session))
     says("TPM2_PolicyPCR of PCR 10", caller.pcrs(session, chosen))
-    says("TPM2_PolicyCommandCode of TPM2_NV_Read", caller.command_code(session, NV_READ))
+    says("TPM2_PolicyCommandCode of TPM2_NV_Read", caller.command_code(session, CC.NV_Read))
     caller.says("TPM2_PolicyOR", "VALUE/p1", caller.branches(session, to_write, to_read))
     caller.fails("TPM2_NV_Read", "POLICY_FAIL/s1", caller.reading(FIRST, 8, session))
     says("TPM2_PolicyRestart", caller.restart(session))

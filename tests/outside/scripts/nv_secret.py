@@ -7,6 +7,7 @@ import paths
 
 import frames
 from caller import Use
+from commands import CC
 from frames import CONTINUE_SESSION, DECRYPT, ENCRYPT, RH_OWNER
 from nv import Attribute
 from nv_caller import NvCaller, area
@@ -130,7 +131,7 @@ caller.is_now("TPM2_NV_ReadPublic: the attributes have READLOCKED", SECRET_INDEX
 script.command(
     "TPM2_Startup without a power cycle does not open it",
     "INITIALIZE",
-    frames.command(frames.STARTUP, frames.number(0, 2)),
+    frames.command(CC.Startup, frames.number(0, 2)),
 )
 caller.fails(
     "Nor does anybody write it or take it away who does not know ownerAuth (TPM2_NV_Write and "

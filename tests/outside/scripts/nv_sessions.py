@@ -5,6 +5,7 @@ import paths
 
 import frames
 from caller import Use, flipped
+from commands import CC
 from frames import CONTINUE_SESSION, DECRYPT, ENCRYPT, RH_NULL, RH_OWNER, SHA1, SHA256
 from nv import Attribute
 from nv_caller import (
@@ -253,7 +254,7 @@ def encryption():
     caller.fails(
         "Data that are cut, and decrypted",
         "INSUFFICIENT/p1",
-        caller.prepare(frames.NV_WRITE, [FIRST, FIRST], b"\0\4abc", Use(session, DECRYPTS)),
+        caller.prepare(CC.NV_Write, [FIRST, FIRST], b"\0\4abc", Use(session, DECRYPTS)),
     )
     flush(session, plain, none, owner)
     undefine(FIRST, SECOND, THIRD, FOURTH, 0x0100_0005)
@@ -264,7 +265,7 @@ def others():
     script.chapter("TPM2_StartAuthSession and TPM2_PolicySecret of an index.")
     caller.define("An index", area(FIRST, BY_VALUE), auth=b"a")
     handles, parameters = frames.start_auth_session(bytes(16), FIRST)
-    start = caller.prepare(frames.START_AUTH_SESSION, handles, parameters)
+    start = caller.prepare(CC.StartAuthSession, handles, parameters)
     caller.fails("Bound to what is not there", "HANDLE/h2", start.but(handles=[RH_NULL, SECOND]))
     session = caller.start("A session that is bound to the index", bind=FIRST)
     secret = caller.policy("A policy session")
@@ -300,7 +301,7 @@ def sent_again():
     caller.does("TPM2_NV_Write by the password", caller.writing(FIRST, DATA))
     nonce = caller.nonce()
     handles, parameters = frames.start_auth_session(nonce)
-    start = caller.prepare(frames.START_AUTH_SESSION, handles, parameters)
+    start = caller.prepare(CC.StartAuthSession, handles, parameters)
     seed = b"the start's own"
 
     def start_session(what):

@@ -3,7 +3,7 @@
 
 import paths
 
-import frames
+from commands import CC
 from frames import RH_ENDORSEMENT, RH_NULL, RH_OWNER, RH_PLATFORM
 from nv import Attribute
 from nv_caller import BY_OWNER, BY_VALUE, FIRST, SECOND, THIRD, NvCaller, area
@@ -33,7 +33,7 @@ caller.does("The owner's by the owner, whatever its value is", caller.undefining
 caller.fails(
     "What is gone: in TPM2_NV_UndefineSpace, TPM2_NV_Read and TPM2_NV_Write by the owner",
     "HANDLE/h2",
-    caller.prepare(frames.NV_UNDEFINE_SPACE, [RH_OWNER, FIRST], b"", b""),
+    caller.prepare(CC.NV_UndefineSpace, [RH_OWNER, FIRST], b"", b""),
     caller.reading(FIRST, 1, by=RH_OWNER),
     caller.writing(FIRST, b"x", by=RH_OWNER),
 )

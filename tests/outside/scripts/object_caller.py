@@ -3,6 +3,7 @@
 from dataclasses import dataclass
 
 import frames
+from commands import CC
 from frames import KEYEDHASH, SHA256, SYMCIPHER, number, sized
 from general import Fields
 from objects import Attribute, Public, read_public
@@ -62,25 +63,25 @@ class ObjectCaller(PolicyCaller):
 
     def primary(self, hierarchy, public, *uses, user_auth=b"", data=b"", **more):
         return self.creation(
-            frames.CREATE_PRIMARY, hierarchy, public, user_auth, data, uses, more
+            CC.CreatePrimary, hierarchy, public, user_auth, data, uses, more
         )
 
     def child(self, parent, public, *uses, user_auth=b"", data=b"", **more):
-        return self.creation(frames.CREATE, parent, public, user_auth, data, uses, more)
+        return self.creation(CC.Create, parent, public, user_auth, data, uses, more)
 
     def loading(self, parent, made, *uses):
         parameters = sized(made.private) + sized(made.public.text)
-        return self.prepare(frames.LOAD, [parent], parameters, *self.by(uses, parent))
+        return self.prepare(CC.Load, [parent], parameters, *self.by(uses, parent))
 
     def public(self, handle, *uses):
-        return self.prepare(frames.READ_PUBLIC, [handle], b"", *uses)
+        return self.prepare(CC.ReadPublic, [handle], b"", *uses)
 
     def unsealing(self, handle, *uses):
-        return self.prepare(frames.UNSEAL, [handle], b"", *self.by(uses, handle))
+        return self.prepare(CC.Unseal, [handle], b"", *self.by(uses, handle))
 
     def hmac(self, handle, data, algorithm, *uses):
         parameters = sized(data) + number(algorithm, 2)
-        return self.prepare(frames.HMAC, [handle], parameters, *self.by(uses, handle))
+        return self.prepare(CC.HMAC, [handle], parameters, *self.by(uses, handle))
 
     # Sending, and what comes back.
 

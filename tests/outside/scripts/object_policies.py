@@ -5,18 +5,16 @@ import paths
 
 import policy
 from caller import Use
+from commands import CC
 from frames import (
     ALG_NULL,
     CONTINUE_SESSION,
     DECRYPT,
     ENCRYPT,
-    HMAC,
-    LOAD,
     RH_ENDORSEMENT,
     RH_OWNER,
     SHA1,
     SHA256,
-    UNSEAL,
     selection,
 )
 from object_caller import HERE, ObjectCaller, hmac_key, sealed, storage_key
@@ -189,10 +187,10 @@ for algorithm, hash_name in ((SHA256, "SHA-256"), (SHA1, "SHA-1")):
 # Without a demand.
 
 script.chapter("A policy that asks for no value: the key of the hmac is the session's alone.")
-AFTER_CODE = policy.after_command_code(SHA256, bytes(32), UNSEAL)
+AFTER_CODE = policy.after_command_code(SHA256, bytes(32), CC.Unseal)
 handle = sealed_by("An object for TPM2_Unseal alone", AFTER_CODE)
 session = caller.policy("A session that is bound to nothing")
-says("TPM2_PolicyCommandCode", caller.command_code(session, UNSEAL))
+says("TPM2_PolicyCommandCode", caller.command_code(session, CC.Unseal))
 caller.refused(
     "By the value", "BAD_AUTH/s1", caller.unsealing(handle, Use(session, demand=PASSWORD))
 )
@@ -202,12 +200,12 @@ caller.refused(
     caller.unsealing(handle, Use(session, demand=AUTH_VALUE)),
 )
 caller.unseal("By an empty hmac, as the key is empty", handle, SECRET, session)
-says("TPM2_PolicyCommandCode", caller.command_code(session, UNSEAL))
+says("TPM2_PolicyCommandCode", caller.command_code(session, CC.Unseal))
 caller.unseal("By one of the empty key", handle, SECRET, Use(session, shows_empty_key=True))
 bound = caller.policy(
     "A session that is bound to TPM_RH_ENDORSEMENT, with AES", bind=RH_ENDORSEMENT, aes=True
 )
-says("TPM2_PolicyCommandCode", caller.command_code(bound, UNSEAL))
+says("TPM2_PolicyCommandCode", caller.command_code(bound, CC.Unseal))
 caller.refused(
     "An empty hmac", "BAD_AUTH/s1", caller.unsealing(handle, bound).but_entry(1, hmac=b"")
 )
@@ -217,9 +215,9 @@ caller.unseal(
     SECRET,
     Use(bound, CONTINUE_SESSION | ENCRYPT),
 )
-says("TPM2_PolicyCommandCode", caller.command_code(bound, UNSEAL))
+says("TPM2_PolicyCommandCode", caller.command_code(bound, CC.Unseal))
 caller.unseal("Beside another session", handle, SECRET, bound, session)
-says("TPM2_PolicyCommandCode", caller.command_code(bound, UNSEAL))
+says("TPM2_PolicyCommandCode", caller.command_code(bound, CC.Unseal))
 caller.unseal("The other authorizes nothing, and keeps what it was told", handle, SECRET, bound)
 caller.flush_objects("The object is flushed", handle)
 
@@ -228,7 +226,7 @@ caller.flush_objects("The object is flushed", handle)
 script.chapter("Each condition of a use in its order: all of them fail, and one is put right.")
 
 
-def tell_all(session, cp_hash, code=UNSEAL, localities=1):
+def tell_all(session, cp_hash, code=CC.Unseal, localities=1):
     """Something of each kind. The last assertion is that of the locality."""
     says("TPM2_PolicyPCR", caller.pcrs(session, PCR_16))
     says("TPM2_PolicyCommandCode", caller.command_code(session, code))
@@ -236,7 +234,7 @@ def tell_all(session, cp_hash, code=UNSEAL, localities=1):
     says("TPM2_PolicyLocality", caller.locality(session, localities))
 
 
-def told_all(algorithm, values_digest, code=UNSEAL, localities=1):
+def told_all(algorithm, values_digest, code=CC.Unseal, localities=1):
     told = bytes(20 if algorithm == SHA1 else 32)
     told = policy.after_pcr(algorithm, told, selection(*PCR_16), values_digest)
     told = policy.after_command_code(algorithm, told, code)
@@ -254,7 +252,7 @@ wrong_hash = bytes([7]) * 32
 
 
 def cp_hash_of(handle, algorithm=SHA256):
-    return command_hash(algorithm, UNSEAL, [caller.names[handle]], b"")
+    return command_hash(algorithm, CC.Unseal, [caller.names[handle]], b"")
 
 
 def wrong(handle, session):
@@ -263,7 +261,7 @@ def wrong(handle, session):
 
 
 trial = caller.trial("A trial session")
-tell_all(trial, wrong_hash, LOAD, 2)
+tell_all(trial, wrong_hash, CC.Load, 2)
 caller.says("PCR 16 is reset", "SUCCESS", caller.reset(b""))
 caller.refused(
     "A trial session, for either object",
@@ -273,18 +271,18 @@ caller.refused(
 )
 says("It is flushed", caller.flush(trial))
 session = caller.policy("A policy session, with SHA-256")
-tell_all(session, wrong_hash, LOAD, 2)
+tell_all(session, wrong_hash, CC.Load, 2)
 caller.says("PCR 16 is reset", "SUCCESS", caller.reset(b""))
 caller.refused("An object that has no policy", "AUTH_UNAVAILABLE", wrong(without, session))
 caller.refused("The PCRs have changed", "PCR_CHANGED", wrong(handle, session))
 says("TPM2_PolicyRestart", caller.restart(session))
-tell_all(session, wrong_hash, LOAD, 2)
+tell_all(session, wrong_hash, CC.Load, 2)
 caller.refused("Another command code", "POLICY_CC/s1", wrong(handle, session))
 says("TPM2_PolicyRestart", caller.restart(session))
-tell_all(session, wrong_hash, UNSEAL, 2)
+tell_all(session, wrong_hash, CC.Unseal, 2)
 caller.refused("Another cpHash", "POLICY_FAIL/s1", wrong(handle, session))
 says("TPM2_PolicyRestart", caller.restart(session))
-tell_all(session, cp_hash_of(handle), UNSEAL, 2)
+tell_all(session, cp_hash_of(handle), CC.Unseal, 2)
 caller.refused("Another locality", "LOCALITY", wrong(handle, session))
 script.locality_is(1)
 caller.refused("From that locality: another digest", "POLICY_FAIL/s1", wrong(handle, session))
@@ -313,7 +311,10 @@ for locality in (1, 2, 3, 4):
     caller.refused("From another locality", "LOCALITY", caller.unsealing(handle, session))
 script.locality_is(0)
 caller.unseal("From locality 0", handle, SECRET, session)
-says("The same assertions in another order: first the code", caller.command_code(session, UNSEAL))
+says(
+    "The same assertions in another order: first the code",
+    caller.command_code(session, CC.Unseal),
+)
 says("Then the PCRs", caller.pcrs(session, PCR_16))
 says("TPM2_PolicySecret", caller.secret(session, cp_hash=cp_hash_of(handle)))
 says("TPM2_PolicyLocality", caller.locality(session, 1))
@@ -357,7 +358,7 @@ caller.flush_objects("It is flushed", handle)
 # What else can be authorized, and by what.
 
 script.chapter("userWithAuth: what its absence and its presence mean.")
-FOR_HMAC = policy.after_command_code(SHA256, bytes(32), HMAC)
+FOR_HMAC = policy.after_command_code(SHA256, bytes(32), CC.HMAC)
 for what, attributes, by_value in (
     ("Without userWithAuth", NO_DA, False),
     ("With userWithAuth", NO_DA | USER, True),
@@ -377,7 +378,7 @@ for what, attributes, by_value in (
             caller.accepted(words, prepared)
         else:
             caller.refused(words, "AUTH_UNAVAILABLE", prepared)
-    says("TPM2_PolicyCommandCode of TPM2_HMAC", caller.command_code(session, HMAC))
+    says("TPM2_PolicyCommandCode of TPM2_HMAC", caller.command_code(session, CC.HMAC))
     caller.refused("TPM2_Unseal by this policy", "POLICY_CC/s1", caller.unsealing(handle, session))
     caller.accepted("TPM2_HMAC by this policy", caller.hmac(handle, b"text", ALG_NULL, session))
     caller.refused(
@@ -438,7 +439,7 @@ for what, attributes, outcome in (
     )
     caller.unseal("The right one", handle, SECRET, Use(session, demand=AUTH_VALUE))
     says("TPM2_PolicyPassword", caller.password_told(session))
-    says("TPM2_PolicyCommandCode", caller.command_code(session, UNSEAL))
+    says("TPM2_PolicyCommandCode", caller.command_code(session, CC.Unseal))
     caller.refused(
         "What is refused before it is compared is no try",
         "POLICY_FAIL/s1",
@@ -460,7 +461,7 @@ for what, attributes, outcome in (
         ("The first: its key was made of the object's value", bound, outcome),
         ("The second: nothing of it has the value in it", unbound, "BAD_AUTH/s1"),
     ):
-        says("TPM2_PolicyCommandCode", caller.command_code(each, UNSEAL))
+        says("TPM2_PolicyCommandCode", caller.command_code(each, CC.Unseal))
         caller.refused(
             words, code, caller.unsealing(handle, each).but_entry(1, hmac=bytes(32))
         )

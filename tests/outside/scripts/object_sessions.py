@@ -5,9 +5,9 @@ import paths
 
 import policy
 from caller import Use
+from commands import CC
 from frames import (
     ALG_NULL,
-    POLICY_SECRET,
     RH_ENDORSEMENT,
     RH_OWNER,
     SHA1,
@@ -17,7 +17,6 @@ from frames import (
     policy_secret,
     start_auth_session,
 )
-from frames import START_AUTH_SESSION as START
 from object_caller import HERE, ObjectCaller, hmac_key, sealed, storage_key
 from objects import Attribute
 from policy_caller import zeros
@@ -106,7 +105,7 @@ for algorithm, hash_name in ((SHA256, "SHA-256"), (SHA1, "SHA-1")):
     caller.flush_objects("Both are flushed", handle, again)
     caller.accepted("The session that is bound to it lives on", caller.reset(bound))
     caller.refused(
-        "But there is no object", "REFERENCE_H0", caller.prepare(0x15E, [handle], b"", bound)
+        "But there is no object", "REFERENCE_H0", caller.prepare(CC.Unseal, [handle], b"", bound)
     )
     stranger = caller.create_primary(
         "Another object takes the place of one", RH_OWNER, sealed(), user_auth=PIN, data=b"x"
@@ -124,7 +123,7 @@ script.chapter("TPM2_StartAuthSession: bind is an object.")
 
 
 def starting(bind):
-    return caller.prepare(START, *start_auth_session(bytes(16), bind))
+    return caller.prepare(CC.StartAuthSession, *start_auth_session(bytes(16), bind))
 
 
 caller.says(
@@ -223,7 +222,7 @@ for algorithm, hash_name in ((SHA256, "SHA-256"), (SHA1, "SHA-1")):
         ("A policy session that is not there", "REFERENCE_H1", number(0x0300_000F, 4)),
         ("No sessions (tag 8001)", "AUTH_MISSING", handles[1]),
     ):
-        script.command(what, outcome, command(POLICY_SECRET, handles[0] + handle_text))
+        script.command(what, outcome, command(CC.PolicySecret, handles[0] + handle_text))
     caller.says("By a wrong value", "BAD_AUTH/s1", caller.secret(session, b"nip", of=key))
     caller.accepted("By its value", caller.secret(session, PIN, of=key, policy_ref=b"ref"))
     told = policy.after_secret(SHA256, zeros(session), caller.names[key], b"ref")
@@ -243,7 +242,7 @@ for algorithm, hash_name in ((SHA256, "SHA-256"), (SHA1, "SHA-1")):
     caller.unseal("TPM2_Unseal: what was shown counts", target, SECRET, session)
     caller.says(
         "The key is no more", "REFERENCE_H0", caller.prepare(
-            POLICY_SECRET, [key, session.handle], policy_secret(), b""
+            CC.PolicySecret, [key, session.handle], policy_secret(), b""
         )
     )
     caller.flush_objects("The object is flushed", target)

@@ -14,8 +14,9 @@ import hmac
 import paths
 
 import aes
-from frames import CREATE, CREATE_PRIMARY, LOAD, RH_OWNER, UNSEAL, command, number, on_handle
-from frames import READ_PUBLIC, selection, sized
+from commands import CC
+from frames import RH_OWNER, command, number, on_handle
+from frames import selection, sized
 from script import Script
 
 # The device of a script is manufactured with the bytes 00 to ff, eight pieces of 32: the seeds of
@@ -79,7 +80,7 @@ answer = script.command(
     'TPM2_CreatePrimary of a storage key, whose value is "owner key"',
     "SUCCESS",
     on_handle(
-        CREATE_PRIMARY,
+        CC.CreatePrimary,
         RH_OWNER,
         sized(in_sensitive) + sized(template) + sized(b"first") + selection(),
     ),
@@ -88,7 +89,7 @@ assert answer[10:14] == number(0x8000_0000, 4)
 parameters = sized(public) + sized(creation_data) + sized(creation_hash) + ticket + sized(name)
 assert answer[18:-5] == parameters
 answer = script.command(
-    "TPM2_ReadPublic", "SUCCESS", command(READ_PUBLIC, number(0x8000_0000, 4))
+    "TPM2_ReadPublic", "SUCCESS", command(CC.ReadPublic, number(0x8000_0000, 4))
 )
 assert answer[10:] == sized(public) + sized(name) + sized(qualified_name)
 
@@ -136,7 +137,7 @@ answer = script.command(
     'TPM2_Create of sealed data, whose value is "pin"',
     "SUCCESS",
     by_password(
-        CREATE,
+        CC.Create,
         0x8000_0000,
         sized(in_sensitive) + sized(template) + sized(b"") + selection(),
         b"owner key",
@@ -147,13 +148,13 @@ assert answer[14:-5] == parameters
 answer = script.command(
     "TPM2_Load",
     "SUCCESS",
-    by_password(LOAD, 0x8000_0000, sized(private) + sized(public), b"owner key"),
+    by_password(CC.Load, 0x8000_0000, sized(private) + sized(public), b"owner key"),
 )
 assert answer[10:14] == number(0x8000_0001, 4) and answer[18:-5] == sized(name)
 answer = script.command(
-    "TPM2_ReadPublic", "SUCCESS", command(READ_PUBLIC, number(0x8000_0001, 4))
+    "TPM2_ReadPublic", "SUCCESS", command(CC.ReadPublic, number(0x8000_0001, 4))
 )
 assert answer[10:] == sized(public) + sized(name) + sized(qualified_name)
-answer = script.command("TPM2_Unseal", "SUCCESS", by_password(UNSEAL, 0x8000_0001, b"", b"pin"))
+answer = script.command("TPM2_Unseal", "SUCCESS", by_password(CC.Unseal, 0x8000_0001, b"", b"pin"))
 assert answer[14:-5] == sized(data)
 script.write()

@@ -4,6 +4,7 @@
 import paths
 
 import frames
+from commands import CC
 from frames import RH_ENDORSEMENT, RH_NULL, RH_OWNER, RH_PLATFORM, SHA1, number
 from object_caller import ObjectCaller, hmac_key, sealed, storage_key
 from script import Script
@@ -67,7 +68,7 @@ script.entropy(bytes(range(128, 192)))
 script.command(
     "TPM2_Startup(STATE), while no state is saved",
     "VALUE/p1",
-    frames.command(frames.STARTUP, number(1, 2)),
+    frames.command(CC.Startup, number(1, 2)),
 )
 start("The second start, with other random bytes.", bytes(range(64, 128)))
 caller.forget(*handles)

@@ -7,9 +7,9 @@ import frames
 import general
 import policy
 from caller import Use
+from commands import CC
 from frames import (
     DECRYPT,
-    NV_CHANGE_AUTH,
     RH_LOCKOUT,
     RH_OWNER,
     RH_PLATFORM,
@@ -47,7 +47,6 @@ def wrong(prepared, *places):
 
 def handles_in_order(code, handles):
     """Each handle cut, of another kind, and absent, with no handle behind it that is right."""
-    kinds = general.SHAPES[code].handles
     for place, handle in enumerate(handles, 1):
         before = b"".join(number(it, 4) for it in handles[: place - 1])
         for what, outcome, text in (
@@ -57,7 +56,8 @@ def handles_in_order(code, handles):
             ("One that is not there", "REFERENCE_H2", number(0x0300_000F, 4)),
         ):
             absent = int.from_bytes(text, "big")
-            if len(text) == 4 and absent != RH_LOCKOUT and not kinds[place - 1](absent):
+            is_of_kind = general.IS_OF_KIND[code.handles[place - 1].kind]
+            if len(text) == 4 and absent != RH_LOCKOUT and not is_of_kind(absent):
                 continue
             script.command(
                 f"Handle {place}. {what}, and no sessions",
@@ -70,8 +70,7 @@ def general_refusals(code, handles, cut, uses):
     """Up to the parameters, which are `cut` in all of these."""
     handles_in_order(code, handles)
     text = b"".join(number(it, 4) for it in handles)
-    shape = general.SHAPES[code]
-    if shape.authorized:
+    if code.authorized:
         script.command("No sessions", "AUTH_MISSING", command(code, text + cut))
     script.command(
         "An area of eight bytes",
@@ -85,7 +84,8 @@ def general_refusals(code, handles, cut, uses):
         f"REFERENCE_S{last - 1}",
         prepared.but(entries=[*wrong(prepared, 1).entries[:-1], ABSENT_SESSION]),
     )
-    if shape.authorized and shape.handles[0](BY_OTHERS) and code != NV_CHANGE_AUTH:
+    is_first = general.IS_OF_KIND[code.handles[0].kind]
+    if code.authorized and is_first(BY_OTHERS) and code != CC.NV_ChangeAuth:
         unavailable = caller.prepare(code, [BY_OTHERS, *handles[1:]], cut, *uses)
         caller.refused(
             "Both entries are wrong, on an index that no password can use",
@@ -112,8 +112,7 @@ def in_order(code, uses, *cases):
 def changes(code, name, index, locked, parameters, faults=(), ranges=()):
     """One of the four commands that change an index: `locked` is of another type."""
     script.chapter(f"{name}.")
-    decrypts = general.SHAPES[code].sized_parameter
-    uses = [VALUE, Use(session, 1 | DECRYPT) if decrypts else Use(session)]
+    uses = [VALUE, Use(session, 1 | DECRYPT) if code.takes_sized else Use(session)]
     general_refusals(code, [index, index], parameters[:-1] or b"\0", uses)
     open_one = ORDINARY if index != ORDINARY else COUNTER
     out = ranges[-1][1] if ranges else parameters
@@ -138,7 +137,7 @@ def changes(code, name, index, locked, parameters, faults=(), ranges=()):
 
 def define_space():
     script.chapter("TPM2_NV_DefineSpace, with auth encrypted.")
-    code, uses = frames.NV_DEFINE_SPACE, [b"", Use(session, 1 | DECRYPT)]
+    code, uses = CC.NV_DefineSpace, [b"", Use(session, 1 | DECRYPT)]
     general_refusals(code, [RH_OWNER], sized(b"a")[:-1], uses)
     long_auth, none = sized(b"a" * 21), sized(b"")
     everything = area(ORDINARY, 0, 0xFFFF, algorithm=SHA1, auth_policy=b"p").text
@@ -176,7 +175,7 @@ def define_space():
 
 def undefine_space():
     script.chapter("TPM2_NV_UndefineSpace.")
-    code, uses = frames.NV_UNDEFINE_SPACE, [b"", Use(session)]
+    code, uses = CC.NV_UndefineSpace, [b"", Use(session)]
     general_refusals(code, [RH_OWNER, PLATFORMS], b"\0", uses)
     in_order(
         code,
@@ -189,19 +188,19 @@ def undefine_space():
 
 def read_public():
     script.chapter("TPM2_NV_ReadPublic, with a session that authorizes nothing.")
-    general_refusals(frames.NV_READ_PUBLIC, [ORDINARY], b"\0", [Use(session)])
+    general_refusals(CC.NV_ReadPublic, [ORDINARY], b"\0", [Use(session)])
     wrong_size = caller.index_public(ORDINARY, session).handles
     caller.refused(
         "A byte behind the handle",
         "SIZE",
-        caller.prepare(frames.NV_READ_PUBLIC, wrong_size, b"\0", session),
+        caller.prepare(CC.NV_ReadPublic, wrong_size, b"\0", session),
     )
     caller.is_now("With nothing wrong", ORDINARY, session)
 
 
 def read():
     script.chapter("TPM2_NV_Read.")
-    code, uses = frames.NV_READ, [VALUE, Use(session)]
+    code, uses = CC.NV_Read, [VALUE, Use(session)]
     general_refusals(code, [ORDINARY, ORDINARY], b"\0", uses)
     far = frames.nv_read(1025, 9)
     in_order(
@@ -222,8 +221,8 @@ def read():
 
 def locks():
     for code, name in (
-        (frames.NV_WRITE_LOCK, "TPM2_NV_WriteLock"),
-        (frames.NV_READ_LOCK, "TPM2_NV_ReadLock"),
+        (CC.NV_WriteLock, "TPM2_NV_WriteLock"),
+        (CC.NV_ReadLock, "TPM2_NV_ReadLock"),
     ):
         script.chapter(f"{name}.")
         uses = [VALUE, Use(session)]
@@ -242,7 +241,7 @@ def locks():
 
 def change_auth():
     script.chapter("TPM2_NV_ChangeAuth, with newAuth encrypted by another session.")
-    code = NV_CHANGE_AUTH
+    code = CC.NV_ChangeAuth
     told = caller.policy("A policy session of SHA-1", algorithm=SHA1)
     hides = Use(session, 1 | DECRYPT)
     new = sized(b"a" * 21)
@@ -282,7 +281,7 @@ def change_auth():
     caller.says(
         "TPM2_PolicyCommandCode of TPM2_NV_Write",
         "SUCCESS",
-        caller.command_code(told, frames.NV_WRITE),
+        caller.command_code(told, CC.NV_Write),
     )
     caller.says("TPM2_PolicyLocality of locality 1", "SUCCESS", caller.locality(told, 2))
     caller.does("A PCR is extended", caller.event(b"", b""))
@@ -295,7 +294,7 @@ def change_auth():
     caller.says(
         "TPM2_PolicyCommandCode of TPM2_NV_Write",
         "SUCCESS",
-        caller.command_code(told, frames.NV_WRITE),
+        caller.command_code(told, CC.NV_Write),
     )
     caller.says("TPM2_PolicyLocality of locality 1", "SUCCESS", caller.locality(told, 2))
     refused("Another code, and another locality", "POLICY_CC/s1", all_wrong())
@@ -305,7 +304,7 @@ def change_auth():
     caller.says(
         "TPM2_PolicyCommandCode of TPM2_NV_ChangeAuth",
         "SUCCESS",
-        caller.command_code(told, NV_CHANGE_AUTH),
+        caller.command_code(told, CC.NV_ChangeAuth),
     )
     refused("Another locality, and another digest", "LOCALITY", all_wrong())
     script.locality_is(1)
@@ -314,7 +313,7 @@ def change_auth():
     caller.says(
         "TPM2_PolicyCommandCode of TPM2_NV_ChangeAuth",
         "SUCCESS",
-        caller.command_code(told, NV_CHANGE_AUTH),
+        caller.command_code(told, CC.NV_ChangeAuth),
     )
     refused("Both hmacs are wrong", "BAD_AUTH/s1", all_wrong())
     refused(
@@ -336,7 +335,7 @@ def change_auth():
 
 def policy_nv():
     script.chapter("TPM2_PolicyNV, with operandB encrypted.")
-    code, uses = frames.POLICY_NV, [VALUE, Use(session, 1 | DECRYPT)]
+    code, uses = CC.PolicyNV, [VALUE, Use(session, 1 | DECRYPT)]
     told = caller.policy("A policy session")
     operand = sized(b"x")
     general_refusals(code, [ORDINARY, ORDINARY, told.handle], operand[:-1], uses)
@@ -384,7 +383,7 @@ for index, public in enumerate(
             CHANGED,
             BY_VALUE | Attribute.NO_DA,
             algorithm=SHA1,
-            auth_policy=policy.after_command_code(SHA1, bytes(20), NV_CHANGE_AUTH),
+            auth_policy=policy.after_command_code(SHA1, bytes(20), CC.NV_ChangeAuth),
         ),
         *(area(0x0100_0041 + it, BY_VALUE, size=2000) for it in range(8)),
     )
@@ -410,7 +409,7 @@ undefine_space()
 read_public()
 LONG = sized(bytes(1025))
 changes(
-    frames.NV_WRITE,
+    CC.NV_Write,
     "TPM2_NV_Write, with data encrypted",
     ORDINARY,
     LOCKED_COUNTER,
@@ -421,9 +420,9 @@ changes(
     ],
     [("Past the end", frames.nv_write(b"x", 9))],
 )
-changes(frames.NV_INCREMENT, "TPM2_NV_Increment", COUNTER, LOCKED_ORDINARY, b"")
+changes(CC.NV_Increment, "TPM2_NV_Increment", COUNTER, LOCKED_ORDINARY, b"")
 changes(
-    frames.NV_SET_BITS,
+    CC.NV_SetBits,
     "TPM2_NV_SetBits",
     BITS,
     LOCKED_ORDINARY,
@@ -431,7 +430,7 @@ changes(
     [("bits are cut", "INSUFFICIENT/p1", bytes(7))],
 )
 changes(
-    frames.NV_EXTEND,
+    CC.NV_Extend,
     "TPM2_NV_Extend, with data encrypted",
     EXTENDED,
     LOCKED_COUNTER,

@@ -5,19 +5,14 @@ import paths
 
 import frames
 from caller import Use
+from commands import CC
 from frames import (
     ALG_NULL,
-    CREATE,
-    CREATE_PRIMARY,
     DECRYPT,
-    HMAC,
-    LOAD,
-    READ_PUBLIC,
     RH_LOCKOUT,
     RH_OWNER,
     SHA1,
     SHA256,
-    UNSEAL,
     area,
     command,
     number,
@@ -62,13 +57,13 @@ def general_refusals(code, handle, other_handle, cut, uses):
         "VALUE/h1",
         raw(number(other_handle, 4), tag=frames.NO_SESSIONS),
     )
-    if code != CREATE_PRIMARY:
+    if code != CC.CreatePrimary:
         script.command(
             "An object that is not there, and no sessions",
             "REFERENCE_H0",
             raw(number(ABSENT, 4), tag=frames.NO_SESSIONS),
         )
-    if code != READ_PUBLIC:
+    if code != CC.ReadPublic:
         script.command(
             "No sessions",
             "AUTH_MISSING",
@@ -119,11 +114,11 @@ BANK = number(1, 4) + number(0x000C, 2) + b"\x03\0\0\0"
 LONG_INFO = sized(bytes(35))
 
 for code, name, on, uses in (
-    (CREATE_PRIMARY, "TPM2_CreatePrimary", RH_OWNER, [b"", DECRYPTS]),
-    (CREATE, "TPM2_Create", parent, [b"parent", DECRYPTS]),
+    (CC.CreatePrimary, "TPM2_CreatePrimary", RH_OWNER, [b"", DECRYPTS]),
+    (CC.Create, "TPM2_Create", parent, [b"parent", DECRYPTS]),
 ):
     script.chapter(f"{name}, with inSensitive encrypted.")
-    other = RH_LOCKOUT if code == CREATE_PRIMARY else RH_OWNER
+    other = RH_LOCKOUT if code == CC.CreatePrimary else RH_OWNER
     general_refusals(code, on, other, GOOD_SENSITIVE[:-1], uses)
     bad_type = sized(number(1, 2))
     wrong_public = sized(WRONG.text)
@@ -153,7 +148,7 @@ for code, name, on, uses in (
             ),
         ),
     )
-    if code == CREATE:
+    if code == CC.Create:
         caller.refused(
             "Under what is no parent",
             "TYPE/h1",
@@ -193,9 +188,9 @@ caller.says("The object of the first is flushed", "SUCCESS", caller.flush(0x8000
 script.chapter("TPM2_Load, with inPrivate encrypted.")
 uses = [b"parent", DECRYPTS]
 private, public = sized(made.private), sized(made.public.text)
-general_refusals(LOAD, parent, RH_OWNER, private[:-1], uses)
+general_refusals(CC.Load, parent, RH_OWNER, private[:-1], uses)
 parameters_in_order(
-    LOAD,
+    CC.Load,
     parent,
     uses,
     (
@@ -208,10 +203,10 @@ parameters_in_order(
 caller.refused(
     "Under what is no parent",
     "TYPE/h1",
-    caller.prepare(LOAD, [handle], sized(b"") + sized(WRONG.text), b"s", DECRYPTS),
+    caller.prepare(CC.Load, [handle], sized(b"") + sized(WRONG.text), b"s", DECRYPTS),
 )
 parameters_in_order(
-    LOAD,
+    CC.Load,
     parent,
     uses,
     (
@@ -230,7 +225,7 @@ parameters_in_order(
 )
 others = [caller.load("" if it else "Eight objects are there", parent, made) for it in range(4)]
 parameters_in_order(
-    LOAD,
+    CC.Load,
     parent,
     uses,
     (
@@ -243,31 +238,31 @@ again = caller.load("With nothing wrong", parent, made, *uses)
 caller.flush_objects("It is flushed", again)
 
 script.chapter("TPM2_ReadPublic, with a session that authorizes nothing.")
-general_refusals(READ_PUBLIC, key, RH_OWNER, b"\0", [Use(session)])
+general_refusals(CC.ReadPublic, key, RH_OWNER, b"\0", [Use(session)])
 caller.refused(
-    "A byte behind the handle", "SIZE", caller.prepare(READ_PUBLIC, [key], b"\0", session)
+    "A byte behind the handle", "SIZE", caller.prepare(CC.ReadPublic, [key], b"\0", session)
 )
 caller.read_public("With nothing wrong", key, session)
 
 script.chapter("TPM2_Unseal.")
-general_refusals(UNSEAL, key, RH_OWNER, b"\0", [b"k", Use(session)])
+general_refusals(CC.Unseal, key, RH_OWNER, b"\0", [b"k", Use(session)])
 caller.refused(
     "A byte behind the area, of a key",
     "SIZE",
-    caller.prepare(UNSEAL, [key], b"\0", b"k", session),
+    caller.prepare(CC.Unseal, [key], b"\0", b"k", session),
 )
 caller.refused(
-    "A storage key", "TYPE/h1", caller.prepare(UNSEAL, [parent], b"", b"parent", session)
+    "A storage key", "TYPE/h1", caller.prepare(CC.Unseal, [parent], b"", b"parent", session)
 )
-caller.refused("An HMAC key", "ATTRIBUTES/h1", caller.prepare(UNSEAL, [key], b"", b"k", session))
+caller.refused("An HMAC key", "ATTRIBUTES/h1", caller.prepare(CC.Unseal, [key], b"", b"k", session))
 caller.unseal("With nothing wrong", handle, SECRET, b"s", session)
 
 script.chapter("TPM2_HMAC, with the buffer encrypted.")
 uses = [b"k", DECRYPTS]
 data = sized(b"text")
-general_refusals(HMAC, key, RH_OWNER, data[:-1], uses)
+general_refusals(CC.HMAC, key, RH_OWNER, data[:-1], uses)
 parameters_in_order(
-    HMAC,
+    CC.HMAC,
     key,
     uses,
     (
@@ -284,6 +279,6 @@ for what, outcome, on, value in (
     ("Sealed data", "KEY/h1", handle, b"s"),
     ("Another hash algorithm than the scheme's", "VALUE/p2", key, b"k"),
 ):
-    caller.refused(what, outcome, caller.prepare(HMAC, [on], by_sha1, value, DECRYPTS))
+    caller.refused(what, outcome, caller.prepare(CC.HMAC, [on], by_sha1, value, DECRYPTS))
 caller.accepted("With nothing wrong", caller.hmac(key, b"text", SHA256, *uses))
 script.write()

@@ -5,6 +5,7 @@ import paths
 
 import frames
 from caller import Use, flipped
+from commands import CC
 from frames import (
     CONTINUE_SESSION,
     DECRYPT,
@@ -103,9 +104,9 @@ def ends_well(code, text):
 
 
 for name, code in (
-    ("TPM2_PolicyRestart", frames.POLICY_RESTART),
-    ("TPM2_PolicyAuthValue", frames.POLICY_AUTH_VALUE),
-    ("TPM2_PolicyPassword", frames.POLICY_PASSWORD),
+    ("TPM2_PolicyRestart", CC.PolicyRestart),
+    ("TPM2_PolicyAuthValue", CC.PolicyAuthValue),
+    ("TPM2_PolicyPassword", CC.PolicyPassword),
 ):
     script.chapter(f"{name} with a byte too many.")
     up_to_hmacs(code, b"\0")
@@ -113,36 +114,36 @@ for name, code in (
     ends_well(code, b"")
 
 script.chapter("TPM2_PolicyGetDigest with a byte too many.")
-up_to_hmacs(frames.POLICY_GET_DIGEST, b"\0")
+up_to_hmacs(CC.PolicyGetDigest, b"\0")
 caller.refused(
     "encrypt in a session that cannot, and a wrong hmac before",
     "SYMMETRIC/s2",
-    wrong(caller.told(frames.POLICY_GET_DIGEST, policy, b"\0", hmac, Use(plain, ENCRYPTS)), 1),
+    wrong(caller.told(CC.PolicyGetDigest, policy, b"\0", hmac, Use(plain, ENCRYPTS)), 1),
 )
-says("The byte", "SIZE", frames.POLICY_GET_DIGEST, b"\0")
-ends_well(frames.POLICY_GET_DIGEST, b"")
+says("The byte", "SIZE", CC.PolicyGetDigest, b"\0")
+ends_well(CC.PolicyGetDigest, b"")
 
 script.chapter("TPM2_PolicyLocality.")
-up_to_hmacs(frames.POLICY_LOCALITY, b"")
-says("No byte", "INSUFFICIENT/p1", frames.POLICY_LOCALITY, b"")
-says("A byte behind 0, and behind FF", "SIZE", frames.POLICY_LOCALITY, b"\0\0")
-says("", "SIZE", frames.POLICY_LOCALITY, b"\xff\0")
-says("0", "RANGE/p1", frames.POLICY_LOCALITY, b"\0")
-ends_well(frames.POLICY_LOCALITY, b"\1")
+up_to_hmacs(CC.PolicyLocality, b"")
+says("No byte", "INSUFFICIENT/p1", CC.PolicyLocality, b"")
+says("A byte behind 0, and behind FF", "SIZE", CC.PolicyLocality, b"\0\0")
+says("", "SIZE", CC.PolicyLocality, b"\xff\0")
+says("0", "RANGE/p1", CC.PolicyLocality, b"\0")
+ends_well(CC.PolicyLocality, b"\1")
 
 script.chapter("TPM2_PolicyCommandCode behind TPM2_PolicyCommandCode of Unseal.")
-caller.says("Unseal", "SUCCESS", caller.command_code(policy, frames.UNSEAL))
-up_to_hmacs(frames.POLICY_COMMAND_CODE, b"\0\0\1")
-says("Three bytes", "INSUFFICIENT/p1", frames.POLICY_COMMAND_CODE, b"\0\0\1")
-says("Another code, 0, and a byte behind it", "SIZE", frames.POLICY_COMMAND_CODE, bytes(5))
-says("0, which is no code, and another", "VALUE/p1", frames.POLICY_COMMAND_CODE, bytes(4))
+caller.says("Unseal", "SUCCESS", caller.command_code(policy, CC.Unseal))
+up_to_hmacs(CC.PolicyCommandCode, b"\0\0\1")
+says("Three bytes", "INSUFFICIENT/p1", CC.PolicyCommandCode, b"\0\0\1")
+says("Another code, 0, and a byte behind it", "SIZE", CC.PolicyCommandCode, bytes(5))
+says("0, which is no code, and another", "VALUE/p1", CC.PolicyCommandCode, bytes(4))
 caller.says("TPM2_PolicyRestart", "SUCCESS", caller.restart(policy))
-says("0, and none is recorded", "POLICY_CC/p1", frames.POLICY_COMMAND_CODE, bytes(4))
-ends_well(frames.POLICY_COMMAND_CODE, number(frames.UNSEAL, 4))
+says("0, and none is recorded", "POLICY_CC/p1", CC.PolicyCommandCode, bytes(4))
+ends_well(CC.PolicyCommandCode, number(CC.Unseal, 4))
 
 script.chapter("TPM2_PolicyOR.")
-up_to_hmacs(frames.POLICY_OR, b"\0\0\0")
-OR = frames.POLICY_OR
+up_to_hmacs(CC.PolicyOR, b"\0\0\0")
+OR = CC.PolicyOR
 says("Three bytes of the number", "INSUFFICIENT/p1", OR, b"\0\0\0")
 says("One digest, of 33 bytes", "SIZE/p1", OR, frames.sized_list(bytes(33)))
 says("Nine, the first cut", "SIZE/p1", OR, number(9, 4) + b"\0")
@@ -163,7 +164,7 @@ script.chapter("TPM2_PolicyPCR behind TPM2_PolicyPCR, and PCR 16 has changed; hm
 caller.says("TPM2_PolicyRestart", "SUCCESS", caller.restart(policy))
 caller.says("TPM2_PolicyPCR", "SUCCESS", caller.pcrs(policy, [(SHA256, [0])]))
 caller.accepted("TPM2_PCR_Reset of PCR 16", caller.reset(b""))
-PCR = frames.POLICY_PCR
+PCR = CC.PolicyPCR
 up_to_hmacs(PCR, sized(bytes(32))[:-1])
 caller.refused(
     "decrypt in a session that cannot, and a wrong hmac before",
@@ -199,7 +200,7 @@ caller.accepted("A cpHash", caller.secret(policy, cp_hash=CP_HASH))
 
 
 def secret(text, *uses, of=RH_LOCKOUT, session=policy.handle):
-    return caller.prepare(frames.POLICY_SECRET, [of, session], text, *uses)
+    return caller.prepare(CC.PolicySecret, [of, session], text, *uses)
 
 
 CUT = b"\0\x20"
@@ -321,7 +322,7 @@ caller.says("TPM2_PolicyPCR with it", "SUCCESS", caller.pcrs(trial, [], bytes(32
 
 script.chapter("TPM2_PolicyCpHash behind TPM2_PolicyCpHash; hmac decrypts.")
 caller.says("TPM2_PolicyRestart", "SUCCESS", caller.restart(policy), caller.restart(trial))
-CP = frames.POLICY_CP_HASH
+CP = CC.PolicyCpHash
 caller.says("A cpHash", "SUCCESS", caller.cp_hash_told(policy, CP_HASH))
 caller.says("In the trial session too", "SUCCESS", caller.cp_hash_told(trial, CP_HASH))
 up_to_hmacs(CP, sized(bytes(32))[:-1])
@@ -353,7 +354,7 @@ for session in (policy, trial):
     )
 
 script.chapter("TPM2_PolicyNvWritten behind TPM2_PolicyNvWritten of 1.")
-WRITTEN = frames.POLICY_NV_WRITTEN
+WRITTEN = CC.PolicyNvWritten
 caller.says("In a policy session", "SUCCESS", caller.written_told(policy, True))
 caller.says("In a trial session", "SUCCESS", caller.written_told(trial, True))
 up_to_hmacs(WRITTEN, b"")

@@ -5,19 +5,8 @@ import paths
 
 import frames
 from caller import Caller, Use, flipped
-from frames import (
-    CONTINUE_SESSION,
-    DECRYPT,
-    ENCRYPT,
-    FLUSH_CONTEXT,
-    HIERARCHY_CHANGE_AUTH,
-    PCR_EVENT,
-    RH_NULL,
-    RH_OWNER,
-    START_AUTH_SESSION,
-    number,
-    sized,
-)
+from commands import CC
+from frames import CONTINUE_SESSION, DECRYPT, ENCRYPT, RH_NULL, RH_OWNER, number, sized
 from general import Entry
 from script import Script
 
@@ -51,7 +40,7 @@ script.chapter(
 
 
 def start(handles, parameters, *uses):
-    return caller.prepare(START_AUTH_SESSION, handles, parameters, *uses)
+    return caller.prepare(CC.StartAuthSession, handles, parameters, *uses)
 
 
 uses = Use(first, DECRYPTS), Use(second, ENCRYPTS)
@@ -108,7 +97,7 @@ script.chapter("TPM2_PCR_Event into PCR 17 from locality 0, with two sessions an
 
 
 def event(text, *uses, pcr=17):
-    return caller.prepare(PCR_EVENT, [pcr], text, *uses)
+    return caller.prepare(CC.PCR_Event, [pcr], text, *uses)
 
 
 caller.refused("PCR 24, and no sessions (tag 8001)", "VALUE/h1", event(b"", pcr=24))
@@ -160,7 +149,7 @@ script.chapter("TPM2_HierarchyChangeAuth of TPM_RH_OWNER.")
 
 
 def change(text, *uses):
-    return caller.prepare(HIERARCHY_CHANGE_AUTH, [RH_OWNER], text, *uses)
+    return caller.prepare(CC.HierarchyChangeAuth, [RH_OWNER], text, *uses)
 
 
 caller.refused(
@@ -178,7 +167,7 @@ script.chapter("TPM2_FlushContext of the first session.")
 
 
 def flush(text, tag=frames.NO_SESSIONS):
-    return frames.command(FLUSH_CONTEXT, text, tag)
+    return frames.command(CC.FlushContext, text, tag)
 
 
 script.command(

@@ -3,8 +3,8 @@
 
 import paths
 
-import frames
 import policy
+from commands import CC
 from policy_caller import PolicyCaller, zeros
 from script import Script
 
@@ -31,8 +31,8 @@ for session in caller.each_session():
     caller.says(
         "There are no parameters: a byte behind the handle",
         "SIZE",
-        caller.told(frames.POLICY_AUTH_VALUE, session, b"\0"),
-        caller.told(frames.POLICY_PASSWORD, session, b"\0"),
+        caller.told(CC.PolicyAuthValue, session, b"\0"),
+        caller.told(CC.PolicyPassword, session, b"\0"),
     )
     caller.digest_is("The digest is as it was", session, twice)
 

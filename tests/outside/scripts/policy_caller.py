@@ -2,6 +2,7 @@
 
 import frames
 from caller import Caller
+from commands import CC
 from frames import RH_ENDORSEMENT, SE_POLICY, SE_TRIAL, SHA1, SHA256, number, sized
 from sessions import digest_bytes
 
@@ -42,40 +43,40 @@ class PolicyCaller(Caller):
         return self.prepare(code, [session.handle], parameters, *uses)
 
     def restart(self, session, *uses):
-        return self.told(frames.POLICY_RESTART, session, b"", *uses)
+        return self.told(CC.PolicyRestart, session, b"", *uses)
 
     def get_digest(self, session, *uses):
-        return self.told(frames.POLICY_GET_DIGEST, session, b"", *uses)
+        return self.told(CC.PolicyGetDigest, session, b"", *uses)
 
     def auth_value_told(self, session, *uses):
-        return self.told(frames.POLICY_AUTH_VALUE, session, b"", *uses)
+        return self.told(CC.PolicyAuthValue, session, b"", *uses)
 
     def password_told(self, session, *uses):
-        return self.told(frames.POLICY_PASSWORD, session, b"", *uses)
+        return self.told(CC.PolicyPassword, session, b"", *uses)
 
     def locality(self, session, localities, *uses):
-        return self.told(frames.POLICY_LOCALITY, session, number(localities, 1), *uses)
+        return self.told(CC.PolicyLocality, session, number(localities, 1), *uses)
 
     def command_code(self, session, code, *uses):
-        return self.told(frames.POLICY_COMMAND_CODE, session, number(code, 4), *uses)
+        return self.told(CC.PolicyCommandCode, session, number(code, 4), *uses)
 
     def cp_hash_told(self, session, cp_hash, *uses):
-        return self.told(frames.POLICY_CP_HASH, session, sized(cp_hash), *uses)
+        return self.told(CC.PolicyCpHash, session, sized(cp_hash), *uses)
 
     def written_told(self, session, is_written, *uses):
-        return self.told(frames.POLICY_NV_WRITTEN, session, number(is_written, 1), *uses)
+        return self.told(CC.PolicyNvWritten, session, number(is_written, 1), *uses)
 
     def branches(self, session, *digests, count=None):
-        return self.told(frames.POLICY_OR, session, frames.sized_list(*digests, count=count))
+        return self.told(CC.PolicyOR, session, frames.sized_list(*digests, count=count))
 
     def pcrs(self, session, banks, given=b"", uses=()):
         parameters = sized(given) + frames.selection(*banks)
-        return self.told(frames.POLICY_PCR, session, parameters, *uses)
+        return self.told(CC.PolicyPCR, session, parameters, *uses)
 
     def secret(self, session, *uses, of=RH_ENDORSEMENT, **parameters):
         """With nothing given, by the empty password."""
         return self.prepare(
-            frames.POLICY_SECRET,
+            CC.PolicySecret,
             [of, session.handle],
             frames.policy_secret(**parameters),
             *(uses or [b""]),

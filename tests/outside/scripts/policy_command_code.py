@@ -3,13 +3,13 @@
 
 import paths
 
-import frames
 import policy
-from frames import SE_POLICY, SE_TRIAL, SHA1, SHA256, UNSEAL, number
+from commands import CC
+from frames import SE_POLICY, SE_TRIAL, SHA1, SHA256, number
 from policy_caller import PolicyCaller, zeros
 from script import Script
 
-NV_READ, READ_PUBLIC, UNKNOWN = 0x14E, 0x173, 0x194
+UNKNOWN = 0x194
 
 script = Script(
     "tests/policy_command_code.tpm",
@@ -20,7 +20,7 @@ caller = PolicyCaller(script)
 
 
 def raw(session, text):
-    return caller.told(frames.POLICY_COMMAND_CODE, session, text)
+    return caller.told(CC.PolicyCommandCode, session, text)
 
 
 script.startup()
@@ -34,19 +34,19 @@ for session in caller.each_session():
     caller.says(
         "A byte behind it, also where it is no command's",
         "SIZE",
-        raw(session, number(UNSEAL, 4) + b"\0"),
+        raw(session, number(CC.Unseal, 4) + b"\0"),
         raw(session, number(UNKNOWN, 4) + b"\0"),
     )
     caller.digest_is("The digest is zeros", session, zeros(session))
 
-    once = policy.after_command_code(session.algorithm, zeros(session), UNSEAL)
-    caller.says("The code of Unseal", "SUCCESS", caller.command_code(session, UNSEAL))
+    once = policy.after_command_code(session.algorithm, zeros(session), CC.Unseal)
+    caller.says("The code of Unseal", "SUCCESS", caller.command_code(session, CC.Unseal))
     caller.digest_is("Its digest", session, once)
     caller.says(
         "Another code, in a trial session too, NV_Read and ReadPublic",
         "VALUE/p1",
-        caller.command_code(session, NV_READ),
-        caller.command_code(session, READ_PUBLIC),
+        caller.command_code(session, CC.NV_Read),
+        caller.command_code(session, CC.ReadPublic),
     )
     caller.says(
         "One that is no command's, which is another as well",
@@ -54,12 +54,12 @@ for session in caller.each_session():
         caller.command_code(session, UNKNOWN),
         caller.command_code(session, 0),
     )
-    caller.says("Cut, all the same", "INSUFFICIENT/p1", raw(session, number(NV_READ, 4)[:3]))
+    caller.says("Cut, all the same", "INSUFFICIENT/p1", raw(session, number(CC.NV_Read, 4)[:3]))
     caller.digest_is("The digest is as it was", session, once)
-    caller.says("The code of Unseal once more", "SUCCESS", caller.command_code(session, UNSEAL))
-    twice = policy.after_command_code(session.algorithm, once, UNSEAL)
+    caller.says("The code of Unseal once more", "SUCCESS", caller.command_code(session, CC.Unseal))
+    twice = policy.after_command_code(session.algorithm, once, CC.Unseal)
     caller.digest_is("And it is in the digest again", session, twice)
-    caller.says("NV_Read", "VALUE/p1", caller.command_code(session, NV_READ))
+    caller.says("NV_Read", "VALUE/p1", caller.command_code(session, CC.NV_Read))
 
 for kind, name, algorithm, hash_name in (
     (SE_POLICY, "policy", SHA256, "SHA-256"),
@@ -67,7 +67,7 @@ for kind, name, algorithm, hash_name in (
 ):
     script.chapter(f"Each code that there is, in a {name} session of {hash_name}.")
     session = caller.start("It is started", kind=kind, algorithm=algorithm)
-    for code in sorted(policy.COMMANDS):
+    for code in sorted(CC):
         caller.says(
             f"{code:X} in a new policy, and the digest of it",
             "SUCCESS",
@@ -79,7 +79,7 @@ for kind, name, algorithm, hash_name in (
 
     script.chapter("And each number between 11F and 190 that is no code.")
     caller.says("TPM2_PolicyRestart", "SUCCESS", caller.restart(session))
-    others = sorted(set(range(0x11F, 0x191)) - policy.COMMANDS)
+    others = sorted(set(range(0x11F, 0x191)) - set(CC))
     caller.says(
         "All of them", "POLICY_CC/p1", *(caller.command_code(session, it) for it in others)
     )

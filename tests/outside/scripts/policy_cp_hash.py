@@ -5,10 +5,10 @@ import hashlib
 
 import paths
 
-import frames
 import policy
 from caller import Use, flipped
-from frames import CONTINUE_SESSION, DECRYPT, NV_READ, RH_ENDORSEMENT, RH_OWNER, SHA1, SHA256
+from commands import CC
+from frames import CONTINUE_SESSION, DECRYPT, RH_ENDORSEMENT, RH_OWNER, SHA1, SHA256
 from frames import number, sized
 from nv_caller import BY_OWNER, BY_POLICY, FIRST, NvCaller, area
 from object_caller import HERE, sealed, storage_key
@@ -32,7 +32,7 @@ def says(what, outcome, session, *hashes):
 
 
 def raw(session, text):
-    return caller.told(frames.POLICY_CP_HASH, session, text)
+    return caller.told(CC.PolicyCpHash, session, text)
 
 
 script.startup()
@@ -172,7 +172,9 @@ script.locality_is(0)
 
 script.chapter("What comes before the cpHash: the PCRs, and the command code.")
 says("Another cpHash", "SUCCESS", session, bytes(32))
-caller.says("TPM2_PolicyCommandCode of NV_Read", "SUCCESS", caller.command_code(session, NV_READ))
+caller.says(
+    "TPM2_PolicyCommandCode of NV_Read", "SUCCESS", caller.command_code(session, CC.NV_Read)
+)
 caller.says("TPM2_PolicyPCR of no PCR", "SUCCESS", caller.pcrs(session, []))
 caller.fails("TPM2_NV_Write", "POLICY_CC/s1", writes())
 caller.accepted("TPM2_PCR_Reset of PCR 16", caller.reset(b""))

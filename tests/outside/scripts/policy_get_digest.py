@@ -3,8 +3,8 @@
 
 import paths
 
-import frames
 import policy
+from commands import CC
 from policy_caller import PolicyCaller, zeros
 from script import Script
 
@@ -22,8 +22,8 @@ for session in caller.each_session(size=20):
     caller.refused(
         "There are no parameters: a byte behind the handle, and two",
         "SIZE",
-        caller.told(frames.POLICY_GET_DIGEST, session, b"\0"),
-        caller.told(frames.POLICY_GET_DIGEST, session, b"\0\0"),
+        caller.told(CC.PolicyGetDigest, session, b"\0"),
+        caller.told(CC.PolicyGetDigest, session, b"\0\0"),
     )
     caller.says("TPM2_PolicyAuthValue", "SUCCESS", caller.auth_value_told(session))
     digest = policy.after_auth_value(session.algorithm, zeros(session))

@@ -5,6 +5,7 @@ import paths
 
 import frames
 from caller import flipped
+from commands import CC
 from frames import RH_ENDORSEMENT, RH_NULL, RH_OWNER, RS_PW, SHA1, SHA256, area, entry, number
 from policy_caller import PolicyCaller
 from script import Script
@@ -17,20 +18,20 @@ script = Script(
 caller = PolicyCaller(script)
 
 COMMANDS = (
-    ("TPM2_PolicyRestart", frames.POLICY_RESTART, b""),
-    ("TPM2_PolicyPCR", frames.POLICY_PCR, frames.sized(b"") + frames.selection((SHA256, [0]))),
-    ("TPM2_PolicyOR", frames.POLICY_OR, frames.sized_list(bytes(20), bytes(32))),
-    ("TPM2_PolicyAuthValue", frames.POLICY_AUTH_VALUE, b""),
-    ("TPM2_PolicyPassword", frames.POLICY_PASSWORD, b""),
-    ("TPM2_PolicyCommandCode", frames.POLICY_COMMAND_CODE, number(frames.UNSEAL, 4)),
-    ("TPM2_PolicyLocality", frames.POLICY_LOCALITY, b"\1"),
-    ("TPM2_PolicyGetDigest", frames.POLICY_GET_DIGEST, b""),
+    ("TPM2_PolicyRestart", CC.PolicyRestart, b""),
+    ("TPM2_PolicyPCR", CC.PolicyPCR, frames.sized(b"") + frames.selection((SHA256, [0]))),
+    ("TPM2_PolicyOR", CC.PolicyOR, frames.sized_list(bytes(20), bytes(32))),
+    ("TPM2_PolicyAuthValue", CC.PolicyAuthValue, b""),
+    ("TPM2_PolicyPassword", CC.PolicyPassword, b""),
+    ("TPM2_PolicyCommandCode", CC.PolicyCommandCode, number(CC.Unseal, 4)),
+    ("TPM2_PolicyLocality", CC.PolicyLocality, b"\1"),
+    ("TPM2_PolicyGetDigest", CC.PolicyGetDigest, b""),
 )
 
 # Two more, at the end.
 LATER = (
-    ("TPM2_PolicyCpHash", frames.POLICY_CP_HASH, frames.sized(bytes(32))),
-    ("TPM2_PolicyNvWritten", frames.POLICY_NV_WRITTEN, b"\1"),
+    ("TPM2_PolicyCpHash", CC.PolicyCpHash, frames.sized(bytes(32))),
+    ("TPM2_PolicyNvWritten", CC.PolicyNvWritten, b"\1"),
 )
 
 # PCR 0, an NV index, HMAC sessions, permanent entities, objects, and numbers of no kind.
@@ -49,7 +50,7 @@ def by_password(handle, session, parameters, cut=None):
     """TPM2_PolicySecret by the empty password."""
     text = number(handle, 4) + number(session, 4)
     return frames.command(
-        frames.POLICY_SECRET, text[:cut] + area(entry()) + parameters, frames.SESSIONS
+        CC.PolicySecret, text[:cut] + area(entry()) + parameters, frames.SESSIONS
     )
 
 
@@ -133,8 +134,8 @@ script.chapter("TPM2_PolicySecret, whose first handle needs authorization.")
 refused(
     "No authHandle",
     "INSUFFICIENT/h1",
-    plain(frames.POLICY_SECRET, b""),
-    plain(frames.POLICY_SECRET, b"\x40\0\0"),
+    plain(CC.PolicySecret, b""),
+    plain(CC.PolicySecret, b"\x40\0\0"),
 )
 refused(
     "An authHandle that is no entity of its own: TPM_RH_NULL, PCR 24, TPM_RS_PW, two other "
@@ -151,7 +152,7 @@ refused(
 refused(
     "It is looked at before policySession is read",
     "VALUE/h1",
-    plain(frames.POLICY_SECRET, number(RH_NULL, 4)),
+    plain(CC.PolicySecret, number(RH_NULL, 4)),
 )
 refused(
     "A transient object, while there is none",
@@ -168,8 +169,8 @@ refused(
 refused(
     "No policySession",
     "INSUFFICIENT/h2",
-    plain(frames.POLICY_SECRET, number(RH_OWNER, 4)),
-    plain(frames.POLICY_SECRET, number(RH_OWNER, 4) + b"\3\0\0"),
+    plain(CC.PolicySecret, number(RH_OWNER, 4)),
+    plain(CC.PolicySecret, number(RH_OWNER, 4) + b"\3\0\0"),
 )
 refused(
     "A policySession of another kind",
@@ -184,12 +185,12 @@ refused(
 refused(
     "Without sessions (tag 8001), behind the handles",
     "AUTH_MISSING",
-    plain(frames.POLICY_SECRET, number(RH_OWNER, 4) + number(policy.handle, 4) + NOTHING),
+    plain(CC.PolicySecret, number(RH_OWNER, 4) + number(policy.handle, 4) + NOTHING),
 )
 refused(
     "Which are looked at before",
     "REFERENCE_H1",
-    plain(frames.POLICY_SECRET, number(RH_OWNER, 4) + number(0x0300_0000, 4) + NOTHING),
+    plain(CC.PolicySecret, number(RH_OWNER, 4) + number(0x0300_0000, 4) + NOTHING),
 )
 caller.refused(
     "A second password, which authorizes nothing",
@@ -206,7 +207,7 @@ other = caller.start("An HMAC session, 02000003", algorithm=SHA1)
 refused(
     "TPM2_PolicyGetDigest of 03000003",
     "REFERENCE_H0",
-    plain(frames.POLICY_GET_DIGEST, number(0x0300_0003, 4)),
+    plain(CC.PolicyGetDigest, number(0x0300_0003, 4)),
 )
 caller.says("It is flushed", "SUCCESS", caller.flush(other))
 other = caller.policy("A policy session takes its place", algorithm=SHA1)

@@ -3,8 +3,8 @@
 
 import paths
 
-import frames
 import policy
+from commands import CC
 from policy_caller import PolicyCaller, zeros
 from script import Script
 
@@ -30,13 +30,13 @@ for session in caller.each_session():
         *(session, 0x20, 0x21, 0x3F, 0x40, 0x5F, 0x80, 0x81, 0xE0, 0xFF),
     )
     caller.says(
-        "No parameter", "INSUFFICIENT/p1", caller.told(frames.POLICY_LOCALITY, session, b"")
+        "No parameter", "INSUFFICIENT/p1", caller.told(CC.PolicyLocality, session, b"")
     )
     caller.says(
         "A byte behind it, also where it is 0",
         "SIZE",
-        caller.told(frames.POLICY_LOCALITY, session, b"\1\0"),
-        caller.told(frames.POLICY_LOCALITY, session, b"\0\0"),
+        caller.told(CC.PolicyLocality, session, b"\1\0"),
+        caller.told(CC.PolicyLocality, session, b"\0\0"),
     )
     caller.digest_is("The digest is zeros", session, digest)
 

@@ -8,7 +8,8 @@ import paths
 import frames
 import policy
 from caller import Use
-from frames import POLICY_NV, RH_OWNER, RH_PLATFORM, SHA1, SHA256, number, sized
+from commands import CC
+from frames import RH_OWNER, RH_PLATFORM, SHA1, SHA256, number, sized
 from nv import Attribute
 from nv_caller import (
     BY_OWNER,
@@ -52,7 +53,7 @@ def after(session, old, index, operand, offset, operation):
     """The digest behind the assertion, as the standard spells it."""
     digest = of(session.algorithm)
     compared = digest(operand + number(offset, 2) + number(operation, 2)).digest()
-    return digest(old + number(POLICY_NV, 4) + compared + caller.names[index]).digest()
+    return digest(old + number(CC.PolicyNV, 4) + compared + caller.names[index]).digest()
 
 
 def restarted(session, what=""):

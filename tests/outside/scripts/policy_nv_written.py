@@ -8,7 +8,8 @@ import paths
 import frames
 import policy
 from caller import Use, flipped
-from frames import NV_WRITE, RH_OWNER, SHA1, SHA256
+from commands import CC
+from frames import RH_OWNER, SHA1, SHA256
 from nv import Attribute
 from nv_caller import BY_OWNER, BY_POLICY, FIRST, FOURTH, NvCaller, SECOND, THIRD, area, counter
 from object_caller import HERE, sealed, storage_key
@@ -33,7 +34,7 @@ def says(what, outcome, session, *values):
 
 
 def raw(session, text):
-    return caller.told(frames.POLICY_NV_WRITTEN, session, text)
+    return caller.told(CC.PolicyNvWritten, session, text)
 
 
 script.startup()
@@ -157,14 +158,14 @@ script.chapter(
     "written, and of locality 1; the index is written already."
 )
 SIXTH = 0x0100_0006
-digest = policy.after_command_code(SHA256, bytes(32), NV_WRITE)
+digest = policy.after_command_code(SHA256, bytes(32), CC.NV_Write)
 digest = policy.after_nv_written(SHA256, digest, NO)
 digest = policy.after_locality(SHA256, digest, 2)
 caller.define("The index", area(SIXTH, BY_OWNER | BY_POLICY, auth_policy=digest))
 caller.says(
     "The assertions",
     "SUCCESS",
-    caller.command_code(session, NV_WRITE),
+    caller.command_code(session, CC.NV_Write),
     caller.written_told(session, NO),
     caller.locality(session, 2),
 )

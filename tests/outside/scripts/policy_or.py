@@ -5,6 +5,7 @@ import paths
 
 import frames
 import policy
+from commands import CC
 from frames import number, sized
 from policy_caller import PolicyCaller, is_trial, zeros
 from script import Script
@@ -34,7 +35,7 @@ def again(session):
 
 
 def raw(session, text):
-    return caller.told(frames.POLICY_OR, session, text)
+    return caller.told(CC.PolicyOR, session, text)
 
 
 script.startup()
@@ -141,7 +142,7 @@ cp_hash = digest(session.algorithm, b"a command")
 caller.says(
     "A command, localities, PCRs and a cpHash are recorded",
     "SUCCESS",
-    caller.command_code(session, frames.GET_RANDOM),
+    caller.command_code(session, CC.GetRandom),
     caller.locality(session, 0b01100),
     caller.pcrs(session, [(frames.SHA256, [0])]),
     caller.secret(session, cp_hash=cp_hash),
@@ -149,7 +150,7 @@ caller.says(
 response = caller.says("Its digest", "SUCCESS", caller.get_digest(session))
 current = response[-len(zeros(session)) :]
 joins("The digest is the first of two", session, current, *other(session, 1))
-caller.says("Another command", "VALUE/p1", caller.command_code(session, frames.PCR_READ))
+caller.says("Another command", "VALUE/p1", caller.command_code(session, CC.PCR_Read))
 caller.says("Localities of which none is left", "RANGE/p1", caller.locality(session, 0b10011))
 another = digest(session.algorithm, b"another command")
 caller.says("Another cpHash", "CPHASH", caller.secret(session, cp_hash=another))

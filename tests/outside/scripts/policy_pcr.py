@@ -5,6 +5,7 @@ import paths
 
 import frames
 import policy
+from commands import CC
 from frames import RH_NULL, SHA1, SHA256, number, selection, sized
 from policy_caller import PolicyCaller, is_trial, zeros
 from script import Script
@@ -43,7 +44,7 @@ def changed(what, session, banks):
 
 
 def raw(session, text):
-    return caller.told(frames.POLICY_PCR, session, text)
+    return caller.told(CC.PolicyPCR, session, text)
 
 
 def edges(session):
@@ -158,7 +159,7 @@ for session in caller.each_session():
     value = digest(SHA256, b"more")
     extend = frames.digests((SHA256, value))
     caller.accepted(
-        "TPM2_PCR_Extend of PCR 0", caller.prepare(frames.PCR_EXTEND, [0], extend, b"")
+        "TPM2_PCR_Extend of PCR 0", caller.prepare(CC.PCR_Extend, [0], extend, b"")
     )
     changed("TPM2_PolicyPCR again", session, zero)
     changed("And of PCRs that are as they were, or of none", session, [(SHA256, [1])])
@@ -173,7 +174,7 @@ for session in caller.each_session():
     caller.digest_is("Its digest", session, after(session, zero))
     caller.accepted(
         "PCR 16, which is not selected, is extended in one bank",
-        caller.prepare(frames.PCR_EXTEND, [16], frames.digests((SHA1, bytes(20))), b""),
+        caller.prepare(CC.PCR_Extend, [16], frames.digests((SHA1, bytes(20))), b""),
     )
     changed("TPM2_PolicyPCR again", session, zero)
     restarted(session)
@@ -191,7 +192,7 @@ for session in caller.each_session():
     caller.accepted("TPM2_PCR_Event on TPM_RH_NULL", caller.event(b"abc", b"", pcr=RH_NULL))
     caller.accepted(
         "TPM2_PCR_Extend of PCR 0 by no digest",
-        caller.prepare(frames.PCR_EXTEND, [0], frames.digests(), b""),
+        caller.prepare(CC.PCR_Extend, [0], frames.digests(), b""),
     )
     caller.refused("TPM2_PCR_Reset of PCR 0", "LOCALITY", caller.reset(b"", pcr=0))
     caller.refused("TPM2_PCR_Event by a wrong password", "BAD_AUTH/s1", caller.event(b"a", b"x"))

@@ -6,6 +6,7 @@ import paths
 import frames
 import policy
 from caller import Use
+from commands import CC
 from frames import RH_OWNER, SHA1, SHA256
 from policy_caller import PolicyCaller, is_trial, zeros
 from script import Script
@@ -34,7 +35,7 @@ for session in caller.each_session():
     caller.says(
         "There are no parameters: a byte behind the handle",
         "SIZE",
-        caller.told(frames.POLICY_RESTART, session, b"\0"),
+        caller.told(CC.PolicyRestart, session, b"\0"),
     )
 
     caller.says("TPM2_PolicyCommandCode of Unseal", "SUCCESS", caller.command_code(session, 0x15E))

@@ -5,6 +5,7 @@ import paths
 
 import frames
 from caller import Use, flipped
+from commands import CC
 from frames import RH_LOCKOUT, RH_OWNER, SE_HMAC, SE_POLICY, SE_TRIAL, SHA1, SHA256, number
 from general import Entry
 from policy_caller import HASHES, PolicyCaller, zeros
@@ -29,11 +30,11 @@ def start(kind, place, what=None, **choices):
 
 
 def flush(handle):
-    return frames.command(frames.FLUSH_CONTEXT, number(handle, 4))
+    return frames.command(CC.FlushContext, number(handle, 4))
 
 
 def get_digest(handle):
-    return frames.command(frames.POLICY_GET_DIGEST, number(handle, 4))
+    return frames.command(CC.PolicyGetDigest, number(handle, 4))
 
 
 def random_by(handle):
@@ -55,7 +56,7 @@ for kind, name in NAMES.items():
         f"A seventeenth one: a {name} session",
         "SESSION_MEMORY",
         caller.prepare(
-            frames.START_AUTH_SESSION, *frames.start_auth_session(bytes(16), kind=kind)
+            CC.StartAuthSession, *frames.start_auth_session(bytes(16), kind=kind)
         ),
     )
 caller.says("Each has zeros", "SUCCESS", *map(caller.get_digest, sessions))
@@ -63,7 +64,7 @@ caller.says("The ninth is told something", "SUCCESS", caller.auth_value_told(ses
 caller.digest_is("The eleventh is not", sessions[10], zeros(sessions[10]))
 caller.accepted("Three of them beside TPM2_GetRandom", caller.random(4, *sessions[2:5]))
 ending = caller.prepare(
-    frames.START_AUTH_SESSION,
+    CC.StartAuthSession,
     *frames.start_auth_session(bytes(16), kind=SE_POLICY),
     Use(sessions[4], 0),
 )

@@ -5,6 +5,7 @@ import paths
 
 import frames
 from caller import Use, flipped
+from commands import CC
 from frames import (
     CONTINUE_SESSION,
     DECRYPT,
@@ -40,8 +41,8 @@ def commands(session):
     """One of each command with a handle that is authorized, on all of its kinds of handles."""
     digests = frames.digests((frames.SHA1, bytes(20)))
     yield caller.reset(session)
-    yield caller.prepare(frames.PCR_EXTEND, [0], digests, session)
-    yield caller.prepare(frames.PCR_EXTEND, [RH_NULL], digests, session)
+    yield caller.prepare(CC.PCR_Extend, [0], digests, session)
+    yield caller.prepare(CC.PCR_Extend, [RH_NULL], digests, session)
     yield caller.event(b"abc", session)
     yield caller.event(b"abc", session, pcr=RH_NULL)
     for handle in (RH_OWNER, RH_ENDORSEMENT, RH_PLATFORM, RH_LOCKOUT):
@@ -72,7 +73,7 @@ for session in (policy, trial):
     caller.says(
         "TPM2_PolicyCommandCode of another command, and of locality 4",
         "SUCCESS",
-        caller.command_code(session, frames.UNSEAL),
+        caller.command_code(session, CC.Unseal),
         caller.locality(session, 16),
         caller.pcrs(session, [(frames.SHA256, [16])]),
     )

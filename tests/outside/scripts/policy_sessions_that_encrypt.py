@@ -6,6 +6,7 @@ import paths
 import frames
 import policy
 from caller import Use, flipped
+from commands import CC
 from frames import (
     CONTINUE_SESSION,
     DECRYPT,
@@ -89,7 +90,7 @@ for algorithm, hash_name in HASHES:
         caller.refused(
             "Parameters that cannot be decrypted",
             "INSUFFICIENT/p1",
-            caller.prepare(frames.PCR_EVENT, [16], b"\0\1", b"", Use(session, DECRYPTS)),
+            caller.prepare(CC.PCR_Event, [16], b"\0\1", b"", Use(session, DECRYPTS)),
         )
         caller.accepted("The right one", right)
         caller.refused("It is of a nonce that is past", "BAD_AUTH/s2", right)
@@ -158,13 +159,13 @@ for algorithm, hash_name in HASHES:
                     1, attributes=DECRYPTS
                 )
                 for code, text in (
-                    (frames.POLICY_OR, parameters),
-                    (frames.POLICY_GET_DIGEST, b""),
-                    (frames.POLICY_RESTART, b""),
-                    (frames.POLICY_COMMAND_CODE, bytes(4)),
-                    (frames.POLICY_LOCALITY, b"\1"),
-                    (frames.POLICY_AUTH_VALUE, b""),
-                    (frames.POLICY_PASSWORD, b""),
+                    (CC.PolicyOR, parameters),
+                    (CC.PolicyGetDigest, b""),
+                    (CC.PolicyRestart, b""),
+                    (CC.PolicyCommandCode, bytes(4)),
+                    (CC.PolicyLocality, b"\1"),
+                    (CC.PolicyAuthValue, b""),
+                    (CC.PolicyPassword, b""),
                 )
             ),
         )
@@ -177,11 +178,11 @@ for algorithm, hash_name in HASHES:
                     1, attributes=ENCRYPTS
                 )
                 for code, text in (
-                    (frames.POLICY_OR, parameters),
-                    (frames.POLICY_COMMAND_CODE, bytes(4)),
-                    (frames.POLICY_LOCALITY, b"\1"),
-                    (frames.POLICY_AUTH_VALUE, b""),
-                    (frames.POLICY_PASSWORD, b""),
+                    (CC.PolicyOR, parameters),
+                    (CC.PolicyCommandCode, bytes(4)),
+                    (CC.PolicyLocality, b"\1"),
+                    (CC.PolicyAuthValue, b""),
+                    (CC.PolicyPassword, b""),
                 )
             ),
         )

@@ -21,6 +21,7 @@ import persistent
 import policy
 import sessions
 import state
+from commands import CC, Fact, HandleKind
 from device import Device
 from frames import AES, ALG_NULL, CONTINUE_SESSION, DECRYPT, ENCRYPT, KEYEDHASH, RH_NULL, RS_PW
 from frames import SHA1, SHA256, SYMCIPHER, XOR, number, sized
@@ -35,11 +36,11 @@ PCR_NUMBERS = 0, 7, 10, 16, 17, 23
 KINDS = frames.SE_HMAC, frames.SE_HMAC, frames.SE_POLICY, frames.SE_POLICY, frames.SE_TRIAL
 OPEN = Attribute.FIXED_TPM | Attribute.FIXED_PARENT | Attribute.USER_WITH_AUTH
 STORES = OPEN | Attribute.RESTRICTED | Attribute.DECRYPT | Attribute.SENSITIVE_DATA_ORIGIN
-USES = frames.UNSEAL, frames.HMAC, frames.CREATE, frames.LOAD, frames.POLICY_SECRET
+USES = CC.Unseal, CC.HMAC, CC.Create, CC.Load, CC.PolicySecret
+# What an index can authorize, mostly the command that a policy alone can.
 NV_USES = (
-    *(frames.NV_WRITE, frames.NV_INCREMENT, frames.NV_SET_BITS, frames.NV_EXTEND, frames.NV_READ),
-    *(frames.NV_WRITE_LOCK, frames.NV_READ_LOCK, frames.POLICY_NV),
-    *(frames.NV_CHANGE_AUTH,) * 6,
+    *(it for it in CC if it.handles and it.handles[0].kind == HandleKind.NV_AUTH),
+    *(CC.NV_ChangeAuth,) * 6,
 )
 INDEX_NUMBERS = range(12)
 TYPES = *(nv.Type.ORDINARY,) * 2, *nv.Type
@@ -180,14 +181,14 @@ class Writer(random.Random):
         """A digest that a session has now, one that a session will have, or one of before."""
         held = self.device.sessions.values()
         told = [it.policy for it in held if it.algorithm == algorithm and not it.is_trial]
-        digests = [it.digest for it in told if it.code == frames.NV_CHANGE_AUTH or self.happens()]
+        digests = [it.digest for it in told if it.code == CC.NV_ChangeAuth or self.happens()]
         if digests and self.happens(0.8):
             return self.choice(digests)
         if algorithm in sessions.HASHES and self.happens(0.5):
             zeros = bytes(sessions.digest_bytes(algorithm))
             if self.happens(0.4):
                 return policy.after_nv_written(algorithm, zeros, self.happens(0.5))
-            return policy.after_command_code(algorithm, zeros, frames.NV_CHANGE_AUTH)
+            return policy.after_command_code(algorithm, zeros, CC.NV_ChangeAuth)
         digest = self.choice(self.digests)
         fits = len(digest) in (0, 20 if algorithm == SHA1 else 32)
         return digest if fits or self.happens(0.1) else b""
@@ -239,7 +240,7 @@ class Writer(random.Random):
     def nv_change_auth(self):
         """Mostly of an index that a session's policy can authorize now."""
         told = [it.policy for it in self.device.sessions.values()]
-        digests = [it.digest for it in told if it.code == frames.NV_CHANGE_AUTH]
+        digests = [it.digest for it in told if it.code == CC.NV_ChangeAuth]
         handle = self.index(lambda it: it.auth_policy in digests)
         return [handle], sized(self.choice(AUTH_VALUES) + bytes(self.randrange(33)))
 
@@ -289,10 +290,10 @@ class Writer(random.Random):
         algorithm = held.algorithm if held else SHA256
         code, used = self.choice(
             (
-                (frames.UNSEAL, [self.keyed(signs=False)]),
-                (frames.NV_INCREMENT, self.asked(nv.Type.COUNTER)),
-                (frames.NV_WRITE_LOCK, self.asked()),
-                (frames.NV_READ_LOCK, self.asked(reads=True)),
+                (CC.Unseal, [self.keyed(signs=False)]),
+                (CC.NV_Increment, self.asked(nv.Type.COUNTER)),
+                (CC.NV_WriteLock, self.asked()),
+                (CC.NV_ReadLock, self.asked(reads=True)),
             )
         )
         cp_hash = sessions.command_hash(algorithm, code, map(self.device.name, used), b"")
@@ -351,7 +352,7 @@ class Writer(random.Random):
         wanted = self.choice((self.choice(kinds) << 24, self.choice(held or [0])))
         capability = self.choice((1, 1, 1, 1, 2, 5, 6, 6, 3))
         if capability == 2:
-            wanted = self.choice((0, self.choice(list(general.SHAPES)), 0x18F, 0x190))
+            wanted = self.choice((0, self.choice(list(CC)), 0x18F, 0x190))
         if capability == 6:
             wanted = self.choice((0, 0x100, 0x101, 0x129, 0x20E, 0x211, 0x212))
         count = self.choice((0, 1, 2, 64, 65, 2**32 - 1))
@@ -378,68 +379,68 @@ class Writer(random.Random):
         return self.pcr(), frames.digests(*values[: self.randrange(3)])
 
     COMMANDS = {
-        frames.STARTUP: (1, lambda w: ([], number(w.randrange(2) * w.happens(0.5), 2))),
-        frames.GET_RANDOM: (2, lambda w: ([], number(w.randrange(70), 2))),
-        frames.PCR_READ: (2, lambda w: ([], frames.selection(*w.selection()))),
-        frames.PCR_EXTEND: (2, extension),
-        frames.PCR_EVENT: (2, lambda w: (w.pcr(), sized(w.some_bytes(1024)))),
-        frames.PCR_RESET: (2, lambda w: (w.pcr(), b"")),
-        frames.HIERARCHY_CHANGE_AUTH: (
+        CC.Startup: (1, lambda w: ([], number(w.randrange(2) * w.happens(0.5), 2))),
+        CC.GetRandom: (2, lambda w: ([], number(w.randrange(70), 2))),
+        CC.PCR_Read: (2, lambda w: ([], frames.selection(*w.selection()))),
+        CC.PCR_Extend: (2, extension),
+        CC.PCR_Event: (2, lambda w: (w.pcr(), sized(w.some_bytes(1024)))),
+        CC.PCR_Reset: (2, lambda w: (w.pcr(), b"")),
+        CC.HierarchyChangeAuth: (
             3,
             lambda w: ([w.choice(general.HIERARCHIES)], sized(w.choice(AUTH_VALUES) + bytes(2))),
         ),
-        frames.FLUSH_CONTEXT: (12, flushed),
-        frames.START_AUTH_SESSION: (14, start),
-        frames.POLICY_RESTART: (1, told),
-        frames.POLICY_PCR: (
+        CC.FlushContext: (12, flushed),
+        CC.StartAuthSession: (14, start),
+        CC.PolicyRestart: (1, told),
+        CC.PolicyPCR: (
             4,
             lambda w: w.told(sized(w.happens() * b"given") + frames.selection(*w.selection())),
         ),
-        frames.POLICY_OR: (3, policy_or),
-        frames.POLICY_AUTH_VALUE: (4, told),
-        frames.POLICY_PASSWORD: (4, told),
-        frames.POLICY_COMMAND_CODE: (
+        CC.PolicyOR: (3, policy_or),
+        CC.PolicyAuthValue: (4, told),
+        CC.PolicyPassword: (4, told),
+        CC.PolicyCommandCode: (
             6,
             lambda w: w.told(number(w.choice((*USES, *NV_USES, 0x999)), 4)),
         ),
-        frames.POLICY_CP_HASH: (4, policy_cp_hash),
-        frames.POLICY_NV_WRITTEN: (6, policy_nv_written),
-        frames.POLICY_LOCALITY: (3, lambda w: w.told(number(w.choice((0, 1, 3, 31, 31, 32)), 1))),
-        frames.POLICY_SECRET: (6, policy_secret),
-        frames.POLICY_GET_DIGEST: (3, told),
-        frames.CREATE_PRIMARY: (16, lambda w: ([w.hierarchy()], w.creation())),
-        frames.CREATE: (16, lambda w: ([w.object(lambda it: it.public.is_parent)], w.creation())),
-        frames.LOAD: (14, load),
-        frames.READ_PUBLIC: (4, lambda w: ([w.object()], b"")),
-        frames.UNSEAL: (12, lambda w: ([w.keyed(signs=False)], b"")),
-        frames.HMAC: (10, hmac),
-        frames.NV_DEFINE_SPACE: (14, nv_define),
-        frames.NV_UNDEFINE_SPACE: (4, lambda w: (w.nv_undefine(), b"")),
-        frames.NV_READ_PUBLIC: (4, lambda w: ([w.index()], b"")),
-        frames.NV_WRITE: (14, nv_write),
-        frames.NV_INCREMENT: (6, lambda w: (w.asked(nv.Type.COUNTER), b"")),
-        frames.NV_SET_BITS: (
+        CC.PolicyCpHash: (4, policy_cp_hash),
+        CC.PolicyNvWritten: (6, policy_nv_written),
+        CC.PolicyLocality: (3, lambda w: w.told(number(w.choice((0, 1, 3, 31, 31, 32)), 1))),
+        CC.PolicySecret: (6, policy_secret),
+        CC.PolicyGetDigest: (3, told),
+        CC.CreatePrimary: (16, lambda w: ([w.hierarchy()], w.creation())),
+        CC.Create: (16, lambda w: ([w.object(lambda it: it.public.is_parent)], w.creation())),
+        CC.Load: (14, load),
+        CC.ReadPublic: (4, lambda w: ([w.object()], b"")),
+        CC.Unseal: (12, lambda w: ([w.keyed(signs=False)], b"")),
+        CC.HMAC: (10, hmac),
+        CC.NV_DefineSpace: (14, nv_define),
+        CC.NV_UndefineSpace: (4, lambda w: (w.nv_undefine(), b"")),
+        CC.NV_ReadPublic: (4, lambda w: ([w.index()], b"")),
+        CC.NV_Write: (14, nv_write),
+        CC.NV_Increment: (6, lambda w: (w.asked(nv.Type.COUNTER), b"")),
+        CC.NV_SetBits: (
             4,
             lambda w: (w.asked(nv.Type.BITS), number(1 << w.randrange(64), 8)),
         ),
-        frames.NV_EXTEND: (
+        CC.NV_Extend: (
             4,
             lambda w: (w.asked(nv.Type.EXTEND), sized(w.some_bytes(w.choice((4, 64, 1024))))),
         ),
-        frames.NV_READ: (12, nv_read),
-        frames.NV_WRITE_LOCK: (2, lambda w: (w.asked(), b"")),
-        frames.NV_READ_LOCK: (2, lambda w: (w.asked(reads=True), b"")),
-        frames.NV_CHANGE_AUTH: (6, nv_change_auth),
-        frames.POLICY_NV: (10, policy_nv),
-        frames.DICTIONARY_ATTACK_LOCK_RESET: (3, lambda w: ([frames.RH_LOCKOUT], b"")),
-        frames.DICTIONARY_ATTACK_PARAMETERS: (2, parameters),
-        frames.SHUTDOWN: (1, lambda w: ([], number(w.choice((0, 1, 1)) + 2 * w.happens(), 2))),
-        frames.SELF_TEST: (1, lambda w: ([], number(w.randrange(2) + 2 * w.happens(), 1))),
-        frames.READ_CLOCK: (3, lambda w: ([], b"")),
-        frames.GET_CAPABILITY: (8, capability),
-        frames.EVICT_CONTROL: (10, evict),
-        frames.CLEAR: (0.5, lambda w: ([w.choice((frames.RH_LOCKOUT, frames.RH_PLATFORM))], b"")),
-        frames.CLEAR_CONTROL: (
+        CC.NV_Read: (12, nv_read),
+        CC.NV_WriteLock: (2, lambda w: (w.asked(), b"")),
+        CC.NV_ReadLock: (2, lambda w: (w.asked(reads=True), b"")),
+        CC.NV_ChangeAuth: (6, nv_change_auth),
+        CC.PolicyNV: (10, policy_nv),
+        CC.DictionaryAttackLockReset: (3, lambda w: ([frames.RH_LOCKOUT], b"")),
+        CC.DictionaryAttackParameters: (2, parameters),
+        CC.Shutdown: (1, lambda w: ([], number(w.choice((0, 1, 1)) + 2 * w.happens(), 2))),
+        CC.SelfTest: (1, lambda w: ([], number(w.randrange(2) + 2 * w.happens(), 1))),
+        CC.ReadClock: (3, lambda w: ([], b"")),
+        CC.GetCapability: (8, capability),
+        CC.EvictControl: (10, evict),
+        CC.Clear: (0.5, lambda w: ([w.choice((frames.RH_LOCKOUT, frames.RH_PLATFORM))], b"")),
+        CC.ClearControl: (
             0.5,
             lambda w: (
                 [w.choice((frames.RH_LOCKOUT, frames.RH_PLATFORM))],
@@ -448,19 +449,21 @@ class Writer(random.Random):
         ),
     }
 
+    assert COMMANDS.keys() == set(CC)
+
     # Entries.
 
     def entries(self, code, handles):
         """With what a command is authorized: a session or the password for the handle that needs
         it, and seldom sessions that only encrypt.
         """
-        shape, found = general.SHAPES[code], []
-        if shape.authorized and not self.happens(0.01):
+        found = []
+        if code.authorized and not self.happens(0.01):
             found.append(self.authorizing(handles[0], code))
-        while shape.sessions and self.device.sessions and self.happens(0.15):
+        while not code.has(Fact.NO_SESSIONS) and self.device.sessions and self.happens(0.15):
             found.append(Entry(self.choice([*self.device.sessions]), b"", 0, b""))
         for entry in found:
-            self.describe(entry, shape)
+            self.describe(entry, code)
         return found
 
     def authorizing(self, handle, code):
@@ -471,7 +474,7 @@ class Writer(random.Random):
                 fits += [it] * 9
         return Entry(self.choice(fits), b"", 0, b"")
 
-    def describe(self, entry, shape):
+    def describe(self, entry, code):
         entry.attributes = CONTINUE_SESSION if self.random() < 0.9 else 0
         if self.happens(0.01):
             entry.attributes |= 1 << self.randrange(8)
@@ -480,9 +483,9 @@ class Writer(random.Random):
         held = self.device.sessions[entry.handle]
         entry.nonce = self.randbytes(self.choice((16, len(held.nonce_tpm))))
         encrypts = held.cipher != ALG_NULL
-        if encrypts and shape.sized_parameter and self.happens(0.4):
+        if encrypts and code.takes_sized and self.happens(0.4):
             entry.attributes |= DECRYPT
-        if encrypts and shape.sized_answer and self.happens(0.4):
+        if encrypts and code.answers_sized and self.happens(0.4):
             entry.attributes |= ENCRYPT
 
     def authenticated(self, command):
@@ -532,7 +535,7 @@ class Writer(random.Random):
         """Of a command that is served. Where it is locked, mostly soon of one that unlocks."""
         if self.device.lockout.is_locked() and self.happens(0.1):
             return self.choice(
-                (frames.DICTIONARY_ATTACK_LOCK_RESET, frames.DICTIONARY_ATTACK_PARAMETERS)
+                (CC.DictionaryAttackLockReset, CC.DictionaryAttackParameters)
             )
         codes = list(self.COMMANDS)
         (code,) = self.choices(codes, [self.COMMANDS[it][0] for it in codes])
@@ -575,7 +578,7 @@ class Writer(random.Random):
         """What was saved is mostly restored."""
         is_saved = self.device.saved == state.Saved.STATE
         kind = state.STATE if is_saved and self.happens(0.7) else state.CLEAR
-        return frames.command(frames.STARTUP, number(kind, 2))
+        return frames.command(CC.Startup, number(kind, 2))
 
     def step(self):
         is_saved = self.device.saved != state.Saved.NONE
@@ -605,7 +608,7 @@ class Writer(random.Random):
     def note(self, buffer, response, refused):
         """Keeps what TPM2_Create answered in plain, and the digests that policies have."""
         if not refused and buffer[:2] == number(frames.SESSIONS, 2):
-            if int.from_bytes(buffer[6:10], "big") == frames.CREATE:
+            if int.from_bytes(buffer[6:10], "big") == CC.Create:
                 fields = general.Fields(response[14:])
                 parent = self.device.name(int.from_bytes(buffer[10:14], "big"))
                 self.made = [*self.made[-20:], (parent, fields.sized(), fields.sized())]

@@ -6,6 +6,7 @@ import frames
 import state
 import streams
 from bent_script import bent_image
+from commands import CC
 from image import VERSION_1, Fault, image, open_image
 from random_script import MOST_TRIES, Writer
 
@@ -37,7 +38,7 @@ def is_quick(text):
 class StreamWriter(Writer):
     """Connections, with what a device answers to them, which the writer knows from within."""
 
-    COMMANDS = {**Writer.COMMANDS, frames.DICTIONARY_ATTACK_PARAMETERS: (2, parameters)}
+    COMMANDS = {**Writer.COMMANDS, CC.DictionaryAttackParameters: (2, parameters)}
 
     def __init__(self, seed):
         super().__init__(seed)

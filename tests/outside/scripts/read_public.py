@@ -4,7 +4,8 @@
 import paths
 
 from caller import Use
-from frames import ENCRYPT, READ_PUBLIC, RH_NULL, RH_OWNER, SHA1, SHA256, command, number
+from commands import CC
+from frames import ENCRYPT, RH_NULL, RH_OWNER, SHA1, SHA256, command, number
 from object_caller import ObjectCaller, hmac_key, sealed, storage_key
 from script import Script
 from sessions import digest
@@ -19,7 +20,7 @@ caller = ObjectCaller(script)
 
 
 def read(handle):
-    return command(READ_PUBLIC, number(handle, 4))
+    return command(CC.ReadPublic, number(handle, 4))
 
 
 script.command("Before TPM2_Startup", "INITIALIZE", read(0x8000_0000))
@@ -39,7 +40,7 @@ script.command(
     "HANDLE/h1",
     *map(read, (0x8100_0000, 0x81FF_FFFF)),
 )
-script.command("Three bytes of a handle", "INSUFFICIENT/h1", command(READ_PUBLIC, b"\x80\0\0"))
+script.command("Three bytes of a handle", "INSUFFICIENT/h1", command(CC.ReadPublic, b"\x80\0\0"))
 
 script.chapter("Qualified names: of a primary object, of its child, and of that one's child.")
 qualified_names = {}

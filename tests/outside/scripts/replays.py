@@ -7,6 +7,7 @@ import paths
 
 import frames
 from caller import Use
+from commands import CC
 from frames import CONTINUE_SESSION, DECRYPT, ENCRYPT, RH_ENDORSEMENT, RH_LOCKOUT, RH_NULL
 from frames import RH_OWNER, SE_HMAC, SE_POLICY, SHA256
 from grounds_caller import AFTER_AUTH_VALUE, DATA, OWNER, ZEROS, GroundsCaller
@@ -53,7 +54,7 @@ class Start:
 
     def sent(self, what, seed, nonce):
         handles, parameters = frames.start_auth_session(nonce, self.bind, kind=self.kind)
-        start = caller.prepare(frames.START_AUTH_SESSION, handles, parameters)
+        start = caller.prepare(CC.StartAuthSession, handles, parameters)
         answer = with_random(what, seed, start)
         return caller.started(start, answer, nonce, self.bind, SHA256, self.kind)
 

@@ -4,9 +4,9 @@
 import paths
 
 import frames
-import general
 import policy
 from caller import Use
+from commands import CC, Fact
 from frames import RH_ENDORSEMENT, RH_OWNER, RH_PLATFORM, SHA256
 from nv import Attribute
 from nv_caller import BY_OWNER, BY_VALUE, FIRST, FOURTH, SECOND, THIRD, area, bits, counter
@@ -18,7 +18,7 @@ from state_caller import CLEAR, STATE, StateCaller, wrong
 FIFTH = 0x0100_0005
 KEPT = 0x8100_0001
 LOCKS = Attribute.WRITE_STCLEAR | Attribute.READ_STCLEAR
-CHANGING = policy.after_command_code(SHA256, bytes(32), frames.NV_CHANGE_AUTH)
+CHANGING = policy.after_command_code(SHA256, bytes(32), CC.NV_ChangeAuth)
 
 script = Script(
     "tests/saved_state.tpm",
@@ -53,127 +53,72 @@ def loading():
 
 def changing_nv_auth():
     policy_session = session()
-    told = caller.command_code(policy_session, frames.NV_CHANGE_AUTH)
+    told = caller.command_code(policy_session, CC.NV_ChangeAuth)
     caller.says("TPM2_PolicyCommandCode of TPM2_NV_ChangeAuth", "SUCCESS", told)
     return caller.changing_auth(FIFTH, b"", policy_session)
+
+
+def starting_session():
+    return caller.prepare(CC.StartAuthSession, *frames.start_auth_session(caller.nonce()))
+
+
+def extending_pcr(pcr):
+    return caller.prepare(CC.PCR_Extend, [pcr], frames.digests((SHA256, bytes(32))), b"")
 
 
 def undefining():
     return caller.undefining(caller.define("An index", area(0x0100_0006)))
 
 
-# For each command its name, whether it leaves the state as it is, and one that succeeds, behind
-# what has to be done before TPM2_Shutdown(STATE) for it.
+# For each command one that succeeds, behind what has to be done before TPM2_Shutdown(STATE) for it.
 COMMANDS = {
-    frames.SELF_TEST: ("SelfTest", True, lambda: caller.self_test(1)),
-    frames.GET_CAPABILITY: ("GetCapability", True, lambda: caller.capability(6, 0x100, 1)),
-    frames.GET_RANDOM: ("GetRandom", True, lambda: caller.random(8)),
-    frames.READ_CLOCK: ("ReadClock", True, lambda: caller.clock()),
-    frames.PCR_READ: ("PCR_Read", True, lambda: caller.read_pcr(0)),
-    frames.PCR_EXTEND: (
-        "PCR_Extend",
-        False,
-        lambda: caller.prepare(frames.PCR_EXTEND, [0], frames.digests((SHA256, bytes(32))), b""),
-    ),
-    frames.PCR_EVENT: ("PCR_Event", False, lambda: caller.event(b"event", b"")),
-    frames.PCR_RESET: ("PCR_Reset", False, lambda: caller.reset(b"")),
-    frames.START_AUTH_SESSION: (
-        "StartAuthSession",
-        False,
-        lambda: caller.prepare(
-            frames.START_AUTH_SESSION, *frames.start_auth_session(caller.nonce())
-        ),
-    ),
-    frames.POLICY_RESTART: ("PolicyRestart", False, lambda: caller.restart(session())),
-    frames.FLUSH_CONTEXT: ("FlushContext", False, lambda: caller.flush(session())),
-    frames.POLICY_PCR: ("PolicyPCR", False, lambda: caller.pcrs(session(), [(SHA256, [0])])),
-    frames.POLICY_OR: (
-        "PolicyOR",
-        False,
-        lambda: caller.branches(session(), bytes(32), b"another"),
-    ),
-    frames.POLICY_AUTH_VALUE: (
-        "PolicyAuthValue",
-        False,
-        lambda: caller.auth_value_told(session()),
-    ),
-    frames.POLICY_PASSWORD: ("PolicyPassword", False, lambda: caller.password_told(session())),
-    frames.POLICY_COMMAND_CODE: (
-        "PolicyCommandCode",
-        False,
-        lambda: caller.command_code(session(), frames.UNSEAL),
-    ),
-    frames.POLICY_NV: (
-        "PolicyNV",
-        False,
-        lambda: caller.comparing(session(), FIRST, b"data", by=RH_OWNER),
-    ),
-    frames.POLICY_LOCALITY: ("PolicyLocality", False, lambda: caller.locality(session(), 1)),
-    frames.POLICY_SECRET: ("PolicySecret", False, lambda: caller.secret(session())),
-    frames.POLICY_GET_DIGEST: ("PolicyGetDigest", True, lambda: caller.get_digest(session())),
-    frames.CREATE_PRIMARY: (
-        "CreatePrimary",
-        False,
-        lambda: caller.primary(RH_OWNER, storage_key()),
-    ),
-    frames.CREATE: ("Create", True, lambda: caller.child(storage(), sealed(), data=b"data")),
-    frames.LOAD: ("Load", False, loading),
-    frames.READ_PUBLIC: ("ReadPublic", True, lambda: caller.public(storage())),
-    frames.UNSEAL: ("Unseal", True, lambda: caller.unsealing(sealed_data())),
-    frames.HMAC: ("HMAC", True, lambda: caller.hmac(key(), b"data", SHA256)),
-    frames.EVICT_CONTROL: (
-        "EvictControl",
-        False,
-        lambda: caller.evicting(RH_OWNER, storage(), KEPT),
-    ),
-    frames.HIERARCHY_CHANGE_AUTH: (
-        "HierarchyChangeAuth",
-        False,
-        lambda: caller.change_auth(RH_ENDORSEMENT, b"", b""),
-    ),
-    frames.NV_DEFINE_SPACE: (
-        "NV_DefineSpace",
-        False,
-        lambda: caller.defining(area(0x0100_0008)),
-    ),
-    frames.NV_UNDEFINE_SPACE: ("NV_UndefineSpace", False, undefining),
-    frames.NV_READ_PUBLIC: ("NV_ReadPublic", True, lambda: caller.index_public(FIRST)),
-    frames.NV_WRITE: ("NV_Write", False, lambda: caller.writing(FIRST, b"data", by=RH_OWNER)),
-    frames.NV_INCREMENT: ("NV_Increment", False, lambda: caller.incrementing(SECOND)),
-    frames.NV_SET_BITS: ("NV_SetBits", False, lambda: caller.setting(THIRD, 1)),
-    frames.NV_EXTEND: ("NV_Extend", False, lambda: caller.extending(FOURTH, b"data")),
-    frames.NV_READ: ("NV_Read", True, lambda: caller.reading(FIRST, 4, by=RH_OWNER)),
-    frames.NV_WRITE_LOCK: (
-        "NV_WriteLock",
-        False,
-        lambda: caller.write_locking(FIFTH, by=RH_OWNER),
-    ),
-    frames.NV_READ_LOCK: ("NV_ReadLock", False, lambda: caller.read_locking(FIFTH, by=RH_OWNER)),
-    frames.NV_CHANGE_AUTH: ("NV_ChangeAuth", False, changing_nv_auth),
-    frames.DICTIONARY_ATTACK_LOCK_RESET: (
-        "DictionaryAttackLockReset",
-        False,
-        lambda: caller.lock_reset(),
-    ),
-    frames.DICTIONARY_ATTACK_PARAMETERS: (
-        "DictionaryAttackParameters",
-        False,
-        lambda: caller.attack_parameters(3, 1000, 1000),
-    ),
-    frames.CLEAR_CONTROL: ("ClearControl", False, lambda: caller.clear_control(RH_PLATFORM, 0)),
-    frames.CLEAR: ("Clear", False, lambda: caller.clearing(RH_PLATFORM)),
-    frames.POLICY_CP_HASH: (
-        "PolicyCpHash",
-        False,
-        lambda: caller.cp_hash_told(session(), bytes(32)),
-    ),
-    frames.POLICY_NV_WRITTEN: (
-        "PolicyNvWritten",
-        False,
-        lambda: caller.written_told(session(), True),
-    ),
+    CC.SelfTest: lambda: caller.self_test(1),
+    CC.GetCapability: lambda: caller.capability(6, 0x100, 1),
+    CC.GetRandom: lambda: caller.random(8),
+    CC.ReadClock: lambda: caller.clock(),
+    CC.PCR_Read: lambda: caller.read_pcr(0),
+    CC.PCR_Extend: lambda: extending_pcr(0),
+    CC.PCR_Event: lambda: caller.event(b"event", b""),
+    CC.PCR_Reset: lambda: caller.reset(b""),
+    CC.StartAuthSession: starting_session,
+    CC.PolicyRestart: lambda: caller.restart(session()),
+    CC.FlushContext: lambda: caller.flush(session()),
+    CC.PolicyPCR: lambda: caller.pcrs(session(), [(SHA256, [0])]),
+    CC.PolicyOR: lambda: caller.branches(session(), bytes(32), b"another"),
+    CC.PolicyAuthValue: lambda: caller.auth_value_told(session()),
+    CC.PolicyPassword: lambda: caller.password_told(session()),
+    CC.PolicyCommandCode: lambda: caller.command_code(session(), CC.Unseal),
+    CC.PolicyNV: lambda: caller.comparing(session(), FIRST, b"data", by=RH_OWNER),
+    CC.PolicyLocality: lambda: caller.locality(session(), 1),
+    CC.PolicySecret: lambda: caller.secret(session()),
+    CC.PolicyGetDigest: lambda: caller.get_digest(session()),
+    CC.CreatePrimary: lambda: caller.primary(RH_OWNER, storage_key()),
+    CC.Create: lambda: caller.child(storage(), sealed(), data=b"data"),
+    CC.Load: loading,
+    CC.ReadPublic: lambda: caller.public(storage()),
+    CC.Unseal: lambda: caller.unsealing(sealed_data()),
+    CC.HMAC: lambda: caller.hmac(key(), b"data", SHA256),
+    CC.EvictControl: lambda: caller.evicting(RH_OWNER, storage(), KEPT),
+    CC.HierarchyChangeAuth: lambda: caller.change_auth(RH_ENDORSEMENT, b"", b""),
+    CC.NV_DefineSpace: lambda: caller.defining(area(0x0100_0008)),
+    CC.NV_UndefineSpace: undefining,
+    CC.NV_ReadPublic: lambda: caller.index_public(FIRST),
+    CC.NV_Write: lambda: caller.writing(FIRST, b"data", by=RH_OWNER),
+    CC.NV_Increment: lambda: caller.incrementing(SECOND),
+    CC.NV_SetBits: lambda: caller.setting(THIRD, 1),
+    CC.NV_Extend: lambda: caller.extending(FOURTH, b"data"),
+    CC.NV_Read: lambda: caller.reading(FIRST, 4, by=RH_OWNER),
+    CC.NV_WriteLock: lambda: caller.write_locking(FIFTH, by=RH_OWNER),
+    CC.NV_ReadLock: lambda: caller.read_locking(FIFTH, by=RH_OWNER),
+    CC.NV_ChangeAuth: changing_nv_auth,
+    CC.DictionaryAttackLockReset: lambda: caller.lock_reset(),
+    CC.DictionaryAttackParameters: lambda: caller.attack_parameters(3, 1000, 1000),
+    CC.ClearControl: lambda: caller.clear_control(RH_PLATFORM, 0),
+    CC.Clear: lambda: caller.clearing(RH_PLATFORM),
+    CC.PolicyCpHash: lambda: caller.cp_hash_told(session(), bytes(32)),
+    CC.PolicyNvWritten: lambda: caller.written_told(session(), True),
 }
-assert COMMANDS.keys() == general.SHAPES.keys() - {frames.STARTUP, frames.SHUTDOWN}
+assert COMMANDS.keys() == set(CC) - {CC.Startup, CC.Shutdown}
 
 
 def save():
@@ -191,11 +136,12 @@ def start_again(is_kept):
 
 
 def each_command():
-    for name, is_kept, make in COMMANDS.values():
-        script.chapter(f"TPM2_{name} {'keeps' if is_kept else 'cancels'} it.")
+    for code, make in COMMANDS.items():
+        is_kept = code.has(Fact.KEEPS_SAVED)
+        script.chapter(f"TPM2_{code.name} {'keeps' if is_kept else 'cancels'} it.")
         prepared = make()
         save()
-        caller.accepted(f"TPM2_{name}", prepared)
+        caller.accepted(f"TPM2_{code.name}", prepared)
         start_again(is_kept)
 
 
@@ -223,10 +169,7 @@ def others():
     start_again(is_kept=True)
     script.chapter("TPM2_PCR_Extend on TPM_RH_NULL changes nothing, and cancels it all the same.")
     save()
-    nothing = caller.prepare(
-        frames.PCR_EXTEND, [frames.RH_NULL], frames.digests((SHA256, bytes(32))), b""
-    )
-    caller.does("TPM2_PCR_Extend", nothing)
+    caller.does("TPM2_PCR_Extend", extending_pcr(frames.RH_NULL))
     start_again(is_kept=False)
     script.chapter("Power cycles and time do not cancel it.")
     save()

@@ -7,6 +7,7 @@ import paths
 
 import frames
 import lines
+from commands import CC
 from device import Device
 from outputs import POWER, Played, write_outputs
 
@@ -105,7 +106,7 @@ class Script:
         return self.command(
             "TPM2_Startup(CLEAR)",
             "SUCCESS",
-            frames.command(frames.STARTUP, frames.number(0, 2)),
+            frames.command(CC.Startup, frames.number(0, 2)),
         )
 
     def allow_tries(self):
@@ -117,7 +118,7 @@ class Script:
             "is 1, so that the wrong tries of this script do not lock anything",
             "SUCCESS",
             frames.on_handle(
-                frames.DICTIONARY_ATTACK_PARAMETERS,
+                CC.DictionaryAttackParameters,
                 frames.RH_LOCKOUT,
                 frames.attack_parameters(1000, 1000, 1),
             ),

@@ -4,10 +4,10 @@
 import paths
 
 from caller import Use
+from commands import CC
 from frames import (
     ALG_NULL,
     CONTINUE_SESSION,
-    CREATE,
     DECRYPT,
     ENCRYPT,
     RH_OWNER,
@@ -94,7 +94,7 @@ for algorithm, hash_name in ((SHA256, "SHA-256"), (SHA1, "SHA-1")):
     caller.refused(
         "inSensitive is cut, and encrypted",
         "INSUFFICIENT/p1",
-        *(caller.prepare(CREATE, [parent], whole[:it], Use(session, IN)) for it in (0, 1, 2, 133)),
+        *(caller.prepare(CC.Create, [parent], whole[:it], Use(session, IN)) for it in (0, 1, 2, 133)),
     )
 
     script.chapter("Both ways at once.")

@@ -4,7 +4,8 @@
 import paths
 
 import policy
-from frames import PCR_EXTEND, RH_NULL, RH_OWNER, SHA256, digests, selection
+from commands import CC
+from frames import RH_NULL, RH_OWNER, SHA256, digests, selection
 from object_caller import HERE, ObjectCaller, sealed, storage_key
 from objects import Attribute
 from policy_caller import zeros
@@ -29,7 +30,7 @@ def measured():
 
 def extend(pcr, value=b"\1" * 32):
     parameters = digests((SHA256, value))
-    return caller.prepare(PCR_EXTEND, [pcr], parameters, b"")
+    return caller.prepare(CC.PCR_Extend, [pcr], parameters, b"")
 
 
 def asserts(what, session):
@@ -122,7 +123,7 @@ caller.accepted("TPM2_PCR_Extend on TPM_RH_NULL", extend(RH_NULL))
 caller.says(
     "TPM2_PCR_Extend of PCR 10 by no digest",
     "SUCCESS",
-    caller.prepare(PCR_EXTEND, [10], digests(), b""),
+    caller.prepare(CC.PCR_Extend, [10], digests(), b""),
 )
 caller.says("Of PCR 17, which is refused here", "LOCALITY", extend(17))
 caller.accepted("TPM2_PCR_Read", caller.read_pcr(10))
@@ -133,7 +134,7 @@ script.chapter("Somebody extends PCR 10 in the moment between: the session of an
 asserts("TPM2_PolicyPCR", session)
 own = caller.start("A session of the other", bind=RH_OWNER)
 caller.accepted(
-    "TPM2_PCR_Extend by it", caller.prepare(PCR_EXTEND, [10], digests((SHA256, bytes(32))), own)
+    "TPM2_PCR_Extend by it", caller.prepare(CC.PCR_Extend, [10], digests((SHA256, bytes(32))), own)
 )
 caller.refused("TPM2_Unseal", "PCR_CHANGED", caller.unsealing(handle, session))
 script.write()

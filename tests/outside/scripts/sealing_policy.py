@@ -4,7 +4,8 @@
 import paths
 
 import policy
-from frames import SHA256, UNSEAL, selection
+from commands import CC
+from frames import SHA256, selection
 from policy_caller import PolicyCaller, zeros
 from script import Script
 from sessions import digest
@@ -51,13 +52,13 @@ def for_every_branch(session, words):
     """What is asked whatever the software is: the locality, the command and the PIN."""
     locality, code, value = words
     says(f"TPM2_PolicyLocality{locality}", caller.locality(session, 1))
-    says(f"TPM2_PolicyCommandCode{code}", caller.command_code(session, UNSEAL))
+    says(f"TPM2_PolicyCommandCode{code}", caller.command_code(session, CC.Unseal))
     says(f"TPM2_PolicyAuthValue{value}", caller.auth_value_told(session))
 
 
 def after_all_of_it(digest_before):
     after = policy.after_locality(SHA256, digest_before, 1)
-    return policy.after_auth_value(SHA256, policy.after_command_code(SHA256, after, UNSEAL))
+    return policy.after_auth_value(SHA256, policy.after_command_code(SHA256, after, CC.Unseal))
 
 
 def after_pcrs(values_digest):

@@ -4,7 +4,8 @@
 import paths
 
 import frames
-from frames import CONTINUE_SESSION, DECRYPT, ENCRYPT, SELF_TEST, command, number
+from commands import CC
+from frames import CONTINUE_SESSION, DECRYPT, ENCRYPT, command, number
 from script import Script
 from state_caller import StateCaller, wrong
 
@@ -20,18 +21,18 @@ def says(what, outcome, *buffers):
     script.command(what, outcome, *buffers)
 
 
-BOTH = [command(SELF_TEST, number(it, 1)) for it in (0, 1)]
+BOTH = [command(CC.SelfTest, number(it, 1)) for it in (0, 1)]
 says("Before TPM2_Startup", "INITIALIZE", *BOTH)
 script.startup()
 says("NO, and YES", "SUCCESS", *BOTH)
-says("Without fullTest", "INSUFFICIENT/p1", command(SELF_TEST, b""))
-says("Neither", "VALUE/p1", *(command(SELF_TEST, number(it, 1)) for it in (2, 0x80, 0xFF)))
-says("A byte behind it", "SIZE", command(SELF_TEST, b"\1\0"), command(SELF_TEST, b"\0\1"))
-says("Neither, and a byte behind it", "VALUE/p1", command(SELF_TEST, b"\2\0"))
+says("Without fullTest", "INSUFFICIENT/p1", command(CC.SelfTest, b""))
+says("Neither", "VALUE/p1", *(command(CC.SelfTest, number(it, 1)) for it in (2, 0x80, 0xFF)))
+says("A byte behind it", "SIZE", command(CC.SelfTest, b"\1\0"), command(CC.SelfTest, b"\0\1"))
+says("Neither, and a byte behind it", "VALUE/p1", command(CC.SelfTest, b"\2\0"))
 says(
     "A password, as there is nothing to authorize",
     "HANDLE/s1",
-    command(SELF_TEST, frames.area(frames.entry()) + b"\1", frames.SESSIONS),
+    command(CC.SelfTest, frames.area(frames.entry()) + b"\1", frames.SESSIONS),
 )
 session = caller.start("An HMAC session with AES", aes=True)
 caller.accepted("TPM2_SelfTest with it", caller.self_test(1, session))

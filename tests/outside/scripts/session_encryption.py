@@ -5,6 +5,7 @@ import paths
 
 import frames
 from caller import Caller, Use, flipped
+from commands import CC
 from frames import (
     CONTINUE_SESSION,
     DECRYPT,
@@ -13,7 +14,6 @@ from frames import (
     RH_OWNER,
     SHA1,
     SHA256,
-    START_AUTH_SESSION,
     number,
     sized,
 )
@@ -189,7 +189,7 @@ script.chapter("What is refused, with right hmacs.")
 
 
 def changing(parameters, *uses):
-    return caller.prepare(frames.HIERARCHY_CHANGE_AUTH, [RH_OWNER], parameters, *uses)
+    return caller.prepare(CC.HierarchyChangeAuth, [RH_OWNER], parameters, *uses)
 
 
 caller.refused(
@@ -218,7 +218,7 @@ caller.refused(
     "TPM2_StartAuthSession with 33 bytes",
     "SIZE/p1",
     caller.prepare(
-        START_AUTH_SESSION, *frames.start_auth_session(bytes(33)), Use(session, DECRYPTS)
+        CC.StartAuthSession, *frames.start_auth_session(bytes(33)), Use(session, DECRYPTS)
     ),
 )
 caller.refused(

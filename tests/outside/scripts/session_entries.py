@@ -5,6 +5,7 @@ import paths
 
 import frames
 from caller import Caller, Use
+from commands import CC
 from frames import CONTINUE_SESSION, DECRYPT, ENCRYPT, RH_OWNER, RS_PW, SHA256, number, sized
 from general import Entry
 from script import Script
@@ -31,24 +32,24 @@ def with_entries(code, handles, parameters, *entries):
 
 
 def reset(*entries):
-    return with_entries(frames.PCR_RESET, [16], b"", *entries)
+    return with_entries(CC.PCR_Reset, [16], b"", *entries)
 
 
 def event(*entries):
-    return with_entries(frames.PCR_EVENT, [16], sized(b"abc"), *entries)
+    return with_entries(CC.PCR_Event, [16], sized(b"abc"), *entries)
 
 
 def random(*entries):
-    return with_entries(frames.GET_RANDOM, [], number(4, 2), *entries)
+    return with_entries(CC.GetRandom, [], number(4, 2), *entries)
 
 
 def start(*entries):
     handles, parameters = frames.start_auth_session(bytes(16))
-    return with_entries(frames.START_AUTH_SESSION, handles, parameters, *entries)
+    return with_entries(CC.StartAuthSession, handles, parameters, *entries)
 
 
 def change(*entries):
-    return with_entries(frames.HIERARCHY_CHANGE_AUTH, [RH_OWNER], sized(b"abc"), *entries)
+    return with_entries(CC.HierarchyChangeAuth, [RH_OWNER], sized(b"abc"), *entries)
 
 
 script.startup()
@@ -63,7 +64,7 @@ caller.refused("Behind a password", "BAD_AUTH/s2", reset(password, entry(plain))
 caller.refused(
     "Behind a password and a right hmac",
     "BAD_AUTH/s3",
-    caller.prepare(frames.PCR_RESET, [16], b"", b"", aes, plain).but_entry(3, hmac=b""),
+    caller.prepare(CC.PCR_Reset, [16], b"", b"", aes, plain).but_entry(3, hmac=b""),
 )
 
 script.chapter("A nonce or an hmac of 33 bytes, of a session too.")
@@ -145,8 +146,8 @@ caller.refused(
     "TPM2_PCR_Extend, TPM2_PCR_Read and TPM2_GetRandom",
     "ATTRIBUTES/s1",
     reset(entry(aes, DECRYPT)),
-    with_entries(frames.PCR_EXTEND, [16], frames.digests((SHA256, bytes(32))), entry(aes, DECRYPT)),
-    with_entries(frames.PCR_READ, [], frames.selection((SHA256, [0])), entry(aes, DECRYPT)),
+    with_entries(CC.PCR_Extend, [16], frames.digests((SHA256, bytes(32))), entry(aes, DECRYPT)),
+    with_entries(CC.PCR_Read, [], frames.selection((SHA256, [0])), entry(aes, DECRYPT)),
     random(entry(aes, DECRYPT)),
 )
 caller.refused(
@@ -154,9 +155,9 @@ caller.refused(
     "TPM2_PCR_Extend, TPM2_PCR_Event, TPM2_PCR_Read and TPM2_HierarchyChangeAuth",
     "ATTRIBUTES/s1",
     reset(entry(aes, ENCRYPT)),
-    with_entries(frames.PCR_EXTEND, [16], frames.digests((SHA256, bytes(32))), entry(aes, ENCRYPT)),
+    with_entries(CC.PCR_Extend, [16], frames.digests((SHA256, bytes(32))), entry(aes, ENCRYPT)),
     event(entry(aes, ENCRYPT)),
-    with_entries(frames.PCR_READ, [], frames.selection((SHA256, [0])), entry(aes, ENCRYPT)),
+    with_entries(CC.PCR_Read, [], frames.selection((SHA256, [0])), entry(aes, ENCRYPT)),
     change(entry(aes, ENCRYPT)),
 )
 caller.refused(
@@ -266,7 +267,7 @@ four = (frames.entry(plain.handle, bytes(33)), *3 * [frames.entry(aes.handle)])
 script.command(
     "But an entry that is cut comes before them all, and so does a fourth",
     "AUTHSIZE",
-    *(frames.on_handle(frames.PCR_RESET, 16, b"", entries) for entries in ((cut,), four)),
+    *(frames.on_handle(CC.PCR_Reset, 16, b"", entries) for entries in ((cut,), four)),
     fresh=True,
 )
 

@@ -4,16 +4,8 @@
 import paths
 
 import policy
-from frames import (
-    RH_ENDORSEMENT,
-    RH_NULL,
-    RH_OWNER,
-    RH_PLATFORM,
-    SHA1,
-    SHA256,
-    UNSEAL,
-    number,
-)
+from commands import CC
+from frames import RH_ENDORSEMENT, RH_NULL, RH_OWNER, RH_PLATFORM, SHA1, SHA256, number
 from general import Fields
 from object_caller import OPEN, STORES, ObjectCaller, hmac_key, sealed, storage_key
 from objects import Attribute
@@ -163,12 +155,12 @@ made = caller.create(
     sealed(
         SHA1,
         attributes=sealed().attributes & ~Attribute.USER_WITH_AUTH,
-        auth_policy=policy.after_command_code(SHA1, bytes(20), UNSEAL),
+        auth_policy=policy.after_command_code(SHA1, bytes(20), CC.Unseal),
     ),
     data=b"secret",
 )
 handle = caller.load("TPM2_Load", parent, made)
 session = caller.policy("A policy session with SHA-1", algorithm=SHA1)
-caller.says("TPM2_PolicyCommandCode", "SUCCESS", caller.command_code(session, UNSEAL))
+caller.says("TPM2_PolicyCommandCode", "SUCCESS", caller.command_code(session, CC.Unseal))
 caller.unseal("TPM2_Unseal", handle, b"secret", session)
 script.write()

@@ -5,7 +5,8 @@ import paths
 
 import frames
 from caller import Use
-from frames import CONTINUE_SESSION, DECRYPT, ENCRYPT, RH_OWNER, SHUTDOWN, command, number
+from commands import CC
+from frames import CONTINUE_SESSION, DECRYPT, ENCRYPT, RH_OWNER, command, number
 from script import Script
 from state_caller import CLEAR, STATE, StateCaller, wrong
 
@@ -22,7 +23,7 @@ def says(what, outcome, *buffers):
 
 
 def shutdown(kind):
-    return command(SHUTDOWN, number(kind, 2))
+    return command(CC.Shutdown, number(kind, 2))
 
 
 def refusals():
@@ -31,21 +32,21 @@ def refusals():
     says(
         "Without a type, and with one byte of it",
         "INSUFFICIENT/p1",
-        *(command(SHUTDOWN, bytes(it)) for it in (0, 1)),
+        *(command(CC.Shutdown, bytes(it)) for it in (0, 1)),
     )
     says("Of no type that there is", "VALUE/p1", *(shutdown(it) for it in (2, 0x100, 0xFFFF)))
-    says("A byte behind it", "SIZE", command(SHUTDOWN, bytes(3)))
+    says("A byte behind it", "SIZE", command(CC.Shutdown, bytes(3)))
     says(
         "A password, as there is nothing to authorize",
         "HANDLE/s1",
-        command(SHUTDOWN, frames.area(frames.entry()) + number(STATE, 2), frames.SESSIONS),
+        command(CC.Shutdown, frames.area(frames.entry()) + number(STATE, 2), frames.SESSIONS),
     )
-    says("No authorization area", "AUTHSIZE", command(SHUTDOWN, number(0, 2), frames.SESSIONS))
+    says("No authorization area", "AUTHSIZE", command(CC.Shutdown, number(0, 2), frames.SESSIONS))
     script.power()
     says(
         "None of these has saved a state: TPM2_Startup(STATE)",
         "VALUE/p1",
-        command(frames.STARTUP, number(STATE, 2)),
+        command(CC.Startup, number(STATE, 2)),
     )
 
 
@@ -58,7 +59,7 @@ def kinds():
     says(
         "Nor can it be started again without a power cycle",
         "INITIALIZE",
-        command(frames.STARTUP, number(CLEAR, 2)),
+        command(CC.Startup, number(CLEAR, 2)),
     )
     script.chapter("The last one counts.")
     says("TPM2_Shutdown(STATE)", "SUCCESS", shutdown(STATE))

@@ -5,6 +5,7 @@ import paths
 
 import frames
 from caller import Caller, Use
+from commands import CC
 from frames import (
     ALG_NULL,
     RH_ENDORSEMENT,
@@ -15,7 +16,6 @@ from frames import (
     RS_PW,
     SHA1,
     SHA256,
-    START_AUTH_SESSION,
     area,
     command,
     entry,
@@ -42,7 +42,7 @@ def start(**changes):
 
 
 def on(handles, parameters):
-    return command(START_AUTH_SESSION, b"".join(number(it, 4) for it in handles) + parameters)
+    return command(CC.StartAuthSession, b"".join(number(it, 4) for it in handles) + parameters)
 
 
 def with_symmetric(text, rest=number(SHA256, 2)):
@@ -64,8 +64,8 @@ script.chapter("The handles, one after the other.")
 refused(
     "No handle, and two bytes of one",
     "INSUFFICIENT/h1",
-    command(START_AUTH_SESSION, b""),
-    command(START_AUTH_SESSION, b"\x40\0"),
+    command(CC.StartAuthSession, b""),
+    command(CC.StartAuthSession, b"\x40\0"),
 )
 refused(
     "Salted sessions are not served: a tpmKey that is not TPM_RH_NULL, here TPM_RH_OWNER, PCR "
@@ -79,13 +79,13 @@ refused(
 refused(
     "It is looked at before bind is read",
     "VALUE/h1",
-    command(START_AUTH_SESSION, number(RH_OWNER, 4)),
+    command(CC.StartAuthSession, number(RH_OWNER, 4)),
 )
 refused(
     "No bind, and three bytes of it",
     "INSUFFICIENT/h2",
-    command(START_AUTH_SESSION, number(RH_NULL, 4)),
-    command(START_AUTH_SESSION, number(RH_NULL, 4) + b"\x40\0\0"),
+    command(CC.StartAuthSession, number(RH_NULL, 4)),
+    command(CC.StartAuthSession, number(RH_NULL, 4) + b"\x40\0\0"),
 )
 refused(
     "A bind that is no entity: PCR 24, TPM_RS_PW, two other permanent handles, an HMAC "
@@ -111,12 +111,12 @@ refused(
 refused(
     "With sessions (tag 8002) and no authorization area, behind the handles",
     "AUTHSIZE",
-    command(START_AUTH_SESSION, number(RH_NULL, 4) * 2, frames.SESSIONS),
+    command(CC.StartAuthSession, number(RH_NULL, 4) * 2, frames.SESSIONS),
 )
 refused(
     "A password, which authorizes nothing here",
     "HANDLE/s1",
-    command(START_AUTH_SESSION, number(RH_NULL, 4) * 2 + area(entry()), frames.SESSIONS),
+    command(CC.StartAuthSession, number(RH_NULL, 4) * 2 + area(entry()), frames.SESSIONS),
 )
 
 script.chapter("The parameters, read in order.")
@@ -304,7 +304,7 @@ third = caller.start(
 )
 caller.accepted("By that one", caller.reset(third))
 handles, parameters = frames.start_auth_session(NONCE, RH_OWNER)
-beside = caller.prepare(START_AUTH_SESSION, handles, parameters, first)
+beside = caller.prepare(CC.StartAuthSession, handles, parameters, first)
 caller.refused(
     "With another bind than the hmac is of",
     "BAD_AUTH/s1",
@@ -323,7 +323,7 @@ refused("The seventeenth", "SESSION_MEMORY", start(), start(aes=True))
 refused("A salt, which is looked at before", "VALUE/p2", start(salt=b"\0"))
 refused("A nonce of 15 bytes, which is too", "SIZE/p1", start(nonce=bytes(15)))
 ending = caller.prepare(
-    START_AUTH_SESSION, *frames.start_auth_session(NONCE), Use(sessions[4], ENDS)
+    CC.StartAuthSession, *frames.start_auth_session(NONCE), Use(sessions[4], ENDS)
 )
 caller.refused(
     "A session beside it that would end gives its place up too late", "SESSION_MEMORY", ending

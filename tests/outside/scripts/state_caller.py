@@ -4,6 +4,7 @@ persistent objects, and the commands that clear.
 
 import frames
 from caller import flipped
+from commands import CC
 from frames import RH_ENDORSEMENT, RH_LOCKOUT, RH_OWNER, RH_PLATFORM, number
 from nv_caller import NvCaller
 
@@ -22,43 +23,43 @@ class StateCaller(NvCaller):
 
     def lock_reset(self, *uses):
         uses = self.by(uses, RH_LOCKOUT)
-        return self.prepare(frames.DICTIONARY_ATTACK_LOCK_RESET, [RH_LOCKOUT], b"", *uses)
+        return self.prepare(CC.DictionaryAttackLockReset, [RH_LOCKOUT], b"", *uses)
 
     def attack_parameters(self, max_tries, recovery_time, lockout_recovery, *uses):
         return self.prepare(
-            frames.DICTIONARY_ATTACK_PARAMETERS,
+            CC.DictionaryAttackParameters,
             [RH_LOCKOUT],
             frames.attack_parameters(max_tries, recovery_time, lockout_recovery),
             *self.by(uses, RH_LOCKOUT),
         )
 
     def starting(self, kind):
-        return self.prepare(frames.STARTUP, [], number(kind, 2))
+        return self.prepare(CC.Startup, [], number(kind, 2))
 
     def shutting_down(self, kind, *uses):
-        return self.prepare(frames.SHUTDOWN, [], number(kind, 2), *uses)
+        return self.prepare(CC.Shutdown, [], number(kind, 2), *uses)
 
     def self_test(self, full, *uses):
-        return self.prepare(frames.SELF_TEST, [], number(full, 1), *uses)
+        return self.prepare(CC.SelfTest, [], number(full, 1), *uses)
 
     def clock(self):
-        return self.prepare(frames.READ_CLOCK, [])
+        return self.prepare(CC.ReadClock, [])
 
     def capability(self, capability, wanted, count, *uses):
         parameters = number(capability, 4) + number(wanted, 4) + number(count, 4)
-        return self.prepare(frames.GET_CAPABILITY, [], parameters, *uses)
+        return self.prepare(CC.GetCapability, [], parameters, *uses)
 
     def evicting(self, asker, handle, wanted, *uses):
         return self.prepare(
-            frames.EVICT_CONTROL, [asker, handle], number(wanted, 4), *self.by(uses, asker)
+            CC.EvictControl, [asker, handle], number(wanted, 4), *self.by(uses, asker)
         )
 
     def clearing(self, asker, *uses):
-        return self.prepare(frames.CLEAR, [asker], b"", *self.by(uses, asker))
+        return self.prepare(CC.Clear, [asker], b"", *self.by(uses, asker))
 
     def clear_control(self, asker, disables, *uses):
         return self.prepare(
-            frames.CLEAR_CONTROL, [asker], number(disables, 1), *self.by(uses, asker)
+            CC.ClearControl, [asker], number(disables, 1), *self.by(uses, asker)
         )
 
     # Sending.
@@ -71,7 +72,7 @@ class StateCaller(NvCaller):
 
     def note_effect(self, prepared):
         super().note_effect(prepared)
-        if prepared.code == frames.CLEAR:
+        if prepared.code == CC.Clear:
             for hierarchy in (RH_OWNER, RH_ENDORSEMENT, RH_LOCKOUT):
                 self.auth_values.pop(hierarchy, None)
 

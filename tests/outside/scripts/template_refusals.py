@@ -4,15 +4,13 @@
 import paths
 
 import frames
+from commands import CC
 from frames import (
     AES,
     ALG_HMAC,
     ALG_NULL,
     CFB,
-    CREATE,
-    CREATE_PRIMARY,
     KEYEDHASH,
-    LOAD,
     RH_OWNER,
     SHA1,
     SHA256,
@@ -41,7 +39,7 @@ caller = ObjectCaller(script)
 def raw(code, handle, first, public):
     """A command with these texts, each behind its size already; the others are empty."""
     parameters = first + public
-    if code != LOAD:
+    if code != CC.Load:
         parameters += sized(b"") + frames.selection()
     return caller.prepare(code, [handle], parameters, b"")
 
@@ -49,9 +47,9 @@ def raw(code, handle, first, public):
 script.startup()
 parent = caller.create_primary("A storage key", RH_OWNER, storage_key())
 TARGETS = (
-    (CREATE_PRIMARY, RH_OWNER, "TPM2_CreatePrimary"),
-    (CREATE, parent, "TPM2_Create"),
-    (LOAD, parent, "TPM2_Load"),
+    (CC.CreatePrimary, RH_OWNER, "TPM2_CreatePrimary"),
+    (CC.Create, parent, "TPM2_Create"),
+    (CC.Load, parent, "TPM2_Load"),
 )
 NOTHING = frames.sensitive_create()
 SECRET = frames.sensitive_create(data=b"secret")
@@ -111,7 +109,7 @@ CIPHER = number(AES, 2) + number(128, 2) + number(CFB, 2)
 KEYED = head() + number(ALG_NULL, 2)
 
 for code, handle, name in TARGETS:
-    first = sized(b"") if code == LOAD else SECRET
+    first = sized(b"") if code == CC.Load else SECRET
     script.chapter(f"{name}: reading inPublic, a sized buffer.")
 
     def public(what, outcome, *texts):
@@ -208,8 +206,8 @@ for code, handle, name in TARGETS:
     behind = raw(code, handle, first, sized(hmac_key(auth_policy=b"p").text))
     caller.says(
         "All is read before authPolicy is compared with nameAlg",
-        "SIZE" if code == LOAD else "SIZE/p2",
-        behind.but(parameters=behind.parameters + b"\0") if code == LOAD else behind,
+        "SIZE" if code == CC.Load else "SIZE/p2",
+        behind.but(parameters=behind.parameters + b"\0") if code == CC.Load else behind,
     )
 
 # What is asked of every public area.
@@ -267,7 +265,7 @@ WRONG_SCHEMES = (
     ),
 )
 for code, handle, name in TARGETS:
-    first = sized(b"") if code == LOAD else SECRET
+    first = sized(b"") if code == CC.Load else SECRET
     script.chapter(f"{name}: what is asked of inPublic. unique may be anything.")
 
     def asked(what, outcome, *publics):
@@ -300,8 +298,8 @@ script.chapter("Under a parent without fixedTPM nothing has it; fixedParent may 
 movable = caller.create_primary(
     "A storage key without fixedTPM", RH_OWNER, storage_key(attributes=OPEN | STORES)
 )
-for code, name in ((CREATE, "TPM2_Create"), (LOAD, "TPM2_Load")):
-    first = sized(b"") if code == LOAD else SECRET
+for code, name in ((CC.Create, "TPM2_Create"), (CC.Load, "TPM2_Load")):
+    first = sized(b"") if code == CC.Load else SECRET
     caller.says(
         f"{name} of something with fixedTPM, also with fixedParent and with encryptedDuplication",
         "ATTRIBUTES/p2",
@@ -408,7 +406,7 @@ for code, handle, name in TARGETS[:2]:
         ("An HMAC key of SHA-1, with scheme NULL", hmac_key(SHA1, scheme=ALG_NULL), b"", b"x"),
     ):
         chosen = {"user_auth": user_auth, "data": data}
-        if code == CREATE_PRIMARY:
+        if code == CC.CreatePrimary:
             made = caller.create_primary(what, handle, public, **chosen)
             caller.flush_objects("It is flushed", made)
         else:
@@ -419,8 +417,8 @@ for code, handle, name in TARGETS[:2]:
 script.chapter("The parent comes first, and the place for the object last.")
 child = caller.create("TPM2_Create of sealed data", parent, sealed(), data=b"secret")
 key = caller.load("TPM2_Load", parent, child)
-for code, name in ((CREATE, "TPM2_Create"), (LOAD, "TPM2_Load")):
-    first = sized(b"") if code == LOAD else SECRET
+for code, name in ((CC.Create, "TPM2_Create"), (CC.Load, "TPM2_Load")):
+    first = sized(b"") if code == CC.Load else SECRET
     caller.says(
         f"{name} under what is no parent, of a wrong authPolicy",
         "TYPE/h1",
@@ -436,30 +434,30 @@ for place in range(6):
 caller.says(
     "TPM2_CreatePrimary of a ninth, with scheme HMAC and without sign",
     "SCHEME/p2",
-    raw(CREATE_PRIMARY, RH_OWNER, SECRET, sized(sealed(scheme=SHA256).text)),
+    raw(CC.CreatePrimary, RH_OWNER, SECRET, sized(sealed(scheme=SHA256).text)),
 )
 caller.says(
     "With a key of 15 bytes for a SYMCIPHER",
     "SIZE/p1",
     raw(
-        CREATE_PRIMARY,
+        CC.CreatePrimary,
         RH_OWNER,
         frames.sensitive_create(data=bytes(15)),
         sized(Public(SYMCIPHER, SHA256, HERE | OPEN | STORES).text),
     ),
 )
 caller.says(
-    "With nothing wrong", "OBJECT_MEMORY", raw(CREATE_PRIMARY, RH_OWNER, SECRET, GOOD)
+    "With nothing wrong", "OBJECT_MEMORY", raw(CC.CreatePrimary, RH_OWNER, SECRET, GOOD)
 )
 caller.says(
     "TPM2_Load of a ninth, with an empty private area",
     "INTEGRITY/p1",
-    raw(LOAD, parent, sized(b""), GOOD),
+    raw(CC.Load, parent, sized(b""), GOOD),
 )
 caller.says(
     "And fixedTPM without fixedParent",
     "ATTRIBUTES/p2",
-    raw(LOAD, parent, sized(b""), sized(sealed(attributes=FIXED_TPM | OPEN).text)),
+    raw(CC.Load, parent, sized(b""), sized(sealed(attributes=FIXED_TPM | OPEN).text)),
 )
 caller.says("With nothing wrong", "OBJECT_MEMORY", caller.loading(parent, child))
 caller.create("TPM2_Create needs no place", parent, sealed(), data=b"secret")

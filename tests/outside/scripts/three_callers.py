@@ -16,9 +16,9 @@ import copy
 
 import paths  # first: it finds the device
 
-import frames
 import policy
-from frames import PCR_EXTEND, RH_NULL, RH_OWNER, SHA256, digests, selection
+from commands import CC
+from frames import RH_NULL, RH_OWNER, SHA256, digests, selection
 from history import History
 from nv import Attribute
 from nv_caller import NvCaller, area
@@ -59,7 +59,7 @@ class Stage:
 
 
 def extending(caller, handle):
-    return caller.prepare(PCR_EXTEND, [handle], digests((SHA256, bytes(32))), b"")
+    return caller.prepare(CC.PCR_Extend, [handle], digests((SHA256, bytes(32))), b"")
 
 
 def measuring(stage, caller):
@@ -67,7 +67,7 @@ def measuring(stage, caller):
     caller.says("The first caller extends PCR 10 by zeros", "SUCCESS", extending(caller, 10))
     yield
     for _ in range(2):
-        reading = caller.prepare(frames.PCR_READ, [], selection(*CHOSEN))
+        reading = caller.prepare(CC.PCR_Read, [], selection(*CHOSEN))
         response = caller.says("The first caller reads PCR 10", "SUCCESS", reading)
         assert response.endswith(stage.history.pcrs.values[SHA256, 10])
         yield

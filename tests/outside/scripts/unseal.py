@@ -4,7 +4,8 @@
 import paths
 
 import frames
-from frames import RH_NULL, RH_OWNER, SHA1, SHA256, SYMCIPHER, UNSEAL, number
+from commands import CC
+from frames import RH_NULL, RH_OWNER, SHA1, SHA256, SYMCIPHER, number
 from object_caller import HERE, OPEN, ObjectCaller, hmac_key, sealed, storage_key
 from objects import Attribute, Public
 from script import Script
@@ -88,7 +89,7 @@ caller.refused("Of either type", "AUTH_UNAVAILABLE", caller.unsealing(handle, po
 script.command(
     "It has to be authorized: no sessions (tag 8001)",
     "AUTH_MISSING",
-    frames.command(UNSEAL, number(handle, 4)),
+    frames.command(CC.Unseal, number(handle, 4)),
 )
 caller.flush_objects("It is flushed", handle)
 

@@ -24,6 +24,7 @@ import serving
 import streams
 import version_1
 from capability import HANDLES, PROPERTIES
+from commands import CC
 from frames import ALG_NULL, NV, PERSISTENT, RH_ENDORSEMENT, RH_LOCKOUT, RH_NULL, RH_OWNER
 from frames import RH_PLATFORM, SHA256, SYMCIPHER, TRANSIENT
 from general import first_byte
@@ -62,11 +63,11 @@ def by(device, handle):
 
 def primary(device, hierarchy):
     creation = frames.creation(frames.sensitive_create(), frames.sized(storage_key().text))
-    return frames.on_handle(frames.CREATE_PRIMARY, hierarchy, creation, by(device, hierarchy))
+    return frames.on_handle(CC.CreatePrimary, hierarchy, creation, by(device, hierarchy))
 
 
 def flush(handle):
-    return frames.command(frames.FLUSH_CONTEXT, frames.number(handle, 4))
+    return frames.command(CC.FlushContext, frames.number(handle, 4))
 
 
 def use(device, handle):
@@ -75,12 +76,12 @@ def use(device, handle):
     if public.kind == SYMCIPHER:
         sensitive = frames.sensitive_create(b"auth", b"data")
         creation = frames.creation(sensitive, frames.sized(sealed().text))
-        return frames.on_handle(frames.CREATE, handle, creation, entries)
+        return frames.on_handle(CC.Create, handle, creation, entries)
     if public.has(Attribute.SIGN):
         algorithm = SHA256 if public.scheme == ALG_NULL else public.scheme
         parameters = frames.sized(b"data") + frames.number(algorithm, 2)
-        return frames.on_handle(frames.HMAC, handle, parameters, entries)
-    return frames.on_handle(frames.UNSEAL, handle, entries=entries)
+        return frames.on_handle(CC.HMAC, handle, parameters, entries)
+    return frames.on_handle(CC.Unseal, handle, entries=entries)
 
 
 def asker(device, index):
@@ -113,7 +114,7 @@ def looks(device):
         size = held.public.data_size
         for offset in range(0, max(size, 1), AT_ONCE):
             reading = frames.nv_read(min(AT_ONCE, size - offset), offset)
-            yield on_index(device, frames.NV_READ, index, reading)
+            yield on_index(device, CC.NV_Read, index, reading)
     for hierarchy in PRIMARY:
         yield primary(device, hierarchy)
         yield flush(FIRST_TRANSIENT)
@@ -125,23 +126,23 @@ def changes(device):
     """
     for index, held in sorted(device.indices.items()):
         if held.public.kind == nv.Type.COUNTER:
-            yield on_index(device, frames.NV_INCREMENT, index)
-            yield on_index(device, frames.NV_READ, index, frames.nv_read(nv.NUMBER_BYTES, 0))
+            yield on_index(device, CC.NV_Increment, index)
+            yield on_index(device, CC.NV_Read, index, frames.nv_read(nv.NUMBER_BYTES, 0))
     define = frames.nv_define_space(counter(NEW_COUNTER, BY_OWNER).text)
-    yield frames.on_handle(frames.NV_DEFINE_SPACE, RH_OWNER, define, by(device, RH_OWNER))
+    yield frames.on_handle(CC.NV_DefineSpace, RH_OWNER, define, by(device, RH_OWNER))
     used, reading = [RH_OWNER, NEW_COUNTER], frames.nv_read(nv.NUMBER_BYTES, 0)
-    yield frames.on_handles(frames.NV_INCREMENT, used, entries=by(device, RH_OWNER))
-    yield frames.on_handles(frames.NV_READ, used, reading, by(device, RH_OWNER))
+    yield frames.on_handles(CC.NV_Increment, used, entries=by(device, RH_OWNER))
+    yield frames.on_handles(CC.NV_Read, used, reading, by(device, RH_OWNER))
     yield line("PCR_Event", "00000005", "pw:-", "6576656e74")
     for hierarchy in WITH_VALUES:
         entries = by(device, hierarchy)
         yield frames.on_handle(
-            frames.HIERARCHY_CHANGE_AUTH, hierarchy, frames.sized(b"new"), entries
+            CC.HierarchyChangeAuth, hierarchy, frames.sized(b"new"), entries
         )
     for handle in sorted(it for it in device.objects if first_byte(it) == PERSISTENT):
         yield line("Unseal", f"{handle:08x}", "pw:77726f6e67")
     yield frames.on_handle(
-        frames.DICTIONARY_ATTACK_LOCK_RESET, RH_LOCKOUT, entries=by(device, RH_LOCKOUT)
+        CC.DictionaryAttackLockReset, RH_LOCKOUT, entries=by(device, RH_LOCKOUT)
     )
     yield line("DictionaryAttackLockReset", "LOCKOUT", "pw:77726f6e67")
 
@@ -162,7 +163,7 @@ def resumed(device):
 def restarted(device):
     """A start that may be a restart; then what is the owner's goes, where nothing forbids it."""
     yield starting(CLEAR)
-    yield frames.on_handle(frames.CLEAR, RH_PLATFORM, entries=by(device, RH_PLATFORM))
+    yield frames.on_handle(CC.Clear, RH_PLATFORM, entries=by(device, RH_PLATFORM))
     yield from looks(device)
 
 
@@ -193,7 +194,7 @@ def executed(device, buffers, clock):
 
 
 def is_clear(buffer):
-    return buffer[6:10] == frames.number(frames.CLEAR, 4)
+    return buffer[6:10] == frames.number(CC.Clear, 4)
 
 
 def told(outcomes):
@@ -201,7 +202,7 @@ def told(outcomes):
     counts = {}
     for outcome in outcomes:
         refused = outcome.refused or "SUCCESS"
-        counts.setdefault(lines.NAMES[outcome.row.code], collections.Counter())[refused] += 1
+        counts.setdefault(CC(outcome.row.code).name, collections.Counter())[refused] += 1
     for name, came in counts.items():
         yield f"{name}: " + ", ".join(f"{count} {it}" for it, count in sorted(came.items()))
 

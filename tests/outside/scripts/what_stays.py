@@ -3,7 +3,8 @@
 
 import paths  # first: it finds the device
 
-from frames import CLEAR, RH_LOCKOUT, SHA256, number
+from commands import CC
+from frames import RH_LOCKOUT, SHA256, number
 from history import History
 from nv_caller import FIRST, SECOND, NvCaller, counter
 from policy_caller import zeros
@@ -37,7 +38,7 @@ caller.digest_is("TPM2_PolicyGetDigest: zeros", again, zeros(again))
 script.chapter("TPM2_Clear removes a counter that stands at 3. A new one begins at 4.")
 handle = caller.define("TPM2_NV_DefineSpace of a counter", counter(FIRST))
 counts_up_to(3, handle, 3)
-caller.does("TPM2_Clear", caller.prepare(CLEAR, [RH_LOCKOUT], b"", b""))
+caller.does("TPM2_Clear", caller.prepare(CC.Clear, [RH_LOCKOUT], b"", b""))
 caller.forget(handle)
 handle = caller.define("TPM2_NV_DefineSpace of a counter", counter(SECOND))
 counts_up_to(4, handle, 1)

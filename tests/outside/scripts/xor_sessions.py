@@ -13,6 +13,7 @@ import paths
 import frames
 import policy
 from caller import Use, flipped
+from commands import CC
 from frames import (
     CONTINUE_SESSION,
     DECRYPT,
@@ -22,7 +23,6 @@ from frames import (
     SE_TRIAL,
     SHA1,
     SHA256,
-    START_AUTH_SESSION,
     number,
     sized,
 )
@@ -89,7 +89,7 @@ def masked(what, prepared, plain, place=1, auth_value=b""):
     use = prepared.uses[place - 1]
     caller.accepted(what, prepared)
     body = script.last_response[10:]
-    if prepared.code == START_AUTH_SESSION:
+    if prepared.code == CC.StartAuthSession:
         body = body[4:]
     given = first_buffer(body[4:])
     session = use.session
@@ -298,7 +298,7 @@ empty = caller.start("A session that is bound to nothing, with an empty key", xo
 def of_size(size):
     """TPM2_PCR_Event in an entry whose nonce and hmac are both empty."""
     entries = [frames.entry(empty.handle, b"", DECRYPTS)]
-    return frames.on_handle(frames.PCR_EVENT, 16, sized(bytes(size)), entries)
+    return frames.on_handle(CC.PCR_Event, 16, sized(bytes(size)), entries)
 
 
 LONGEST = COMMAND_BYTES - len(of_size(0))
@@ -316,7 +316,7 @@ caller.refused(
     "What is cut cannot be unmasked: no size, half of it, and a byte too few",
     "INSUFFICIENT/p1",
     *(
-        caller.prepare(frames.PCR_EVENT, [16], it, Use(session, DECRYPTS))
+        caller.prepare(CC.PCR_Event, [16], it, Use(session, DECRYPTS))
         for it in (b"", b"\0", number(21, 2) + bytes(20), number(LONGEST, 2) + bytes(1024))
     ),
 )
@@ -326,7 +326,7 @@ script.chapter("What is refused, with right hmacs.")
 caller.refused(
     "TPM_ALG_XOR of SHA-1 for a session of SHA-256",
     "HASH/p4",
-    caller.prepare(START_AUTH_SESSION, *frames.start_auth_session(bytes(16), xor=SHA1)),
+    caller.prepare(CC.StartAuthSession, *frames.start_auth_session(bytes(16), xor=SHA1)),
 )
 assert script.last_response == bytes.fromhex("80010000000a000004c3")
 right = caller.event(b"event data", Use(session, DECRYPTS))
@@ -375,6 +375,6 @@ for words, cipher in (
     caller.refused(
         f"A storage key with TPM_ALG_XOR and {words}",
         "SYMMETRIC/p2",
-        caller.prepare(frames.CREATE_PRIMARY, [RH_OWNER], parameters, OWNER_AUTH),
+        caller.prepare(CC.CreatePrimary, [RH_OWNER], parameters, OWNER_AUTH),
     )
 script.write()

@@ -1,0 +1,217 @@
+"""Compares the lists of commands in documents with the description of the commands:
+
+    PYTHONPATH=tests/outside/device python3 tests/common/command_lists.py
+
+A line for each list says how many entries it has; each one that is missing, or too many, has a line
+that begins with DIFFERS. Then documents are changed in one place each, and that has to be found.
+"""
+
+import pathlib
+import re
+from collections.abc import Callable, Iterable
+from dataclasses import dataclass
+
+import lines
+from commands import CC, Fact, HandleKind
+
+TOP = pathlib.Path(__file__).resolve().parent.parent.parent
+README, TABLE = "README.md", "docs/table"
+LIST, STATE = f"{TABLE}/README.md", f"{TABLE}/state.md"
+REFUSALS = f"{TABLE}/order_of_refusals.md"
+ENCRYPTION, CAPABILITIES = f"{TABLE}/parameter_encryption.md", f"{TABLE}/capabilities.md"
+NV, NV_ACCESS = f"{TABLE}/nv_commands.md", f"{TABLE}/nv.md"
+
+Documents = dict[str, str]
+
+ROW = re.compile(r"^\| \[TPM2_(\w+)\]\((\w+\.md)#(\S+)\) \| (\w+) \| \[.+\]\((\w+\.md)\) \|$", re.M)
+SECTION = re.compile(r"^## TPM2_(\w+) \((\w+)\)$(?:\n\nLine: `(.+)`\.$)?", re.M)
+NAME = re.compile(r"\bTPM2_(\w+)")
+NV_KINDS = HandleKind.NV_AUTH, HandleKind.NV_INDEX, HandleKind.ENTITY
+
+
+def documents() -> Documents:
+    paths = [TOP / README, *TOP.glob("docs/*.md"), *TOP.glob("docs/table/*.md")]
+    return {str(it.relative_to(TOP)): it.read_text("utf-8") for it in sorted(paths)}
+
+
+def between(text: str, before: str, behind: str) -> str:
+    """What stands between two places, or nothing."""
+    _, found, rest = text.partition(before)
+    return rest.partition(behind)[0] if found else ""
+
+
+def names(codes: Iterable[CC]) -> list[str]:
+    return [it.name for it in codes]
+
+
+def by_name() -> list[CC]:
+    return sorted(CC, key=lambda it: it.name.lower())
+
+
+@dataclass(frozen=True)
+class List:
+    """A list of a document: what it has to have, and what it has; with `in_order` in this order."""
+
+    wanted: list
+    found: list
+    in_order: bool = False
+
+    @property
+    def differences(self) -> list:
+        lacks = [("it lacks", it) for it in self.wanted if it not in self.found]
+        extra = [("it also has", it) for it in self.found if it not in self.wanted]
+        twice = [("more than once", it) for it in set(self.found) if self.found.count(it) > 1]
+        is_turned = self.in_order and self.found != self.wanted and not lacks + extra + twice
+        return lacks + extra + twice + ([("the order", "is another one")] if is_turned else [])
+
+
+# The lists.
+
+
+def the_list(texts: Documents) -> List:
+    """Each with its section's place and its code, by name; and its page twice."""
+    pages = pages_of(texts)
+    wanted = [
+        (it.name, pages.get(it.name), f"tpm2_{it.name}-{int(it):x}".lower(), f"{int(it):X}")
+        for it in by_name()
+    ]
+    found = [
+        (name, page if page == again else "two pages", place, code)
+        for name, page, place, code, again in ROW.findall(texts[LIST])
+    ]
+    return List(wanted, found, in_order=True)
+
+
+def pages_of(texts: Documents) -> dict[str, str]:
+    """On which page the section of each command is."""
+    return {
+        name: path.removeprefix(f"{TABLE}/")
+        for path, text in texts.items()
+        for name, _, _ in SECTION.findall(text)
+    }
+
+
+def sections(texts: Documents) -> List:
+    """Each section has the command's code and the form of its line."""
+    wanted = [(it.name, f"{int(it):X}", lines.form_of(it)) for it in CC]
+    return List(wanted, [it for text in texts.values() for it in SECTION.findall(text)])
+
+
+def groups(texts: Documents) -> List:
+    rows = re.findall(r"^\| .+ \| (.+) \|$", between(texts[README], "|---|", "\n## "), re.M)
+    return List(names(CC), [name for row in rows for name in row.split(", ")])
+
+
+def decrypted(texts: Documents) -> List:
+    text = between(texts[ENCRYPTION], "| decrypt:", " |\n")
+    return List(names(it for it in CC if it.takes_sized), NAME.findall(text))
+
+
+def encrypted(texts: Documents) -> List:
+    text = between(texts[ENCRYPTION], "| encrypt:", " |\n")
+    return List(names(it for it in CC if it.answers_sized), NAME.findall(text))
+
+
+def without_sessions(texts: Documents) -> List:
+    text = between(texts[REFUSALS], "entries (tag 8002), passwords too, on", "|")
+    return List(names(it for it in CC if it.has(Fact.NO_SESSIONS)), NAME.findall(text))
+
+
+def keeping(texts: Documents) -> List:
+    """TPM2_Shutdown stands in the sentence behind."""
+    text = between(texts[STATE], "but for those of these commands", ". ")
+    wanted = [it for it in CC if it.has(Fact.KEEPS_SAVED) and it != CC.Shutdown]
+    return List(names(wanted), NAME.findall(text))
+
+
+def not_served(texts: Documents) -> List:
+    """Those that are named as not served are none of these."""
+    text = between(texts[REFUSALS], "## Commands that are not served", "\n## ")
+    return List([], [it for it in NAME.findall(text) if it in CC.__members__])
+
+
+# Counts of commands: the document, what stands before the count, what stands behind it, and how
+# the count is written.
+COUNTS = (
+    (README, "It serves ", " commands", str),
+    (CAPABILITIES, "| how many commands are served, ", " |", "{:X}".format),
+)
+
+
+def counts(texts: Documents) -> List:
+    wanted, found = [], []
+    for path, before, behind, written in COUNTS:
+        wanted.append((path, written(len(CC))))
+        counted = re.findall(rf"{re.escape(before)}([\w-]+){re.escape(behind)}", texts[path])
+        found += [(path, it) for it in counted]
+    return List(wanted, found)
+
+
+def nv_access(texts: Documents) -> List:
+    """Which commands ask an index that authorizes them for which attributes."""
+    able = [it for it in CC if it.authorized and it.handles[0].kind in NV_KINDS]
+    wanted = [(it.name, nv_access_of(it)) for it in able]
+    section = between(texts[NV_ACCESS], "## By what an index is authorized", "\n## ")
+    rows = re.findall(r"^\| (TPM2_.+?) \| (.+?) \|", section, re.M)
+    found = [(name, by_value) for named, by_value in rows for name in NAME.findall(named)]
+    return List(wanted, found)
+
+
+def nv_access_of(code: CC) -> str:
+    """When the authorization value of an index authorizes a command."""
+    if code.has(Fact.ADMIN):
+        return "never"
+    return "where it has AUTHREAD" if code.has(Fact.READS_NV) else "where it has AUTHWRITE"
+
+
+CHECKS: dict[str, Callable[[Documents], List]] = {
+    "docs/table/README.md, the list of commands": the_list,
+    "docs/table, the sections and their lines": sections,
+    "README.md, the groups": groups,
+    "parameter_encryption.md, decrypt": decrypted,
+    "parameter_encryption.md, encrypt": encrypted,
+    "order_of_refusals.md, commands without sessions": without_sessions,
+    "order_of_refusals.md, commands that are not served": not_served,
+    "state.md, commands that keep what was saved": keeping,
+    "nv.md, what commands ask of an index": nv_access,
+    "counts of commands": counts,
+}
+
+# A document, a text in it, and what is put in its place once.
+WRONG = (
+    (LIST, "| [TPM2_Clear](", "| [TPM2_Clean]("),
+    (LIST, "| [TPM2_Create](", "| TPM2_Create ("),
+    (LIST, "-135) | 135 |", "-135) | 136 |"),
+    (LIST, "#tpm2_load-157", "#tpm2_load-158"),
+    (NV, "## TPM2_NV_SetBits (135)", "## TPM2_NV_SetBit (135)"),
+    (NV, "NV_SetBits @Entity Index u64", "NV_SetBits Entity Index u64"),
+    (README, "GetCapability |", "GetCapability, TestParms |"),
+    (ENCRYPTION, "TPM2_HMAC, TPM2_NV_DefineSpace", "TPM2_NV_DefineSpace"),
+    (ENCRYPTION, "TPM2_GetRandom, ", "TPM2_GetRandom, TPM2_ReadClock, "),
+    (REFUSALS, "TPM2_FlushContext or ", ""),
+    (REFUSALS, "TPM2_Rewrap", "TPM2_Load"),
+    (STATE, "TPM2_HMAC, ", "TPM2_HMAC, TPM2_Load, "),
+    (NV_ACCESS, "| TPM2_NV_Read, ", "| "),
+    (README, "It serves 47 commands", "It serves 46 commands"),
+    (CAPABILITIES, "how many commands are served, 2F", "how many commands are served, 30"),
+)
+
+
+def main() -> None:
+    texts = documents()
+    print(f"{len(CC)} COMMANDS: the lists of documents, and how many entries they have.")
+    for what, check in CHECKS.items():
+        listed = check(texts)
+        print(f"{what}: {len(listed.found)}")
+        for difference in listed.differences:
+            print(f"DIFFERS: {difference}")
+    print("CHANGED DOCUMENTS:")
+    for path, text, instead in WRONG:
+        assert text in texts[path], f"{path}: {text}"
+        changed = texts | {path: texts[path].replace(text, instead, 1)}
+        found = [what for what, check in CHECKS.items() if check(changed).differences]
+        print(f'{path}, "{instead}" for "{text}": found in {"; ".join(found) or "NOTHING"}')
+
+
+if __name__ == "__main__":
+    main()

@@ -1,0 +1,510 @@
+"""Compares the description of the commands, outside/device/commands.py, with the program:
+
+    PYTHONPATH=tests/outside/device python3 tests/common/described_commands.py PROGRAM
+
+Each fact of each command is asked of the program. A line for each kind of fact says how often the
+program was asked; each difference has a line that begins with DIFFERS. Then one fact of a command
+is described wrongly, a kind of fact after the other, and the program must tell that.
+"""
+
+import concurrent.futures
+import functools
+import pathlib
+import subprocess
+import sys
+from collections.abc import Iterable, Iterator
+from dataclasses import dataclass, replace
+from unittest import mock
+
+import frames
+import general
+import lines
+from capability import COMMANDS, HANDLES, PCRS, TOTAL_COMMANDS, command_attributes
+from commands import CC, NUMBERED, Fact, Handle, HandleKind, Kind
+from frames import KEYEDHASH, RH_LOCKOUT, RH_NULL, RH_OWNER, RH_PLATFORM, RS_PW, SHA256, number
+from general import Fields
+from nv import Attribute, Public
+from objects import Attribute as ObjectAttribute
+
+TESTS = pathlib.Path(__file__).resolve().parent.parent
+AT_ONCE = 4
+
+# What the device has that is asked: its index and its object have the policy of a session that was
+# told nothing, and two more indices can be authorized for reading and for writing alone.
+PCR, AES_SESSION, POLICY_SESSION = 16, 0x0200_0000, 0x0300_0001
+OBJECT, PERSISTENT = 0x8000_0000, 0x8100_0000
+INDEX, READ_INDEX, WRITE_INDEX = range(0x0100_0000, 0x0100_0003)
+THERE = (
+    *(PCR, RH_NULL, RH_OWNER, frames.RH_ENDORSEMENT, RH_PLATFORM, RH_LOCKOUT, OBJECT, PERSISTENT),
+    *(INDEX, POLICY_SESSION, AES_SESSION),
+)
+NO_HANDLES = RS_PW, 24, 0x0400_0000, 0xFFFF_FFFF
+
+NONCE, NO_POLICY, UNTOLD = "00" * 16, b"", bytes(32)
+
+# A token for each kind of parameter, and those at which one kind begins to differ from another.
+TOKENS = (
+    *("7", "00", "00+01", "-", "255", "256", "65535", "65536", "0xffffffff", "0x100000000"),
+    *("18446744073709551615", "18446744073709551616", "sha256:0", "sha1:" + "00" * 20, "sha256"),
+    *("null", "aes", "xor-sha1", "x"),
+)
+
+
+@dataclass(frozen=True)
+class Program:
+    path: str
+
+    def run(self, script: Iterable[str], *options: str) -> list[str]:
+        """What it prints of a script."""
+        done = subprocess.run(
+            [self.path, "run", *options, "-"],
+            input="".join(f"{it}\n" for it in script),
+            capture_output=True,
+            text=True,
+            timeout=60,
+        )
+        if done.returncode:
+            sys.exit(f"FAILED: {done.stderr}")
+        return done.stdout.splitlines()
+
+    @functools.cache
+    def told(self, word: str, argument: str) -> str:
+        """What `asm` or `line` prints, on either stream."""
+        done = subprocess.run(
+            [self.path, word, argument], capture_output=True, text=True, timeout=60
+        )
+        return (done.stdout + done.stderr).strip()
+
+
+@dataclass(frozen=True)
+class Asked:
+    """What the program was asked, what the description says of it, and what the program says."""
+
+    what: str
+    described: object
+    found: object
+
+
+# The device that is asked, and what it is asked.
+
+
+def index_line(index: int, attributes: int, auth_policy: bytes) -> str:
+    public = Public(index, SHA256, attributes | Attribute.NO_DA, auth_policy)
+    return f"do NV_DefineSpace OWNER pw:- - {public.text.hex()}"
+
+
+def setup() -> list[str]:
+    here = ObjectAttribute.FIXED_TPM | ObjectAttribute.FIXED_PARENT | ObjectAttribute.NO_DA
+    scheme = frames.scheme(frames.ALG_NULL)
+    public = frames.public_area(KEYEDHASH, SHA256, here, UNTOLD, scheme, b"")
+    sensitive = frames.sensitive_create(data=b"data")[2:]
+    reads, writes = Attribute.AUTHREAD, Attribute.AUTHWRITE
+    by_policy = Attribute.POLICYREAD | Attribute.POLICYWRITE
+    return [
+        "do Startup 0",
+        f"do StartAuthSession NULL NULL {NONCE} - 0 aes sha256",
+        f"do StartAuthSession NULL NULL {NONCE} - 1 null sha256",
+        f"do CreatePrimary OWNER pw:- {sensitive.hex()} {public.hex()} - -",
+        f"do EvictControl OWNER {OBJECT:08x} pw:- {PERSISTENT:#x}",
+        index_line(INDEX, by_policy, UNTOLD),
+        index_line(READ_INDEX, reads | Attribute.OWNERWRITE, NO_POLICY),
+        index_line(WRITE_INDEX, writes | Attribute.OWNERREAD, NO_POLICY),
+    ]
+
+
+@dataclass(frozen=True)
+class Answer:
+    """By which check a command was refused, or `ok`, and its response code."""
+
+    check: str
+    code: int
+
+    def is_refusal(self, check: str, name: str) -> bool:
+        return (self.check, self.code) == (check, frames.code_of(name))
+
+    def is_behind(self, check: str, refusal: str) -> bool | str:
+        """Whether it came through a check, which refuses it by this code alone."""
+        if self.is_refusal(check, refusal):
+            return False
+        order = [*(f"G{it}" for it in range(1, 12)), *(f"A{it}" for it in range(1, 8)), "ok"]
+        return order.index(self.check) > order.index(check) or f"{self.check} {self.code:03X}"
+
+
+def answers_of(program: Program, code: CC, buffers: list[bytes]) -> list[Answer]:
+    """What buffers of a command come to, of which only TPM2_Startup comes first."""
+    before = [] if code == CC.Startup else setup()
+    printed = program.run([*before, *(f"cmd {it.hex()}" for it in buffers)], "--trace")[::2]
+    answers = [Answer(it.split(" ")[3], int(it.split(" ")[4], 16)) for it in printed]
+    assert all(it.check == "ok" for it in answers[: len(before)]), printed
+    return answers[len(before) :]
+
+
+def takes(handle: Handle, number: int) -> bool:
+    return general.IS_OF_KIND[handle.kind](number)
+
+
+def right_handles(code: CC) -> list[int]:
+    """Handles that are there, of the kinds that the command wants."""
+    return [next(it for it in THERE if takes(wanted, it)) for wanted in code.handles]
+
+
+def buffer_of(code: CC, handles: list[int], *entries: bytes) -> bytes:
+    """A command whose parameters are one byte, so that hardly one of them succeeds."""
+    text = b"".join(number(it, 4) for it in handles)
+    if not entries:
+        return frames.command(code, text + b"\0")
+    return frames.command(code, text + frames.area(*entries) + b"\0", frames.SESSIONS)
+
+
+# Facts. Each function yields what was asked about some of the commands.
+
+
+def attributes(program: Program, codes: list[CC]) -> Iterator[Asked]:
+    """Numbers, the counts of handles, and whether one is answered, by TPM2_GetCapability."""
+    asking = [f"do GetCapability {COMMANDS} {it:#x} 1" for it in codes]
+    total = f"do GetCapability 6 {TOTAL_COMMANDS:#x} 1"
+    printed = program.run(["do Startup 0", *asking, total])[1:]
+    for code, answer in zip(codes, printed):
+        yield Asked(f"{code.name}: attributes", command_attributes(code), int(answer[-8:], 16))
+    yield Asked("how many commands there are", len(CC), int(printed[-1][-8:], 16))
+
+
+def served(program: Program, codes: list[CC]) -> Iterator[Asked]:
+    """Which numbers are served, and which a policy can name."""
+    numbers = range(0x100, 0x200) if len(codes) == len(CC) else [int(it) for it in codes]
+    for wanted, refusal, buffer in (
+        ("served", "COMMAND_CODE", lambda it: frames.command(it, b"\0")),
+        ("named by a policy", "POLICY_CC/p1", naming),
+    ):
+        script = [
+            line
+            for it in numbers
+            for line in (f"do PolicyRestart {POLICY_SESSION:08x}", f"cmd {buffer(it).hex()}")
+        ]
+        answers = program.run([*setup(), *script])[len(setup()) :][1::2]
+        for it, answer in zip(numbers, answers):
+            is_refused = int(answer[12:20], 16) == frames.code_of(refusal)
+            yield Asked(f"{it:X} is {wanted}", it in NUMBERED, not is_refused)
+
+
+def naming(code: int) -> bytes:
+    return frames.command(CC.PolicyCommandCode, number(POLICY_SESSION, 4) + number(code, 4))
+
+
+def parameters(program: Program, codes: list[CC]) -> Iterator[Asked]:
+    """Names of commands, and the number and kinds of parameters, by `tpmsim asm`."""
+    said = [line for code in codes for line in parameter_lines(code)]
+    with concurrent.futures.ThreadPoolExecutor(AT_ONCE) as pool:
+        told = pool.map(lambda line: program.told("asm", line), said)
+    for line, answer in zip(said, told):
+        yield Asked(f"asm {line}", assembled(line), answer)
+
+
+def parameter_lines(code: CC) -> Iterator[str]:
+    """Lines of a command with each token in the place of each parameter, one that is cut before
+    each word, and one with a word too many.
+    """
+    words = [code.name, *("01000000" for _ in code.handles), *map(sample, code.parameters)]
+    front = len(words) - len(code.parameters)
+    for place in range(1, len(words) + 1):
+        yield " ".join(words[:place])
+    yield " ".join([*words, "00000000"])
+    for place in range(front, len(words)):
+        for token in TOKENS:
+            yield " ".join([*words[:place], token, *words[place + 1 :]])
+
+
+def sample(parameter) -> str:
+    """A token that its kind takes."""
+    for token in TOKENS:
+        try:
+            lines.WORDS[parameter.kind].spelled(token.encode())
+            return token
+        except lines.Wrong:
+            continue
+    raise ValueError(parameter)
+
+
+def assembled(line: str) -> str:
+    try:
+        return lines.assemble(line.encode()).hex()
+    except lines.Fault as fault:
+        return f"tpmsim: asm {fault}"
+
+
+def words(program: Program, codes: list[CC]) -> Iterator[Asked]:
+    """How parameters are shown, in hex or not, by `tpmsim line`."""
+    said = [assembled(line) for code in codes for line in parameter_lines(code)]
+    buffers = list(dict.fromkeys(it for it in said if " " not in it))
+    with concurrent.futures.ThreadPoolExecutor(AT_ONCE) as pool:
+        told = pool.map(lambda buffer: program.told("line", buffer), buffers)
+    for buffer, answer in zip(buffers, told):
+        yield Asked(f"line {buffer}", lines.line_of(bytes.fromhex(buffer)), answer)
+
+
+def handle_kinds(program: Program, codes: list[CC]) -> Iterator[Asked]:
+    """Which handles a command takes, of all that are there and of some that are none."""
+    for code in codes:
+        right, wanted, buffers = right_handles(code), [], []
+        for place, handle in enumerate(code.handles, 1):
+            for other in (*THERE, *NO_HANDLES):
+                wanted.append((place, other, takes(handle, other)))
+                buffers.append(buffer_of(code, [*right[: place - 1], other]))
+        for (place, other, is_taken), found in zip(wanted, answers_of(program, code, buffers)):
+            is_refused = found.is_refusal("G6", f"VALUE/h{place}")
+            yield Asked(f"{code.name} takes {other:08x} in place {place}", is_taken, not is_refused)
+
+
+def authorizations(program: Program, codes: list[CC]) -> Iterator[Asked]:
+    """Which handles need authorization, and whether there may be entries: a password that
+    authorizes nothing is refused in its place.
+    """
+    for code in codes:
+        handles = right_handles(code)
+        buffers = [buffer_of(code, handles), buffer_of(code, handles, *[frames.entry()] * 3)]
+        bare, with_entries = answers_of(program, code, buffers)
+        is_bare = bare.is_behind("G7", "AUTH_MISSING")
+        yield Asked(f"{code.name} needs no entry", not code.authorized, is_bare)
+        refusal = f"HANDLE/s{code.authorized + 1}"
+        if code.has(Fact.NO_SESSIONS):
+            refusal = "AUTH_CONTEXT"
+        found = f"{with_entries.code:03X}"
+        yield Asked(f"{code.name} by passwords", f"{frames.code_of(refusal):03X}", found)
+
+
+def encryption(program: Program, codes: list[CC]) -> Iterator[Asked]:
+    """Which first parameters are sized buffers: a session may decrypt or encrypt them."""
+    for code in codes:
+        if code.has(Fact.NO_SESSIONS):
+            continue
+        passwords, place = [frames.entry()] * code.authorized, code.authorized + 1
+        sessions = [
+            frames.entry(AES_SESSION, bytes(16), frames.CONTINUE_SESSION | attribute, b"wrong")
+            for attribute in (frames.DECRYPT, frames.ENCRYPT)
+        ]
+        buffers = [buffer_of(code, right_handles(code), *passwords, it) for it in sessions]
+        refused = f"ATTRIBUTES/s{place}"
+        answered = answers_of(program, code, buffers)
+        decrypts, encrypts = (it.is_behind("G8", refused) for it in answered)
+        yield Asked(f"{code.name} takes a sized buffer first", code.takes_sized, decrypts)
+        yield Asked(f"{code.name} answers one first", code.answers_sized, encrypts)
+
+
+def roles(program: Program, codes: list[CC]) -> Iterator[Asked]:
+    """The ADMIN role, where an object or an index can authorize: it wants a policy that names the
+    command, and the user's role does not.
+    """
+    untold = frames.entry(POLICY_SESSION, bytes(16))
+    for code in codes:
+        able = [it for it in (INDEX, OBJECT) if code.authorized and takes(code.handles[0], it)]
+        handles = right_handles(code)
+        buffers = [buffer_of(code, [it, *handles[1:]], untold) for it in able]
+        for it, found in zip(able, answers_of(program, code, buffers)):
+            is_user = found.is_behind("G9", "POLICY_FAIL/s1")
+            what = f"{code.name} is authorized by {it:08x} in the user's role"
+            yield Asked(what, not code.has(Fact.ADMIN), is_user)
+
+
+def nv_attributes(program: Program, codes: list[CC]) -> Iterator[Asked]:
+    """Whether an index that authorizes is asked for the attributes of reading or of writing. By
+    its value it authorizes nothing in the ADMIN role.
+    """
+    for code in codes:
+        if not code.authorized or not takes(code.handles[0], READ_INDEX):
+            continue
+        handles = right_handles(code)
+        asked = {READ_INDEX: code.has(Fact.READS_NV), WRITE_INDEX: not code.has(Fact.READS_NV)}
+        buffers = [buffer_of(code, [it, *handles[1:]], frames.entry()) for it in asked]
+        for it, found in zip(asked, answers_of(program, code, buffers)):
+            is_able = found.is_behind("G9", "AUTH_UNAVAILABLE")
+            wanted = asked[it] and not code.has(Fact.ADMIN)
+            yield Asked(f"{code.name} is authorized by {it:08x}", wanted, is_able)
+
+
+# What tests/saved_state.tpm shows, in which each command succeeds between a shutdown and a start.
+
+
+def saved_state(program: Program) -> list[tuple[CC, str, str]]:
+    """Its events: the command, or None for a power cycle; its check; and the response."""
+    script = (TESTS / "saved_state.tpm").read_text("ascii").splitlines()
+    printed = iter(program.run(script, "--trace"))
+    events = []
+    for line in printed:
+        if line == "power":
+            events.append((None, "", ""))
+        else:
+            name, _, _, check, _ = line.split(" ")
+            code = CC[name] if name in CC.__members__ else None
+            events.append((code, check, next(printed)))
+    return events
+
+
+def keeping(program: Program, codes: list[CC]) -> Iterator[Asked]:
+    """Which commands leave what a shutdown saved: the next start can take it up, or cannot."""
+    events = saved_state(program)
+    kept = {CC.Startup: is_kept_by(program, ["power", "do Startup 1"])}
+    kept[CC.Shutdown] = is_kept_by(program, ["do Shutdown 1"])
+    for first, then, power, start in zip(events, events[1:], events[2:], events[3:]):
+        is_one = first[0] == CC.Shutdown and power[0] is None and start[0] == CC.Startup
+        if is_one and then[0] is not None and then[0] not in kept:
+            kept[then[0]] = start[1] == "ok"
+    for code in codes:
+        yield Asked(f"{code.name} keeps the state", code.has(Fact.KEEPS_SAVED), kept.get(code))
+
+
+def is_kept_by(program: Program, between: list[str]) -> bool:
+    printed = program.run(["do Startup 0", "do Shutdown 1", *between, "power", "do Startup 1"])
+    return printed[-1][12:20] == "00000000"
+
+
+def answers(program: Program, codes: list[CC]) -> Iterator[Asked]:
+    """The handles and parameters of responses: read by the description, nothing is left of them."""
+    responses = {
+        code: bytes.fromhex(answer)
+        for code, check, answer in saved_state(program)
+        if code is not None and check == "ok"
+    }
+    for code in codes:
+        yield Asked(f"{code.name}: its answer", "read", read_answer(code, responses.get(code)))
+
+
+def read_answer(code: CC, response: bytes | None) -> str:
+    if response is None:
+        return "not there"
+    fields = Fields(response)
+    tag, _, _ = fields.number(2), fields.number(4), fields.number(4)
+    try:
+        handles = [fields.number(4) for _ in code.answered_handles]
+        body = Fields(fields.take(fields.number(4))) if tag == frames.SESSIONS else fields
+        for parameter in code.answered_parameters:
+            read_answered(parameter.kind, body)
+    except (general.Short, lines.NoWords):
+        return "cut"
+    if not all(map(takes, code.answered_handles, handles)):
+        return "another handle"
+    return "more" if body.data else "read"
+
+
+def read_answered(kind: Kind, fields: Fields) -> None:
+    if kind == Kind.TICKET:
+        fields.take(6)
+        fields.sized()
+    elif kind == Kind.TIME:
+        fields.take(25)
+    elif kind == Kind.CAPABILITY:
+        read_capability(fields)
+    else:
+        lines.WORDS[kind].word(fields)
+
+
+def read_capability(fields: Fields) -> None:
+    kind = fields.number(4)
+    if kind == PCRS:
+        lines.WORDS[Kind.SELECTION].word(fields)
+    else:
+        fields.take(fields.number(4) * (4 if kind in (HANDLES, COMMANDS) else 8))
+
+
+CHECKS = {
+    "attributes": attributes,
+    "numbers that are served, and that a policy names": served,
+    "kinds of parameters": parameters,
+    "how parameters are shown": words,
+    "kinds of handles": handle_kinds,
+    "authorizations and entries": authorizations,
+    "sized buffers": encryption,
+    "roles": roles,
+    "attributes of NV indices": nv_attributes,
+    "saved states": keeping,
+    "answers": answers,
+}
+
+
+# Wrong descriptions of one command each.
+
+
+def with_handle(code: CC, **changes) -> dict:
+    return {"handles": (replace(code.handles[0], **changes), *code.handles[1:])}
+
+
+def with_parameter(code: CC, kind: Kind) -> dict:
+    return {"parameters": (replace(code.parameters[0], kind=kind), *code.parameters[1:])}
+
+
+def with_answer(code: CC, kind: Kind) -> dict:
+    return {"answered_parameters": (replace(code.answered_parameters[0], kind=kind),)}
+
+
+def with_fact(code: CC, fact: Fact) -> dict:
+    return {"facts": code.facts ^ fact}
+
+
+@dataclass(frozen=True)
+class Wrong:
+    """What is described wrongly of a command, by which check that has to be found, and how."""
+
+    what: str
+    check: str
+    code: CC
+    changes: dict
+
+    def is_found(self, program: Program) -> bool:
+        with mock.patch.multiple(self.code, **self.changes):
+            asked = CHECKS[self.check](program, [self.code])
+            return any(it.described != it.found for it in asked)
+
+
+READ, UNSEAL, RESET, CHANGE = CC.NV_Read, CC.Unseal, CC.PCR_Reset, CC.NV_ChangeAuth
+EVENT, CLOCK, LOCALITY, PUBLIC = CC.PCR_Event, CC.ReadClock, CC.PolicyLocality, CC.ReadPublic
+ASM, LINE, KINDS = "kinds of parameters", "how parameters are shown", "kinds of handles"
+ENTRIES, SIZED, ROLES = "authorizations and entries", "sized buffers", "roles"
+NV, SAVED = "attributes of NV indices", "saved states"
+WRONG = (
+    Wrong("a handle too few", "attributes", READ, {"handles": READ.handles[:1]}),
+    Wrong("a handle more", "attributes", UNSEAL, {"handles": UNSEAL.handles * 2}),
+    Wrong("no answered handle", "attributes", CC.Load, {"answered_handles": ()}),
+    Wrong("a parameter too few", ASM, READ, {"parameters": READ.parameters[:1]}),
+    Wrong("four bytes for two", ASM, READ, with_parameter(READ, Kind.U32)),
+    Wrong("bits as a number", LINE, LOCALITY, with_parameter(LOCALITY, Kind.U8)),
+    Wrong("a PCR or none", KINDS, RESET, with_handle(RESET, kind=HandleKind.PCR_OR_NULL)),
+    Wrong("an index alone", KINDS, READ, with_handle(READ, kind=HandleKind.NV_INDEX)),
+    Wrong("no authorization", ENTRIES, READ, with_handle(READ, is_authorized=False)),
+    Wrong("entries, of which it takes none", ENTRIES, CLOCK, with_fact(CLOCK, Fact.NO_SESSIONS)),
+    Wrong("no entries, which it takes", ENTRIES, RESET, with_fact(RESET, Fact.NO_SESSIONS)),
+    Wrong("no buffer first", SIZED, EVENT, with_parameter(EVENT, Kind.BUFFERS)),
+    Wrong("no buffer answered", SIZED, UNSEAL, with_answer(UNSEAL, Kind.BUFFERS)),
+    Wrong("the user's role", ROLES, CHANGE, with_fact(CHANGE, Fact.ADMIN)),
+    Wrong("the ADMIN role", ROLES, UNSEAL, with_fact(UNSEAL, Fact.ADMIN)),
+    Wrong("writing for reading", NV, READ, with_fact(READ, Fact.READS_NV)),
+    Wrong("a state that is cancelled", SAVED, READ, with_fact(READ, Fact.KEEPS_SAVED)),
+    Wrong("a state that is kept", SAVED, EVENT, with_fact(EVENT, Fact.KEEPS_SAVED)),
+    Wrong("a buffer of three", "answers", PUBLIC, with_answer(PUBLIC, Kind.BUFFER)),
+    Wrong("a list for a buffer", "answers", UNSEAL, with_answer(UNSEAL, Kind.BUFFERS)),
+)
+
+
+def is_missing_one_found(program: Program) -> bool:
+    """Whether a command that is not described is found among those that are served."""
+    with mock.patch.dict(NUMBERED):
+        del NUMBERED[READ]
+        return any(it.described != it.found for it in served(program, [READ]))
+
+
+def main(path: str) -> None:
+    program, codes = Program(path), list(CC)
+    print(f"{len(codes)} COMMANDS: what is described of them, and how often the program was asked.")
+    for what, check in CHECKS.items():
+        asked = list(check(program, codes))
+        for it in asked:
+            if it.described != it.found:
+                print(f"DIFFERS: {it.what}: described {it.described}, found {it.found}")
+        print(f"{what}: {len(asked)}")
+    print("WRONG DESCRIPTIONS:")
+    print(f"no {READ.name}: {'found' if is_missing_one_found(program) else 'NOT FOUND'}")
+    for it in WRONG:
+        found = "found" if it.is_found(program) else "NOT FOUND"
+        print(f"{it.what}, of {it.code.name}: {found} by {it.check}")
+
+
+if __name__ == "__main__":
+    main(sys.argv[1])
