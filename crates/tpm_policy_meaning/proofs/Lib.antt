@@ -1,0 +1,7 @@
+mod Asserting
+mod Chains
+mod Examples
+mod Meaning
+mod Sessions
+mod Spelled
+mod Trial

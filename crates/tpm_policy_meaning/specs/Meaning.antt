@@ -1,0 +1,88 @@
+-- What the digest of a policy session says. TPM 2.0 Library, Part 1, section 19.7. Where it is the
+-- digest of a policy, the session asserted what that policy says, along one branch at each
+-- TPM2_PolicyOR; or the hash is broken, by texts that the policy and the session spell.
+use Rattle.std.specs.Prelude.{◌≡◌, ◌≢◌, ◌⊎◌, ◌<◌, ◌^◌, ℕ, List, [], ◌∷◌, ◌++◌, length}
+use Rattle.std.specs.List.{flat_map}
+use Rattle.tpm_mac.specs.Digest.{digest_size, hash_of}
+use Rattle.tpm_mac.specs.declared.algorithm.HashAlg.{HashAlg}
+use Rattle.tpm_policy.specs.Assertion.{Assertion}
+use Rattle.tpm_policy_meaning.specs.Asserted.{AreAccepted, IsAmong, IsAsserted, session_digest}
+use Rattle.tpm_policy_meaning.specs.Asserted.{session_digests, session_texts}
+use Rattle.tpm_policy_meaning.specs.Expression.{PolicyAssertion, PolicyPcr, PolicyCommandCode}
+use Rattle.tpm_policy_meaning.specs.Expression.{PolicyNv}
+use Rattle.tpm_policy_meaning.specs.Expression.{PolicyExpression, Start, Then, PolicyOr}
+use Rattle.tpm_policy_meaning.specs.Expression.{PolicyBranches, NoBranch, Branch}
+use Rattle.tpm_policy_meaning.specs.PolicyDigest.{branch_digests, policy_digest, policy_texts}
+use Rattle.tpm_policy_meaning.specs.PolicyDigest.{zeros}
+
+-- Each assertion of a policy has P, along one branch at each TPM2_PolicyOR.
+abbrev mutual
+  pub Holds : (P : PolicyAssertion → Type 0) → PolicyExpression → Type 0
+  Holds P Start = Unit {0}
+  Holds P (Then before assertion) = Holds P before × P assertion
+  Holds P (PolicyOr branches) = HoldsOne P branches
+
+  pub HoldsOne : (P : PolicyAssertion → Type 0) → PolicyBranches → Type 0
+  HoldsOne P NoBranch = ⊥
+  HoldsOne P (Branch policy branches) = Holds P policy ⊎ HoldsOne P branches
+
+-- What is written has a text that tells it: the digest of PCRs is one of the policy's hash, a
+-- command code has 32 bits, and an offset 16.
+abbrev pub IsWritten : HashAlg → PolicyAssertion → Type 0
+IsWritten hash (PolicyPcr selection digest) = length digest ≡ digest_size hash
+IsWritten hash (PolicyCommandCode number) = number < 2 ^ 32
+IsWritten hash (PolicyNv name operand offset operation) = offset < 2 ^ 16
+IsWritten hash _ = Unit {0}
+
+abbrev mutual
+  pub IsPolicy : HashAlg → PolicyExpression → Type 0
+  IsPolicy hash Start = Unit {0}
+  IsPolicy hash (Then before assertion) = IsPolicy hash before × IsWritten hash assertion
+  IsPolicy hash (PolicyOr branches) = ArePolicies hash branches
+
+  pub ArePolicies : HashAlg → PolicyBranches → Type 0
+  ArePolicies hash NoBranch = Unit {0}
+  ArePolicies hash (Branch policy branches) = IsPolicy hash policy × ArePolicies hash branches
+
+-- the digests of the branches of each TPM2_PolicyOR of a policy
+abbrev mutual
+  pub branch_lists : HashAlg → PolicyExpression → List (List (List ℕ))
+  branch_lists hash Start = []
+  branch_lists hash (Then before assertion) = branch_lists hash before
+  branch_lists hash (PolicyOr branches) =
+      branch_digests hash branches ∷ lists_within hash branches
+
+  pub lists_within : HashAlg → PolicyBranches → List (List (List ℕ))
+  lists_within hash NoBranch = []
+  lists_within hash (Branch policy branches) =
+      branch_lists hash policy ++ lists_within hash branches
+
+-- The hash is broken, by what a policy and the assertions of a session spell. Collision: two texts
+-- have one hash, one hashed for the policy and another by the session. HashOfZeros: a text has a
+-- hash of zeros, with which a session starts. AstrideBranches: a digest that the session had
+-- stands in the joined digests of a TPM2_PolicyOR of the policy, and is none of them, so that it
+-- has the end of one and the beginning of the next. No size of the digests of a TPM2_PolicyOR is
+-- checked or hashed, so a session may cut the same bytes elsewhere.
+pub data BreaksHash (hash : HashAlg) (policy : PolicyExpression) (assertions : List Assertion)
+    : Type 0
+  where
+    Collision : (text other : List ℕ) → IsAmong text (policy_texts hash policy)
+        → IsAmong other (session_texts hash assertions) → text ≢ other
+        → hash_of hash text ≡ hash_of hash other → BreaksHash hash policy assertions
+    HashOfZeros : (text : List ℕ)
+        → IsAmong text (policy_texts hash policy) ⊎ IsAmong text (session_texts hash assertions)
+        → hash_of hash text ≡ zeros hash → BreaksHash hash policy assertions
+    AstrideBranches : (digests : List (List ℕ)) (digest front back : List ℕ)
+        → IsAmong digests (branch_lists hash policy)
+        → IsAmong digest (session_digests hash assertions) → (IsAmong digest digests → ⊥)
+        → flat_map (λ one. one) digests ≡ front ++ digest ++ back
+        → BreaksHash hash policy assertions
+
+-- A policy session with the digest of a policy asserted what the policy says, or the hash is
+-- broken.
+abbrev pub DigestMeans : Type 0
+DigestMeans =
+    (hash : HashAlg) (policy : PolicyExpression) (assertions : List Assertion)
+    → IsPolicy hash policy → AreAccepted hash assertions
+    → session_digest hash assertions ≡ policy_digest hash policy
+    → Holds (IsAsserted assertions) policy ⊎ BreaksHash hash policy assertions
