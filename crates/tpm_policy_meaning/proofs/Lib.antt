@@ -1,4 +1,5 @@
 mod Asserting
+mod Astride
 mod Chains
 mod Examples
 mod Meaning

@@ -1,19 +1,18 @@
 -- A policy session with the digest of a policy asserted what the policy says, or the hash is broken.
-use Rattle.std.proofs.Common.{◌≡◌, ◌⊎◌, ℕ, List, [], ◌∷◌, ◌++◌, append_assoc, refl, ap, sym, subst, ◌∙◌, inl, inr}
-use Rattle.std.specs.List.{flat_map}
+use Rattle.std.proofs.Common.{◌≡◌, ◌≢◌, ◌⊎◌, ℕ, List, [], ◌∷◌, ◌++◌, append_assoc, length, refl, ap, sym, subst, ◌∙◌, inl, inr}
+use Rattle.tpm_mac.specs.Digest.{digest_size}
 use Rattle.tpm_mac.specs.declared.algorithm.HashAlg.{HashAlg}
+use Rattle.tpm_mac.specs.declared.algorithm.HashAlg.TheVariants as alg
 use Rattle.tpm_policy.specs.Assertion as assertion
 use Rattle.tpm_policy.specs.Assertion.{Assertion}
 use Rattle.tpm_policy_meaning.specs.Asserted.{AreAccepted, Asserts, IsAmong, IsAsserted, digest_before, session_digest, session_digests, session_texts, update_by}
 use Rattle.tpm_policy_meaning.specs.Expression.{PolicyAssertion, PolicyExpression, Start, Then, PolicyOr, PolicyBranches, NoBranch, Branch}
 use Rattle.tpm_policy_meaning.specs.Meaning.{ArePolicies, BreaksHash, AstrideBranches, Collision, HashOfZeros, DigestMeans, Holds, HoldsOne, IsPolicy, branch_lists, lists_within}
-use Rattle.tpm_policy_meaning.specs.PolicyDigest.{branch_digests, branch_texts, or_update, policy_digest, policy_texts, texts_after, update_of, update_text, with_reference, zeros}
+use Rattle.tpm_policy_meaning.specs.PolicyDigest.{branch_digests, branch_texts, policy_digest, policy_texts, texts_after, update_of, update_text, with_reference}
 use Rattle.tpm_policy_meaning.proofs.Asserting.{IsOrOf, said_asserts, said_is_or}
-use Rattle.tpm_policy_meaning.proofs.Chains.{Breaking, Said, aligned, all_steps, among_back, among_front, is_among_or_not, same_chain, unless_broken}
+use Rattle.tpm_policy_meaning.proofs.Astride.{HaveSize, joined, stands_astride}
+use Rattle.tpm_policy_meaning.proofs.Chains.{Breaking, Said, aligned, all_steps, among_back, among_front, is_among_or_not, length-chain, same_chain, unless_broken}
 use Rattle.tpm_policy_meaning.proofs.Spelled.{policy_chain, policy_chain_texts, policy_fits, policy_said, said_before, said_of, session_chain, session_chain_texts, session_fits, session_said}
-
-abbrev joined : List (List ℕ) → List ℕ
-joined digests = flat_map (λ (digest : List ℕ). digest) digests
 
 -- a digest that is one of these stands in them joined
 abbrev StandsIn : (digest whole : List ℕ) → Type 0
@@ -43,6 +42,10 @@ none_said x xs is = absurd cc
 earlier_said : (one : Assertion) (written : PolicyAssertion) (said : List Said) → Asserts one written → said_before one said ≡ said
 earlier_said (assertion.Or digests) written said asserts = absurd asserts
 earlier_said _ written said asserts = refl
+
+some_size : (hash : HashAlg) → digest_size hash ≢ 0
+some_size alg.Sha1 none = absurd cc
+some_size alg.Sha256 none = absurd cc
 
 module _ (hash : HashAlg) (whole : PolicyExpression) (all : List Assertion) where
   abbrev Broken : Type 0
@@ -147,12 +150,25 @@ module _ (hash : HashAlg) (whole : PolicyExpression) (all : List Assertion) wher
       (λ asserts. unless_broken (next (same.1 ∙ earlier_said latest written (session_said hash earlier) asserts))
       (λ holds. inl (holds, (latest, up.among latest (inl refl), asserts))))
 
+  sizes : (branches : PolicyBranches) (digest : List ℕ) → length digest ≡ digest_size hash → HaveSize (length digest) (branch_digests hash branches)
+  sizes NoBranch digest size = tt
+  sizes (Branch policy branches) digest size =
+      (ap length (policy_chain hash policy) ∙ length-chain hash (all_steps (policy_said hash policy)) ∙ sym size, sizes branches digest size)
+
+  some_digest : (digest : List ℕ) → length digest ≡ digest_size hash → digest ≢ []
+  some_digest digest size none = some_size hash (sym size ∙ ap length none)
+
   one_or_astride : (branches : PolicyBranches) (earlier : List Assertion) → UpTo earlier → IsAmong (branch_digests hash branches) (branch_lists hash whole) → StandsIn (session_digest hash earlier) (joined (branch_digests hash branches)) → IsAmong (session_digest hash earlier) (branch_digests hash branches) ⊎ Broken
   one_or_astride branches earlier up list (front, back, stands) = by (is_among_or_not (session_digest hash earlier) (branch_digests hash branches))
     where
+      size : length (session_digest hash earlier) ≡ digest_size hash
+      size = ap length (session_chain hash earlier) ∙ length-chain hash (all_steps (session_said hash earlier))
+
       by : IsAmong (session_digest hash earlier) (branch_digests hash branches) ⊎ (IsAmong (session_digest hash earlier) (branch_digests hash branches) → ⊥) → IsAmong (session_digest hash earlier) (branch_digests hash branches) ⊎ Broken
       by (inl among) = inl among
-      by (inr none) = inr (AstrideBranches _ (session_digest hash earlier) front back list (up.digests _ (latest_digest earlier)) none stands)
+      by (inr none) =
+          inr (AstrideBranches (session_digest hash earlier) (branch_digests hash branches) (up.digests _ (latest_digest earlier)) list
+          (stands_astride (session_digest hash earlier) (branch_digests hash branches) front back (sizes branches (session_digest hash earlier) size) (some_digest (session_digest hash earlier) size) none stands))
 
   or_finds : (branches : PolicyBranches) (latest : Assertion) (earlier : List Assertion) → UpTo (latest ∷ earlier) → IsAmong (branch_digests hash branches) (branch_lists hash whole) → IsOrOf (branch_digests hash branches) latest → IsAmong (session_digest hash earlier) (branch_digests hash branches) ⊎ Broken
   or_finds branches latest earlier up list (given, is, same) =

@@ -1,5 +1,5 @@
 -- What accepted assertions found and demand.
-use Rattle.std.proofs.Common.{◌≡◌, ◌⊎◌, ℕ, Bool, true, false, not, List, [], ◌∷◌, ◌++◌, Option, Some, None, Result, Ok, Err, refl, ap, sym, subst, ◌∙◌, inl, inr}
+use Rattle.std.proofs.Common.{◌≡◌, ◌⊎◌, ℕ, Bool, true, false, not, List, [], ◌∷◌, Ok, refl, sym, subst, inl, inr}
 use Rattle.std.proofs.lemmas.Bool.{false≢true}
 use Rattle.std.proofs.lemmas.Slice.Eq.{bytes_eq-Decides}
 use Rattle.std.specs.List.{list_any}
@@ -14,10 +14,8 @@ use Rattle.tpm_types.specs.ActionFault.{parameter_fault}
 use Rattle.tpm_types.specs.declared.action_check.ActionCheck.TheVariants as action
 use Rattle.tpm_types.specs.declared.action_fault.ActionFault.{ActionFault}
 use Rattle.tpm_types.specs.declared.rc.ResponseCode.TheVariants as code
-use Rattle.tpm_policy_meaning.specs.Asserted.{AcceptedFindDigest, Asserts, DemandsValue, IsAmong, SessionHashesTexts, digest_before, evaluated, session_digest, session_texts, update_by}
+use Rattle.tpm_policy_meaning.specs.Asserted.{AcceptedFindDigest, Asserts, DemandsValue, IsAmong, evaluated}
 use Rattle.tpm_policy_meaning.specs.Expression.{PolicyAuthValue, PolicyPassword}
-use Rattle.tpm_policy_meaning.specs.PolicyDigest.{digest_of, update_text, with_reference}
-use Rattle.tpm_policy_meaning.proofs.Spelled.{digest_made}
 
 -- ---- TPM2_PolicyOR
 

@@ -1,5 +1,5 @@
 -- A policy and a session by what their assertions say: digests and texts are those of their steps.
-use Rattle.std.proofs.Common.{◌≡◌, ◌⊎◌, ℕ, Bool, List, [], ◌∷◌, ◌++◌, append_assoc, Option, Some, None, refl, ap, ◌∙◌, inl, inr}
+use Rattle.std.proofs.Common.{◌≡◌, ℕ, List, [], ◌∷◌, ◌++◌, append_assoc, Option, Some, None, refl, ap, ◌∙◌, inl, inr}
 use Rattle.std.specs.Int.{w32, to_be_bytes}
 use Rattle.std.specs.List.{flat_map}
 use Rattle.tpm_mac.specs.Digest.{hash_of}
@@ -11,8 +11,8 @@ use Rattle.tpm_types_command.specs.declared.command_code.CommandCode.{CommandCod
 use Rattle.tpm_types_command.specs.declared.command_code.CommandCode.TheVariants as command
 use Rattle.tpm_policy_meaning.specs.Asserted.{IsAmong, SessionHashesTexts, digest_before, session_digest, session_texts, update_by}
 use Rattle.tpm_policy_meaning.specs.Expression.{PolicyAssertion, PolicySecret, PolicyExpression, Start, Then, PolicyOr}
-use Rattle.tpm_policy_meaning.specs.PolicyDigest.{PolicyUpdate, branch_digests, branch_texts, digest_of, or_update, policy_digest, policy_texts, texts_after, update_of, update_text, with_reference, zeros}
-use Rattle.tpm_policy_meaning.proofs.Chains.{AllFit, Fits, Said, all_steps, among_either, chain, chain_texts, digest_of_steps, is_secret, texts_of_steps}
+use Rattle.tpm_policy_meaning.specs.PolicyDigest.{PolicyUpdate, branch_digests, digest_of, or_update, policy_digest, policy_texts, texts_after, update_of, update_text, with_reference, zeros}
+use Rattle.tpm_policy_meaning.proofs.Chains.{AllFit, Fits, Said, all_steps, among_either, chain, chain_texts, digest_of_steps, texts_of_steps}
 
 abbrev pub said_of : PolicyUpdate → Said
 said_of update = (update.reference, update_text update)

@@ -1,5 +1,5 @@
 -- A trial session computes the digest of a policy.
-use Rattle.std.proofs.Common.{◌≡◌, ℕ, Bool, true, false, arith, ◌==◌, not, List, [], ◌∷◌, ◌++◌, length, append_assoc, Option, Some, None, refl, ap, sym, ◌∙◌}
+use Rattle.std.proofs.Common.{◌≡◌, ℕ, Bool, true, false, List, [], ◌∷◌, ◌++◌, length, append_assoc, refl, ap, ◌∙◌}
 use Rattle.std.specs.Int.{w32, to_be_bytes}
 use Rattle.std.specs.Prelude.{if◌then◌else◌}
 use Rattle.std.specs.List.{flat_map}

@@ -2,7 +2,6 @@
 -- digest of a policy, the session asserted what that policy says, along one branch at each
 -- TPM2_PolicyOR; or the hash is broken, by texts that the policy and the session spell.
 use Rattle.std.specs.Prelude.{◌≡◌, ◌≢◌, ◌⊎◌, ◌<◌, ◌^◌, ℕ, List, [], ◌∷◌, ◌++◌, length}
-use Rattle.std.specs.List.{flat_map}
 use Rattle.tpm_mac.specs.Digest.{digest_size, hash_of}
 use Rattle.tpm_mac.specs.declared.algorithm.HashAlg.{HashAlg}
 use Rattle.tpm_policy.specs.Assertion.{Assertion}
@@ -57,12 +56,27 @@ abbrev mutual
   lists_within hash (Branch policy branches) =
       branch_lists hash policy ++ lists_within hash branches
 
--- The hash is broken, by what a policy and the assertions of a session spell. Collision: two texts
--- have one hash, one hashed for the policy and another by the session. HashOfZeros: a text has a
--- hash of zeros, with which a session starts. AstrideBranches: a digest that the session had
--- stands in the joined digests of a TPM2_PolicyOR of the policy, and is none of them, so that it
--- has the end of one and the beginning of the next. No size of the digests of a TPM2_PolicyOR is
--- checked or hashed, so a session may cut the same bytes elsewhere.
+-- A text is none of these, but astride two neighbours: it is the end of the one and the beginning of
+-- the next.
+pub record IsAstride (text : List ℕ) (texts : List (List ℕ)) : Type 0 where
+  pub before : List (List ℕ)
+  pub front : List ℕ
+  pub end : List ℕ
+  pub beginning : List ℕ
+  pub back : List ℕ
+  pub after : List (List ℕ)
+  pub neighbours : texts ≡ before ++ (front ++ end) ∷ (beginning ++ back) ∷ after
+  pub spelled : text ≡ end ++ beginning
+  pub has_end : end ≢ []
+  pub has_beginning : beginning ≢ []
+  pub is_none : IsAmong text texts → ⊥
+
+-- The hash is broken, by what a policy and the assertions of a session spell.
+-- Collision: two texts have one hash, one hashed for the policy and another by the session.
+-- HashOfZeros: a text has a hash of zeros, with which a session starts.
+-- AstrideBranches: a digest that the session had is astride the digests of two branches, one after
+-- the other, of a TPM2_PolicyOR of the policy. TPM2_PolicyOR hashes its digests joined, and no sizes,
+-- so that a session may hand the same bytes to it cut elsewhere.
 pub data BreaksHash (hash : HashAlg) (policy : PolicyExpression) (assertions : List Assertion)
     : Type 0
   where
@@ -72,10 +86,9 @@ pub data BreaksHash (hash : HashAlg) (policy : PolicyExpression) (assertions : L
     HashOfZeros : (text : List ℕ)
         → IsAmong text (policy_texts hash policy) ⊎ IsAmong text (session_texts hash assertions)
         → hash_of hash text ≡ zeros hash → BreaksHash hash policy assertions
-    AstrideBranches : (digests : List (List ℕ)) (digest front back : List ℕ)
-        → IsAmong digests (branch_lists hash policy)
-        → IsAmong digest (session_digests hash assertions) → (IsAmong digest digests → ⊥)
-        → flat_map (λ one. one) digests ≡ front ++ digest ++ back
+    AstrideBranches : (digest : List ℕ) (digests : List (List ℕ))
+        → IsAmong digest (session_digests hash assertions)
+        → IsAmong digests (branch_lists hash policy) → IsAstride digest digests
         → BreaksHash hash policy assertions
 
 -- A policy session with the digest of a policy asserted what the policy says, or the hash is
