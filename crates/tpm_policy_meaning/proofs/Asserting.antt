@@ -14,9 +14,9 @@ use Rattle.tpm_types.specs.Operation.{operation_named, operation_number}
 use Rattle.tpm_types.specs.PcrSelection.{selection_text}
 use Rattle.tpm_types.specs.declared.operation.Operation.{Operation}
 use Rattle.tpm_types.specs.declared.operation.Operation.TheVariants as operation
-use Rattle.tpm_policy_meaning.specs.Asserted.{Asserts, HasWidths, IsAmong, update_by}
+use Rattle.tpm_policy_meaning.specs.Asserted.{Says, HasWidths, IsAmong, update_by}
 use Rattle.tpm_policy_meaning.specs.Expression.{PolicyAssertion, PolicyPcr, PolicyAuthValue, PolicyPassword, PolicyCommandCode, PolicyLocality, PolicyCpHash, PolicyNvWritten, PolicySecret, PolicyNv}
-use Rattle.tpm_policy_meaning.specs.Meaning.{IsWritten}
+use Rattle.tpm_policy_meaning.specs.Meaning.{IsPolicyAssertion}
 use Rattle.tpm_policy_meaning.specs.PolicyDigest.{nv_arguments_text, or_update, update_of, update_text}
 use Rattle.tpm_policy_meaning.proofs.Chains.{Breaking, Said, same_backs, same_fronts, same_hashed, unless_broken}
 use Rattle.tpm_policy_meaning.proofs.Spelled.{said_of}
@@ -63,7 +63,7 @@ abbrev code_in : List ℕ → ℕ
 code_in text = from_be_bytes w32 (take 4 text)
 
 module _ (hash : HashAlg) (Broken : Type 0) (One Other : List ℕ → Type 0) (breaking : Breaking hash Broken One Other) where
-  nv_asserts : (name operand : List ℕ) (offset : ℕ) (operation : Operation) (parts : NvParts) → offset < 2 ^ 16 → parts.offset < 2 ^ 16 → One (nv_arguments_text operand offset operation) → Other (nv_arguments_text parts.operand parts.offset parts.operation) → hash_of hash (nv_arguments_text operand offset operation) ++ name ≡ hash_of hash (nv_arguments_text parts.operand parts.offset parts.operation) ++ parts.name → Asserts (assertion.Nv parts) (PolicyNv name operand offset operation) ⊎ Broken
+  nv_asserts : (name operand : List ℕ) (offset : ℕ) (operation : Operation) (parts : NvParts) → offset < 2 ^ 16 → parts.offset < 2 ^ 16 → One (nv_arguments_text operand offset operation) → Other (nv_arguments_text parts.operand parts.offset parts.operation) → hash_of hash (nv_arguments_text operand offset operation) ++ name ≡ hash_of hash (nv_arguments_text parts.operand parts.offset parts.operation) ++ parts.name → Says (assertion.Nv parts) (PolicyNv name operand offset operation) ⊎ Broken
   nv_asserts name operand offset operation parts small less one other is =
       let ours = nv_arguments_text operand offset operation in
       let theirs = nv_arguments_text parts.operand parts.offset parts.operation in
@@ -71,11 +71,11 @@ module _ (hash : HashAlg) (Broken : Type 0) (One Other : List ℕ → Type 0) (b
       unless_broken (same_hashed hash Broken One Other breaking ours theirs one other halves.0)
       (λ same. by halves.1 (arguments_same parts operand offset operation less small same))
     where
-      by : name ≡ parts.name → ArgumentsAre parts operand offset operation → Asserts (assertion.Nv parts) (PolicyNv name operand offset operation) ⊎ Broken
+      by : name ≡ parts.name → ArgumentsAre parts operand offset operation → Says (assertion.Nv parts) (PolicyNv name operand offset operation) ⊎ Broken
       by named are = inl (sym named, are.0, are.1, are.2)
 
   -- texts and policyRefs of what is written and of what is asserted are the same only where it is asserted
-  text_asserts : (written : PolicyAssertion) (one : Assertion) → IsWritten hash written → HasWidths hash one → ((t : List ℕ) → IsAmong t (update_of hash written).apart → One t) → ((t : List ℕ) → IsAmong t (update_by hash one).apart → Other t) → update_text (update_of hash written) ≡ update_text (update_by hash one) → (update_of hash written).reference ≡ (update_by hash one).reference → Asserts one written ⊎ Broken
+  text_asserts : (written : PolicyAssertion) (one : Assertion) → IsPolicyAssertion hash written → HasWidths hash one → ((t : List ℕ) → IsAmong t (update_of hash written).apart → One t) → ((t : List ℕ) → IsAmong t (update_by hash one).apart → Other t) → update_text (update_of hash written) ≡ update_text (update_by hash one) → (update_of hash written).reference ≡ (update_by hash one).reference → Says one written ⊎ Broken
   text_asserts (PolicyPcr selection digest) (assertion.Pcr parts) fits widths ours theirs is refs =
       let halves = same_backs (selection_text selection) digest parts.selection parts.digest (fits ∙ sym widths) (ap (drop 4) is) in
       inl (sym halves.0, sym halves.1)
@@ -97,7 +97,7 @@ module _ (hash : HashAlg) (Broken : Type 0) (One Other : List ℕ → Type 0) (b
   text_asserts written one fits widths ours theirs is refs =
       absurd (false≢true (sym (ap (λ (t : List ℕ). code_in t == code_in (update_text (update_of hash written))) is)))
 
-  pub said_asserts : (written : PolicyAssertion) (one : Assertion) → IsWritten hash written → HasWidths hash one → ((t : List ℕ) → IsAmong t (update_of hash written).apart → One t) → ((t : List ℕ) → IsAmong t (update_by hash one).apart → Other t) → said_of (update_of hash written) ≡ said_of (update_by hash one) → Asserts one written ⊎ Broken
+  pub said_asserts : (written : PolicyAssertion) (one : Assertion) → IsPolicyAssertion hash written → HasWidths hash one → ((t : List ℕ) → IsAmong t (update_of hash written).apart → One t) → ((t : List ℕ) → IsAmong t (update_by hash one).apart → Other t) → said_of (update_of hash written) ≡ said_of (update_by hash one) → Says one written ⊎ Broken
   said_asserts written one fits widths ours theirs is =
       text_asserts written one fits widths ours theirs (ap (λ (said : Said). said.1) is) (ap (λ (said : Said). said.0) is)
 

@@ -9,7 +9,7 @@ use Rattle.tpm_mac.proofs.DigestSize.{length-hash_of}
 use Rattle.tpm_mac.specs.Digest.{digest_size, hash_of}
 use Rattle.tpm_mac.specs.declared.algorithm.HashAlg.{HashAlg}
 use Rattle.tpm_policy_meaning.specs.Asserted.{IsAmong}
-use Rattle.tpm_policy_meaning.specs.PolicyDigest.{digest_of, with_reference, zeros}
+use Rattle.tpm_policy_meaning.specs.PolicyDigest.{digest_after, with_reference, zeros}
 
 -- ---- lists
 
@@ -172,7 +172,7 @@ aligned (x ∷ xs) (y ∷ ys) fx fy is =
 -- ---- the texts of an assertion are those of its steps
 
 module _ (hash : HashAlg) where
-  pub digest_of_steps : (r : Option (List ℕ)) (t digest : List ℕ) (steps apart more : List (List ℕ)) → digest ≡ chain hash steps → digest_of hash (with_reference hash r (digest ++ t) ++ apart ++ more) ≡ chain hash (steps_of r t ++ steps)
+  pub digest_of_steps : (r : Option (List ℕ)) (t digest : List ℕ) (steps apart more : List (List ℕ)) → digest ≡ chain hash steps → digest_after hash (with_reference hash r (digest ++ t) ++ apart ++ more) ≡ chain hash (steps_of r t ++ steps)
   digest_of_steps None t digest steps apart more is = ap (λ (d : List ℕ). hash_of hash (d ++ t)) is
   digest_of_steps (Some r) t digest steps apart more is = ap (λ (d : List ℕ). hash_of hash (hash_of hash (d ++ t) ++ r)) is
 

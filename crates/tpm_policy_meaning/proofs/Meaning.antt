@@ -5,9 +5,9 @@ use Rattle.tpm_mac.specs.declared.algorithm.HashAlg.{HashAlg}
 use Rattle.tpm_mac.specs.declared.algorithm.HashAlg.TheVariants as alg
 use Rattle.tpm_policy.specs.Assertion as assertion
 use Rattle.tpm_policy.specs.Assertion.{Assertion}
-use Rattle.tpm_policy_meaning.specs.Asserted.{AreAccepted, Asserts, IsAmong, IsAsserted, digest_before, session_digest, session_digests, session_texts, update_by}
-use Rattle.tpm_policy_meaning.specs.Expression.{PolicyAssertion, PolicyExpression, Start, Then, PolicyOr, PolicyBranches, NoBranch, Branch}
-use Rattle.tpm_policy_meaning.specs.Meaning.{ArePolicies, BreaksHash, AstrideBranches, Collision, HashOfZeros, DigestMeans, Holds, HoldsOne, IsPolicy, branch_lists, lists_within}
+use Rattle.tpm_policy_meaning.specs.Asserted.{AreAccepted, Says, IsAmong, IsAsserted, digest_before, session_digest, session_digests, session_texts, update_by}
+use Rattle.tpm_policy_meaning.specs.Expression.{PolicyAssertion, PolicyExpression, Nothing, Then, PolicyOr, PolicyBranches, NoBranch, Branch}
+use Rattle.tpm_policy_meaning.specs.Meaning.{ArePolicyBranches, BreaksHash, AstrideBranches, Collision, HashOfZeros, DigestMeans, IsMet, IsOneMet, IsPolicyExpression, branch_lists, lists_within}
 use Rattle.tpm_policy_meaning.specs.PolicyDigest.{branch_digests, branch_texts, policy_digest, policy_texts, texts_after, update_of, update_text, with_reference}
 use Rattle.tpm_policy_meaning.proofs.Asserting.{IsOrOf, said_asserts, said_is_or}
 use Rattle.tpm_policy_meaning.proofs.Astride.{HaveSize, joined, stands_astride}
@@ -39,7 +39,7 @@ none_said : (x : Said) (xs : List Said) → x ∷ xs ≡ [] → ⊥
 none_said x xs is = absurd cc
 
 -- what asserts something written is no TPM2_PolicyOR
-earlier_said : (one : Assertion) (written : PolicyAssertion) (said : List Said) → Asserts one written → said_before one said ≡ said
+earlier_said : (one : Assertion) (written : PolicyAssertion) (said : List Said) → Says one written → said_before one said ≡ said
 earlier_said (assertion.Or digests) written said asserts = absurd asserts
 earlier_said _ written said asserts = refl
 
@@ -63,12 +63,12 @@ module _ (hash : HashAlg) (whole : PolicyExpression) (all : List Assertion) wher
   -- ---- parts of the policy, and what the session asserted up to a time
 
   record Within (policy : PolicyExpression) : Type 0 where
-    pub written : IsPolicy hash policy
+    pub written : IsPolicyExpression hash policy
     pub texts : (text : List ℕ) → IsAmong text (policy_texts hash policy) → One text
     pub lists : (digests : List (List ℕ)) → IsAmong digests (branch_lists hash policy) → IsAmong digests (branch_lists hash whole)
 
   record AreWithin (branches : PolicyBranches) : Type 0 where
-    pub written : ArePolicies hash branches
+    pub written : ArePolicyBranches hash branches
     pub texts : (text : List ℕ) → IsAmong text (branch_texts hash branches) → One text
     pub lists : (digests : List (List ℕ)) → IsAmong digests (lists_within hash branches) → IsAmong digests (branch_lists hash whole)
 
@@ -143,7 +143,7 @@ module _ (hash : HashAlg) (whole : PolicyExpression) (all : List Assertion) wher
 
   -- ---- along the policy
 
-  then_holds : (before : PolicyExpression) (written : PolicyAssertion) (latest : Assertion) (earlier : List Assertion) → Within (Then before written) → UpTo (latest ∷ earlier) → (said_of (update_of hash written) ≡ said_of (update_by hash latest)) × (policy_said hash before ≡ said_before latest (session_said hash earlier)) → (policy_said hash before ≡ session_said hash earlier → Holds (IsAsserted all) before ⊎ Broken) → Holds (IsAsserted all) (Then before written) ⊎ Broken
+  then_holds : (before : PolicyExpression) (written : PolicyAssertion) (latest : Assertion) (earlier : List Assertion) → Within (Then before written) → UpTo (latest ∷ earlier) → (said_of (update_of hash written) ≡ said_of (update_by hash latest)) × (policy_said hash before ≡ said_before latest (session_said hash earlier)) → (policy_said hash before ≡ session_said hash earlier → IsMet (IsAsserted all) before ⊎ Broken) → IsMet (IsAsserted all) (Then before written) ⊎ Broken
   then_holds before written latest earlier within up same next =
       unless_broken
       (said_asserts hash Broken One Other breaking written latest within.written.1 up.accepted.0 (apart_within before written within) (apart_up_to latest earlier up) same.0)
@@ -177,8 +177,8 @@ module _ (hash : HashAlg) (whole : PolicyExpression) (all : List Assertion) wher
       one_or_astride branches earlier (up_to_earlier latest earlier up) list (front, back, same ∙ stands)
 
   mutual
-    holds : (policy : PolicyExpression) → Within policy → (assertions : List Assertion) → UpTo assertions → policy_said hash policy ≡ session_said hash assertions → Holds (IsAsserted all) policy ⊎ Broken
-    holds Start within assertions up is = inl tt
+    holds : (policy : PolicyExpression) → Within policy → (assertions : List Assertion) → UpTo assertions → policy_said hash policy ≡ session_said hash assertions → IsMet (IsAsserted all) policy ⊎ Broken
+    holds Nothing within assertions up is = inl tt
     holds (Then before written) within [] up is = absurd (none_said _ _ is)
     holds (Then before written) within (latest ∷ earlier) up is =
         then_holds before written latest earlier within up (same_latest _ _ _ _ is)
@@ -189,7 +189,7 @@ module _ (hash : HashAlg) (whole : PolicyExpression) (all : List Assertion) wher
         (or_finds branches latest earlier up (within.lists (branch_digests hash branches) (inl refl)) (said_is_or hash (branch_digests hash branches) latest (same_latest _ _ _ _ is).0))
         (λ among. one_holds branches (branches_within branches within) earlier (up_to_earlier latest earlier up) among)
 
-    one_holds : (branches : PolicyBranches) → AreWithin branches → (assertions : List Assertion) → UpTo assertions → IsAmong (session_digest hash assertions) (branch_digests hash branches) → HoldsOne (IsAsserted all) branches ⊎ Broken
+    one_holds : (branches : PolicyBranches) → AreWithin branches → (assertions : List Assertion) → UpTo assertions → IsAmong (session_digest hash assertions) (branch_digests hash branches) → IsOneMet (IsAsserted all) branches ⊎ Broken
     one_holds NoBranch within assertions up among = absurd among
     one_holds (Branch policy branches) within assertions up (inl is) =
         unless_broken (same_said policy assertions (first_within policy branches within) up is)

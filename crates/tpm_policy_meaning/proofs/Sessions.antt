@@ -14,7 +14,7 @@ use Rattle.tpm_types.specs.ActionFault.{parameter_fault}
 use Rattle.tpm_types.specs.declared.action_check.ActionCheck.TheVariants as action
 use Rattle.tpm_types.specs.declared.action_fault.ActionFault.{ActionFault}
 use Rattle.tpm_types.specs.declared.rc.ResponseCode.TheVariants as code
-use Rattle.tpm_policy_meaning.specs.Asserted.{AcceptedFindDigest, Asserts, DemandsValue, IsAmong, evaluated}
+use Rattle.tpm_policy_meaning.specs.Asserted.{AcceptedFindDigest, Says, DemandsValue, IsAmong, evaluated}
 use Rattle.tpm_policy_meaning.specs.Expression.{PolicyAuthValue, PolicyPassword}
 
 -- ---- TPM2_PolicyOR
@@ -45,15 +45,15 @@ abbrev Demanded : HashAlg → Bool → List Assertion → Type 0
 Demanded hash trial assertions =
     ((evaluated hash trial assertions).demand ≡ demand.AuthValue) ⊎ ((evaluated hash trial assertions).demand ≡ demand.Password)
 
-demanded : (hash : HashAlg) (trial : Bool) (assertions : List Assertion) (one : Assertion) → IsAmong one assertions → Asserts one PolicyAuthValue → Demanded hash trial assertions
+demanded : (hash : HashAlg) (trial : Bool) (assertions : List Assertion) (one : Assertion) → IsAmong one assertions → Says one PolicyAuthValue → Demanded hash trial assertions
 unfolding auth_value_asserted password_asserted
 demanded hash trial [] one among asserts = absurd among
 demanded hash trial (assertion.AuthValue ∷ earlier) one among asserts = inl refl
 demanded hash trial (assertion.Password ∷ earlier) one among asserts = inr refl
-demanded hash trial (latest ∷ earlier) one (inl is) asserts = absurd (subst (λ (a : Assertion). Asserts a PolicyAuthValue) is asserts)
+demanded hash trial (latest ∷ earlier) one (inl is) asserts = absurd (subst (λ (a : Assertion). Says a PolicyAuthValue) is asserts)
 demanded hash trial (latest ∷ earlier) one (inr among) asserts = demanded hash trial earlier one among asserts
 
-either_asserts : (one : Assertion) → Asserts one PolicyPassword → Asserts one PolicyAuthValue
+either_asserts : (one : Assertion) → Says one PolicyPassword → Says one PolicyAuthValue
 either_asserts assertion.AuthValue asserts = tt
 either_asserts assertion.Password asserts = tt
 either_asserts _ asserts = absurd asserts

@@ -10,8 +10,8 @@ use Rattle.tpm_types_command.specs.CommandCode.{code_number}
 use Rattle.tpm_types_command.specs.declared.command_code.CommandCode.{CommandCode}
 use Rattle.tpm_types_command.specs.declared.command_code.CommandCode.TheVariants as command
 use Rattle.tpm_policy_meaning.specs.Asserted.{IsAmong, SessionHashesTexts, digest_before, session_digest, session_texts, update_by}
-use Rattle.tpm_policy_meaning.specs.Expression.{PolicyAssertion, PolicySecret, PolicyExpression, Start, Then, PolicyOr}
-use Rattle.tpm_policy_meaning.specs.PolicyDigest.{PolicyUpdate, branch_digests, digest_of, or_update, policy_digest, policy_texts, texts_after, update_of, update_text, with_reference, zeros}
+use Rattle.tpm_policy_meaning.specs.Expression.{PolicyAssertion, PolicySecret, PolicyExpression, Nothing, Then, PolicyOr}
+use Rattle.tpm_policy_meaning.specs.PolicyDigest.{PolicyUpdate, branch_digests, digest_after, or_update, policy_digest, policy_texts, texts_after, update_of, update_text, with_reference, zeros}
 use Rattle.tpm_policy_meaning.proofs.Chains.{AllFit, Fits, Said, all_steps, among_either, chain, chain_texts, digest_of_steps, texts_of_steps}
 
 abbrev pub said_of : PolicyUpdate → Said
@@ -20,7 +20,7 @@ said_of update = (update.reference, update_text update)
 -- ---- a policy
 
 abbrev pub policy_said : HashAlg → PolicyExpression → List Said
-policy_said hash Start = []
+policy_said hash Nothing = []
 policy_said hash (Then before written) = said_of (update_of hash written) ∷ policy_said hash before
 policy_said hash (PolicyOr branches) = said_of (or_update (branch_digests hash branches)) ∷ []
 
@@ -29,19 +29,19 @@ written_fits hash (PolicySecret name reference) = refl
 written_fits hash _ = refl
 
 pub policy_fits : (hash : HashAlg) (policy : PolicyExpression) → AllFit (policy_said hash policy)
-policy_fits hash Start = tt
+policy_fits hash Nothing = tt
 policy_fits hash (Then before written) = (written_fits hash written, policy_fits hash before)
 policy_fits hash (PolicyOr branches) = (refl, tt)
 
 pub policy_chain : (hash : HashAlg) (policy : PolicyExpression) → policy_digest hash policy ≡ chain hash (all_steps (policy_said hash policy))
-policy_chain hash Start = refl
+policy_chain hash Nothing = refl
 policy_chain hash (Then before written) =
     let update = update_of hash written in
     digest_of_steps hash update.reference (update_text update) (policy_digest hash before) (all_steps (policy_said hash before)) update.apart (policy_texts hash before) (policy_chain hash before)
 policy_chain hash (PolicyOr branches) = refl
 
 pub policy_chain_texts : (hash : HashAlg) (policy : PolicyExpression) (text : List ℕ) → IsAmong text (chain_texts hash (all_steps (policy_said hash policy))) → IsAmong text (policy_texts hash policy)
-policy_chain_texts hash Start text among = absurd among
+policy_chain_texts hash Nothing text among = absurd among
 policy_chain_texts hash (Then before written) text among =
     let update = update_of hash written in
     among_either text (texts_after hash (policy_digest hash before) update) (policy_texts hash before)
@@ -80,7 +80,7 @@ module _ (hash : HashAlg) where
   grouped : (digest : List ℕ) (code : CommandCode) (about : List ℕ) → hash_of hash (digest ++ to_be_bytes w32 (code_number code) ++ about) ≡ hash_of hash (digest ++ (to_be_bytes w32 (code_number code) ++ about))
   grouped digest code about = ap (hash_of hash) (append_assoc digest (to_be_bytes w32 (code_number code)) about)
 
-  pub digest_made : (latest : Assertion) (earlier : List Assertion) → session_digest hash (latest ∷ earlier) ≡ digest_of hash (texts_after hash (digest_before hash latest earlier) (update_by hash latest))
+  pub digest_made : (latest : Assertion) (earlier : List Assertion) → session_digest hash (latest ∷ earlier) ≡ digest_after hash (texts_after hash (digest_before hash latest earlier) (update_by hash latest))
   unfolding or_digest auth_value_asserted password_asserted
   digest_made (assertion.Or digests) earlier = grouped (zeros hash) command.PolicyOr (flat_map (λ digest. digest) digests)
   digest_made (assertion.Pcr parts) earlier = grouped (session_digest hash earlier) command.PolicyPcr (parts.selection ++ parts.digest)
@@ -98,7 +98,7 @@ before_chain : (hash : HashAlg) (latest : Assertion) (earlier : List Assertion) 
 before_chain hash (assertion.Or digests) earlier is = refl
 before_chain hash _ earlier is = is
 
-front_digest : (hash : HashAlg) (r : Option (List ℕ)) (text : List ℕ) (apart more : List (List ℕ)) → digest_of hash (with_reference hash r text ++ apart) ≡ digest_of hash (with_reference hash r text ++ apart ++ more)
+front_digest : (hash : HashAlg) (r : Option (List ℕ)) (text : List ℕ) (apart more : List (List ℕ)) → digest_after hash (with_reference hash r text ++ apart) ≡ digest_after hash (with_reference hash r text ++ apart ++ more)
 front_digest hash None text apart more = refl
 front_digest hash (Some reference) text apart more = refl
 

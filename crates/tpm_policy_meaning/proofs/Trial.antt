@@ -14,7 +14,7 @@ use Rattle.tpm_types_command.specs.declared.command_code.CommandCode.{CommandCod
 use Rattle.tpm_types_command.specs.declared.command_code.CommandCode.TheVariants as command
 use Rattle.tpm_policy_meaning.specs.Asserted.{evaluated}
 use Rattle.tpm_policy_meaning.specs.Expression.{PolicyPcr, PolicyAuthValue, PolicyPassword, PolicyCommandCode, PolicyLocality, PolicyCpHash, PolicyNvWritten, PolicySecret, PolicyNv}
-use Rattle.tpm_policy_meaning.specs.Expression.{Start, Then, PolicyOr}
+use Rattle.tpm_policy_meaning.specs.Expression.{Nothing, Then, PolicyOr}
 use Rattle.tpm_policy_meaning.specs.PolicyDigest.{branch_digests, nv_arguments_text}
 use Rattle.tpm_policy_meaning.specs.Trial.{TrialComputes, assertions_of}
 
@@ -36,7 +36,7 @@ module _ (hash : HashAlg) where
 
 pub trial_computes : TrialComputes
 unfolding or_digest auth_value_asserted password_asserted
-trial_computes hash now Start written = refl
+trial_computes hash now Nothing written = refl
 trial_computes hash now (PolicyOr branches) written =
     extends hash _ _ command.PolicyOr (flat_map (λ (digest : List ℕ). digest) (branch_digests hash branches)) refl
 trial_computes hash now (Then before (PolicyPcr selection digest)) written =

@@ -15,7 +15,8 @@ use Rattle.tpm_policy_meaning.specs.Expression.{PolicyAssertion, PolicyPcr, Poli
 use Rattle.tpm_policy_meaning.specs.Expression.{PolicyPassword, PolicyCommandCode, PolicyLocality}
 use Rattle.tpm_policy_meaning.specs.Expression.{PolicyCpHash, PolicyNvWritten, PolicySecret}
 use Rattle.tpm_policy_meaning.specs.Expression.{PolicyNv}
-use Rattle.tpm_policy_meaning.specs.PolicyDigest.{PolicyUpdate, digest_of, plain_update, or_update}
+use Rattle.tpm_policy_meaning.specs.PolicyDigest.{PolicyUpdate, digest_after, plain_update}
+use Rattle.tpm_policy_meaning.specs.PolicyDigest.{or_update}
 use Rattle.tpm_policy_meaning.specs.PolicyDigest.{secret_update, nv_update, nv_arguments_text}
 use Rattle.tpm_policy_meaning.specs.PolicyDigest.{texts_after, zeros}
 
@@ -36,31 +37,31 @@ session_digest hash assertions = (evaluated hash false assertions).digest
 
 -- ---- what is asserted
 
--- A command asserts what is written. TPM2_PolicyAuthValue and TPM2_PolicyPassword have one digest,
+-- An assertion says what is written. TPM2_PolicyAuthValue and TPM2_PolicyPassword have one digest,
 -- so that each of them stands for both: which of the two a use must meet is what the session
 -- demands, and either way the authorization value is shown (`DemandsValue`).
-abbrev pub Asserts : Assertion → PolicyAssertion → Type 0
-Asserts (assertion.Pcr parts) (PolicyPcr selection digest) =
+abbrev pub Says : Assertion → PolicyAssertion → Type 0
+Says (assertion.Pcr parts) (PolicyPcr selection digest) =
     (parts.selection ≡ selection_text selection) × (parts.digest ≡ digest)
-Asserts assertion.AuthValue PolicyAuthValue = Unit {0}
-Asserts assertion.AuthValue PolicyPassword = Unit {0}
-Asserts assertion.Password PolicyAuthValue = Unit {0}
-Asserts assertion.Password PolicyPassword = Unit {0}
-Asserts (assertion.CommandCode asserted) (PolicyCommandCode number) = asserted ≡ number
-Asserts (assertion.Locality asserted) (PolicyLocality localities) = asserted ≡ localities
-Asserts (assertion.CpHash asserted) (PolicyCpHash cp_hash) = asserted ≡ cp_hash
-Asserts (assertion.NvWritten asserted) (PolicyNvWritten is_written) = asserted ≡ is_written
-Asserts (assertion.Secret parts) (PolicySecret name reference) =
+Says assertion.AuthValue PolicyAuthValue = Unit {0}
+Says assertion.AuthValue PolicyPassword = Unit {0}
+Says assertion.Password PolicyAuthValue = Unit {0}
+Says assertion.Password PolicyPassword = Unit {0}
+Says (assertion.CommandCode asserted) (PolicyCommandCode number) = asserted ≡ number
+Says (assertion.Locality asserted) (PolicyLocality localities) = asserted ≡ localities
+Says (assertion.CpHash asserted) (PolicyCpHash cp_hash) = asserted ≡ cp_hash
+Says (assertion.NvWritten asserted) (PolicyNvWritten is_written) = asserted ≡ is_written
+Says (assertion.Secret parts) (PolicySecret name reference) =
     (parts.name ≡ name) × (parts.reference ≡ reference)
-Asserts (assertion.Nv parts) (PolicyNv name operand offset operation) =
+Says (assertion.Nv parts) (PolicyNv name operand offset operation) =
     (parts.name ≡ name) × (parts.operand ≡ operand) × (parts.offset ≡ offset)
     × (parts.operation ≡ operation)
-Asserts _ _ = ⊥
+Says _ _ = ⊥
 
--- One of these commands asserts it.
+-- One of these assertions says it.
 abbrev pub IsAsserted : List Assertion → PolicyAssertion → Type 0
 IsAsserted assertions written =
-    (one : Assertion) × IsAmong one assertions × Asserts one written
+    (one : Assertion) × IsAmong one assertions × Says one written
 
 -- ---- what is known of assertions that a session accepted
 
@@ -127,7 +128,7 @@ session_digests hash (latest ∷ earlier) =
 abbrev pub SessionHashesTexts : Type 0
 SessionHashesTexts =
     (hash : HashAlg) (assertions : List Assertion)
-    → session_digest hash assertions ≡ digest_of hash (session_texts hash assertions)
+    → session_digest hash assertions ≡ digest_after hash (session_texts hash assertions)
 
 -- A TPM2_PolicyOR that a policy session accepts finds the digest before it among its digests.
 abbrev pub AcceptedFindDigest : Type 0

@@ -6,7 +6,7 @@
 use Rattle.std.specs.Prelude.{◌≡◌, ℕ, List, [], ◌∷◌}
 use Rattle.tpm_mac.specs.declared.algorithm.HashAlg.TheVariants as alg
 use Rattle.tpm_types.specs.declared.operation.Operation.TheVariants as operation
-use Rattle.tpm_policy_meaning.specs.Expression.{PolicyExpression, Start, Then, PolicyOr, NoBranch}
+use Rattle.tpm_policy_meaning.specs.Expression.{PolicyExpression, Nothing, Then, PolicyOr, NoBranch}
 use Rattle.tpm_policy_meaning.specs.Expression.{Branch}
 use Rattle.tpm_policy_meaning.specs.Expression.{PolicyPcr, PolicyAuthValue, PolicyCommandCode}
 use Rattle.tpm_policy_meaning.specs.Expression.{PolicySecret, PolicyNv}
@@ -14,7 +14,7 @@ use Rattle.tpm_policy_meaning.specs.PolicyDigest.{policy_digest}
 
 -- by the authorization value
 abbrev pub by_value : PolicyExpression
-by_value = Then Start PolicyAuthValue
+by_value = Then Nothing PolicyAuthValue
 
 abbrev pub by_value_digest : List ℕ
 by_value_digest =
@@ -25,7 +25,7 @@ by_value_digest =
 
 -- by the authorization of the endorsement hierarchy, 4000000B, for an empty policyRef
 abbrev pub by_endorsement : PolicyExpression
-by_endorsement = Then Start (PolicySecret (0x40 ∷ 0x00 ∷ 0x00 ∷ 0x0b ∷ []) [])
+by_endorsement = Then Nothing (PolicySecret (0x40 ∷ 0x00 ∷ 0x00 ∷ 0x0b ∷ []) [])
 
 abbrev pub by_endorsement_digest : List ℕ
 by_endorsement_digest =
@@ -53,7 +53,7 @@ two_zero_pcrs =
 abbrev pub by_pcrs_and_value : PolicyExpression
 by_pcrs_and_value =
     let selection = record { hash = alg.Sha256; select = 0x000880 } ∷ [] in
-    Then (Then Start (PolicyPcr selection two_zero_pcrs)) PolicyAuthValue
+    Then (Then Nothing (PolicyPcr selection two_zero_pcrs)) PolicyAuthValue
 
 abbrev pub by_pcrs_and_value_digest : List ℕ
 by_pcrs_and_value_digest =
@@ -85,7 +85,7 @@ index_name =
 abbrev pub by_count : PolicyExpression
 by_count =
     let operand = 0 ∷ 0 ∷ 0 ∷ 0 ∷ 0 ∷ 0 ∷ 0 ∷ 5 ∷ [] in
-    Then Start (PolicyNv index_name operand 0 operation.UnsignedGreaterOrEqual)
+    Then Nothing (PolicyNv index_name operand 0 operation.UnsignedGreaterOrEqual)
 
 abbrev pub by_count_digest : List ℕ
 by_count_digest =
@@ -98,7 +98,7 @@ by_count_digest =
 pub record ComputesDigests : Type 0 where
   pub by_value : policy_digest alg.Sha256 by_value ≡ by_value_digest
   pub by_endorsement : policy_digest alg.Sha256 by_endorsement ≡ by_endorsement_digest
-  pub unsealing : policy_digest alg.Sha1 (Then Start (PolicyCommandCode 0x15e)) ≡ unsealing_digest
+  pub unsealing : policy_digest alg.Sha1 (Then Nothing (PolicyCommandCode 0x15e)) ≡ unsealing_digest
   pub by_pcrs_and_value : policy_digest alg.Sha256 by_pcrs_and_value ≡ by_pcrs_and_value_digest
   pub by_either : policy_digest alg.Sha256 by_either ≡ by_either_digest
   pub by_count : policy_digest alg.Sha256 by_count ≡ by_count_digest

@@ -30,7 +30,7 @@ pub data PolicyAssertion : Type 0 where
 -- A policy: one that demands nothing; a policy, and then an assertion; or one of several policies.
 mutual
   pub data PolicyExpression : Type 0 where
-    Start : PolicyExpression
+    Nothing : PolicyExpression
     Then : (before : PolicyExpression) → PolicyAssertion → PolicyExpression
     PolicyOr : PolicyBranches → PolicyExpression
 

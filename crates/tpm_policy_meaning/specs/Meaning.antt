@@ -9,44 +9,46 @@ use Rattle.tpm_policy_meaning.specs.Asserted.{AreAccepted, IsAmong, IsAsserted, 
 use Rattle.tpm_policy_meaning.specs.Asserted.{session_digests, session_texts}
 use Rattle.tpm_policy_meaning.specs.Expression.{PolicyAssertion, PolicyPcr, PolicyCommandCode}
 use Rattle.tpm_policy_meaning.specs.Expression.{PolicyNv}
-use Rattle.tpm_policy_meaning.specs.Expression.{PolicyExpression, Start, Then, PolicyOr}
+use Rattle.tpm_policy_meaning.specs.Expression.{PolicyExpression, Nothing, Then, PolicyOr}
 use Rattle.tpm_policy_meaning.specs.Expression.{PolicyBranches, NoBranch, Branch}
 use Rattle.tpm_policy_meaning.specs.PolicyDigest.{branch_digests, policy_digest, policy_texts}
 use Rattle.tpm_policy_meaning.specs.PolicyDigest.{zeros}
 
--- Each assertion of a policy has P, along one branch at each TPM2_PolicyOR.
+-- A policy is met: each of its assertions has P, along one branch at each TPM2_PolicyOR.
 abbrev mutual
-  pub Holds : (P : PolicyAssertion → Type 0) → PolicyExpression → Type 0
-  Holds P Start = Unit {0}
-  Holds P (Then before assertion) = Holds P before × P assertion
-  Holds P (PolicyOr branches) = HoldsOne P branches
+  pub IsMet : (P : PolicyAssertion → Type 0) → PolicyExpression → Type 0
+  IsMet P Nothing = Unit {0}
+  IsMet P (Then before assertion) = IsMet P before × P assertion
+  IsMet P (PolicyOr branches) = IsOneMet P branches
 
-  pub HoldsOne : (P : PolicyAssertion → Type 0) → PolicyBranches → Type 0
-  HoldsOne P NoBranch = ⊥
-  HoldsOne P (Branch policy branches) = Holds P policy ⊎ HoldsOne P branches
+  pub IsOneMet : (P : PolicyAssertion → Type 0) → PolicyBranches → Type 0
+  IsOneMet P NoBranch = ⊥
+  IsOneMet P (Branch policy branches) = IsMet P policy ⊎ IsOneMet P branches
 
 -- What is written has a text that tells it: the digest of PCRs is one of the policy's hash, a
 -- command code has 32 bits, and an offset 16.
-abbrev pub IsWritten : HashAlg → PolicyAssertion → Type 0
-IsWritten hash (PolicyPcr selection digest) = length digest ≡ digest_size hash
-IsWritten hash (PolicyCommandCode number) = number < 2 ^ 32
-IsWritten hash (PolicyNv name operand offset operation) = offset < 2 ^ 16
-IsWritten hash _ = Unit {0}
+abbrev pub IsPolicyAssertion : HashAlg → PolicyAssertion → Type 0
+IsPolicyAssertion hash (PolicyPcr selection digest) = length digest ≡ digest_size hash
+IsPolicyAssertion hash (PolicyCommandCode number) = number < 2 ^ 32
+IsPolicyAssertion hash (PolicyNv name operand offset operation) = offset < 2 ^ 16
+IsPolicyAssertion hash _ = Unit {0}
 
 abbrev mutual
-  pub IsPolicy : HashAlg → PolicyExpression → Type 0
-  IsPolicy hash Start = Unit {0}
-  IsPolicy hash (Then before assertion) = IsPolicy hash before × IsWritten hash assertion
-  IsPolicy hash (PolicyOr branches) = ArePolicies hash branches
+  pub IsPolicyExpression : HashAlg → PolicyExpression → Type 0
+  IsPolicyExpression hash Nothing = Unit {0}
+  IsPolicyExpression hash (Then before assertion) =
+      IsPolicyExpression hash before × IsPolicyAssertion hash assertion
+  IsPolicyExpression hash (PolicyOr branches) = ArePolicyBranches hash branches
 
-  pub ArePolicies : HashAlg → PolicyBranches → Type 0
-  ArePolicies hash NoBranch = Unit {0}
-  ArePolicies hash (Branch policy branches) = IsPolicy hash policy × ArePolicies hash branches
+  pub ArePolicyBranches : HashAlg → PolicyBranches → Type 0
+  ArePolicyBranches hash NoBranch = Unit {0}
+  ArePolicyBranches hash (Branch policy branches) =
+      IsPolicyExpression hash policy × ArePolicyBranches hash branches
 
 -- the digests of the branches of each TPM2_PolicyOR of a policy
 abbrev mutual
   pub branch_lists : HashAlg → PolicyExpression → List (List (List ℕ))
-  branch_lists hash Start = []
+  branch_lists hash Nothing = []
   branch_lists hash (Then before assertion) = branch_lists hash before
   branch_lists hash (PolicyOr branches) =
       branch_digests hash branches ∷ lists_within hash branches
@@ -56,8 +58,8 @@ abbrev mutual
   lists_within hash (Branch policy branches) =
       branch_lists hash policy ++ lists_within hash branches
 
--- A text is none of these, but astride two neighbours: it is the end of the one and the beginning of
--- the next.
+-- A text is none of these, but astride two neighbours: it is the end of the one and the beginning
+-- of the next.
 pub record IsAstride (text : List ℕ) (texts : List (List ℕ)) : Type 0 where
   pub before : List (List ℕ)
   pub front : List ℕ
@@ -71,12 +73,12 @@ pub record IsAstride (text : List ℕ) (texts : List (List ℕ)) : Type 0 where
   pub has_beginning : beginning ≢ []
   pub is_none : IsAmong text texts → ⊥
 
--- The hash is broken, by what a policy and the assertions of a session spell.
--- Collision: two texts have one hash, one hashed for the policy and another by the session.
--- HashOfZeros: a text has a hash of zeros, with which a session starts.
--- AstrideBranches: a digest that the session had is astride the digests of two branches, one after
--- the other, of a TPM2_PolicyOR of the policy. TPM2_PolicyOR hashes its digests joined, and no sizes,
--- so that a session may hand the same bytes to it cut elsewhere.
+-- The hash is broken, by what a policy and the assertions of a session spell. Collision: two texts
+-- have one hash, one hashed for the policy and another by the session. HashOfZeros: a text has a
+-- hash of zeros, with which a session starts. AstrideBranches: a digest that the session had is
+-- astride the digests of two branches, one after the other, of a TPM2_PolicyOR of the policy.
+-- TPM2_PolicyOR hashes its digests joined, and no sizes, so that a session may hand the same bytes
+-- to it cut elsewhere.
 pub data BreaksHash (hash : HashAlg) (policy : PolicyExpression) (assertions : List Assertion)
     : Type 0
   where
@@ -96,6 +98,6 @@ pub data BreaksHash (hash : HashAlg) (policy : PolicyExpression) (assertions : L
 abbrev pub DigestMeans : Type 0
 DigestMeans =
     (hash : HashAlg) (policy : PolicyExpression) (assertions : List Assertion)
-    → IsPolicy hash policy → AreAccepted hash assertions
+    → IsPolicyExpression hash policy → AreAccepted hash assertions
     → session_digest hash assertions ≡ policy_digest hash policy
-    → Holds (IsAsserted assertions) policy ⊎ BreaksHash hash policy assertions
+    → IsMet (IsAsserted assertions) policy ⊎ BreaksHash hash policy assertions

@@ -17,7 +17,7 @@ use Rattle.tpm_policy_meaning.specs.Expression.{PolicyAssertion, PolicyPcr, Poli
 use Rattle.tpm_policy_meaning.specs.Expression.{PolicyPassword, PolicyCommandCode, PolicyLocality}
 use Rattle.tpm_policy_meaning.specs.Expression.{PolicyCpHash, PolicyNvWritten, PolicySecret}
 use Rattle.tpm_policy_meaning.specs.Expression.{PolicyNv}
-use Rattle.tpm_policy_meaning.specs.Expression.{PolicyExpression, Start, Then, PolicyOr}
+use Rattle.tpm_policy_meaning.specs.Expression.{PolicyExpression, Nothing, Then, PolicyOr}
 use Rattle.tpm_policy_meaning.specs.Expression.{PolicyBranches, NoBranch, Branch}
 
 -- what an assertion puts into the digest: the code of its command, what it is about, and policyRef,
@@ -89,17 +89,17 @@ abbrev pub zeros : HashAlg → List ℕ
 zeros hash = replicate (digest_size hash) 0
 
 -- the digest of texts, the latest first: the hash of the latest
-abbrev pub digest_of : HashAlg → (texts : List (List ℕ)) → List ℕ
-digest_of hash [] = zeros hash
-digest_of hash (text ∷ earlier) = hash_of hash text
+abbrev pub digest_after : HashAlg → (texts : List (List ℕ)) → List ℕ
+digest_after hash [] = zeros hash
+digest_after hash (text ∷ earlier) = hash_of hash text
 
 -- the texts that are hashed for a policy, those of its branches too, the latest first;
 -- TPM2_PolicyOR begins with zeros again
 abbrev mutual
   pub policy_texts : HashAlg → PolicyExpression → List (List ℕ)
-  policy_texts hash Start = []
+  policy_texts hash Nothing = []
   policy_texts hash (Then before assertion) =
-      texts_after hash (digest_of hash (policy_texts hash before)) (update_of hash assertion)
+      texts_after hash (digest_after hash (policy_texts hash before)) (update_of hash assertion)
       ++ policy_texts hash before
   policy_texts hash (PolicyOr branches) =
       texts_after hash (zeros hash) (or_update (branch_digests hash branches))
@@ -113,8 +113,8 @@ abbrev mutual
   pub branch_digests : HashAlg → PolicyBranches → List (List ℕ)
   branch_digests hash NoBranch = []
   branch_digests hash (Branch policy branches) =
-      digest_of hash (policy_texts hash policy) ∷ branch_digests hash branches
+      digest_after hash (policy_texts hash policy) ∷ branch_digests hash branches
 
 -- the digest of a policy
 abbrev pub policy_digest : HashAlg → PolicyExpression → List ℕ
-policy_digest hash policy = digest_of hash (policy_texts hash policy)
+policy_digest hash policy = digest_after hash (policy_texts hash policy)

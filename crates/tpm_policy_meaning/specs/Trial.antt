@@ -9,8 +9,8 @@ use Rattle.tpm_policy_meaning.specs.Expression.{PolicyAssertion, PolicyPcr, Poli
 use Rattle.tpm_policy_meaning.specs.Expression.{PolicyPassword, PolicyCommandCode, PolicyLocality}
 use Rattle.tpm_policy_meaning.specs.Expression.{PolicyCpHash, PolicyNvWritten, PolicySecret}
 use Rattle.tpm_policy_meaning.specs.Expression.{PolicyNv}
-use Rattle.tpm_policy_meaning.specs.Expression.{PolicyExpression, Start, Then, PolicyOr}
-use Rattle.tpm_policy_meaning.specs.Meaning.{IsPolicy}
+use Rattle.tpm_policy_meaning.specs.Expression.{PolicyExpression, Nothing, Then, PolicyOr}
+use Rattle.tpm_policy_meaning.specs.Meaning.{IsPolicyExpression}
 use Rattle.tpm_policy_meaning.specs.PolicyDigest.{branch_digests, policy_digest}
 
 -- what is asserted for what is written, with the digest that the PCRs of the device have now
@@ -46,7 +46,7 @@ assertion_of pcrs_now (PolicyNv name operand offset operation) = assertion.Nv (r
 -- and for a policy, the latest first; a trial session takes TPM2_PolicyOR without any of its
 -- branches
 abbrev pub assertions_of : HashAlg → (pcrs_now : List ℕ) → PolicyExpression → List Assertion
-assertions_of hash pcrs_now Start = []
+assertions_of hash pcrs_now Nothing = []
 assertions_of hash pcrs_now (Then before written) =
     assertion_of pcrs_now written ∷ assertions_of hash pcrs_now before
 assertions_of hash pcrs_now (PolicyOr branches) =
@@ -55,5 +55,6 @@ assertions_of hash pcrs_now (PolicyOr branches) =
 -- A trial session on which a policy is asserted has its digest, whatever values the PCRs have.
 abbrev pub TrialComputes : Type 0
 TrialComputes =
-    (hash : HashAlg) (pcrs_now : List ℕ) (policy : PolicyExpression) → IsPolicy hash policy
+    (hash : HashAlg) (pcrs_now : List ℕ) (policy : PolicyExpression)
+    → IsPolicyExpression hash policy
     → (evaluated hash true (assertions_of hash pcrs_now policy)).digest ≡ policy_digest hash policy

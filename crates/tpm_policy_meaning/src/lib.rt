@@ -20,8 +20,8 @@ pub fn meaning_laws()
     ensures { DigestMeans }
 {}
 
-/// The digest of a policy is that of a trial session on which the policy is asserted, whatever values
-/// the PCRs have then.
+/// The digest of a policy is that of a trial session on which the policy is asserted, whatever
+/// values the PCRs have then.
 #[inline(always)]
 pub fn trial_laws()
     ensures { TrialComputes }
