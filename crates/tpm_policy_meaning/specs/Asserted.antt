@@ -1,0 +1,147 @@
+-- What was asserted on a session, and the texts that its digest is made of. TPM 2.0 Library, Part
+-- 1, section 19.7, and Part 3, section 23.
+use Rattle.std.specs.Prelude.{◌≡◌, ◌⊎◌, ◌<◌, ◌^◌, ℕ, Bool, false, List, [], ◌∷◌, ◌++◌, length, Ok}
+use Rattle.tpm_mac.specs.Digest.{digest_size}
+use Rattle.tpm_mac.specs.declared.algorithm.HashAlg.{HashAlg}
+use Rattle.tpm_policy.specs.Assertion as assertion
+use Rattle.tpm_policy.specs.Assertion.{Assertion, asserted, yes_no_text}
+use Rattle.tpm_policy.specs.Made.{policy_with}
+use Rattle.tpm_policy.specs.State.{Policy, starting}
+use Rattle.tpm_policy.specs.declared.state.Demand.TheVariants as demand
+use Rattle.tpm_types.specs.PcrSelection.{selection_text}
+use Rattle.std.specs.Int.{w32, to_be_bytes}
+use Rattle.tpm_types_command.specs.declared.command_code.CommandCode.TheVariants as command
+use Rattle.tpm_policy_meaning.specs.Expression.{PolicyAssertion, PolicyPcr, PolicyAuthValue}
+use Rattle.tpm_policy_meaning.specs.Expression.{PolicyPassword, PolicyCommandCode, PolicyLocality}
+use Rattle.tpm_policy_meaning.specs.Expression.{PolicyCpHash, PolicyNvWritten, PolicySecret}
+use Rattle.tpm_policy_meaning.specs.Expression.{PolicyNv}
+use Rattle.tpm_policy_meaning.specs.PolicyDigest.{PolicyUpdate, digest_after, plain_update}
+use Rattle.tpm_policy_meaning.specs.PolicyDigest.{or_update}
+use Rattle.tpm_policy_meaning.specs.PolicyDigest.{secret_update, nv_update, nv_arguments_text}
+use Rattle.tpm_policy_meaning.specs.PolicyDigest.{texts_after, zeros}
+
+-- It is one of these.
+abbrev pub IsAmong : {X : Type 0} → X → List X → Type 0
+IsAmong x [] = ⊥
+IsAmong x (y ∷ ys) = (x ≡ y) ⊎ IsAmong x ys
+
+-- the policy that assertions make, the latest first, from that with which a session starts
+abbrev pub evaluated : HashAlg → (trial : Bool) → List Assertion → Policy
+evaluated hash trial [] = starting hash
+evaluated hash trial (latest ∷ earlier) =
+    policy_with hash trial latest (evaluated hash trial earlier)
+
+-- the digest of a policy session on which these were asserted, the latest first
+abbrev pub session_digest : HashAlg → List Assertion → List ℕ
+session_digest hash assertions = (evaluated hash false assertions).digest
+
+-- ---- what is asserted
+
+-- An assertion says what is written. TPM2_PolicyAuthValue and TPM2_PolicyPassword have one digest,
+-- so that each of them stands for both: which of the two a use must meet is what the session
+-- demands, and either way the authorization value is shown (`DemandsValue`).
+abbrev pub Says : Assertion → PolicyAssertion → Type 0
+Says (assertion.Pcr parts) (PolicyPcr selection digest) =
+    (parts.selection ≡ selection_text selection) × (parts.digest ≡ digest)
+Says assertion.AuthValue PolicyAuthValue = Unit {0}
+Says assertion.AuthValue PolicyPassword = Unit {0}
+Says assertion.Password PolicyAuthValue = Unit {0}
+Says assertion.Password PolicyPassword = Unit {0}
+Says (assertion.CommandCode asserted) (PolicyCommandCode number) = asserted ≡ number
+Says (assertion.Locality asserted) (PolicyLocality localities) = asserted ≡ localities
+Says (assertion.CpHash asserted) (PolicyCpHash cp_hash) = asserted ≡ cp_hash
+Says (assertion.NvWritten asserted) (PolicyNvWritten is_written) = asserted ≡ is_written
+Says (assertion.Secret parts) (PolicySecret name reference) =
+    (parts.name ≡ name) × (parts.reference ≡ reference)
+Says (assertion.Nv parts) (PolicyNv name operand offset operation) =
+    (parts.name ≡ name) × (parts.operand ≡ operand) × (parts.offset ≡ offset)
+    × (parts.operation ≡ operation)
+Says _ _ = ⊥
+
+-- One of these assertions says it.
+abbrev pub IsAsserted : List Assertion → PolicyAssertion → Type 0
+IsAsserted assertions written =
+    (one : Assertion) × IsAmong one assertions × Says one written
+
+-- ---- what is known of assertions that a session accepted
+
+-- Numbers are of their widths: the digest of PCRs is one of the session's hash, a command code has
+-- 32 bits, and an offset 16.
+abbrev pub HasWidths : HashAlg → Assertion → Type 0
+HasWidths hash (assertion.Pcr parts) = length parts.digest ≡ digest_size hash
+HasWidths hash (assertion.CommandCode number) = number < 2 ^ 32
+HasWidths hash (assertion.Nv parts) = parts.offset < 2 ^ 16
+HasWidths hash _ = Unit {0}
+
+-- TPM2_PolicyOR found the digest before it among its digests.
+abbrev pub FindsDigest : HashAlg → Assertion → (earlier : List Assertion) → Type 0
+FindsDigest hash (assertion.Or digests) earlier =
+    IsAmong (session_digest hash earlier) digests
+FindsDigest hash _ earlier = Unit {0}
+
+-- This is so of each of them, the latest first.
+abbrev pub AreAccepted : HashAlg → List Assertion → Type 0
+AreAccepted hash [] = Unit {0}
+AreAccepted hash (latest ∷ earlier) =
+    HasWidths hash latest × FindsDigest hash latest earlier × AreAccepted hash earlier
+
+-- ---- what is hashed
+
+-- what an assertion puts into the digest
+abbrev pub update_by : HashAlg → Assertion → PolicyUpdate
+update_by hash (assertion.Pcr parts) =
+    plain_update command.PolicyPcr (parts.selection ++ parts.digest)
+update_by hash (assertion.Or digests) = or_update digests
+update_by hash assertion.AuthValue = plain_update command.PolicyAuthValue []
+update_by hash assertion.Password = plain_update command.PolicyAuthValue []
+update_by hash (assertion.CommandCode number) =
+    plain_update command.PolicyCommandCode (to_be_bytes w32 number)
+update_by hash (assertion.Locality localities) =
+    plain_update command.PolicyLocality (localities ∷ [])
+update_by hash (assertion.CpHash cp_hash) = plain_update command.PolicyCpHash cp_hash
+update_by hash (assertion.NvWritten is_written) =
+    plain_update command.PolicyNvWritten (yes_no_text is_written)
+update_by hash (assertion.Secret parts) = secret_update parts.name parts.reference
+update_by hash (assertion.Nv parts) =
+    nv_update hash parts.name (nv_arguments_text parts.operand parts.offset parts.operation)
+
+-- the digest after which it is hashed: TPM2_PolicyOR begins with zeros again
+abbrev pub digest_before : HashAlg → Assertion → (earlier : List Assertion) → List ℕ
+digest_before hash (assertion.Or digests) earlier = zeros hash
+digest_before hash _ earlier = session_digest hash earlier
+
+-- the texts that a session hashed, the latest first, and the digests that it had
+abbrev pub session_texts : HashAlg → List Assertion → List (List ℕ)
+session_texts hash [] = []
+session_texts hash (latest ∷ earlier) =
+    texts_after hash (digest_before hash latest earlier) (update_by hash latest)
+    ++ session_texts hash earlier
+
+abbrev pub session_digests : HashAlg → List Assertion → List (List ℕ)
+session_digests hash [] = session_digest hash [] ∷ []
+session_digests hash (latest ∷ earlier) =
+    session_digest hash (latest ∷ earlier) ∷ session_digests hash earlier
+
+-- ---- laws
+
+-- The digest of a policy session is that of the texts that it hashed.
+abbrev pub SessionHashesTexts : Type 0
+SessionHashesTexts =
+    (hash : HashAlg) (assertions : List Assertion)
+    → session_digest hash assertions ≡ digest_after hash (session_texts hash assertions)
+
+-- A TPM2_PolicyOR that a policy session accepts finds the digest before it among its digests.
+abbrev pub AcceptedFindDigest : Type 0
+AcceptedFindDigest =
+    (hash : HashAlg) (latest : Assertion) (earlier : List Assertion) (made : Policy)
+    → asserted hash false latest (evaluated hash false earlier) ≡ Ok made
+    → FindsDigest hash latest earlier
+
+-- Where TPM2_PolicyAuthValue or TPM2_PolicyPassword was asserted the session demands the
+-- authorization value, in an HMAC's key or as a password.
+abbrev pub DemandsValue : Type 0
+DemandsValue =
+    (hash : HashAlg) (trial : Bool) (assertions : List Assertion)
+    → IsAsserted assertions PolicyAuthValue ⊎ IsAsserted assertions PolicyPassword
+    → ((evaluated hash trial assertions).demand ≡ demand.AuthValue)
+    ⊎ ((evaluated hash trial assertions).demand ≡ demand.Password)

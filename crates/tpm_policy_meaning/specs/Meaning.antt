@@ -1,0 +1,103 @@
+-- What the digest of a policy session says. TPM 2.0 Library, Part 1, section 19.7. Where it is the
+-- digest of a policy, the session asserted what that policy says, along one branch at each
+-- TPM2_PolicyOR; or the hash is broken, by texts that the policy and the session spell.
+use Rattle.std.specs.Prelude.{◌≡◌, ◌≢◌, ◌⊎◌, ◌<◌, ◌^◌, ℕ, List, [], ◌∷◌, ◌++◌, length}
+use Rattle.tpm_mac.specs.Digest.{digest_size, hash_of}
+use Rattle.tpm_mac.specs.declared.algorithm.HashAlg.{HashAlg}
+use Rattle.tpm_policy.specs.Assertion.{Assertion}
+use Rattle.tpm_policy_meaning.specs.Asserted.{AreAccepted, IsAmong, IsAsserted, session_digest}
+use Rattle.tpm_policy_meaning.specs.Asserted.{session_digests, session_texts}
+use Rattle.tpm_policy_meaning.specs.Expression.{PolicyAssertion, PolicyPcr, PolicyCommandCode}
+use Rattle.tpm_policy_meaning.specs.Expression.{PolicyNv}
+use Rattle.tpm_policy_meaning.specs.Expression.{PolicyExpression, Nothing, Then, PolicyOr}
+use Rattle.tpm_policy_meaning.specs.Expression.{PolicyBranches, NoBranch, Branch}
+use Rattle.tpm_policy_meaning.specs.PolicyDigest.{branch_digests, policy_digest, policy_texts}
+use Rattle.tpm_policy_meaning.specs.PolicyDigest.{zeros}
+
+-- A policy is met: each of its assertions has P, along one branch at each TPM2_PolicyOR.
+abbrev mutual
+  pub IsMet : (P : PolicyAssertion → Type 0) → PolicyExpression → Type 0
+  IsMet P Nothing = Unit {0}
+  IsMet P (Then before assertion) = IsMet P before × P assertion
+  IsMet P (PolicyOr branches) = IsOneMet P branches
+
+  pub IsOneMet : (P : PolicyAssertion → Type 0) → PolicyBranches → Type 0
+  IsOneMet P NoBranch = ⊥
+  IsOneMet P (Branch policy branches) = IsMet P policy ⊎ IsOneMet P branches
+
+-- What is written has a text that tells it: the digest of PCRs is one of the policy's hash, a
+-- command code has 32 bits, and an offset 16.
+abbrev pub IsPolicyAssertion : HashAlg → PolicyAssertion → Type 0
+IsPolicyAssertion hash (PolicyPcr selection digest) = length digest ≡ digest_size hash
+IsPolicyAssertion hash (PolicyCommandCode number) = number < 2 ^ 32
+IsPolicyAssertion hash (PolicyNv name operand offset operation) = offset < 2 ^ 16
+IsPolicyAssertion hash _ = Unit {0}
+
+abbrev mutual
+  pub IsPolicyExpression : HashAlg → PolicyExpression → Type 0
+  IsPolicyExpression hash Nothing = Unit {0}
+  IsPolicyExpression hash (Then before assertion) =
+      IsPolicyExpression hash before × IsPolicyAssertion hash assertion
+  IsPolicyExpression hash (PolicyOr branches) = ArePolicyBranches hash branches
+
+  pub ArePolicyBranches : HashAlg → PolicyBranches → Type 0
+  ArePolicyBranches hash NoBranch = Unit {0}
+  ArePolicyBranches hash (Branch policy branches) =
+      IsPolicyExpression hash policy × ArePolicyBranches hash branches
+
+-- the digests of the branches of each TPM2_PolicyOR of a policy
+abbrev mutual
+  pub branch_lists : HashAlg → PolicyExpression → List (List (List ℕ))
+  branch_lists hash Nothing = []
+  branch_lists hash (Then before assertion) = branch_lists hash before
+  branch_lists hash (PolicyOr branches) =
+      branch_digests hash branches ∷ lists_within hash branches
+
+  pub lists_within : HashAlg → PolicyBranches → List (List (List ℕ))
+  lists_within hash NoBranch = []
+  lists_within hash (Branch policy branches) =
+      branch_lists hash policy ++ lists_within hash branches
+
+-- A text is none of these, but astride two neighbours: it is the end of the one and the beginning
+-- of the next.
+pub record IsAstride (text : List ℕ) (texts : List (List ℕ)) : Type 0 where
+  pub before : List (List ℕ)
+  pub front : List ℕ
+  pub end : List ℕ
+  pub beginning : List ℕ
+  pub back : List ℕ
+  pub after : List (List ℕ)
+  pub neighbours : texts ≡ before ++ (front ++ end) ∷ (beginning ++ back) ∷ after
+  pub spelled : text ≡ end ++ beginning
+  pub has_end : end ≢ []
+  pub has_beginning : beginning ≢ []
+  pub is_none : IsAmong text texts → ⊥
+
+-- The hash is broken, by what a policy and the assertions of a session spell. Collision: two texts
+-- have one hash, one hashed for the policy and another by the session. HashOfZeros: a text has a
+-- hash of zeros, with which a session starts. AstrideBranches: a digest that the session had is
+-- astride the digests of two branches, one after the other, of a TPM2_PolicyOR of the policy.
+-- TPM2_PolicyOR hashes its digests joined, and no sizes, so that a session may hand the same bytes
+-- to it cut elsewhere.
+pub data BreaksHash (hash : HashAlg) (policy : PolicyExpression) (assertions : List Assertion)
+    : Type 0
+  where
+    Collision : (text other : List ℕ) → IsAmong text (policy_texts hash policy)
+        → IsAmong other (session_texts hash assertions) → text ≢ other
+        → hash_of hash text ≡ hash_of hash other → BreaksHash hash policy assertions
+    HashOfZeros : (text : List ℕ)
+        → IsAmong text (policy_texts hash policy) ⊎ IsAmong text (session_texts hash assertions)
+        → hash_of hash text ≡ zeros hash → BreaksHash hash policy assertions
+    AstrideBranches : (digest : List ℕ) (digests : List (List ℕ))
+        → IsAmong digest (session_digests hash assertions)
+        → IsAmong digests (branch_lists hash policy) → IsAstride digest digests
+        → BreaksHash hash policy assertions
+
+-- A policy session with the digest of a policy asserted what the policy says, or the hash is
+-- broken.
+abbrev pub DigestMeans : Type 0
+DigestMeans =
+    (hash : HashAlg) (policy : PolicyExpression) (assertions : List Assertion)
+    → IsPolicyExpression hash policy → AreAccepted hash assertions
+    → session_digest hash assertions ≡ policy_digest hash policy
+    → IsMet (IsAsserted assertions) policy ⊎ BreaksHash hash policy assertions

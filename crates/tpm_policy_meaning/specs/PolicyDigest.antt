@@ -1,0 +1,120 @@
+-- The digest of a policy, as an authPolicy has it. TPM 2.0 Library, Part 3, section 23.2.3 (policy
+-- digest update function), and the section of each assertion. It is the end of a chain of texts,
+-- each of which begins with the hash of the one before.
+use Rattle.std.specs.Prelude.{ℕ, List, [], ◌∷◌, ◌++◌, replicate, Option, Some, None}
+use Rattle.std.specs.Int.{w16, w32, to_be_bytes}
+use Rattle.std.specs.List.{flat_map}
+use Rattle.tpm_mac.specs.Digest.{digest_size, hash_of}
+use Rattle.tpm_mac.specs.declared.algorithm.HashAlg.{HashAlg}
+use Rattle.tpm_policy.specs.Assertion.{yes_no_text}
+use Rattle.tpm_types.specs.Operation.{operation_number}
+use Rattle.tpm_types.specs.PcrSelection.{selection_text}
+use Rattle.tpm_types.specs.declared.operation.Operation.{Operation}
+use Rattle.tpm_types_command.specs.CommandCode.{code_number}
+use Rattle.tpm_types_command.specs.declared.command_code.CommandCode.{CommandCode}
+use Rattle.tpm_types_command.specs.declared.command_code.CommandCode.TheVariants as command
+use Rattle.tpm_policy_meaning.specs.Expression.{PolicyAssertion, PolicyPcr, PolicyAuthValue}
+use Rattle.tpm_policy_meaning.specs.Expression.{PolicyPassword, PolicyCommandCode, PolicyLocality}
+use Rattle.tpm_policy_meaning.specs.Expression.{PolicyCpHash, PolicyNvWritten, PolicySecret}
+use Rattle.tpm_policy_meaning.specs.Expression.{PolicyNv}
+use Rattle.tpm_policy_meaning.specs.Expression.{PolicyExpression, Nothing, Then, PolicyOr}
+use Rattle.tpm_policy_meaning.specs.Expression.{PolicyBranches, NoBranch, Branch}
+
+-- what an assertion puts into the digest: the code of its command, what it is about, and policyRef,
+-- where it has one; and the text that is hashed apart, where it is about the hash of one
+pub record PolicyUpdate : Type 0 where
+  pub code : CommandCode
+  pub about : List ℕ
+  pub reference : Option (List ℕ)
+  pub apart : List (List ℕ)
+
+abbrev pub plain_update : CommandCode → (about : List ℕ) → PolicyUpdate
+plain_update code about = record { code = code; about = about; reference = None; apart = [] }
+
+-- TPM2_PolicyOR is about the joined digests of its branches, without their sizes
+abbrev pub or_update : (digests : List (List ℕ)) → PolicyUpdate
+or_update digests = plain_update command.PolicyOr (flat_map (λ digest. digest) digests)
+
+-- TPM2_PolicySecret has a policyRef, which may be empty
+abbrev pub secret_update : (name reference : List ℕ) → PolicyUpdate
+secret_update name reference =
+    record (plain_update command.PolicySecret name) { reference = Some reference }
+
+-- operandB || offset || operation, whose hash TPM2_PolicyNV is about
+abbrev pub nv_arguments_text : (operand : List ℕ) → (offset : ℕ) → Operation → List ℕ
+nv_arguments_text operand offset operation =
+    operand ++ to_be_bytes w16 offset ++ to_be_bytes w16 (operation_number operation)
+
+abbrev pub nv_update : HashAlg → (name arguments : List ℕ) → PolicyUpdate
+nv_update hash name arguments =
+    record (plain_update command.PolicyNv (hash_of hash arguments ++ name)) {
+      apart = arguments ∷ [];
+    }
+
+-- TPM2_PolicyPassword has the code of TPM2_PolicyAuthValue
+abbrev pub update_of : HashAlg → PolicyAssertion → PolicyUpdate
+update_of hash (PolicyPcr selection digest) =
+    plain_update command.PolicyPcr (selection_text selection ++ digest)
+update_of hash PolicyAuthValue = plain_update command.PolicyAuthValue []
+update_of hash PolicyPassword = plain_update command.PolicyAuthValue []
+update_of hash (PolicyCommandCode number) =
+    plain_update command.PolicyCommandCode (to_be_bytes w32 number)
+update_of hash (PolicyLocality localities) =
+    plain_update command.PolicyLocality (localities ∷ [])
+update_of hash (PolicyCpHash cp_hash) = plain_update command.PolicyCpHash cp_hash
+update_of hash (PolicyNvWritten is_written) =
+    plain_update command.PolicyNvWritten (yes_no_text is_written)
+update_of hash (PolicySecret name reference) = secret_update name reference
+update_of hash (PolicyNv name operand offset operation) =
+    nv_update hash name (nv_arguments_text operand offset operation)
+
+-- ---- texts
+
+-- the code, and what the assertion is about
+abbrev pub update_text : PolicyUpdate → List ℕ
+update_text update = to_be_bytes w32 (code_number update.code) ++ update.about
+
+-- a text, and after its hash policyRef
+abbrev pub with_reference : HashAlg → Option (List ℕ) → (text : List ℕ) → List (List ℕ)
+with_reference hash None text = text ∷ []
+with_reference hash (Some reference) text = (hash_of hash text ++ reference) ∷ text ∷ []
+
+-- the texts that are hashed for an assertion after a digest, the latest first
+abbrev pub texts_after : HashAlg → (digest : List ℕ) → PolicyUpdate → List (List ℕ)
+texts_after hash digest update =
+    with_reference hash update.reference (digest ++ update_text update) ++ update.apart
+
+-- a policy begins with zeros
+abbrev pub zeros : HashAlg → List ℕ
+zeros hash = replicate (digest_size hash) 0
+
+-- the digest of texts, the latest first: the hash of the latest
+abbrev pub digest_after : HashAlg → (texts : List (List ℕ)) → List ℕ
+digest_after hash [] = zeros hash
+digest_after hash (text ∷ earlier) = hash_of hash text
+
+-- the texts that are hashed for a policy, those of its branches too, the latest first;
+-- TPM2_PolicyOR begins with zeros again
+abbrev mutual
+  pub policy_texts : HashAlg → PolicyExpression → List (List ℕ)
+  policy_texts hash Nothing = []
+  policy_texts hash (Then before assertion) =
+      texts_after hash (digest_after hash (policy_texts hash before)) (update_of hash assertion)
+      ++ policy_texts hash before
+  policy_texts hash (PolicyOr branches) =
+      texts_after hash (zeros hash) (or_update (branch_digests hash branches))
+      ++ branch_texts hash branches
+
+  pub branch_texts : HashAlg → PolicyBranches → List (List ℕ)
+  branch_texts hash NoBranch = []
+  branch_texts hash (Branch policy branches) =
+      policy_texts hash policy ++ branch_texts hash branches
+
+  pub branch_digests : HashAlg → PolicyBranches → List (List ℕ)
+  branch_digests hash NoBranch = []
+  branch_digests hash (Branch policy branches) =
+      digest_after hash (policy_texts hash policy) ∷ branch_digests hash branches
+
+-- the digest of a policy
+abbrev pub policy_digest : HashAlg → PolicyExpression → List ℕ
+policy_digest hash policy = digest_after hash (policy_texts hash policy)
