@@ -81,7 +81,7 @@ use Rattle.tpm_machine_step.specs.Table.{row_of}
 use Rattle.tpm_machine_laws.specs.Footprint.{Part, Nothing, Sessions, Lockout, Banks, Saved, DisableClear, Cleared, Touches, emptied, part_of}
 use Rattle.tpm_machine_laws.specs.Handles.{FitsRule, HandlesFit}
 use Rattle.tpm_machine_laws.proofs.Binding.{asked, ok_at, ok_bind, ok_bind_is, ok_then, ok_weaker, some_is}
-use Rattle.tpm_machine_laws.proofs.Footprint.{row_touches}
+use Rattle.tpm_machine_laws.proofs.Table.{row_touches}
 use Rattle.tpm_machine_history.specs.AuthValues.{AuthValues, changed_value, cleared_values, copied_value, created_value, defined_value, loaded_value, started_values, values_by, with_value}
 use Rattle.tpm_machine_history.specs.DeviceAuthValues.{HaveValues, auth_seen, index_auth, object_auth}
 use Rattle.tpm_machine_history.specs.HandleMap.{with_at}

@@ -27,7 +27,7 @@ use Rattle.tpm_record.specs.Record.{Record}
 use Rattle.tpm_actions_base.specs.Request.{Request, second_handle}
 use Rattle.tpm_machine_step.specs.Table.{row_of}
 use Rattle.tpm_machine_laws.proofs.Binding.{ok_weaker}
-use Rattle.tpm_machine_laws.proofs.Footprint.{row_touches}
+use Rattle.tpm_machine_laws.proofs.Table.{row_touches}
 use Rattle.tpm_machine_laws.specs.Footprint.{Beginning, Cleared, Touches, part_of}
 use Rattle.tpm_machine_history.specs.Counters.{Counters, begun_at, counted_at, counters_by, defined_handle, largest, next_count}
 use Rattle.tpm_machine_history.specs.DeviceCounters.{AreCounted, IsCounted, IsCounter, stored_count}

@@ -51,7 +51,7 @@ use Rattle.tpm_nvactions.specs.NvWrite.{nv_write_row}
 use Rattle.tpm_nvactions.specs.NvWriteLock.{nv_write_lock_row}
 use Rattle.tpm_machine_step.specs.Table.{row_of}
 use Rattle.tpm_machine_laws.proofs.Binding.{ok_bind, ok_bind_is, ok_then, ok_weaker, some_is}
-use Rattle.tpm_machine_laws.proofs.Footprint.{row_touches}
+use Rattle.tpm_machine_laws.proofs.Table.{row_touches}
 use Rattle.tpm_machine_laws.specs.Footprint.{Part, Nv, AuthValues, Beginning, Cleared, Touches, part_of}
 use Rattle.tpm_machine_history.specs.DeviceCounters.{IsCounter, stored_count}
 

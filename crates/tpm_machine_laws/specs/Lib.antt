@@ -7,3 +7,5 @@ pub mod Grants
 pub mod Sizes
 pub mod Acceptance
 pub mod Draws
+pub mod Order
+pub mod RowLaws
