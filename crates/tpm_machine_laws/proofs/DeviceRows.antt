@@ -1,8 +1,8 @@
 -- The laws of the rows of the device itself, of PCRs, of hierarchies and of sessions.
 use Rattle.std.specs.Option.{option_map_or}
 use Rattle.std.specs.Prelude.{min, not}
-use Rattle.std.proofs.Common.{◌+◌, ◌≡◌, ◌≢◌, ◌≤◌, Bool, List, None, Ok, Option, Some, arith, false}
-use Rattle.std.proofs.Common.{inl, inr, length, refl, rules, slice_set, sym, take, true, ℕ}
+use Rattle.std.proofs.Common.{◌+◌, ◌≡◌, ◌≤◌, Bool, List, None, Ok, Option, Some, arith, false, inl}
+use Rattle.std.proofs.Common.{inr, length, refl, rules, slice_set, sym, take, true, ℕ}
 use Rattle.std.proofs.lemmas.Bool.{false≢true}
 use Rattle.tpm_bytes.specs.Reading.{refused_if}
 use Rattle.tpm_bytes.proofs.Fields.{bind_ok, passed}
@@ -94,7 +94,7 @@ startup_laws = record {
   success = λ r q.
       ok_bind _ (only (startup_type_at q.parameters)) _ (λ type.
       ok_bind _ (start_of type (kind_of r.fixed.saved)) _ (λ start.
-      in_place command.Startup r q _ refl refl (λ old new grows. grows) (start_touches r start q.random) (refl, refl)
+      in_place command.Startup r q _ refl refl (λ old new grows. grows) (start_touches r start q.random) (start_touches r start q.random).1 (refl, refl)
       (secrets_few start, λ apart. absurd cc)));
   order = λ r q. search (ordered_steps, late_start) depth 16;
   plain = λ r q. search (plain_steps, plain_start) depth 16;
@@ -134,7 +134,7 @@ unfolding get_random_row shape_of
 get_random_laws = record {
   success = λ r q.
       ok_bind_is _ (bytes_requested q.parameters) _ (λ requested is.
-      in_place command.GetRandom r q _ refl refl (λ old new grows. grows) refl (refl, refl)
+      in_place command.GetRandom r q _ refl refl (λ old new grows. grows) refl refl (refl, refl)
       (random_few requested, λ apart. drawn_as_read (λ n. min n 32) (bytes_requested q.parameters) requested is));
   order = λ r q. search ordered_steps depth 16;
   plain = λ r q. search plain_steps depth 16;
@@ -253,6 +253,7 @@ start_auth_session_laws = record {
       ok_bind_is _ (session_place r.sessions) _ (λ place free.
       record {
         touches = refl;
+        changes = refl;
         grows = more_sessions r place _ free;
         answers = (refl, refl);
         draws = (
@@ -274,6 +275,11 @@ flushed_touches : (r : Record) (handle : Handle) (is_session : Bool)
 flushed_touches r handle true = refl
 flushed_touches r handle false = refl
 
+flushed_indices : (r : Record) (handle : Handle) (is_session : Bool)
+    → (flushed_from r handle is_session).nv ≡ r.nv
+flushed_indices r handle true = refl
+flushed_indices r handle false = refl
+
 flushed_grows : (r : Record) (handle : Handle) (is_session : Bool)
     → Grows false r (flushed_from r handle is_session)
 unfolding flushed without_object
@@ -290,6 +296,7 @@ flushed_success : (r : Record) (q : Request) (handle : Handle) (is_session : Boo
 unfolding shape_of
 flushed_success r q handle is_session = record {
   touches = flushed_touches r handle is_session;
+  changes = flushed_indices r handle is_session;
   grows = flushed_grows r handle is_session;
   answers = (refl, refl);
   draws = (none_drawn, λ apart. refl);

@@ -1,11 +1,13 @@
 -- The laws of the rows of NV indices.
-use Rattle.std.specs.Prelude.{is_some, nat_lt, ok_or}
-use Rattle.std.proofs.Common.{◌∙◌, ◌∷◌, ◌≡◌, ◌≢◌, Bool, Err, IfOk, List, None, Ok, Option, Result}
-use Rattle.std.proofs.Common.{Some, [], ap, arith, false, length, refl, rules, subst, sym, true, ℕ}
+use Rattle.std.specs.Prelude.{◌==◌, is_some, nat_lt, not, ok_or}
+use Rattle.std.proofs.Common.{◌∙◌, ◌∷◌, ◌≡◌, Bool, Err, IfOk, List, None, Ok, Option, Result, Some}
+use Rattle.std.proofs.Common.{[], ap, arith, false, length, refl, rules, subst, sym, true, ℕ}
 use Rattle.std.proofs.lemmas.Bool.{false≢true}
 use Rattle.tpm_bytes.specs.Reading.{◌>>=◌, refused_if}
+use Rattle.tpm_bytes.proofs.Fields.{passed}
 use Rattle.tpm_mac.specs.Digest.{digest_size}
 use Rattle.tpm_types.specs.AuthValue.{auth_value_at}
+use Rattle.tpm_types.specs.Handle.{platform_handle}
 use Rattle.tpm_types.specs.declared.action_check.ActionCheck.TheVariants as action
 use Rattle.tpm_types.specs.declared.handle.Handle.{Handle}
 use Rattle.tpm_types.specs.declared.rc.Rc.{Rc}
@@ -21,18 +23,21 @@ use Rattle.tpm_types_command.specs.declared.command_code.CommandCode.{CommandCod
 use Rattle.tpm_types_command.specs.declared.command_code.CommandCode.TheVariants as command
 use Rattle.tpm_types_command.specs.declared.shape.HandleKind.TheVariants as handle_kind
 use Rattle.tpm_types_command.specs.declared.shape.ParameterKind.TheVariants as kind
-use Rattle.tpm_sorted_map.proofs.SortedMapLaws.{changed_length, put_length, removed_few}
+use Rattle.tpm_sorted_map.proofs.SortedMapLaws.{put_length, removed_few}
 use Rattle.tpm_nv.specs.Access.{bits_set, extended, incremented, index_or_fault, read_locked}
 use Rattle.tpm_nv.specs.Access.{with_auth_value, write_locked, written}
-use Rattle.tpm_nv.specs.Index.{NvContents, NvIndex, index_at, with_index, without_index}
+use Rattle.tpm_nv.specs.Definition.{defined_index, definition_passes}
+use Rattle.tpm_nv.specs.Index.{NvContents, NvIndex, has_room, index_at, with_index, without_index}
 use Rattle.tpm_nv.specs.declared.definition.DefinitionFault.{DefinitionFault}
 use Rattle.tpm_nv.specs.declared.fault.NvFault.{NvFault}
 use Rattle.tpm_nv.specs.declared.fault.NvFault.TheVariants as fault
 use Rattle.tpm_record.specs.Record.{Record}
 use Rattle.tpm_actions_base.specs.Refusals.{handle_refusal, or_refusal, parameter_refusal}
-use Rattle.tpm_actions_base.specs.Request.{Request}
+use Rattle.tpm_actions_base.specs.Request.{Request, first_handle, second_handle}
 use Rattle.tpm_actions_base.specs.Rows.{all_read, parameter}
-use Rattle.tpm_nvactions.specs.Access.{changed_nv, lock_refusal, writing_refusal}
+use Rattle.tpm_actions_base.specs.Target.{target_of}
+use Rattle.tpm_actions_base.specs.declared.target.Target.{Target}
+use Rattle.tpm_nvactions.specs.Access.{changed_nv, lock_refusal, writer_passes, writing_refusal}
 use Rattle.tpm_nvactions.specs.NvChangeAuth.{nv_change_auth_row}
 use Rattle.tpm_nvactions.specs.NvDefineSpace.{definition_refusal, nv_define_space_row}
 use Rattle.tpm_nvactions.specs.NvDefineSpace.{parameters_in}
@@ -42,16 +47,21 @@ use Rattle.tpm_nvactions.specs.NvRead.{nv_read_row, parameters_in as read_parame
 use Rattle.tpm_nvactions.specs.NvReadLock.{nv_read_lock_row}
 use Rattle.tpm_nvactions.specs.NvReadPublic.{nv_read_public_row}
 use Rattle.tpm_nvactions.specs.NvSetBits.{nv_set_bits_row}
-use Rattle.tpm_nvactions.specs.NvUndefineSpace.{nv_undefine_space_row}
+use Rattle.tpm_nvactions.specs.NvUndefineSpace.{is_kept_from, nv_undefine_space_row}
 use Rattle.tpm_nvactions.specs.NvWrite.{nv_write_row, parameters_in as write_parameters}
 use Rattle.tpm_nvactions.specs.NvWriteLock.{nv_write_lock_row}
 use Rattle.tpm_machine_laws.specs.Draws.{DrawsAsSaid}
-use Rattle.tpm_machine_laws.specs.Footprint.{Nv, Part, Touches, part_of}
+use Rattle.tpm_machine_laws.specs.Footprint.{Touches, part_of}
 use Rattle.tpm_machine_laws.specs.Handles.{FitsRule, HandlesFit}
+use Rattle.tpm_machine_laws.specs.IndexChanges.{ChangesIndices, HasNoConflict}
 use Rattle.tpm_machine_laws.specs.Order.{IsLate, Late, Orders, Plain}
 use Rattle.tpm_machine_laws.specs.RowLaws.{RowLaws, SuccessLaws}
 use Rattle.tpm_machine_laws.specs.Shapes.{AnswersItsShape, Grows, behind, spelled}
-use Rattle.tpm_machine_laws.proofs.Binding.{err_bind, err_if, ok_bind}
+use Rattle.tpm_machine_laws.proofs.Binding.{err_bind, err_if, ok_bind, ok_bind_is, ok_then}
+use Rattle.tpm_machine_laws.proofs.IndexChanges.{auth_changes, bits_write, counts_so}
+use Rattle.tpm_machine_laws.proofs.IndexChanges.{extended_writes, keeps_count, none_is, passes_so}
+use Rattle.tpm_machine_laws.proofs.IndexChanges.{read_locked_writes, same_count, target_names}
+use Rattle.tpm_machine_laws.proofs.IndexChanges.{write_locked_writes, written_writes}
 use Rattle.tpm_machine_laws.proofs.Order.{behind_first, behind_index, behind_reading, index_there}
 use Rattle.tpm_machine_laws.proofs.Order.{ordered_steps}
 use Rattle.tpm_machine_laws.proofs.Parts.{SameCount, leaves_sessions, same_indices}
@@ -150,25 +160,43 @@ plain_definition x = grind arith
 
 ruleset index_plain = (plain_steps, plain_writing, plain_lock, plain_definition)
 
--- ---- an index is defined, or removed
+-- ---- an index is defined, or undefined
 
 defined_grows : (r : Record) (h : Handle) (i : NvIndex)
     → Grows true r (record r { nv = with_index r.nv h i })
 defined_grows r h i = let more = put_length r.nv.indices h.number i in omega (arith, more)
 
--- TPM2_NV_DefineSpace's parameters: a value without trailing zeros is read as a buffer is
+-- the parameters of TPM2_NV_DefineSpace: a value without trailing zeros is read as a buffer is
 define_reads : (text : List ℕ)
     → outcome (parameters_in text) ≡ spelled 1 (kind.Buffer 32 ∷ kind.NvPublic ∷ []) text
 unfolding parameters_in
 define_reads text =
     let last = λ (rest : List ℕ). parameter 2 (behind (filled_by nv_public_at rest)) >>= λ rest. all_read rest in
-    read_one 1 (auth_value_at text) _ last (λ a. read_one 2 (filled_by nv_public_at a.1) _ (λ rest. all_read rest) (λ b. read_all (all_read b.1) _))
+    read_one 1 (auth_value_at text) _ last
+    (λ a. read_one 2 (filled_by nv_public_at a.1) _ (λ rest. all_read rest) (λ b. read_all (all_read b.1) _))
     ∙ ap (λ (b : Result (List ℕ) Rc). parameter 1 b >>= last) (trimmed_read text)
 
 pub nv_define_space_laws : RowLaws command.NvDefineSpace nv_define_space_row
 unfolding nv_define_space_row shape_of parameters_in
 nv_define_space_laws = record {
-  success = λ r q. search (rules, ok_bind, beside_sessions, defined_grows) depth 12;
+  success = λ r q.
+      ok_bind _ (first_handle q.handles) _ (λ authority.
+      ok_bind_is _ (parameters_in q.parameters) _ (λ p read.
+      let by_platform : Bool = authority.number == platform_handle.number in
+      ok_then (λ u. HasNoConflict by_platform p.public) _
+      (or_refusal definition_refusal (definition_passes by_platform p.public (length p.auth_value))) _
+      (passes_so by_platform p.public (length p.auth_value)) (λ checked passes.
+      ok_bind_is _ (refused_if (is_some (index_at r.nv p.public.nv_index)) _) _ (λ a5 free.
+      ok_bind _ (refused_if (not (has_room r.nv p.public.data_size)) _) _ (λ a6.
+      beside_sessions command.NvDefineSpace r q _ refl refl
+      (defined_grows r p.public.nv_index (defined_index p.public p.auth_value)) (record {
+        by_platform = by_platform;
+        parameters = p;
+        read = read;
+        free = none_is (index_at r.nv p.public.nv_index) (passed _ _ a5 free);
+        passes = passes;
+        is = refl;
+      }) (refl, refl) (none_drawn, λ apart. refl))))));
   order = λ r q. search (behind_first, behind_reading, define_reads, rules, err_bind, err_if, late_definition) depth 16;
   plain = λ r q. search index_plain depth 16;
 }
@@ -179,72 +207,37 @@ undefined_grows r h = let fewer = removed_few r.nv.indices h.number in omega (ar
 pub nv_undefine_space_laws : RowLaws command.NvUndefineSpace nv_undefine_space_row
 unfolding nv_undefine_space_row shape_of
 nv_undefine_space_laws = record {
-  success = λ r q. search (rules, ok_bind, beside_sessions, undefined_grows) depth 12;
+  success = λ r q.
+      ok_then (λ (t : Target). second_handle q.handles ≡ Ok t.handle) _ (target_of r q) _ (target_names r q) (λ target named.
+      ok_bind _ (all_read q.parameters) _ (λ ended.
+      ok_bind _ (refused_if (is_kept_from target) _) _ (λ a1.
+      beside_sessions command.NvUndefineSpace r q _ refl refl (undefined_grows r target.handle)
+      (record { handle = target.handle; named = named; is = refl }) (refl, refl) (none_drawn, λ apart. refl))));
   order = λ r q. search index_orders depth 16;
   plain = λ r q. search index_plain depth 16;
 }
 
 -- ---- an index is changed
 
-ruleset counts = (rules, ok_bind, changed_length)
-
-written_count : (nv : NvContents) (h : Handle) (offset : ℕ) (bytes : List ℕ)
-    → IfOk (written nv h offset bytes) (SameCount nv)
-unfolding written
-written_count nv h offset bytes = search counts
-
-incremented_count : (nv : NvContents) (h : Handle) → IfOk (incremented nv h) (SameCount nv)
-unfolding incremented
-incremented_count nv h = search counts
-
-bits_count : (nv : NvContents) (h : Handle) (bits : ℕ) → IfOk (bits_set nv h bits) (SameCount nv)
-unfolding bits_set
-bits_count nv h bits = search counts
-
-extended_count : (nv : NvContents) (h : Handle) (bytes : List ℕ)
-    → IfOk (extended nv h bytes) (SameCount nv)
-unfolding extended
-extended_count nv h bytes = search counts
-
-write_locked_count : (nv : NvContents) (h : Handle) → IfOk (write_locked nv h) (SameCount nv)
-unfolding write_locked
-write_locked_count nv h = search counts
-
-read_locked_count : (nv : NvContents) (h : Handle) → IfOk (read_locked nv h) (SameCount nv)
-unfolding read_locked
-read_locked_count nv h = search counts
-
-auth_value_count : (nv : NvContents) (h : Handle) (value : List ℕ)
-    → IfOk (with_auth_value nv h value) (SameCount nv)
-unfolding with_auth_value
-auth_value_count nv h value = search counts
-
 -- a change that leaves the number of indices, and what it refuses
 changed_success : (c : CommandCode) (r : Record) (q : Request) (refusal : NvFault → Refused)
-    (x : Result NvContents NvFault) → part_of c ≡ Nv → GrowsNothing c
+    (x : Result NvContents NvFault) → leaves_sessions (part_of c) ≡ true
+    → keeps_count (part_of c) ≡ true
+    → ((nv : NvContents) → Touches (part_of c) r (record r { nv = nv })) → GrowsNothing c
     → AnswersItsShape c (changed_nv r r.nv) → DrawsAsSaid c q (changed_nv r r.nv)
-    → IfOk x (SameCount r.nv)
+    → IfOk x (ChangesIndices (part_of c) q r.nv)
     → IfOk (or_refusal refusal x >>= λ nv. Ok (changed_nv r nv)) (SuccessLaws c r q)
-changed_success c r q refusal (Err fault) part nothing answers draws same = tt
-changed_success c r q refusal (Ok nv) part nothing answers draws same =
-    let after : Record = record r { nv = nv } in
-    beside_sessions c r q (changed_nv r nv) (ap leaves_sessions part) (subst (λ (p : Part). Touches p r after) (sym part) refl)
-    (nothing r after (same_indices r nv same)) answers draws
+changed_success c r q refusal (Err fault) leaves keeps touches nothing answers draws changes = tt
+changed_success c r q refusal (Ok nv) leaves keeps touches nothing answers draws changes =
+    let same : SameCount r.nv nv = same_count (part_of c) q r.nv nv keeps changes in
+    beside_sessions c r q (changed_nv r nv) leaves (touches nv) (nothing r (record r { nv = nv }) (same_indices r nv same)) changes answers draws
 
-ruleset index_successes = (rules, ok_bind, changed_success, none_drawn, written_count, incremented_count, bits_count, extended_count, write_locked_count, read_locked_count, auth_value_count)
+ruleset changed_steps = (rules, ok_bind, changed_success, none_drawn, written_writes, bits_write, extended_writes, write_locked_writes, read_locked_writes, auth_changes)
 
 pub nv_write_laws : RowLaws command.NvWrite nv_write_row
 unfolding nv_write_row shape_of write_parameters
 nv_write_laws = record {
-  success = λ r q. search index_successes depth 12;
-  order = λ r q. search index_orders depth 16;
-  plain = λ r q. search index_plain depth 16;
-}
-
-pub nv_increment_laws : RowLaws command.NvIncrement nv_increment_row
-unfolding nv_increment_row shape_of
-nv_increment_laws = record {
-  success = λ r q. search index_successes depth 12;
+  success = λ r q. search changed_steps depth 12;
   order = λ r q. search index_orders depth 16;
   plain = λ r q. search index_plain depth 16;
 }
@@ -252,7 +245,7 @@ nv_increment_laws = record {
 pub nv_set_bits_laws : RowLaws command.NvSetBits nv_set_bits_row
 unfolding nv_set_bits_row shape_of
 nv_set_bits_laws = record {
-  success = λ r q. search index_successes depth 12;
+  success = λ r q. search changed_steps depth 12;
   order = λ r q. search index_orders depth 16;
   plain = λ r q. search index_plain depth 16;
 }
@@ -260,7 +253,7 @@ nv_set_bits_laws = record {
 pub nv_extend_laws : RowLaws command.NvExtend nv_extend_row
 unfolding nv_extend_row shape_of
 nv_extend_laws = record {
-  success = λ r q. search index_successes depth 12;
+  success = λ r q. search changed_steps depth 12;
   order = λ r q. search index_orders depth 16;
   plain = λ r q. search index_plain depth 16;
 }
@@ -268,7 +261,7 @@ nv_extend_laws = record {
 pub nv_write_lock_laws : RowLaws command.NvWriteLock nv_write_lock_row
 unfolding nv_write_lock_row shape_of
 nv_write_lock_laws = record {
-  success = λ r q. search index_successes depth 12;
+  success = λ r q. search changed_steps depth 12;
   order = λ r q. search index_orders depth 16;
   plain = λ r q. search index_plain depth 16;
 }
@@ -276,7 +269,20 @@ nv_write_lock_laws = record {
 pub nv_read_lock_laws : RowLaws command.NvReadLock nv_read_lock_row
 unfolding nv_read_lock_row shape_of
 nv_read_lock_laws = record {
-  success = λ r q. search index_successes depth 12;
+  success = λ r q. search changed_steps depth 12;
+  order = λ r q. search index_orders depth 16;
+  plain = λ r q. search index_plain depth 16;
+}
+
+pub nv_increment_laws : RowLaws command.NvIncrement nv_increment_row
+unfolding nv_increment_row shape_of
+nv_increment_laws = record {
+  success = λ r q.
+      ok_then (λ (t : Target). second_handle q.handles ≡ Ok t.handle) _ (target_of r q) _ (target_names r q) (λ target named.
+      ok_bind _ (all_read q.parameters) _ (λ ended.
+      ok_bind _ (writer_passes target) _ (λ a1.
+      changed_success command.NvIncrement r q writing_refusal (incremented r.nv target.handle) refl refl (λ nv. refl)
+      (λ old new grows. grows) (refl, refl) (none_drawn, λ apart. refl) (counts_so q r.nv target.handle named))));
   order = λ r q. search index_orders depth 16;
   plain = λ r q. search index_plain depth 16;
 }
@@ -288,14 +294,18 @@ unfolding nv_change_auth_row
 change_auth_orders r q =
     behind_first r (admin handle_kind.NvIndex) [] q.handles _ q.parameters _ (λ h fits.
     behind_index r _ q.handles (Some role.Admin) h _ q.parameters _ fits (λ index.
-    behind_reading r _ q.handles _ q.parameters _ _ (only_read (kind.Buffer 32) q.parameters (auth_value_at q.parameters) (trimmed_read q.parameters)) (λ value.
-    err_bind _ (refused_if (nat_lt (digest_size index.public.name_alg) (length value)) (parameter_refusal action.First 1 code.Size)) _ (err_if (λ (e : Refused). IsLate (HandlesFit r (admin handle_kind.NvIndex ∷ []) q.handles) e.check) (nat_lt (digest_size index.public.name_alg) (length value)) (parameter_refusal action.First 1 code.Size) tt) (λ a1.
-    err_bind _ (or_refusal lock_refusal (with_auth_value r.nv h value)) _ (late_auth_value _ r (Some role.Admin) h value fits) (λ nv. tt)))))
+    behind_reading r _ q.handles _ q.parameters _ _
+    (only_read (kind.Buffer 32) q.parameters (auth_value_at q.parameters) (trimmed_read q.parameters)) (λ value.
+    let long : Bool = nat_lt (digest_size index.public.name_alg) (length value) in
+    let refusal : Refused = parameter_refusal action.First 1 code.Size in
+    err_bind _ (refused_if long refusal) _ (err_if (λ (e : Refused). IsLate (HandlesFit r (admin handle_kind.NvIndex ∷ []) q.handles) e.check) long refusal tt) (λ a1.
+    err_bind _ (or_refusal lock_refusal (with_auth_value r.nv h value)) _
+    (late_auth_value _ r (Some role.Admin) h value fits) (λ nv. tt)))))
 
 pub nv_change_auth_laws : RowLaws command.NvChangeAuth nv_change_auth_row
 unfolding nv_change_auth_row shape_of
 nv_change_auth_laws = record {
-  success = λ r q. search index_successes depth 12;
+  success = λ r q. search changed_steps depth 12;
   order = λ r q. change_auth_orders r q;
   plain = λ r q. search index_plain depth 16;
 }

@@ -7,6 +7,7 @@ pub mod SessionPlaces
 pub mod Order
 pub mod PlainSteps
 pub mod Successes
+pub mod IndexChanges
 pub mod DeviceRows
 pub mod IndexRows
 pub mod ObjectRows

@@ -1,9 +1,8 @@
 -- The laws of the rows of objects, and of TPM2_Clear.
 use Rattle.std.specs.Option.{option_map_or}
 use Rattle.std.specs.Prelude.{◌==◌, ◌||◌, if◌then◌else◌, is_some}
-use Rattle.std.proofs.Common.{◌+◌, ◌≡◌, ◌≢◌, ◌≤◌, Bool, Err, IfOk, List, None, Ok, Option, Result}
-use Rattle.std.proofs.Common.{Some, ap, arith, cond, false, inl, inr, refl, rules, subst, sym, true}
-use Rattle.std.proofs.Common.{ℕ}
+use Rattle.std.proofs.Common.{◌+◌, ◌≡◌, ◌≤◌, Bool, Err, IfOk, List, None, Ok, Option, Result, Some}
+use Rattle.std.proofs.Common.{ap, arith, cond, false, inl, inr, refl, rules, subst, sym, true, ℕ}
 use Rattle.std.proofs.lemmas.Bool.{eqb-true, false≢true}
 use Rattle.tpm_bytes.specs.Reading.{◌>>=◌, refused_if}
 use Rattle.tpm_bytes.proofs.Fields.{passed}
@@ -71,6 +70,7 @@ use Rattle.tpm_actions_object.specs.Unseal.{unseal_row}
 use Rattle.tpm_machine_laws.specs.Draws.{DrawsAsSaid}
 use Rattle.tpm_machine_laws.specs.Footprint.{Objects, Part, Touches, part_of}
 use Rattle.tpm_machine_laws.specs.Handles.{FitsRule, HandlesFit}
+use Rattle.tpm_machine_laws.specs.IndexChanges.{ChangesIndices}
 use Rattle.tpm_machine_laws.specs.Order.{Late, Orders, Plain}
 use Rattle.tpm_machine_laws.specs.RowLaws.{RowLaws, SuccessLaws}
 use Rattle.tpm_machine_laws.specs.Shapes.{AnswersItsShape, GrowsAsShaped, taken_in}
@@ -192,7 +192,7 @@ create_laws = record {
       ok_bind _ (parent_passes parent) _ (λ a1.
       ok_bind _ (public_passes 1 (is_fixed parent) p.template) _ (λ t.
       ok_bind _ (given_passes 4 p.given p.template) _ (λ c.
-      in_place command.Create r q _ refl refl (λ old new grows. grows) refl (refl, refl) (
+      in_place command.Create r q _ refl refl (λ old new grows. grows) refl refl (refl, refl) (
         object_drawn p.template p.given,
         λ apart. drawn_as_read (λ p. drawn_by p.template p.given + 16) (creation_parameters q.parameters) p is,
       )))))));
@@ -215,7 +215,8 @@ loaded_success : (c : CommandCode) (r : Record) (q : Request) (check : ActionChe
 loaded_success c r q check place o answer part one is answers draws =
     let after : Record = record r { objects = with_object r.objects place o } in
     beside_sessions c r q (record { answer = answer; after = after }) (ap leaves_sessions part)
-    (subst (λ (p : Part). Touches p r after) (sym part) refl) (one r after (more_objects r check place o is)) answers draws
+    (subst (λ (p : Part). Touches p r after) (sym part) refl) (one r after (more_objects r check place o is))
+    (subst (λ (p : Part). ChangesIndices p q r.nv r.nv) (sym part) refl) answers draws
 
 pub create_primary_laws : RowLaws command.CreatePrimary create_primary_row
 unfolding create_primary_row shape_of creation_parameters
@@ -278,7 +279,7 @@ evict_control_laws = record {
       ok_bind _ (only (persistent_handle_at q.parameters)) _ (λ wanted.
       ok_bind _ (eviction_passes (auth.number == platform_handle.number) (is_persistent h) o wanted) _ (λ passed.
       ok_then _ _ (evicted r.persistent h o wanted) _ (evicted_grows r h o wanted is) (λ persistent grows.
-      beside_sessions command.EvictControl r q _ refl refl grows (refl, refl) (none_drawn, λ apart. refl)))))));
+      beside_sessions command.EvictControl r q _ refl refl grows refl (refl, refl) (none_drawn, λ apart. refl)))))));
   order = λ r q. search object_orders depth 16;
   plain = λ r q. search object_plain depth 16;
 }
@@ -339,7 +340,7 @@ clear_laws = record {
         persistent = cleared_persistent r.persistent;
         nv = cleared r.nv;
       } in
-      in_place command.Clear r q _ refl refl (λ old new grows. grows) (ap after is) (refl, refl)
+      in_place command.Clear r q _ refl refl (λ old new grows. grows) (ap after is) refl (refl, refl)
       (all_drawn, λ apart. refl))));
   order = λ r q. search (ordered_steps, late_counted) depth 16;
   plain = λ r q. search (plain_steps, plain_update) depth 16;

@@ -1,9 +1,9 @@
 -- A row refuses in order: its steps, and what follows from the order.
 use Rattle.std.specs.Option.{option_map_or}
 use Rattle.std.specs.Prelude.{◌==◌, ◌||◌, if◌then◌else◌, is_some, not, ok_or}
-use Rattle.std.proofs.Common.{◌+◌, ◌∙◌, ◌∷◌, ◌≡◌, ◌≢◌, ◌⊎◌, Bool, Err, IfErr, List, None, Ok}
-use Rattle.std.proofs.Common.{Option, Result, Some, [], false, inl, inr, option_map, refl, rules}
-use Rattle.std.proofs.Common.{subst, sym, true, ℕ}
+use Rattle.std.proofs.Common.{◌+◌, ◌∙◌, ◌∷◌, ◌≡◌, ◌⊎◌, Bool, Err, IfErr, List, None, Ok, Option}
+use Rattle.std.proofs.Common.{Result, Some, [], false, inl, inr, option_map, refl, rules, subst}
+use Rattle.std.proofs.Common.{sym, true, ℕ}
 use Rattle.std.proofs.lemmas.Bool.{eqb-true, false≢true}
 use Rattle.std.proofs.lemmas.Result.{IfErr-at_err}
 use Rattle.tpm_bytes.specs.Reading.{◌>>=◌}
@@ -58,7 +58,10 @@ pub in_order_passes : {X : Type 0} (Fit : Type 0) (s : Result (Unit {0}) Refused
     → Passes check.Handles row
 in_order_passes Fit s (Ok x) faults order fit = tt
 in_order_passes Fit s (Err e) faults (inl handle) fit = absurd (handle.1 fit)
-in_order_passes Fit s (Err e) faults (inr (inl fault)) fit = λ same. let never : check.Parameters ≡ check.Handles = sym (IfErr-at_err (λ (e : Refused). e.check ≡ check.Parameters) fault faults) ∙ same in absurd cc
+in_order_passes Fit s (Err e) faults (inr (inl fault)) fit = λ same.
+    let kind : e.check ≡ check.Parameters = IfErr-at_err (λ (e : Refused). e.check ≡ check.Parameters) fault faults in
+    let never : check.Parameters ≡ check.Handles = sym kind ∙ same in
+    absurd cc
 in_order_passes Fit s (Err e) faults (inr (inr late)) fit = λ same. subst (IsLate Fit) same late.1 fit
 
 -- and it never refuses anything for want of memory
@@ -67,7 +70,10 @@ pub in_order_wants : {X : Type 0} (Fit : Type 0) (s : Result (Unit {0}) Refused)
     → Passes check.Memory row
 in_order_wants Fit s (Ok x) faults order = tt
 in_order_wants Fit s (Err e) faults (inl handle) = λ same. let never : check.Handles ≡ check.Memory = sym handle.0 ∙ same in absurd cc
-in_order_wants Fit s (Err e) faults (inr (inl fault)) = λ same. let never : check.Parameters ≡ check.Memory = sym (IfErr-at_err (λ (e : Refused). e.check ≡ check.Parameters) fault faults) ∙ same in absurd cc
+in_order_wants Fit s (Err e) faults (inr (inl fault)) = λ same.
+    let kind : e.check ≡ check.Parameters = IfErr-at_err (λ (e : Refused). e.check ≡ check.Parameters) fault faults in
+    let never : check.Parameters ≡ check.Memory = sym kind ∙ same in
+    absurd cc
 in_order_wants Fit s (Err e) faults (inr (inr late)) = λ same. subst (IsLate Fit) same late.1
 
 parameter_fault : {X : Type 0} (n : ℕ) (x : Result X Rc)
@@ -194,17 +200,19 @@ pub behind_target : {X : Type 0} (r : Record) (first : HandleRule) (others : Lis
 behind_target r first others [] kinds text f more = record { order = inl (refl, λ fit. fit) }
 behind_target r first others (h ∷ []) kinds text f more = record { order = inl (refl, λ fit. fit.1) }
 behind_target r first others (h ∷ k ∷ hs) kinds text f more =
-    found (index_at r.nv k) (λ fit. index_there r None k fit.1.0) (λ a there. more (record { auth_handle = h; handle = k; attributes = a }) there)
+    found (index_at r.nv k) (λ fit. index_there r None k fit.1.0) (λ a there. more (target a) there)
   where
     Fit : Type 0
     Fit = HandlesFit r (first ∷ unauthorized handle_kind.NvIndex ∷ others) (h ∷ k ∷ hs)
 
+    target : NvAttributes → Target
+    target a = record { auth_handle = h; handle = k; attributes = a }
+
     found : (o : Option NvIndex) → (Fit → is_some o ≡ true)
         → ((a : NvAttributes) → (Fit → is_some o ≡ true)
-        → Orders r (first ∷ unauthorized handle_kind.NvIndex ∷ others)
-        (h ∷ k ∷ hs) kinds text (f (record { auth_handle = h; handle = k; attributes = a })))
-        → Orders r (first ∷ unauthorized handle_kind.NvIndex ∷ others)
-        (h ∷ k ∷ hs) kinds text (((ok_or o handle_refusal >>= λ index. Ok index.public.attributes) >>= λ attributes. Ok (record { auth_handle = h; handle = k; attributes = attributes })) >>= f)
+        → Orders r (first ∷ unauthorized handle_kind.NvIndex ∷ others) (h ∷ k ∷ hs) kinds text (f (target a)))
+        → Orders r (first ∷ unauthorized handle_kind.NvIndex ∷ others) (h ∷ k ∷ hs) kinds text
+        (((ok_or o handle_refusal >>= λ index. Ok index.public.attributes) >>= λ a. Ok (target a)) >>= f)
     found (Some i) there next = next i.public.attributes there
     found None there next = record { order = inl (refl, λ fit. false≢true (there fit)) }
 
@@ -212,9 +220,13 @@ behind_target r first others (h ∷ k ∷ hs) kinds text f more =
 pub behind_target_asserted : {A X : Type 0} (r : Record) (first : HandleRule)
     (others : List HandleRule) (handles : List Handle) (kinds : List ParameterKind) (text : List ℕ)
     (g : Target → Result A Refused) (f : A → Result X Refused)
-    → ((t : Target) → Orders r (first ∷ unauthorized handle_kind.NvIndex ∷ others) handles kinds text (g t >>= f)) → Orders r (first ∷ unauthorized handle_kind.NvIndex ∷ others) handles kinds text ((target_at r handles >>= g) >>= f)
+    → ((t : Target)
+    → Orders r (first ∷ unauthorized handle_kind.NvIndex ∷ others) handles kinds text (g t >>= f))
+    → Orders r (first ∷ unauthorized handle_kind.NvIndex ∷ others) handles kinds text
+    ((target_at r handles >>= g) >>= f)
 behind_target_asserted {X = X} r first others handles kinds text g f more =
-    subst (λ (row : Result X Refused). Orders r (first ∷ unauthorized handle_kind.NvIndex ∷ others) handles kinds text row) (sym (bind_assoc (target_at r handles) g f)) (behind_target r first others handles kinds text (λ t. g t >>= f) (λ t there. more t))
+    subst (λ (row : Result X Refused). Orders r (first ∷ unauthorized handle_kind.NvIndex ∷ others) handles kinds text row) (sym (bind_assoc (target_at r handles) g f))
+    (behind_target r first others handles kinds text (λ t. g t >>= f) (λ t there. more t))
 
 -- ---- parameters
 

@@ -2,6 +2,7 @@
 use Rattle.std.specs.Prelude.{is_some}
 use Rattle.std.proofs.Common.{◌∙◌, ◌≡◌, ◌≤◌, Bool, List, Option, ap, arith, false, inl, inr, length}
 use Rattle.std.proofs.Common.{true}
+use Rattle.std.proofs.lemmas.Bool.{false≢true}
 use Rattle.std.proofs.lemmas.List.{length-map}
 use Rattle.tpm_slots.specs.Slots.{taken_count}
 use Rattle.tpm_sorted_map.proofs.SortedMapLaws.{kept_few}
@@ -14,8 +15,8 @@ use Rattle.tpm_record.specs.Clear.{outlasts}
 use Rattle.tpm_record.specs.Record.{Record}
 use Rattle.tpm_record.proofs.ClearLaws.{cleared_few}
 use Rattle.tpm_machine_laws.specs.Footprint.{AuthValues, Banks, Beginning, Cleared, DisableClear}
-use Rattle.tpm_machine_laws.specs.Footprint.{Lockout, Nothing, Nv, Objects, Part, Persistent, Saved}
-use Rattle.tpm_machine_laws.specs.Footprint.{Sessions, SessionsAndObjects, StartsNv, Touches}
+use Rattle.tpm_machine_laws.specs.Footprint.{Lockout, Nothing, Part, Saved, Sessions}
+use Rattle.tpm_machine_laws.specs.Footprint.{SessionsAndObjects, StartsNv, Touches}
 use Rattle.tpm_machine_laws.specs.Sessions.{SessionsStay}
 use Rattle.tpm_machine_laws.specs.Shapes.{Grows, taken_in}
 
@@ -46,39 +47,42 @@ pub same_sessions : (r : Record) (sessions : List (Option Session))
     → Grows false r (record r { sessions = sessions })
 same_sessions r sessions same = omega (arith, same)
 
--- whether a part is none of the sessions, the objects, transient or persistent, and the NV indices,
--- or takes none of them more
+-- whether a success that touches a part takes no place more of the sessions, the objects, transient
+-- or persistent, and the NV indices, whatever it makes of the part
 abbrev pub keeps_places : Part → Bool
-keeps_places Sessions = false
-keeps_places Objects = false
-keeps_places SessionsAndObjects = false
-keeps_places Persistent = false
-keeps_places Nv = false
-keeps_places _ = true
+keeps_places Nothing = true
+keeps_places AuthValues = true
+keeps_places Lockout = true
+keeps_places Banks = true
+keeps_places Beginning = true
+keeps_places Saved = true
+keeps_places DisableClear = true
+keeps_places Cleared = true
+keeps_places _ = false
+
+-- what takes as many places takes none more
+same_places : (old new : Record) → taken_in new ≡ taken_in old → Grows false old new
+same_places old new same = omega (arith, same)
 
 pub touched_grows : (p : Part) (old new : Record) → keeps_places p ≡ true → Touches p old new
     → Grows false old new
-touched_grows Nothing old new fixed touches = let same = ap (λ (r : Record). taken_in r) touches in omega (arith, same)
-touched_grows Sessions old new fixed touches = absurd cc
-touched_grows Objects old new fixed touches = absurd cc
-touched_grows SessionsAndObjects old new fixed touches = absurd cc
-touched_grows Persistent old new fixed touches = absurd cc
-touched_grows Nv old new fixed touches = absurd cc
-touched_grows AuthValues old new fixed touches = let same = ap (λ (r : Record). taken_in r) touches.0 in omega (arith, same)
-touched_grows Lockout old new fixed touches = let same = ap (λ (r : Record). taken_in r) touches in omega (arith, same)
-touched_grows Banks old new fixed touches = let same = ap (λ (r : Record). taken_in r) touches in omega (arith, same)
-touched_grows Beginning old new fixed touches =
+touched_grows Nothing old new keeps touches = same_places old new (ap (λ (r : Record). taken_in r) touches)
+touched_grows AuthValues old new keeps touches = same_places old new (ap (λ (r : Record). taken_in r) touches.0)
+touched_grows Lockout old new keeps touches = same_places old new (ap (λ (r : Record). taken_in r) touches)
+touched_grows Banks old new keeps touches = same_places old new (ap (λ (r : Record). taken_in r) touches)
+touched_grows Beginning old new keeps touches =
     let same = ap (λ (r : Record). taken_in r) touches.0 in
     let indices = starts_count old.nv new.nv touches.1 in
     omega (arith, same, indices)
-touched_grows DisableClear old new fixed touches = let same = ap (λ (r : Record). taken_in r) touches in omega (arith, same)
-touched_grows Cleared old new fixed touches =
+touched_grows Saved old new keeps touches = same_places old new (ap (λ (r : Record). taken_in r) touches)
+touched_grows DisableClear old new keeps touches = same_places old new (ap (λ (r : Record). taken_in r) touches)
+touched_grows Cleared old new keeps touches =
     let same = ap (λ (r : Record). taken_in r) touches in
     let objects = cleared_few old.objects in
     let persistent = kept_few outlasts old.persistent in
     let indices = cleared_count old.nv in
     omega (arith, same, objects, persistent, indices)
-touched_grows Saved old new fixed touches = let same = ap (λ (r : Record). taken_in r) touches in omega (arith, same)
+touched_grows _ old new keeps touches = absurd (false≢true keeps)
 
 -- ---- sessions
 
@@ -90,19 +94,11 @@ leaves_sessions _ = true
 
 pub touched_same : (p : Part) (old new : Record) → leaves_sessions p ≡ true → Touches p old new
     → new.sessions ≡ old.sessions
-touched_same Nothing old new leaves touches = ap (λ (r : Record). r.sessions) touches
-touched_same Sessions old new leaves touches = absurd cc
-touched_same Objects old new leaves touches = ap (λ (r : Record). r.sessions) touches
-touched_same SessionsAndObjects old new leaves touches = absurd cc
-touched_same Persistent old new leaves touches = ap (λ (r : Record). r.sessions) touches
-touched_same Nv old new leaves touches = ap (λ (r : Record). r.sessions) touches
+touched_same Sessions old new leaves touches = absurd (false≢true leaves)
+touched_same SessionsAndObjects old new leaves touches = absurd (false≢true leaves)
 touched_same AuthValues old new leaves touches = ap (λ (r : Record). r.sessions) touches.0
-touched_same Lockout old new leaves touches = ap (λ (r : Record). r.sessions) touches
-touched_same Banks old new leaves touches = ap (λ (r : Record). r.sessions) touches
 touched_same Beginning old new leaves touches = ap (λ (r : Record). r.sessions) touches.0
-touched_same DisableClear old new leaves touches = ap (λ (r : Record). r.sessions) touches
-touched_same Cleared old new leaves touches = ap (λ (r : Record). r.sessions) touches
-touched_same Saved old new leaves touches = ap (λ (r : Record). r.sessions) touches
+touched_same _ old new leaves touches = ap (λ (r : Record). r.sessions) touches
 
 pub sessions_same : (old new : Record) → new.sessions ≡ old.sessions → SessionsStay old new
 sessions_same old new same h there = ap (λ (sessions : List (Option Session)). is_some (session_at sessions h)) same ∙ there

@@ -35,6 +35,7 @@ use Rattle.tpm_actions_policy.specs.PolicySecret.{secret_parameters}
 use Rattle.tpm_machine_laws.specs.Draws.{DrawsAsSaid}
 use Rattle.tpm_machine_laws.specs.Footprint.{Part, Sessions, Touches, part_of}
 use Rattle.tpm_machine_laws.specs.Handles.{FitsRule}
+use Rattle.tpm_machine_laws.specs.IndexChanges.{ChangesIndices}
 use Rattle.tpm_machine_laws.specs.Order.{Late}
 use Rattle.tpm_machine_laws.specs.RowLaws.{RowLaws, SuccessLaws}
 use Rattle.tpm_machine_laws.specs.Sessions.{SessionsStay}
@@ -100,6 +101,7 @@ keeping_success c r q answer sessions part nothing answers draws keeps =
     let after : Record = record r { sessions = sessions } in
     record {
       touches = subst (λ (p : Part). Touches p r after) (sym part) refl;
+      changes = subst (λ (p : Part). ChangesIndices p q r.nv r.nv) (sym part) refl;
       grows = nothing r after (same_sessions r sessions keeps.count);
       answers = answers;
       draws = draws;

@@ -1,6 +1,6 @@
 -- What stays of sessions where one starts, changes its policy, or is flushed.
 use Rattle.std.specs.Prelude.{IfSome, is_some, option_and_then}
-use Rattle.std.proofs.Common.{◌∙◌, ◌≡◌, ◌≢◌, List, None, Option, Some, ap, inl, inr, length, refl}
+use Rattle.std.proofs.Common.{◌∙◌, ◌≡◌, List, None, Option, Some, ap, inl, inr, length, refl}
 use Rattle.std.proofs.Common.{slice_set, subst, sym, true, ℕ}
 use Rattle.std.proofs.lemmas.Bool.{cases_eq, false≢true}
 use Rattle.tpm_mac.specs.Digest.{digest_size}

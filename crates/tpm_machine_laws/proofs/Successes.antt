@@ -8,6 +8,7 @@ use Rattle.tpm_actions_base.specs.Request.{Request}
 use Rattle.tpm_actions_base.specs.Rows.{Success}
 use Rattle.tpm_machine_laws.specs.Draws.{DrawsAsSaid, read_or_none}
 use Rattle.tpm_machine_laws.specs.Footprint.{Touches, part_of}
+use Rattle.tpm_machine_laws.specs.IndexChanges.{ChangesIndices}
 use Rattle.tpm_machine_laws.specs.RowLaws.{SuccessLaws}
 use Rattle.tpm_machine_laws.specs.Shapes.{AnswersItsShape, Grows, GrowsAsShaped}
 use Rattle.tpm_machine_laws.specs.Sizes.{IsSized}
@@ -25,9 +26,10 @@ GrowsByOne c = (old new : Record) → Grows true old new → GrowsAsShaped c old
 -- a success that leaves the sessions alone
 pub beside_sessions : (c : CommandCode) (r : Record) (q : Request) (s : Success)
     → leaves_sessions (part_of c) ≡ true → Touches (part_of c) r s.after → GrowsAsShaped c r s.after
-    → AnswersItsShape c s → DrawsAsSaid c q s → SuccessLaws c r q s
-beside_sessions c r q s leaves touches grows answers draws = record {
+    → ChangesIndices (part_of c) q r.nv s.after.nv → AnswersItsShape c s → DrawsAsSaid c q s → SuccessLaws c r q s
+beside_sessions c r q s leaves touches grows changes answers draws = record {
   touches = touches;
+  changes = changes;
   grows = grows;
   answers = answers;
   draws = draws;
@@ -41,9 +43,10 @@ beside_sessions c r q s leaves touches grows answers draws = record {
 -- and one whose part takes no place more either
 pub in_place : (c : CommandCode) (r : Record) (q : Request) (s : Success)
     → leaves_sessions (part_of c) ≡ true → keeps_places (part_of c) ≡ true → GrowsNothing c
-    → Touches (part_of c) r s.after → AnswersItsShape c s → DrawsAsSaid c q s → SuccessLaws c r q s
-in_place c r q s leaves keeps nothing touches answers draws =
-    beside_sessions c r q s leaves touches (nothing r s.after (touched_grows (part_of c) r s.after keeps touches)) answers draws
+    → Touches (part_of c) r s.after → ChangesIndices (part_of c) q r.nv s.after.nv
+    → AnswersItsShape c s → DrawsAsSaid c q s → SuccessLaws c r q s
+in_place c r q s leaves keeps nothing touches changes answers draws =
+    beside_sessions c r q s leaves touches (nothing r s.after (touched_grows (part_of c) r s.after keeps touches)) changes answers draws
 
 -- what draws no random bytes draws few
 pub none_drawn : 0 ≤ 96

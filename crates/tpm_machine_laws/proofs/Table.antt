@@ -12,6 +12,7 @@ use Rattle.tpm_machine_step.specs.Table.{row_of}
 use Rattle.tpm_machine_laws.specs.Draws.{draws_of}
 use Rattle.tpm_machine_laws.specs.Footprint.{Touches, part_of}
 use Rattle.tpm_machine_laws.specs.Handles.{HandlesFit}
+use Rattle.tpm_machine_laws.specs.IndexChanges.{ChangesIndices}
 use Rattle.tpm_machine_laws.specs.Order.{Plain}
 use Rattle.tpm_machine_laws.specs.Refusals.{Passes}
 use Rattle.tpm_machine_laws.specs.RowLaws.{RowLaws, SuccessLaws}
@@ -81,13 +82,18 @@ laws_of command.PolicyPassword = policy.policy_password_laws
 
 -- ---- what each success has
 
-of_success : (P : Success → Type 0) (r : Record) (c : CommandCode) (q : Request)
+pub of_success : (P : Success → Type 0) (r : Record) (c : CommandCode) (q : Request)
     → ((s : Success) → SuccessLaws c r q s → P s) → IfOk (row_of r c q) P
 of_success P r c q law = ok_weaker (SuccessLaws c r q) P (row_of r c q) ((laws_of c).success r q) law
 
 pub row_touches : (r : Record) (c : CommandCode) (q : Request)
     → IfOk (row_of r c q) (λ s. Touches (part_of c) r s.after)
 row_touches r c q = of_success _ r c q (λ s laws. laws.touches)
+
+-- what a success makes of the NV indices
+pub row_changes : (r : Record) (c : CommandCode) (q : Request)
+    → IfOk (row_of r c q) (λ s. ChangesIndices (part_of c) q r.nv s.after.nv)
+row_changes r c q = of_success _ r c q (λ s laws. laws.changes)
 
 pub row_grows : (r : Record) (c : CommandCode) (q : Request)
     → IfOk (row_of r c q) (λ s. GrowsAsShaped c r s.after)

@@ -1,4 +1,5 @@
 pub mod Footprint
+pub mod IndexChanges
 pub mod Shapes
 pub mod Sessions
 pub mod Refusals

@@ -8,16 +8,18 @@ use Rattle.tpm_actions_base.specs.Request.{Request}
 use Rattle.tpm_actions_base.specs.Rows.{Success}
 use Rattle.tpm_machine_laws.specs.Draws.{DrawsAsSaid}
 use Rattle.tpm_machine_laws.specs.Footprint.{Touches, part_of}
+use Rattle.tpm_machine_laws.specs.IndexChanges.{ChangesIndices}
 use Rattle.tpm_machine_laws.specs.Order.{Orders, Plain}
 use Rattle.tpm_machine_laws.specs.Sessions.{SessionsStay}
 use Rattle.tpm_machine_laws.specs.Shapes.{AnswersItsShape, GrowsAsShaped}
 use Rattle.tpm_machine_laws.specs.Sizes.{AreSized}
 
--- A success touches the part of its command alone; it takes as many places, and answers what, its
--- shape says, and draws as many random bytes as are said of it; where the command may have sessions
--- they all stay, and they keep their sizes.
+-- A success touches the part of its command alone, and makes of the NV indices what is said of that;
+-- it takes as many places, and answers what, its shape says, and draws as many random bytes as are
+-- said of it; where the command may have sessions they all stay, and they keep their sizes.
 pub record SuccessLaws (c : CommandCode) (r : Record) (q : Request) (s : Success) : Type 0 where
   pub touches : Touches (part_of c) r s.after
+  pub changes : ChangesIndices (part_of c) q r.nv s.after.nv
   pub grows : GrowsAsShaped c r s.after
   pub answers : AnswersItsShape c s
   pub draws : DrawsAsSaid c q s

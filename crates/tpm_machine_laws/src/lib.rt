@@ -39,6 +39,7 @@ ghost use Rattle.tpm_machine_laws.specs.Draws.{draws_of};
 ghost use Rattle.tpm_machine_laws.specs.Footprint.{Touches, part_of};
 ghost use Rattle.tpm_machine_laws.specs.Grants.{GrantsFit};
 ghost use Rattle.tpm_machine_laws.specs.Handles.{FitsRule, HandlesFit};
+ghost use Rattle.tpm_machine_laws.specs.IndexChanges.{ChangesIndices};
 ghost use Rattle.tpm_machine_laws.specs.Refusals.{Passes, RefusesAuthorization};
 ghost use Rattle.tpm_machine_laws.specs.Sessions.{HaveSessions, SessionsStay};
 ghost use Rattle.tpm_machine_laws.specs.Shapes.{AnswersItsShape, GrowsAsShaped, ReadsParameters, spelled};
@@ -52,6 +53,16 @@ use tpm_machine_step::event::Outcome;
 pub fn footprint_laws()
     ensures { (r : Record) (c : CommandCode) (q : Request)
         → IfOk (row_of r c q) (λ s. Touches (part_of c) r s.after) }
+{}
+
+/// A success makes of the NV indices what is said of the part that it touches: one is written or
+/// locked, a counter counts, one has another authorization value, comes or goes; a startup and a
+/// clear have their effects on all; and every other success leaves them as they were.
+#[inline(always)]
+#[tactic(auto, using(crate::proofs::Table::row_changes))]
+pub fn index_change_laws()
+    ensures { (r : Record) (c : CommandCode) (q : Request)
+        → IfOk (row_of r c q) (λ s. ChangesIndices (part_of c) q r.nv s.after.nv) }
 {}
 
 /// A success answers a handle, and a sized buffer first, exactly where its command's shape says so.
