@@ -32,10 +32,10 @@ use Rattle.tpm_types_command.specs.Shape.{admin, unauthorized, user}
 use Rattle.tpm_types_command.specs.declared.command_code.CommandCode.{CommandCode}
 use Rattle.tpm_types_command.specs.declared.command_code.CommandCode.TheVariants as command
 use Rattle.tpm_types_command.specs.declared.shape.HandleKind.TheVariants as kind
-use Rattle.tpm_nv.specs.Access.{bits_set, extended, incremented, index_or_fault, read_locked, with_auth_value, write_locked, written}
+use Rattle.tpm_nv.specs.Access.{incremented, index_or_fault, with_auth_value}
 use Rattle.tpm_nv.specs.Clear.{cleared, is_by_platform}
-use Rattle.tpm_nv.specs.Definition.{defined_index, definition_passes}
-use Rattle.tpm_nv.specs.Index.{NvContents, NvIndex, changed_index, has_room, index_at, with_index}
+use Rattle.tpm_nv.specs.Definition.{defined_index}
+use Rattle.tpm_nv.specs.Index.{NvContents, NvIndex, changed_index, with_index, without_index}
 use Rattle.tpm_nv.specs.Startup.{started, started_index}
 use Rattle.tpm_nv.specs.declared.fault.NvFault.{NvFault}
 use Rattle.tpm_object.specs.Areas.{new_object_areas}
@@ -68,20 +68,14 @@ use Rattle.tpm_actions_object.specs.Load as load
 use Rattle.tpm_actions_object.specs.Loaded.{is_fixed, loaded_at, parent_passes, place_for}
 use Rattle.tpm_nvactions.specs.Access.{changed_nv, lock_refusal}
 use Rattle.tpm_nvactions.specs.NvChangeAuth.{nv_change_auth_row}
-use Rattle.tpm_nvactions.specs.NvDefineSpace.{definition_refusal, nv_define_space_row}
 use Rattle.tpm_nvactions.specs.NvDefineSpace as definition
-use Rattle.tpm_nvactions.specs.NvExtend.{nv_extend_row}
-use Rattle.tpm_nvactions.specs.NvIncrement.{nv_increment_row}
-use Rattle.tpm_nvactions.specs.NvReadLock.{nv_read_lock_row}
-use Rattle.tpm_nvactions.specs.NvSetBits.{nv_set_bits_row}
-use Rattle.tpm_nvactions.specs.NvUndefineSpace.{nv_undefine_space_row}
-use Rattle.tpm_nvactions.specs.NvWrite.{nv_write_row}
-use Rattle.tpm_nvactions.specs.NvWriteLock.{nv_write_lock_row}
 use Rattle.tpm_machine_step.specs.Table.{row_of}
-use Rattle.tpm_machine_laws.specs.Footprint.{Part, Nothing, Sessions, Lockout, Banks, Saved, DisableClear, Cleared, Touches, emptied, part_of}
+use Rattle.tpm_machine_laws.specs.Footprint.{Part, Nothing, Sessions, NvData, NvCounter, NvUndefined, Lockout, Banks, Saved}
+use Rattle.tpm_machine_laws.specs.Footprint.{DisableClear, Cleared, Touches, emptied, part_of}
+use Rattle.tpm_machine_laws.specs.IndexChanges.{ChangesIndices, Defines, Writes}
 use Rattle.tpm_machine_laws.specs.Handles.{FitsRule, HandlesFit}
 use Rattle.tpm_machine_laws.proofs.Binding.{asked, ok_at, ok_bind, ok_bind_is, ok_then, ok_weaker, some_is}
-use Rattle.tpm_machine_laws.proofs.Footprint.{row_touches}
+use Rattle.tpm_machine_laws.proofs.Table.{of_success, row_touches}
 use Rattle.tpm_machine_history.specs.AuthValues.{AuthValues, changed_value, cleared_values, copied_value, created_value, defined_value, loaded_value, started_values, values_by, with_value}
 use Rattle.tpm_machine_history.specs.DeviceAuthValues.{HaveValues, auth_seen, index_auth, object_auth}
 use Rattle.tpm_machine_history.specs.HandleMap.{with_at}
@@ -93,32 +87,7 @@ use Rattle.tpm_machine_history.proofs.AuthParts.{KeepsAll, Sets, auth_handle, hi
 use Rattle.tpm_machine_history.proofs.AuthReadings.{IsDefinition, definition_read, wanted_named}
 use Rattle.tpm_machine_laws.proofs.HandleRules.{first_fits, second_fits}
 
--- ---- rows that touch no authorization value
-
-abbrev leaves_values : Part → Bool
-leaves_values Nothing = true
-leaves_values Sessions = true
-leaves_values Lockout = true
-leaves_values Banks = true
-leaves_values Saved = true
-leaves_values DisableClear = true
-leaves_values _ = false
-
-untouched : (p : Part) (old new : Record) → leaves_values p ≡ true → Touches p old new → KeepsAll old new
-untouched Nothing old new leaves touches = subst (KeepsAll old) (sym touches) (λ h v is. is)
-untouched Sessions old new leaves touches = subst (KeepsAll old) (sym touches) (λ h v is. is)
-untouched Lockout old new leaves touches = subst (KeepsAll old) (sym touches) (λ h v is. is)
-untouched Banks old new leaves touches = subst (KeepsAll old) (sym touches) (λ h v is. is)
-untouched Saved old new leaves touches = subst (KeepsAll old) (sym touches) (λ h v is. is)
-untouched DisableClear old new leaves touches = subst (KeepsAll old) (sym touches) (λ h v is. is)
-untouched _ old new leaves touches = absurd (false≢true leaves)
-
-others_keep : (r : Record) (code : CommandCode) (q : Request) → leaves_values (part_of code) ≡ true → IfOk (row_of r code q) (λ s. KeepsAll r s.after)
-others_keep r code q leaves =
-    ok_weaker (λ s. Touches (part_of code) r s.after) (λ s. KeepsAll r s.after) (row_of r code q) (row_touches r code q)
-    (λ s touches. untouched (part_of code) r s.after leaves touches)
-
--- ---- rows that change what an NV index holds
+-- ---- parts that keep authorization values
 
 index_keys : IsSortedMap NvIndex
 index_keys = is_map
@@ -127,70 +96,65 @@ index_keys = is_map
 abbrev ShowSame : (old new : NvContents) → Type 0
 ShowSame old new = (n : ℕ) → index_auth (at_key new.indices n) ≡ index_auth (at_key old.indices n)
 
-changed_same : (nv : NvContents) (handle : Handle) (old new : NvIndex) → index_or_fault nv handle ≡ Ok old → new.auth_value ≡ old.auth_value → ShowSame nv (changed_index nv handle new)
-changed_same nv handle old new is same = changed_shows (λ (index : NvIndex). index.auth_value) nv.indices handle.number old new (some_is _ _ old is) same
-
-nv_keeps : (r : Record) (nv : NvContents) → ShowSame r.nv nv → KeepsAll r (record r { nv = nv })
-nv_keeps r nv same h = parts_keep r (record r { nv = nv }) h (same_kept (same h.number)) (λ v is. is) (λ v is. is) refl
-
--- a row that hands on what was changed
-changed_keeps : (r : Record) (refusal : NvFault → Refused) (new : Result NvContents NvFault) → IfOk new (ShowSame r.nv) → IfOk (or_refusal refusal new >>= λ nv. Ok (changed_nv r nv)) (λ s. KeepsAll r s.after)
-changed_keeps r refusal (Ok nv) same = nv_keeps r nv same
-changed_keeps r refusal (Err fault) same = tt
+changed_same : (nv : NvContents) (handle : Handle) (old new : NvIndex)
+    → index_or_fault nv handle ≡ Ok old → new.auth_value ≡ old.auth_value
+    → ShowSame nv (changed_index nv handle new)
+changed_same nv handle old new is same =
+    changed_shows (λ (index : NvIndex). index.auth_value) nv.indices handle.number old new (some_is _ _ old is) same
 
 incremented_same : (nv : NvContents) (handle : Handle) → IfOk (incremented nv handle) (ShowSame nv)
 unfolding incremented
 incremented_same nv handle = search (ok_bind_is, changed_same)
 
-increment_keeps : (r : Record) (q : Request) → IfOk (row_of r command.NvIncrement q) (λ s. KeepsAll r s.after)
-unfolding row_of nv_increment_row
-increment_keeps r q = search (rules, ok_bind, changed_keeps, incremented_same)
+writes_same : (old new : NvContents) → Writes old new → ShowSame old new
+writes_same old new made =
+    subst (ShowSame old) (sym made.is) (changed_shows (λ (index : NvIndex). index.auth_value) old.indices made.handle.number made.before made.after made.found made.auth_value)
 
-bits_set_same : (nv : NvContents) (handle : Handle) (bits : ℕ) → IfOk (bits_set nv handle bits) (ShowSame nv)
-unfolding bits_set
-bits_set_same nv handle bits = search (ok_bind_is, changed_same)
+nv_keeps : (r : Record) (nv : NvContents) → ShowSame r.nv nv → KeepsAll r (record r { nv = nv })
+nv_keeps r nv same h = parts_keep r (record r { nv = nv }) h (same_kept (same h.number)) (λ v is. is) (λ v is. is) refl
 
-set_bits_keeps : (r : Record) (q : Request) → IfOk (row_of r command.NvSetBits q) (λ s. KeepsAll r s.after)
-unfolding row_of nv_set_bits_row
-set_bits_keeps r q = search (rules, ok_bind, changed_keeps, bits_set_same)
+undefined_keeps : (r : Record) (handle : Handle) → Ascends r.nv.indices
+    → KeepsAll r (record r { nv = without_index r.nv handle })
+undefined_keeps r handle up h =
+    parts_keep r (record r { nv = without_index r.nv handle }) h (index_kept _ _ (removed_or_same r.nv.indices handle.number h.number up)) (λ v is. is) (λ v is. is) refl
 
-extended_same : (nv : NvContents) (handle : Handle) (bytes : List ℕ) → IfOk (extended nv handle bytes) (ShowSame nv)
-unfolding extended
-extended_same nv handle bytes = search (ok_bind_is, changed_same)
+abbrev keeps_values : Part → Bool
+keeps_values Nothing = true
+keeps_values Sessions = true
+keeps_values NvData = true
+keeps_values NvCounter = true
+keeps_values NvUndefined = true
+keeps_values Lockout = true
+keeps_values Banks = true
+keeps_values Saved = true
+keeps_values DisableClear = true
+keeps_values _ = false
 
-extend_keeps : (r : Record) (q : Request) → IfOk (row_of r command.NvExtend q) (λ s. KeepsAll r s.after)
-unfolding row_of nv_extend_row
-extend_keeps r q = search (rules, ok_bind, changed_keeps, extended_same)
+part_keeps : (p : Part) (q : Request) (old new : Record) → keeps_values p ≡ true
+    → Ascends old.nv.indices → Touches p old new → ChangesIndices p q old.nv new.nv
+    → KeepsAll old new
+part_keeps Nothing q old new keeps up touches changes = subst (KeepsAll old) (sym touches) (λ h v is. is)
+part_keeps Sessions q old new keeps up touches changes = subst (KeepsAll old) (sym touches) (λ h v is. is)
+part_keeps NvData q old new keeps up touches changes =
+    subst (KeepsAll old) (sym touches) (nv_keeps old new.nv (writes_same old.nv new.nv changes))
+part_keeps NvCounter q old new keeps up touches changes =
+    let same = ok_at (ShowSame old.nv) (incremented old.nv changes.handle) new.nv (incremented_same old.nv changes.handle) changes.is in
+    subst (KeepsAll old) (sym touches) (nv_keeps old new.nv same)
+part_keeps NvUndefined q old new keeps up touches changes =
+    let made : new ≡ record old { nv = without_index old.nv changes.handle } = touches ∙ ap (λ (nv : NvContents). record old { nv = nv }) changes.is in
+    subst (KeepsAll old) (sym made) (undefined_keeps old changes.handle up)
+part_keeps Lockout q old new keeps up touches changes = subst (KeepsAll old) (sym touches) (λ h v is. is)
+part_keeps Banks q old new keeps up touches changes = subst (KeepsAll old) (sym touches) (λ h v is. is)
+part_keeps Saved q old new keeps up touches changes = subst (KeepsAll old) (sym touches) (λ h v is. is)
+part_keeps DisableClear q old new keeps up touches changes = subst (KeepsAll old) (sym touches) (λ h v is. is)
+part_keeps _ q old new keeps up touches changes = absurd (false≢true keeps)
 
-written_same : (nv : NvContents) (handle : Handle) (offset : ℕ) (bytes : List ℕ) → IfOk (written nv handle offset bytes) (ShowSame nv)
-unfolding written
-written_same nv handle offset bytes = search (ok_bind_is, changed_same)
+others_keep : (r : Record) (code : CommandCode) (q : Request) → keeps_values (part_of code) ≡ true
+    → Ascends r.nv.indices → IfOk (row_of r code q) (λ s. KeepsAll r s.after)
+others_keep r code q keeps up =
+    of_success _ r code q (λ s laws. part_keeps (part_of code) q r s.after keeps up laws.touches laws.changes)
 
-write_keeps : (r : Record) (q : Request) → IfOk (row_of r command.NvWrite q) (λ s. KeepsAll r s.after)
-unfolding row_of nv_write_row
-write_keeps r q = search (rules, ok_bind, changed_keeps, written_same)
-
-write_locked_same : (nv : NvContents) (handle : Handle) → IfOk (write_locked nv handle) (ShowSame nv)
-unfolding write_locked
-write_locked_same nv handle = search (ok_bind_is, changed_same)
-
-write_lock_keeps : (r : Record) (q : Request) → IfOk (row_of r command.NvWriteLock q) (λ s. KeepsAll r s.after)
-unfolding row_of nv_write_lock_row
-write_lock_keeps r q = search (rules, ok_bind, changed_keeps, write_locked_same)
-
-read_locked_same : (nv : NvContents) (handle : Handle) → IfOk (read_locked nv handle) (ShowSame nv)
-unfolding read_locked
-read_locked_same nv handle = search (ok_bind_is, changed_same)
-
-read_lock_keeps : (r : Record) (q : Request) → IfOk (row_of r command.NvReadLock q) (λ s. KeepsAll r s.after)
-unfolding row_of nv_read_lock_row
-read_lock_keeps r q = search (rules, ok_bind, changed_keeps, read_locked_same)
-
--- ---- rows that take away an index or an object
-
-undefine_keeps : (r : Record) (q : Request) → Ascends r.nv.indices → IfOk (row_of r command.NvUndefineSpace q) (λ s. KeepsAll r s.after)
-unfolding row_of nv_undefine_space_row
-undefine_keeps r q up = search (rules, ok_bind, parts_keep, index_kept, removed_or_same)
+-- ---- an object or a session is flushed
 
 flushed_keeps : (r : Record) (handle : Handle) (of_session : Bool) → KeepsAll r (flushed_from r handle of_session)
 unfolding object_at without_object
@@ -258,21 +222,23 @@ nv_change_auth_sets r q values fits have =
     by handle value set (Ok nv) sets = set_is r (record r { nv = nv }) values handle value (changed_value q) set sets have
     by handle value set (Err fault) sets = tt
 
-define_sets : (r : Record) (q : Request) (values : AuthValues) → HaveValues r values → IfOk (row_of r command.NvDefineSpace q) (λ s. HaveValues s.after (with_value (defined_value q) values))
-unfolding row_of nv_define_space_row
-define_sets r q values have =
-    ok_bind _ (first_handle q.handles) _ (λ authority.
-    ok_bind_is _ (definition.parameters_in q.parameters) _ (λ p p_is.
-    ok_bind _ (or_refusal definition_refusal (definition_passes (authority.number == platform_handle.number) p.public (length p.auth_value))) _ (λ passes.
-    ok_bind_is _ (refused_if (is_some (index_at r.nv p.public.nv_index)) _) _ (λ a5 free.
-    ok_bind _ (refused_if (not (has_room r.nv p.public.data_size)) _) _ (λ a6.
-    let index : NvIndex = defined_index p.public p.auth_value in
-    let named : is_nv_index p.public.nv_index ≡ true = (ok_at IsDefinition (definition.parameters_in q.parameters) p (definition_read q.parameters) p_is).named in
-    let set : defined_value q ≡ Ok (p.public.nv_index, p.auth_value) = rw p_is refl in
-    let put = index_keys.put_found r.nv.indices p.public.nv_index.number index (absent (index_at r.nv p.public.nv_index) _ a5 free) in
-    set_is r (record r { nv = with_index r.nv p.public.nv_index index }) values p.public.nv_index p.auth_value (defined_value q) set
-    (index_set r (with_index r.nv p.public.nv_index index) p.public.nv_index index named put (index_keys.put_others r.nv.indices p.public.nv_index.number index))
-    have)))))
+define_sets : (r : Record) (q : Request) (values : AuthValues) → HaveValues r values
+    → IfOk (row_of r command.NvDefineSpace q) (λ s. HaveValues s.after (with_value (defined_value q) values))
+define_sets r q values have = of_success _ r command.NvDefineSpace q (λ s laws. by s.after laws.touches laws.changes)
+  where
+    by : (new : Record) → new ≡ record r { nv = new.nv } → Defines q r.nv new.nv
+        → HaveValues new (with_value (defined_value q) values)
+    by new touches made =
+        let handle : Handle = made.parameters.public.nv_index in
+        let index : NvIndex = defined_index made.parameters.public made.parameters.auth_value in
+        let named : is_nv_index handle ≡ true = (ok_at IsDefinition (definition.parameters_in q.parameters) made.parameters (definition_read q.parameters) made.read).named in
+        let set : defined_value q ≡ Ok (handle, index.auth_value) = rw made.read refl in
+        let put = index_keys.put_found r.nv.indices handle.number index made.free in
+        let is : new ≡ record r { nv = with_index r.nv handle index } = touches ∙ ap (λ (nv : NvContents). record r { nv = nv }) made.is in
+        subst (λ (x : Record). HaveValues x (with_value (defined_value q) values)) (sym is)
+        (set_is r (record r { nv = with_index r.nv handle index }) values handle index.auth_value (defined_value q) set
+        (index_set r (with_index r.nv handle index) handle index named put (index_keys.put_others r.nv.indices handle.number index))
+        have)
 
 -- ---- transient objects
 
@@ -459,12 +425,5 @@ row_sets r command.Load q values fits all up also have = load_sets r q values al
 row_sets r command.EvictControl q values fits all up also have = evict_sets r q values also fits have
 row_sets r command.Startup q values fits all up also have = startup_sets r q values have
 row_sets r command.Clear q values fits all up also have = clear_sets r q values up also have
-row_sets r command.NvUndefineSpace q values fits all up also have = kept_all r command.NvUndefineSpace q values have (undefine_keeps r q up)
-row_sets r command.NvIncrement q values fits all up also have = kept_all r command.NvIncrement q values have (increment_keeps r q)
-row_sets r command.NvSetBits q values fits all up also have = kept_all r command.NvSetBits q values have (set_bits_keeps r q)
-row_sets r command.NvExtend q values fits all up also have = kept_all r command.NvExtend q values have (extend_keeps r q)
-row_sets r command.NvWrite q values fits all up also have = kept_all r command.NvWrite q values have (write_keeps r q)
-row_sets r command.NvWriteLock q values fits all up also have = kept_all r command.NvWriteLock q values have (write_lock_keeps r q)
-row_sets r command.NvReadLock q values fits all up also have = kept_all r command.NvReadLock q values have (read_lock_keeps r q)
 row_sets r command.FlushContext q values fits all up also have = kept_all r command.FlushContext q values have (flush_keeps r q)
-row_sets r _ q values fits all up also have = kept_all r _ q values have (others_keep r _ q refl)
+row_sets r _ q values fits all up also have = kept_all r _ q values have (others_keep r _ q refl up)

@@ -1,9 +1,9 @@
 -- A row makes of the counters among the NV indices what the history says of its command.
-use Rattle.std.proofs.Common.{arith, ◌≡◌, ◌⊎◌, ℕ, zero, suc, ◌+◌, ◌<◌, ◌^◌, Bool, true, false, cond, List, [], ◌∷◌, get_or, Option, Some, None, IfOk, refl, sym, ap, subst, ◌∙◌, inl, inr}
+use Rattle.std.proofs.Common.{arith, ◌≡◌, ℕ, zero, suc, ◌+◌, ◌<◌, ◌^◌, Bool, true, false, cond, List, [], ◌∷◌, get_or, Option, Some, None, IfOk, refl, sym, ap, subst, ◌∙◌, inl, inr}
 use Rattle.std.specs.Prelude.{◌&&◌, max, ◌==◌}
 use Rattle.std.specs.Int.{w64, from_be_bytes, to_be_bytes}
 use Rattle.std.specs.List.{list_any}
-use Rattle.std.proofs.lemmas.Bool.{cond_both, cond-false, cond-true, or_parts}
+use Rattle.std.proofs.lemmas.Bool.{false≢true, cond_both, cond-false, cond-true, or_parts}
 use Rattle.std.proofs.lemmas.Bool.Decides.{nat_tests}
 use Rattle.std.proofs.lemmas.Nat.{from_be_bytes-to_be_bytes_8}
 use Rattle.tpm_sorted_map.specs.SortedMap.{Ascends}
@@ -18,7 +18,7 @@ use Rattle.tpm_types_nv.specs.declared.nv_attributes.NvAttribute.TheVariants as 
 use Rattle.tpm_types_nv.specs.declared.nv_attributes.NvAttributes.{NvAttributes}
 use Rattle.tpm_types_nv.specs.declared.nv_type.NvType.TheVariants as type
 use Rattle.tpm_nv.proofs.DefinitionLaws.{unwritten_is}
-use Rattle.tpm_nv.specs.Access.{counted, index_has, number_or, with_data}
+use Rattle.tpm_nv.specs.Access.{counted, incremented, index_has, number_or, with_data}
 use Rattle.tpm_nv.specs.Clear.{cleared}
 use Rattle.tpm_nv.specs.Definition.{defined_index, index_attribute_conflicts}
 use Rattle.tpm_nv.specs.Index.{NvContents, NvIndex, changed_index, index_at, with_index, without_index}
@@ -26,14 +26,17 @@ use Rattle.tpm_nv.specs.Startup.{kept_written, started, started_attributes, star
 use Rattle.tpm_record.specs.Record.{Record}
 use Rattle.tpm_actions_base.specs.Request.{Request, second_handle}
 use Rattle.tpm_machine_step.specs.Table.{row_of}
-use Rattle.tpm_machine_laws.proofs.Binding.{ok_weaker}
-use Rattle.tpm_machine_laws.proofs.Footprint.{row_touches}
-use Rattle.tpm_machine_laws.specs.Footprint.{Beginning, Cleared, Touches, part_of}
+use Rattle.tpm_machine_laws.proofs.Binding.{ok_at, ok_weaker}
+use Rattle.tpm_machine_laws.proofs.Table.{row_changes}
+use Rattle.tpm_machine_laws.specs.Footprint.{Part, NvData, NvCounter, NvAuthValue, NvDefined, NvUndefined}
+use Rattle.tpm_machine_laws.specs.Footprint.{Beginning, Cleared, StartsNv, part_of}
+use Rattle.tpm_machine_laws.specs.IndexChanges.{ChangesAuth, ChangesIndices, Defines, Increments, IsCounter, KeepsCount}
+use Rattle.tpm_machine_laws.specs.IndexChanges.{Undefines, Writes, stored_count}
 use Rattle.tpm_machine_history.specs.Counters.{Counters, begun_at, counted_at, counters_by, defined_handle, largest, next_count}
-use Rattle.tpm_machine_history.specs.DeviceCounters.{AreCounted, IsCounted, IsCounter, stored_count}
+use Rattle.tpm_machine_history.specs.DeviceCounters.{AreCounted, IsCounted}
 use Rattle.tpm_machine_history.specs.HandleMap.{by_handle, with_at}
 use Rattle.tpm_machine_history.proofs.HandleMap.{at_other, at_same}
-use Rattle.tpm_machine_history.proofs.IndexChanges.{ChangesAuth, Defines, Increments, KeepsCount, Removes, Writes, auth_row, definition_row, increment_row, leaves_nv, leaving_row, removal_row, writes, writing_row}
+use Rattle.tpm_machine_history.proofs.IndexChanges.{CountsUp, incremented_counts}
 use Rattle.tpm_machine_history.proofs.Indices.{OthersStay, changed_each, cleared_each, defined_each, removed_each, started_each}
 
 -- A counter has the value that stands for its handle.
@@ -69,8 +72,8 @@ writes_counted old new c made are =
     same_counted (changed_index old made.handle made.after) new c made.is
     (changed_counted old made.handle made.before made.after c made.found made.count are)
 
-auth_counted : (q : Request) (old new : NvContents) (c : Counters) → ChangesAuth q old new → AreCounted old c → AreCounted new c
-auth_counted q old new c made are =
+auth_counted : (old new : NvContents) (c : Counters) → ChangesAuth old new → AreCounted old c → AreCounted new c
+auth_counted old new c made are =
     same_counted (changed_index old made.handle (record made.index { auth_value = made.value })) new c made.is
     (changed_counted old made.handle made.index (record made.index { auth_value = made.value }) c made.found (λ counter. (counter, refl, refl)) are)
 
@@ -110,12 +113,14 @@ counter_counted contents handle old n c found counter is small are = record {
           ∙ sym (at_same handle handle count c.at refl);
     }
 
-increment_counted : (q : Request) (old new : NvContents) (c : Counters) → Increments q old new → AreCounted old c → AreCounted new (by_handle (second_handle q.handles) counted_at c)
+increment_counted : (q : Request) (old new : NvContents) (c : Counters) → Increments q old new
+    → AreCounted old c → AreCounted new (by_handle (second_handle q.handles) counted_at c)
 increment_counted q old new c made are =
-    let n : ℕ = number_or old.max_count made.index + 1 in
+    let up = ok_at (CountsUp made.handle old) (incremented old made.handle) new (incremented_counts old made.handle) made.is in
+    let n : ℕ = number_or old.max_count up.index + 1 in
     rw made.named
-    (same_counted (counted (changed_index old made.handle (with_data made.index (to_be_bytes w64 n))) n) new (counted_at made.handle c) made.is
-    (counter_counted old made.handle made.index n c made.found made.counter refl made.small are))
+    (same_counted (counted (changed_index old made.handle (with_data up.index (to_be_bytes w64 n))) n) new (counted_at made.handle c) up.is
+    (counter_counted old made.handle up.index n c up.found up.counter refl up.small are))
 
 -- ---- an index comes or goes
 
@@ -154,7 +159,7 @@ definition_counted q old new c made are =
       value = cond-false _ _ _ (unwritten_is made.by_platform made.parameters.public.attributes made.passes) ∙ sym (at_same handle handle None c.at refl);
     }
 
-removal_counted : (q : Request) (old new : NvContents) (c : Counters) → Ascends old.indices → Removes q old new → AreCounted old c → AreCounted new c
+removal_counted : (q : Request) (old new : NvContents) (c : Counters) → Ascends old.indices → Undefines q old new → AreCounted old c → AreCounted new c
 removal_counted q old new c up made are =
     same_counted (without_index old made.handle) new c made.is
     (record { most = are.most; each = removed_each (Counts c.at) old made.handle up are.each })
@@ -210,42 +215,42 @@ startup_counted contents c are = record { most = are.most; each = started_each (
         let kept = startup_keeps index was.stays in
         record { stays = kept.1; value = kept.0 ∙ was.value }
 
+starts_counted : (old new : NvContents) (c : Counters) → StartsNv old new → AreCounted old c
+    → AreCounted new c
+starts_counted old new c (inl same) are = same_counted old new c same are
+starts_counted old new c (inr starts) are = same_counted (started old) new c starts (startup_counted old c are)
+
 -- ---- rows
 
-startup_row : (r : Record) (q : Request) (c : Counters) → AreCounted r.nv c → IfOk (row_of r command.Startup q) (λ s. AreCounted s.after.nv c)
-startup_row r q c are =
-    ok_weaker (λ s. Touches Beginning r s.after) (λ s. AreCounted s.after.nv c) (row_of r command.Startup q) (row_touches r command.Startup q)
-    (λ s touches. by s.after.nv touches.1)
-  where
-    by : (new : NvContents) → (new ≡ r.nv) ⊎ (new ≡ started r.nv) → AreCounted new c
-    by new (inl same) = same_counted r.nv new c same are
-    by new (inr starts) = same_counted (started r.nv) new c starts (startup_counted r.nv c are)
+-- whether a success that touches this part leaves the values that a history tells of counters
+abbrev keeps_counters : Part → Bool
+keeps_counters NvCounter = false
+keeps_counters NvDefined = false
+keeps_counters _ = true
 
-clear_row : (r : Record) (q : Request) (c : Counters) → Ascends r.nv.indices → AreCounted r.nv c → IfOk (row_of r command.Clear q) (λ s. AreCounted s.after.nv c)
-clear_row r q c up are =
-    ok_weaker (λ s. Touches Cleared r s.after) (λ s. AreCounted s.after.nv c) (row_of r command.Clear q) (row_touches r command.Clear q)
-    (λ s touches. same_counted (cleared r.nv) s.after.nv c (ap (λ (x : Record). x.nv) touches) (clear_counted r.nv c up are))
+part_counted : (p : Part) (q : Request) (old new : NvContents) (c : Counters)
+    → keeps_counters p ≡ true → Ascends old.indices → ChangesIndices p q old new → AreCounted old c
+    → AreCounted new c
+part_counted NvCounter q old new c keeps up changes are = absurd (false≢true keeps)
+part_counted NvDefined q old new c keeps up changes are = absurd (false≢true keeps)
+part_counted NvData q old new c keeps up changes are = writes_counted old new c changes are
+part_counted NvAuthValue q old new c keeps up changes are = auth_counted old new c changes are
+part_counted NvUndefined q old new c keeps up changes are = removal_counted q old new c up changes are
+part_counted Beginning q old new c keeps up changes are = starts_counted old new c changes are
+part_counted Cleared q old new c keeps up changes are = same_counted (cleared old) new c changes (clear_counted old c up are)
+part_counted _ q old new c keeps up changes are = same_counted old new c changes are
 
-write_row : (r : Record) (code : CommandCode) (q : Request) (c : Counters) → writes code ≡ true → AreCounted r.nv c → IfOk (row_of r code q) (λ s. AreCounted s.after.nv c)
-write_row r code q c writing are = ok_weaker _ _ (row_of r code q) (writing_row r code q writing) (λ s made. writes_counted r.nv s.after.nv c made are)
+keeping_row : (r : Record) (code : CommandCode) (q : Request) (c : Counters)
+    → keeps_counters (part_of code) ≡ true → Ascends r.nv.indices → AreCounted r.nv c
+    → IfOk (row_of r code q) (λ s. AreCounted s.after.nv c)
+keeping_row r code q c keeps up are =
+    ok_weaker _ _ (row_of r code q) (row_changes r code q) (λ s changes. part_counted (part_of code) q r.nv s.after.nv c keeps up changes are)
 
-other_row : (r : Record) (code : CommandCode) (q : Request) (c : Counters) → leaves_nv (part_of code) ≡ true → AreCounted r.nv c → IfOk (row_of r code q) (λ s. AreCounted s.after.nv c)
-other_row r code q c leaves are = ok_weaker _ _ (row_of r code q) (leaving_row r code q leaves) (λ s same. same_counted r.nv s.after.nv c same are)
-
-pub row_counts : (r : Record) (code : CommandCode) (q : Request) (c : Counters) → Ascends r.nv.indices → AreCounted r.nv c → IfOk (row_of r code q) (λ s. AreCounted s.after.nv (counters_by code q c))
-row_counts r command.Startup q c up are = startup_row r q c are
-row_counts r command.Clear q c up are = clear_row r q c up are
+pub row_counts : (r : Record) (code : CommandCode) (q : Request) (c : Counters)
+    → Ascends r.nv.indices → AreCounted r.nv c
+    → IfOk (row_of r code q) (λ s. AreCounted s.after.nv (counters_by code q c))
 row_counts r command.NvIncrement q c up are =
-    ok_weaker _ _ (row_of r command.NvIncrement q) (increment_row r q) (λ s made. increment_counted q r.nv s.after.nv c made are)
+    ok_weaker _ _ (row_of r command.NvIncrement q) (row_changes r command.NvIncrement q) (λ s made. increment_counted q r.nv s.after.nv c made are)
 row_counts r command.NvDefineSpace q c up are =
-    ok_weaker _ _ (row_of r command.NvDefineSpace q) (definition_row r q) (λ s made. definition_counted q r.nv s.after.nv c made are)
-row_counts r command.NvUndefineSpace q c up are =
-    ok_weaker _ _ (row_of r command.NvUndefineSpace q) (removal_row r q) (λ s made. removal_counted q r.nv s.after.nv c up made are)
-row_counts r command.NvChangeAuth q c up are =
-    ok_weaker _ _ (row_of r command.NvChangeAuth q) (auth_row r q) (λ s made. auth_counted q r.nv s.after.nv c made are)
-row_counts r command.NvWrite q c up are = write_row r command.NvWrite q c refl are
-row_counts r command.NvSetBits q c up are = write_row r command.NvSetBits q c refl are
-row_counts r command.NvExtend q c up are = write_row r command.NvExtend q c refl are
-row_counts r command.NvWriteLock q c up are = write_row r command.NvWriteLock q c refl are
-row_counts r command.NvReadLock q c up are = write_row r command.NvReadLock q c refl are
-row_counts r _ q c up are = other_row r _ q c refl are
+    ok_weaker _ _ (row_of r command.NvDefineSpace q) (row_changes r command.NvDefineSpace q) (λ s made. definition_counted q r.nv s.after.nv c made are)
+row_counts r _ q c up are = keeping_row r _ q c refl up are

@@ -25,7 +25,7 @@ use Rattle.tpm_machine_step.specs.Table.{row_of}
 use Rattle.tpm_machine_laws.specs.Acceptance.{IsAcceptance}
 use Rattle.tpm_machine_laws.specs.Footprint.{Part, AuthValues, Beginning, Saved, Touches, part_of}
 use Rattle.tpm_machine_laws.proofs.Binding.{ok_at, ok_bind, ok_weaker}
-use Rattle.tpm_machine_laws.proofs.Footprint.{row_touches}
+use Rattle.tpm_machine_laws.proofs.Table.{row_touches}
 use Rattle.tpm_machine_laws.proofs.Leaving.{answered_only, success_leaves}
 use Rattle.tpm_machine_history.specs.DevicePcrs.{AreSaved, HasPcrs, IsSavedAs, saved_in}
 use Rattle.tpm_machine_history.specs.History.{Done, History, PowerCycled, command_of}

@@ -21,7 +21,8 @@ use Rattle.tpm_machine_step.specs.Table.{row_of}
 use Rattle.tpm_machine_laws.specs.Acceptance.{IsAcceptance}
 use Rattle.tpm_machine_laws.specs.Draws.{draws_of}
 use Rattle.tpm_machine_laws.proofs.Binding.{ok_at}
-use Rattle.tpm_machine_laws.proofs.Draws.{row_draws_so, startup_alone}
+use Rattle.tpm_machine_laws.proofs.Draws.{startup_alone}
+use Rattle.tpm_machine_laws.proofs.Table.{row_draws_so}
 use Rattle.tpm_machine_history.specs.AuthValues.{auth_of}
 use Rattle.tpm_machine_history.specs.DevicePcrs.{HasPcrs}
 use Rattle.tpm_machine_history.specs.DeviceSessions.{AreLive, HasSessions, IsLive, SessionFacts, facts_of, session_facts}

@@ -48,7 +48,9 @@ use Rattle.tpm_machine_step.specs.declared.refused_command.RefusedCommand.{Refus
 use Rattle.tpm_machine_laws.proofs.Binding.{err_bind, err_bind_is, err_if}
 use Rattle.tpm_machine_history.specs.EntryHmacs.{used_in}
 use Rattle.tpm_machine_history.specs.Tries.{FailsTry, IsAnsweredTry, IsRefusedTry, check_for, counts_try, fails_try, is_try, touched, touched_by, touched_of_session, touched_where, try_refusal}
-use Rattle.tpm_machine_laws.proofs.Uncounted.{IsPlain, err_in_command, general_plain, row_plain}
+use Rattle.tpm_machine_laws.specs.Order.{IsPlain}
+use Rattle.tpm_machine_laws.proofs.Table.{row_plain}
+use Rattle.tpm_machine_laws.proofs.Uncounted.{err_in_command, general_plain}
 
 -- ---- other codes than AUTH_FAIL
 

@@ -15,7 +15,7 @@ use Rattle.tpm_actions_device.specs.DictionaryAttackParameters.{dictionary_attac
 use Rattle.tpm_machine_step.specs.Step.{Accepted, counted_in, success_step}
 use Rattle.tpm_machine_step.specs.Table.{row_of}
 use Rattle.tpm_machine_laws.proofs.Binding.{ok_at, ok_bind, ok_weaker}
-use Rattle.tpm_machine_laws.proofs.Footprint.{row_touches}
+use Rattle.tpm_machine_laws.proofs.Table.{row_touches}
 use Rattle.tpm_machine_laws.proofs.Leaving.{success_leaves}
 use Rattle.tpm_machine_laws.specs.Acceptance.{IsAcceptance}
 use Rattle.tpm_machine_laws.specs.Footprint.{Part, AuthValues, Lockout, Beginning, Cleared, Touches, part_of}

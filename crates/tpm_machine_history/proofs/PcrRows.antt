@@ -39,7 +39,7 @@ use Rattle.tpm_actions_device.specs.declared.startup.Start.TheVariants.{Reset, R
 use Rattle.tpm_machine_step.specs.Table.{row_of}
 use Rattle.tpm_machine_laws.specs.Footprint.{Part, AuthValues, Banks, Beginning, Cleared, Touches, part_of}
 use Rattle.tpm_machine_laws.proofs.Binding.{ok_bind, ok_bind_is, ok_then, ok_weaker}
-use Rattle.tpm_machine_laws.proofs.Footprint.{row_touches}
+use Rattle.tpm_machine_laws.proofs.Table.{row_touches}
 use Rattle.tpm_machine_history.specs.DevicePcrs.{AreSaved, IsSavedAs}
 use Rattle.tpm_machine_history.specs.Pcrs.{count_in, extended_by_all, if_pcr, measured_by, names_pcr, pcr_by, resumed, updates_by}
 use Rattle.tpm_pcr.proofs.OneValue.{event_digest, extensions_at, extensions_count, zeros_at}

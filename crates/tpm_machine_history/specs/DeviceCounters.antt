@@ -1,23 +1,13 @@
 -- The NV counters of a device, as a history tells of them.
-use Rattle.std.specs.Prelude.{◌≡◌, ℕ, ◌≤◌, true, false, List, ◌∷◌, ◌++◌, Option, Some, None, if◌then◌else◌}
-use Rattle.std.specs.Int.{w64, from_be_bytes}
+use Rattle.std.specs.Prelude.{◌≡◌, ℕ, ◌≤◌, true, false, List, ◌∷◌, ◌++◌, Option, Some, None}
 use Rattle.tpm_types.specs.declared.handle.Handle.{Handle}
-use Rattle.tpm_types_nv.specs.NvAttributes.{index_type}
 use Rattle.tpm_types_nv.specs.declared.nv_attributes.NvAttribute.TheVariants as attribute
-use Rattle.tpm_types_nv.specs.declared.nv_type.NvType.TheVariants as type
 use Rattle.tpm_nv.specs.Access.{index_has}
 use Rattle.tpm_nv.specs.Index.{NvContents, NvIndex, index_at}
 use Rattle.tpm_record.specs.Record.{Record}
+use Rattle.tpm_machine_laws.specs.IndexChanges.{IsCounter, stored_count}
 use Rattle.tpm_machine_history.specs.Counters.{AllBelow, Counters, HasNoDefinition, counters_of, counts_of, defines, largest}
 use Rattle.tpm_machine_history.specs.History.{History, PastEvent}
-
-abbrev pub IsCounter : NvIndex → Type 0
-IsCounter index = index_type index.public.attributes ≡ Some type.Counter
-
--- the value of a counter, once it is WRITTEN
-abbrev pub stored_count : NvIndex → Option ℕ
-stored_count index =
-    if index_has index attribute.Written then Some (from_be_bytes w64 index.bytes) else None
 
 -- A counter has this value, and no startup takes it away.
 pub record IsCounted (index : NvIndex) (count : Option ℕ) : Type 0 where

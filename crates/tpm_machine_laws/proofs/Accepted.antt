@@ -16,7 +16,8 @@ use Rattle.tpm_machine_step.specs.Step.{Accepted, acceptance, request_in}
 use Rattle.tpm_machine_step.specs.Table.{row_of}
 use Rattle.tpm_machine_laws.specs.Sessions.{HaveSessions, SessionsStay}
 use Rattle.tpm_machine_laws.proofs.Binding.{ok_at}
-use Rattle.tpm_machine_laws.proofs.Sessions.{entries_have, entries_keep, row_stays}
+use Rattle.tpm_machine_laws.proofs.Sessions.{entries_have, entries_keep}
+use Rattle.tpm_machine_laws.proofs.Table.{row_stays}
 
 pub checked_ok : {X : Type 0} (check : Check) (x : Result X Rc) (y : X) → checked check x ≡ Ok y → x ≡ Ok y
 checked_ok {X} check (Ok x) y e = ap (λ (z : X). let r : Result X Rc = Ok z in r) (ok_is {E = Refused} x y e)

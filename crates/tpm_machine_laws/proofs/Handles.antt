@@ -27,7 +27,7 @@ use Rattle.tpm_machine_laws.specs.Refusals.{Passes}
 use Rattle.tpm_machine_laws.proofs.Accepted.{checked_ok}
 use Rattle.tpm_machine_laws.proofs.Binding.{asked, ok_checked, ok_in_command, err_bind, err_bind_is, err_checked, err_if, ok_bind, ok_bind_is, ok_then}
 use Rattle.tpm_machine_laws.proofs.Grants.{grants_refuse}
-use Rattle.tpm_machine_laws.proofs.Refusals.{row_passes}
+use Rattle.tpm_machine_laws.proofs.Table.{row_passes}
 
 -- ---- what the general checks let through
 

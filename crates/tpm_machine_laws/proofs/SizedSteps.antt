@@ -36,12 +36,13 @@ use Rattle.tpm_actions_base.specs.Request.{Request}
 use Rattle.tpm_actions_base.specs.Rows.{Success}
 use Rattle.tpm_record.specs.Saved.{Nothing}
 use Rattle.tpm_types_command.specs.declared.command_code.CommandCode.{CommandCode}
-use Rattle.tpm_machine_laws.proofs.Draws.{general_few, row_draws}
+use Rattle.tpm_machine_laws.proofs.Draws.{general_few}
 use Rattle.tpm_machine_laws.specs.Sizes.{AreSized, IsSized}
 use Rattle.tpm_machine_laws.proofs.AllPlaces.{all_changed, all_found, all_free}
 use Rattle.tpm_machine_laws.proofs.Binding.{ok_bind, ok_then, ok_in_command}
 use Rattle.tpm_machine_laws.proofs.SizedParts.{starting_sized, nonce_few, nonce_taken}
-use Rattle.tpm_machine_laws.proofs.SizedRows.{flushed_all, policy_all, row_sized}
+use Rattle.tpm_machine_laws.proofs.SessionPlaces.{flushed_all, policy_all}
+use Rattle.tpm_machine_laws.proofs.Table.{row_draws, row_sized}
 
 -- ---- no session
 

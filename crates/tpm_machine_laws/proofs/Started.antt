@@ -15,7 +15,7 @@ use Rattle.tpm_machine_step.specs.Table.{row_of}
 use Rattle.tpm_machine_laws.specs.Acceptance.{IsAcceptance, IsDue}
 use Rattle.tpm_machine_laws.specs.Footprint.{Part, AuthValues, Beginning, Touches, part_of}
 use Rattle.tpm_machine_laws.proofs.Binding.{ok_at, ok_bind, ok_weaker}
-use Rattle.tpm_machine_laws.proofs.Footprint.{row_touches}
+use Rattle.tpm_machine_laws.proofs.Table.{row_touches}
 use Rattle.tpm_machine_laws.proofs.Leaving.{success_leaves}
 
 -- whether a device can be started by what touches this part

@@ -1,7 +1,7 @@
 -- How many of an event's random bytes a command draws for itself, by its code and its parameters. The
 -- nonces of its entries are drawn after these. TPM 2.0 Library, Part 3, sections 11.1
 -- (TPM2_StartAuthSession), 12.1 (TPM2_Create), 16.1 (TPM2_GetRandom) and 24.6 (TPM2_Clear).
-use Rattle.std.specs.Prelude.{ℕ, ◌+◌, min, length, List, Result, Ok, Err}
+use Rattle.std.specs.Prelude.{ℕ, ◌≡◌, ◌≤◌, ◌+◌, min, length, false, List, Result, Ok, Err}
 use Rattle.std.specs.Int.{w16}
 use Rattle.tpm_bytes.specs.Reading.{number_at, or_fault}
 use Rattle.tpm_object.specs.Creation.{drawn_by}
@@ -11,9 +11,10 @@ use Rattle.tpm_types.specs.declared.refused.Refused.{Refused}
 use Rattle.tpm_types_command.specs.declared.command_code.CommandCode.{CommandCode}
 use Rattle.tpm_types_command.specs.declared.command_code.CommandCode.TheVariants as command
 use Rattle.tpm_actions_base.specs.Request.{Request}
-use Rattle.tpm_actions_base.specs.Rows.{only}
+use Rattle.tpm_actions_base.specs.Rows.{Success, only}
 use Rattle.tpm_actions_device.specs.StartAuthSession.{parameters_in as session_parameters}
 use Rattle.tpm_actions_object.specs.Creation.{parameters_in as creation_parameters}
+use Rattle.tpm_machine_step.specs.General.{is_startup}
 
 -- what the parameters that are read say, and 0 where there are none
 abbrev pub read_or_none : {P : Type 0} → (P → ℕ) → Result P Refused → ℕ
@@ -38,3 +39,9 @@ draws_of command.Create q =
     read_or_none (λ p. drawn_by p.template p.given + 16) (creation_parameters q.parameters)
 draws_of command.Clear q = 96
 draws_of _ q = 0
+
+-- A success draws at most 96 of the event's 256 random bytes, and as many as are said of its command,
+-- but for TPM2_Startup.
+abbrev pub DrawsAsSaid : CommandCode → Request → Success → Type 0
+DrawsAsSaid c q s =
+    (s.answer.drawn ≤ 96) × (is_startup c ≡ false → s.answer.drawn ≡ draws_of c q)

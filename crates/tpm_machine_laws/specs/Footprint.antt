@@ -14,7 +14,8 @@ use Rattle.tpm_record.specs.Hierarchy.{secrets_of}
 use Rattle.tpm_record.specs.Record.{Record}
 
 -- the parts of a record: none of it; the sessions; the transient objects; both; the persistent
--- objects; the NV indices; the authorization values of the hierarchies and of lockout; what
+-- objects; the NV indices, of which one is written or locked, a counter counts, one has another
+-- authorization value, one is defined, or one is undefined; the authorization values of the hierarchies and of lockout; what
 -- protects against dictionary attacks; the banks; what a startup begins, the NV indices too; what a
 -- shutdown saves; whether TPM2_Clear is disabled; and what that takes away, objects and NV indices
 -- too
@@ -24,7 +25,11 @@ pub data Part : Type 0 where
   Objects : Part
   SessionsAndObjects : Part
   Persistent : Part
-  Nv : Part
+  NvData : Part
+  NvCounter : Part
+  NvAuthValue : Part
+  NvDefined : Part
+  NvUndefined : Part
   AuthValues : Part
   Lockout : Part
   Banks : Part
@@ -35,20 +40,20 @@ pub data Part : Type 0 where
 
 abbrev pub part_of : CommandCode → Part
 part_of command.EvictControl = Persistent
-part_of command.NvUndefineSpace = Nv
+part_of command.NvUndefineSpace = NvUndefined
 part_of command.Clear = Cleared
 part_of command.ClearControl = DisableClear
 part_of command.HierarchyChangeAuth = AuthValues
-part_of command.NvDefineSpace = Nv
+part_of command.NvDefineSpace = NvDefined
 part_of command.CreatePrimary = Objects
-part_of command.NvIncrement = Nv
-part_of command.NvSetBits = Nv
-part_of command.NvExtend = Nv
-part_of command.NvWrite = Nv
-part_of command.NvWriteLock = Nv
+part_of command.NvIncrement = NvCounter
+part_of command.NvSetBits = NvData
+part_of command.NvExtend = NvData
+part_of command.NvWrite = NvData
+part_of command.NvWriteLock = NvData
 part_of command.DictionaryAttackLockReset = Lockout
 part_of command.DictionaryAttackParameters = Lockout
-part_of command.NvChangeAuth = Nv
+part_of command.NvChangeAuth = NvAuthValue
 part_of command.PcrEvent = Banks
 part_of command.PcrReset = Banks
 part_of command.SelfTest = Nothing
@@ -56,7 +61,7 @@ part_of command.Startup = Beginning
 part_of command.Shutdown = Saved
 part_of command.PolicyNv = Sessions
 part_of command.NvRead = Nothing
-part_of command.NvReadLock = Nv
+part_of command.NvReadLock = NvData
 part_of command.PolicySecret = Sessions
 part_of command.Create = Nothing
 part_of command.Hmac = Nothing
@@ -140,7 +145,11 @@ Touches Objects old new = new ≡ record old { objects = new.objects }
 Touches SessionsAndObjects old new =
     new ≡ record old { sessions = new.sessions; objects = new.objects }
 Touches Persistent old new = new ≡ record old { persistent = new.persistent }
-Touches Nv old new = new ≡ record old { nv = new.nv }
+Touches NvData old new = new ≡ record old { nv = new.nv }
+Touches NvCounter old new = new ≡ record old { nv = new.nv }
+Touches NvAuthValue old new = new ≡ record old { nv = new.nv }
+Touches NvDefined old new = new ≡ record old { nv = new.nv }
+Touches NvUndefined old new = new ≡ record old { nv = new.nv }
 Touches AuthValues old new =
     (new ≡ record old { fixed = record old.fixed { hierarchies = new.fixed.hierarchies } })
     × KeepsSecrets old.fixed.hierarchies new.fixed.hierarchies

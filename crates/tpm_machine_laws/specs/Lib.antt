@@ -1,4 +1,5 @@
 pub mod Footprint
+pub mod IndexChanges
 pub mod Shapes
 pub mod Sessions
 pub mod Refusals
@@ -7,3 +8,5 @@ pub mod Grants
 pub mod Sizes
 pub mod Acceptance
 pub mod Draws
+pub mod Order
+pub mod RowLaws

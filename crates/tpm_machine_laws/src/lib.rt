@@ -5,8 +5,9 @@
 //! stay, and what is never refused. After a row, sessions are rolled and end, which is the step's
 //! and no row's; the sizes of sessions stay through all of a step.
 //!
-//! It stands on the definitions of tpm_machine_step. A row is opened here, so that theorems over
-//! histories need not open any.
+//! It stands on the definitions of tpm_machine_step. What holds of a row is one record, proved where
+//! the row is opened, so that theorems over histories need not open any; each law over all commands
+//! is a part of these records.
 
 ghost use Rattle.std.specs.Prelude.{◌≡◌, ◌≢◌, ℕ, ◌+◌, ◌*◌, ◌≤◌, Bool, IfOk, List, [], ◌∷◌, Ok, Option};
 ghost use Rattle.std.specs.Prelude.{IfErr, false, length, true};
@@ -38,6 +39,7 @@ ghost use Rattle.tpm_machine_laws.specs.Draws.{draws_of};
 ghost use Rattle.tpm_machine_laws.specs.Footprint.{Touches, part_of};
 ghost use Rattle.tpm_machine_laws.specs.Grants.{GrantsFit};
 ghost use Rattle.tpm_machine_laws.specs.Handles.{FitsRule, HandlesFit};
+ghost use Rattle.tpm_machine_laws.specs.IndexChanges.{ChangesIndices};
 ghost use Rattle.tpm_machine_laws.specs.Refusals.{Passes, RefusesAuthorization};
 ghost use Rattle.tpm_machine_laws.specs.Sessions.{HaveSessions, SessionsStay};
 ghost use Rattle.tpm_machine_laws.specs.Shapes.{AnswersItsShape, GrowsAsShaped, ReadsParameters, spelled};
@@ -47,15 +49,25 @@ use tpm_machine_step::event::Outcome;
 
 /// A success touches the part of its command, and nothing else.
 #[inline(always)]
-#[tactic(auto, using(crate::proofs::Footprint::row_touches))]
+#[tactic(auto, using(crate::proofs::Table::row_touches))]
 pub fn footprint_laws()
     ensures { (r : Record) (c : CommandCode) (q : Request)
         → IfOk (row_of r c q) (λ s. Touches (part_of c) r s.after) }
 {}
 
+/// A success makes of the NV indices what is said of the part that it touches: one is written or
+/// locked, a counter counts, one has another authorization value, comes or goes; a startup and a
+/// clear have their effects on all; and every other success leaves them as they were.
+#[inline(always)]
+#[tactic(auto, using(crate::proofs::Table::row_changes))]
+pub fn index_change_laws()
+    ensures { (r : Record) (c : CommandCode) (q : Request)
+        → IfOk (row_of r c q) (λ s. ChangesIndices (part_of c) q r.nv s.after.nv) }
+{}
+
 /// A success answers a handle, and a sized buffer first, exactly where its command's shape says so.
 #[inline(always)]
-#[tactic(auto, using(crate::proofs::Answers::row_answers))]
+#[tactic(auto, using(crate::proofs::Table::row_answers))]
 pub fn answer_shape_laws()
     ensures { (r : Record) (c : CommandCode) (q : Request)
         → IfOk (row_of r c q) (AnswersItsShape c) }
@@ -64,7 +76,7 @@ pub fn answer_shape_laws()
 /// A success of a command that grows takes one place more, and of any other no more; but that of
 /// TPM2_EvictControl, by which an object may be removed too, one more or one less.
 #[inline(always)]
-#[tactic(auto, using(crate::proofs::Growth::row_grows))]
+#[tactic(auto, using(crate::proofs::Table::row_grows))]
 pub fn growth_laws()
     ensures { (r : Record) (c : CommandCode) (q : Request)
         → IfOk (row_of r c q) (λ s. GrowsAsShaped c r s.after) }
@@ -73,7 +85,7 @@ pub fn growth_laws()
 /// A row that refuses no handle refuses parameters exactly where they are not of the kinds that its
 /// command's shape lists, and then with their first fault.
 #[inline(always)]
-#[tactic(auto, using(crate::proofs::Refusals::row_reads))]
+#[tactic(auto, using(crate::proofs::Table::row_reads))]
 pub fn parameter_laws()
     ensures { (r : Record) (c : CommandCode) (q : Request)
         → ReadsParameters (spelled 1 (shape_of c).parameters q.parameters) (row_of r c q) }
@@ -81,7 +93,7 @@ pub fn parameter_laws()
 
 /// The row of a command that may have sessions leaves every session there.
 #[inline(always)]
-#[tactic(auto, using(crate::proofs::Sessions::row_stays))]
+#[tactic(auto, using(crate::proofs::Table::row_stays))]
 pub fn row_session_laws()
     ensures { (r : Record) (c : CommandCode) (q : Request)
         → (shape_of c).forbids_sessions ≡ false
@@ -101,7 +113,7 @@ pub fn used_session_laws()
 /// it does with any request, and so refuses a handle that is missing or names nothing; but no such
 /// request comes to it.
 #[inline(always)]
-#[tactic(auto, using(crate::proofs::Refusals::row_passes))]
+#[tactic(auto, using(crate::proofs::Table::row_passes))]
 pub fn row_handle_laws()
     ensures { (r : Record) (c : CommandCode) (q : Request)
         → HandlesFit r (shape_of c).handles q.handles → Passes check.Handles (row_of r c q) }
@@ -149,7 +161,7 @@ pub fn decoding_laws()
 
 /// No row refuses anything for want of memory.
 #[inline(always)]
-#[tactic(auto, using(crate::proofs::Refusals::row_wants))]
+#[tactic(auto, using(crate::proofs::Table::row_wants))]
 pub fn row_memory_laws()
     ensures { (r : Record) (c : CommandCode) (q : Request) → Passes check.Memory (row_of r c q) }
 {}
@@ -214,7 +226,7 @@ pub fn started_laws()
 /// Neither a general check nor a row counts anything against dictionary attacks: only the
 /// authorization does.
 #[inline(always)]
-#[tactic(auto, using(crate::proofs::Uncounted::row_plain, crate::proofs::Uncounted::general_plain))]
+#[tactic(auto, using(crate::proofs::Table::row_plain, crate::proofs::Uncounted::general_plain))]
 pub fn uncounted_laws()
     ensures row { (r : Record) (c : CommandCode) (q : Request)
         → IfErr (row_of r c q) (λ e. e.counted ≡ counted.None) }
@@ -234,7 +246,7 @@ pub fn new_device_size_laws()
 /// A success draws at most 96 of the event's 256 random bytes; and as many as its command's code and
 /// parameters say, but for TPM2_Startup, which has no entries for whose nonces it would count.
 #[inline(always)]
-#[tactic(auto, using(crate::proofs::Draws::row_draws, crate::proofs::Draws::row_draws_so))]
+#[tactic(auto, using(crate::proofs::Table::row_draws, crate::proofs::Table::row_draws_so))]
 pub fn draw_laws()
     ensures few { (r : Record) (c : CommandCode) (q : Request)
         → IfOk (row_of r c q) (λ s. s.answer.drawn ≤ 96) }
@@ -246,7 +258,7 @@ pub fn draw_laws()
 
 /// A success leaves sessions of their sizes, where there are random bytes enough for a nonce.
 #[inline(always)]
-#[tactic(auto, using(crate::proofs::SizedRows::row_sized))]
+#[tactic(auto, using(crate::proofs::Table::row_sized))]
 pub fn row_size_laws()
     ensures { (r : Record) (c : CommandCode) (q : Request)
         → 32 ≤ length q.random → AreSized r → IfOk (row_of r c q) (λ s. AreSized s.after) }
