@@ -121,6 +121,7 @@ fn a_client_without_end_is_cut_off(rt: HostRuntime) -> Result<(), Fail> {
 }
 
 /// Saves as often as it may, and then fails.
+#[derive(Drop)]
 struct Saves {
     left: u64,
     failed: bool,
