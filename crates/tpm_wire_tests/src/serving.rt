@@ -1,8 +1,6 @@
 //! Connections that are not served to their end: one beside eight others, one without end, and one
 //! to a device that cannot be saved any more.
 
-ghost use Rattle.std.specs.Prelude.{◌≡◌, Unit, true};
-
 use super::comparison::check;
 use super::device::{host, mux};
 use super::keeps::{Trial, run_over_both};
