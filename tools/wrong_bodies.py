@@ -40,7 +40,9 @@ SOURCES = ["src", "specs", "proofs"]
 FUNCTION = re.compile(r"\s*(pub(\([a-z ]+\))? )?(const )?(unsafe )?fn (\w+)")
 PLACE = re.compile(r"(?:note: )?(?:\./)?(\S+?\.(?:rt|antt)):(\d+):\d+: (.*)")
 # what the prover says of a text that it cannot read, names in quotes left out
-UNREAD = re.compile(r"is not in scope|has no field|is no name|operand is missing|expected the end|cannot continue")
+UNREAD = re.compile(
+    r"is not in scope|has no field|is no name|operand is missing|expected the end|cannot continue"
+)
 COMPILER_ERROR = re.compile(r"\berror\[[\w-]+\]")
 LIMIT = re.compile(r"ran out of|outgrew the memory limit|stopped at the step limit")
 
@@ -212,7 +214,8 @@ def unread_in(said: list[str]) -> str | None:
 
 def is_not_proved(status: int, said: list[str]) -> bool:
     """Whether a check ended since something is not proved, with all texts read."""
-    return status == 1 and not unread_in(said) and any(it.startswith("logic=not-proved") for it in said)
+    is_told = any(it.startswith("logic=not-proved") for it in said)
+    return status == 1 and is_told and not unread_in(said)
 
 
 def groups_of(bodies: list[WrongBody]) -> list[list[WrongBody]]:
