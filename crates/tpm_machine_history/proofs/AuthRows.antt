@@ -27,7 +27,7 @@ use Rattle.tpm_types.specs.declared.rc.ResponseCode.TheVariants as code
 use Rattle.tpm_types.specs.declared.refused.Refused.{Refused}
 use Rattle.tpm_types.specs.declared.startup_type.StartupType.{StartupType}
 use Rattle.tpm_types.specs.declared.startup_type.StartupType.TheVariants as type
-use Rattle.tpm_types_command.specs.CommandCode.{shape_of}
+use Rattle.tpm_types_command.specs.CommandCode.{part_of, shape_of}
 use Rattle.tpm_types_command.specs.Shape.{admin, unauthorized, user}
 use Rattle.tpm_types_command.specs.declared.command_code.CommandCode.{CommandCode}
 use Rattle.tpm_types_command.specs.declared.command_code.CommandCode.TheVariants as command
@@ -70,8 +70,9 @@ use Rattle.tpm_nvactions.specs.Access.{changed_nv, lock_refusal}
 use Rattle.tpm_nvactions.specs.NvChangeAuth.{nv_change_auth_row}
 use Rattle.tpm_nvactions.specs.NvDefineSpace as definition
 use Rattle.tpm_machine_step.specs.Table.{row_of}
-use Rattle.tpm_machine_laws.specs.Footprint.{Part, Nothing, Sessions, NvData, NvCounter, NvUndefined, Lockout, Banks, Saved}
-use Rattle.tpm_machine_laws.specs.Footprint.{DisableClear, Cleared, Touches, emptied, part_of}
+use Rattle.tpm_machine_laws.specs.Footprint.{Touches, emptied}
+use Rattle.tpm_types_command.specs.Part.{Part, Nothing, Sessions, NvData, NvCounter, NvUndefined, Lockout, Banks}
+use Rattle.tpm_types_command.specs.Part.{Saved, DisableClear, Cleared}
 use Rattle.tpm_machine_laws.specs.IndexChanges.{ChangesIndices, Defines, Writes}
 use Rattle.tpm_machine_laws.specs.Handles.{FitsRule, HandlesFit}
 use Rattle.tpm_machine_laws.proofs.Binding.{asked, ok_at, ok_bind, ok_bind_is, ok_then, ok_weaker, some_is}

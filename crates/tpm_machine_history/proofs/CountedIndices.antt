@@ -28,8 +28,10 @@ use Rattle.tpm_actions_base.specs.Request.{Request, second_handle}
 use Rattle.tpm_machine_step.specs.Table.{row_of}
 use Rattle.tpm_machine_laws.proofs.Binding.{ok_at, ok_weaker}
 use Rattle.tpm_machine_laws.proofs.Table.{row_changes}
-use Rattle.tpm_machine_laws.specs.Footprint.{Part, NvData, NvCounter, NvAuthValue, NvDefined, NvUndefined}
-use Rattle.tpm_machine_laws.specs.Footprint.{Beginning, Cleared, StartsNv, part_of}
+use Rattle.tpm_machine_laws.specs.Footprint.{StartsNv}
+use Rattle.tpm_types_command.specs.Part.{Part, NvData, NvCounter, NvAuthValue, NvDefined, NvUndefined, Beginning}
+use Rattle.tpm_types_command.specs.Part.{Cleared}
+use Rattle.tpm_types_command.specs.CommandCode.{part_of}
 use Rattle.tpm_machine_laws.specs.IndexChanges.{ChangesAuth, ChangesIndices, Defines, Increments, IsCounter, KeepsCount}
 use Rattle.tpm_machine_laws.specs.IndexChanges.{Undefines, Writes, stored_count}
 use Rattle.tpm_machine_history.specs.Counters.{Counters, begun_at, counted_at, counters_by, defined_handle, largest, next_count}

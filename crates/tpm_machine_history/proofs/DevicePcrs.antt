@@ -10,7 +10,7 @@ use Rattle.tpm_pcr.specs.Values.{BankValues}
 use Rattle.tpm_types.specs.StartupType.{startup_type_at}
 use Rattle.tpm_types.specs.declared.startup_type.StartupType.{StartupType}
 use Rattle.tpm_types.specs.declared.startup_type.StartupType.TheVariants as type
-use Rattle.tpm_types_command.specs.CommandCode.{shape_of}
+use Rattle.tpm_types_command.specs.CommandCode.{part_of, shape_of}
 use Rattle.tpm_types_command.specs.declared.command_code.CommandCode.{CommandCode}
 use Rattle.tpm_types_command.specs.declared.command_code.CommandCode.TheVariants as command
 use Rattle.tpm_record.specs.Cycle.{cycled}
@@ -23,7 +23,8 @@ use Rattle.tpm_machine_step.specs.Answer.{answer_to, written_of}
 use Rattle.tpm_machine_step.specs.Step.{Accepted, success_step}
 use Rattle.tpm_machine_step.specs.Table.{row_of}
 use Rattle.tpm_machine_laws.specs.Acceptance.{IsAcceptance}
-use Rattle.tpm_machine_laws.specs.Footprint.{Part, AuthValues, Beginning, Saved, Touches, part_of}
+use Rattle.tpm_machine_laws.specs.Footprint.{Touches}
+use Rattle.tpm_types_command.specs.Part.{Part, AuthValues, Beginning, Saved}
 use Rattle.tpm_machine_laws.proofs.Binding.{ok_at, ok_bind, ok_weaker}
 use Rattle.tpm_machine_laws.proofs.Table.{row_touches}
 use Rattle.tpm_machine_laws.proofs.Leaving.{answered_only, success_leaves}

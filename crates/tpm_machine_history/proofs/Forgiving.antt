@@ -18,7 +18,9 @@ use Rattle.tpm_machine_laws.proofs.Binding.{ok_at, ok_bind, ok_weaker}
 use Rattle.tpm_machine_laws.proofs.Table.{row_touches}
 use Rattle.tpm_machine_laws.proofs.Leaving.{success_leaves}
 use Rattle.tpm_machine_laws.specs.Acceptance.{IsAcceptance}
-use Rattle.tpm_machine_laws.specs.Footprint.{Part, AuthValues, Lockout, Beginning, Cleared, Touches, part_of}
+use Rattle.tpm_machine_laws.specs.Footprint.{Touches}
+use Rattle.tpm_types_command.specs.Part.{Part, AuthValues, Lockout, Beginning, Cleared}
+use Rattle.tpm_types_command.specs.CommandCode.{part_of}
 use Rattle.tpm_machine_history.specs.Potential.{IsForgiving}
 use Rattle.tpm_machine_history.specs.Tries.{resets_tries}
 use Rattle.tpm_machine_history.proofs.Balance.{SameTries, closed_same, refusal_forgives, same_forgives, tick_forgives}

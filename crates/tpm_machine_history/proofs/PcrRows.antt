@@ -37,7 +37,9 @@ use Rattle.tpm_actions_device.specs.Startup.{start_of, started_record, startup_r
 use Rattle.tpm_actions_device.specs.declared.startup.Start.{Start}
 use Rattle.tpm_actions_device.specs.declared.startup.Start.TheVariants.{Reset, Restart, Resume}
 use Rattle.tpm_machine_step.specs.Table.{row_of}
-use Rattle.tpm_machine_laws.specs.Footprint.{Part, AuthValues, Banks, Beginning, Cleared, Touches, part_of}
+use Rattle.tpm_machine_laws.specs.Footprint.{Touches}
+use Rattle.tpm_types_command.specs.Part.{Part, AuthValues, Banks, Beginning, Cleared}
+use Rattle.tpm_types_command.specs.CommandCode.{part_of}
 use Rattle.tpm_machine_laws.proofs.Binding.{ok_bind, ok_bind_is, ok_then, ok_weaker}
 use Rattle.tpm_machine_laws.proofs.Table.{row_touches}
 use Rattle.tpm_machine_history.specs.DevicePcrs.{AreSaved, IsSavedAs}

@@ -54,7 +54,8 @@ use Rattle.tpm_actions_device.specs.Startup.{start_draws, start_of, started_reco
 use Rattle.tpm_actions_device.specs.declared.startup.Start.{Start}
 use Rattle.tpm_actions_device.specs.declared.startup.Start.TheVariants.{Reset, Restart, Resume}
 use Rattle.tpm_machine_laws.specs.Draws.{bytes_requested}
-use Rattle.tpm_machine_laws.specs.Footprint.{Beginning, KeepsSecrets, SessionsAndObjects, Touches}
+use Rattle.tpm_machine_laws.specs.Footprint.{KeepsSecrets, Touches}
+use Rattle.tpm_types_command.specs.Part.{Beginning, SessionsAndObjects}
 use Rattle.tpm_machine_laws.specs.Order.{Late, Plain}
 use Rattle.tpm_machine_laws.specs.RowLaws.{RowLaws, SuccessLaws}
 use Rattle.tpm_machine_laws.specs.Shapes.{Grows, taken_in}

@@ -17,7 +17,7 @@ use Rattle.tpm_types.specs.declared.role.Role.{Role}
 use Rattle.tpm_types.specs.declared.role.Role.TheVariants as role
 use Rattle.tpm_types_object.specs.Filled.{filled_by}
 use Rattle.tpm_types_nv.specs.NvPublic.{nv_public_at}
-use Rattle.tpm_types_command.specs.CommandCode.{shape_of}
+use Rattle.tpm_types_command.specs.CommandCode.{part_of, shape_of}
 use Rattle.tpm_types_command.specs.Shape.{admin, unauthorized}
 use Rattle.tpm_types_command.specs.declared.command_code.CommandCode.{CommandCode}
 use Rattle.tpm_types_command.specs.declared.command_code.CommandCode.TheVariants as command
@@ -51,7 +51,7 @@ use Rattle.tpm_nvactions.specs.NvUndefineSpace.{is_kept_from, nv_undefine_space_
 use Rattle.tpm_nvactions.specs.NvWrite.{nv_write_row, parameters_in as write_parameters}
 use Rattle.tpm_nvactions.specs.NvWriteLock.{nv_write_lock_row}
 use Rattle.tpm_machine_laws.specs.Draws.{DrawsAsSaid}
-use Rattle.tpm_machine_laws.specs.Footprint.{Touches, part_of}
+use Rattle.tpm_machine_laws.specs.Footprint.{Touches}
 use Rattle.tpm_machine_laws.specs.Handles.{FitsRule, HandlesFit}
 use Rattle.tpm_machine_laws.specs.IndexChanges.{ChangesIndices, HasNoConflict}
 use Rattle.tpm_machine_laws.specs.Order.{IsLate, Late, Orders, Plain}

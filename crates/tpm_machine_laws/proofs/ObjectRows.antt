@@ -23,7 +23,7 @@ use Rattle.tpm_types_object.specs.declared.public.KeyedHashScheme.TheVariants.{H
 use Rattle.tpm_types_object.specs.declared.public.Public.{Public}
 use Rattle.tpm_types_object.specs.declared.public.PublicParameters.{PublicParameters}
 use Rattle.tpm_types_object.specs.declared.public.PublicParameters.TheVariants as parameters_of
-use Rattle.tpm_types_command.specs.CommandCode.{shape_of}
+use Rattle.tpm_types_command.specs.CommandCode.{part_of, shape_of}
 use Rattle.tpm_types_command.specs.Shape.{user}
 use Rattle.tpm_types_command.specs.declared.command_code.CommandCode.{CommandCode}
 use Rattle.tpm_types_command.specs.declared.command_code.CommandCode.TheVariants as command
@@ -68,7 +68,8 @@ use Rattle.tpm_actions_object.specs.Loaded.{is_fixed, loaded_at, parent_passes, 
 use Rattle.tpm_actions_object.specs.ReadPublic.{read_public_row}
 use Rattle.tpm_actions_object.specs.Unseal.{unseal_row}
 use Rattle.tpm_machine_laws.specs.Draws.{DrawsAsSaid}
-use Rattle.tpm_machine_laws.specs.Footprint.{Objects, Part, Touches, part_of}
+use Rattle.tpm_machine_laws.specs.Footprint.{Touches}
+use Rattle.tpm_types_command.specs.Part.{Objects, Part}
 use Rattle.tpm_machine_laws.specs.Handles.{FitsRule, HandlesFit}
 use Rattle.tpm_machine_laws.specs.IndexChanges.{ChangesIndices}
 use Rattle.tpm_machine_laws.specs.Order.{Late, Orders, Plain}

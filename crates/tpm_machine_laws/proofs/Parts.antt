@@ -14,9 +14,9 @@ use Rattle.tpm_nv.specs.Startup.{started}
 use Rattle.tpm_record.specs.Clear.{outlasts}
 use Rattle.tpm_record.specs.Record.{Record}
 use Rattle.tpm_record.proofs.ClearLaws.{cleared_few}
-use Rattle.tpm_machine_laws.specs.Footprint.{AuthValues, Banks, Beginning, Cleared, DisableClear}
-use Rattle.tpm_machine_laws.specs.Footprint.{Lockout, Nothing, Part, Saved, Sessions}
-use Rattle.tpm_machine_laws.specs.Footprint.{SessionsAndObjects, StartsNv, Touches}
+use Rattle.tpm_machine_laws.specs.Footprint.{StartsNv, Touches}
+use Rattle.tpm_types_command.specs.Part.{AuthValues, Banks, Beginning, Cleared, DisableClear, Lockout, Nothing, Part}
+use Rattle.tpm_types_command.specs.Part.{Saved, Sessions, SessionsAndObjects}
 use Rattle.tpm_machine_laws.specs.Sessions.{SessionsStay}
 use Rattle.tpm_machine_laws.specs.Shapes.{Grows, taken_in}
 

@@ -10,7 +10,7 @@ use Rattle.tpm_types.specs.Rc.{plain}
 use Rattle.tpm_types.specs.SessionType.{is_trial}
 use Rattle.tpm_types.specs.declared.action_fault.ActionFault.{ActionFault}
 use Rattle.tpm_types.specs.declared.handle.Handle.{Handle}
-use Rattle.tpm_types_command.specs.CommandCode.{shape_of}
+use Rattle.tpm_types_command.specs.CommandCode.{part_of, shape_of}
 use Rattle.tpm_types_command.specs.Shape.{unauthorized}
 use Rattle.tpm_types_command.specs.declared.command_code.CommandCode.{CommandCode}
 use Rattle.tpm_types_command.specs.declared.command_code.CommandCode.TheVariants as command
@@ -33,7 +33,8 @@ use Rattle.tpm_actions_policy.specs.PolicyNv.{nv_parameters}
 use Rattle.tpm_actions_policy.specs.PolicyRestart.{policy_restart_row}
 use Rattle.tpm_actions_policy.specs.PolicySecret.{secret_parameters}
 use Rattle.tpm_machine_laws.specs.Draws.{DrawsAsSaid}
-use Rattle.tpm_machine_laws.specs.Footprint.{Part, Sessions, Touches, part_of}
+use Rattle.tpm_machine_laws.specs.Footprint.{Touches}
+use Rattle.tpm_types_command.specs.Part.{Part, Sessions}
 use Rattle.tpm_machine_laws.specs.Handles.{FitsRule}
 use Rattle.tpm_machine_laws.specs.IndexChanges.{ChangesIndices}
 use Rattle.tpm_machine_laws.specs.Order.{Late}

@@ -13,7 +13,9 @@ use Rattle.tpm_actions_device.specs.declared.startup.Start.TheVariants.{Reset}
 use Rattle.tpm_machine_step.specs.Step.{Accepted, success_step}
 use Rattle.tpm_machine_step.specs.Table.{row_of}
 use Rattle.tpm_machine_laws.specs.Acceptance.{IsAcceptance, IsDue}
-use Rattle.tpm_machine_laws.specs.Footprint.{Part, AuthValues, Beginning, Touches, part_of}
+use Rattle.tpm_machine_laws.specs.Footprint.{Touches}
+use Rattle.tpm_types_command.specs.Part.{Part, AuthValues, Beginning}
+use Rattle.tpm_types_command.specs.CommandCode.{part_of}
 use Rattle.tpm_machine_laws.proofs.Binding.{ok_at, ok_bind, ok_weaker}
 use Rattle.tpm_machine_laws.proofs.Table.{row_touches}
 use Rattle.tpm_machine_laws.proofs.Leaving.{success_leaves}

@@ -7,7 +7,8 @@ use Rattle.tpm_record.specs.Record.{Record}
 use Rattle.tpm_actions_base.specs.Request.{Request}
 use Rattle.tpm_actions_base.specs.Rows.{Success}
 use Rattle.tpm_machine_laws.specs.Draws.{DrawsAsSaid, read_or_none}
-use Rattle.tpm_machine_laws.specs.Footprint.{Touches, part_of}
+use Rattle.tpm_machine_laws.specs.Footprint.{Touches}
+use Rattle.tpm_types_command.specs.CommandCode.{part_of}
 use Rattle.tpm_machine_laws.specs.IndexChanges.{ChangesIndices}
 use Rattle.tpm_machine_laws.specs.RowLaws.{SuccessLaws}
 use Rattle.tpm_machine_laws.specs.Shapes.{AnswersItsShape, Grows, GrowsAsShaped}

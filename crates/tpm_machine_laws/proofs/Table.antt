@@ -1,7 +1,7 @@
 -- Every command has the laws of its row, and so each law holds of all commands.
 use Rattle.std.proofs.Common.{◌≡◌, ◌≤◌, IfOk, false, length, true}
 use Rattle.tpm_types.specs.declared.check.Check.TheVariants as check
-use Rattle.tpm_types_command.specs.CommandCode.{shape_of}
+use Rattle.tpm_types_command.specs.CommandCode.{part_of, shape_of}
 use Rattle.tpm_types_command.specs.declared.command_code.CommandCode.{CommandCode}
 use Rattle.tpm_types_command.specs.declared.command_code.CommandCode.TheVariants as command
 use Rattle.tpm_record.specs.Record.{Record}
@@ -10,7 +10,7 @@ use Rattle.tpm_actions_base.specs.Rows.{Success}
 use Rattle.tpm_machine_step.specs.General.{is_startup}
 use Rattle.tpm_machine_step.specs.Table.{row_of}
 use Rattle.tpm_machine_laws.specs.Draws.{draws_of}
-use Rattle.tpm_machine_laws.specs.Footprint.{Touches, part_of}
+use Rattle.tpm_machine_laws.specs.Footprint.{Touches}
 use Rattle.tpm_machine_laws.specs.Handles.{HandlesFit}
 use Rattle.tpm_machine_laws.specs.IndexChanges.{ChangesIndices}
 use Rattle.tpm_machine_laws.specs.Order.{Plain}

@@ -1,7 +1,5 @@
--- What of a record the success of each command may touch.
+-- What of a record is touched by a success that changes one part of the device's state.
 use Rattle.std.specs.Prelude.{◌≡◌, ◌⊎◌, ◌+◌, []}
-use Rattle.tpm_types_command.specs.declared.command_code.CommandCode.{CommandCode}
-use Rattle.tpm_types_command.specs.declared.command_code.CommandCode.TheVariants as command
 use Rattle.tpm_types.specs.declared.handle.HierarchyHandle.{HierarchyHandle}
 use Rattle.tpm_actions_object.specs.Clear.{cleared_lockout}
 use Rattle.tpm_nv.specs.Clear.{cleared}
@@ -12,80 +10,9 @@ use Rattle.tpm_record.specs.declared.fixed.Fixed.{Fixed}
 use Rattle.tpm_record.specs.declared.hierarchy.Hierarchies.{Hierarchies}
 use Rattle.tpm_record.specs.Hierarchy.{secrets_of}
 use Rattle.tpm_record.specs.Record.{Record}
-
--- the parts of a record: none of it; the sessions; the transient objects; both; the persistent
--- objects; the NV indices, of which one is written or locked, a counter counts, one has another
--- authorization value, one is defined, or one is undefined; the authorization values of the hierarchies and of lockout; what
--- protects against dictionary attacks; the banks; what a startup begins, the NV indices too; what a
--- shutdown saves; whether TPM2_Clear is disabled; and what that takes away, objects and NV indices
--- too
-pub data Part : Type 0 where
-  Nothing : Part
-  Sessions : Part
-  Objects : Part
-  SessionsAndObjects : Part
-  Persistent : Part
-  NvData : Part
-  NvCounter : Part
-  NvAuthValue : Part
-  NvDefined : Part
-  NvUndefined : Part
-  AuthValues : Part
-  Lockout : Part
-  Banks : Part
-  Beginning : Part
-  Saved : Part
-  DisableClear : Part
-  Cleared : Part
-
-abbrev pub part_of : CommandCode → Part
-part_of command.EvictControl = Persistent
-part_of command.NvUndefineSpace = NvUndefined
-part_of command.Clear = Cleared
-part_of command.ClearControl = DisableClear
-part_of command.HierarchyChangeAuth = AuthValues
-part_of command.NvDefineSpace = NvDefined
-part_of command.CreatePrimary = Objects
-part_of command.NvIncrement = NvCounter
-part_of command.NvSetBits = NvData
-part_of command.NvExtend = NvData
-part_of command.NvWrite = NvData
-part_of command.NvWriteLock = NvData
-part_of command.DictionaryAttackLockReset = Lockout
-part_of command.DictionaryAttackParameters = Lockout
-part_of command.NvChangeAuth = NvAuthValue
-part_of command.PcrEvent = Banks
-part_of command.PcrReset = Banks
-part_of command.SelfTest = Nothing
-part_of command.Startup = Beginning
-part_of command.Shutdown = Saved
-part_of command.PolicyNv = Sessions
-part_of command.NvRead = Nothing
-part_of command.NvReadLock = NvData
-part_of command.PolicySecret = Sessions
-part_of command.Create = Nothing
-part_of command.Hmac = Nothing
-part_of command.Load = Objects
-part_of command.Unseal = Nothing
-part_of command.FlushContext = SessionsAndObjects
-part_of command.NvReadPublic = Nothing
-part_of command.PolicyAuthValue = Sessions
-part_of command.PolicyCommandCode = Sessions
-part_of command.PolicyCpHash = Sessions
-part_of command.PolicyNvWritten = Sessions
-part_of command.PolicyLocality = Sessions
-part_of command.PolicyOr = Sessions
-part_of command.ReadPublic = Nothing
-part_of command.StartAuthSession = Sessions
-part_of command.GetCapability = Nothing
-part_of command.GetRandom = Nothing
-part_of command.PcrRead = Nothing
-part_of command.PolicyPcr = Sessions
-part_of command.PolicyRestart = Sessions
-part_of command.ReadClock = Nothing
-part_of command.PcrExtend = Banks
-part_of command.PolicyGetDigest = Nothing
-part_of command.PolicyPassword = Sessions
+use Rattle.tpm_types_command.specs.Part.{Part, Nothing, Sessions, Objects, SessionsAndObjects, Persistent, NvData}
+use Rattle.tpm_types_command.specs.Part.{NvCounter, NvAuthValue, NvDefined, NvUndefined, AuthValues, Lockout, Banks}
+use Rattle.tpm_types_command.specs.Part.{Beginning, Saved, DisableClear, Cleared}
 
 -- Every hierarchy has the seed and the proof that it had.
 abbrev pub KeepsSecrets : Hierarchies → Hierarchies → Type 0

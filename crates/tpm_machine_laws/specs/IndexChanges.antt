@@ -15,8 +15,9 @@ use Rattle.tpm_nv.specs.Index.{NvContents, NvIndex, changed_index, index_at, wit
 use Rattle.tpm_nv.specs.Index.{without_index}
 use Rattle.tpm_actions_base.specs.Request.{Request, second_handle}
 use Rattle.tpm_nvactions.specs.NvDefineSpace.{Parameters, parameters_in}
-use Rattle.tpm_machine_laws.specs.Footprint.{Part, NvData, NvCounter, NvAuthValue, NvDefined}
-use Rattle.tpm_machine_laws.specs.Footprint.{NvUndefined, Beginning, Cleared, StartsNv}
+use Rattle.tpm_machine_laws.specs.Footprint.{StartsNv}
+use Rattle.tpm_types_command.specs.Part.{Part, NvData, NvCounter, NvAuthValue, NvDefined, NvUndefined, Beginning}
+use Rattle.tpm_types_command.specs.Part.{Cleared}
 
 abbrev pub IsCounter : NvIndex → Type 0
 IsCounter index = index_type index.public.attributes ≡ Some type.Counter

@@ -1,13 +1,13 @@
 -- All that holds of the row of a command, as one record.
 use Rattle.std.specs.Prelude.{◌≡◌, ◌≤◌, false, length, Result, IfOk}
 use Rattle.tpm_types.specs.declared.refused.Refused.{Refused}
-use Rattle.tpm_types_command.specs.CommandCode.{shape_of}
+use Rattle.tpm_types_command.specs.CommandCode.{part_of, shape_of}
 use Rattle.tpm_types_command.specs.declared.command_code.CommandCode.{CommandCode}
 use Rattle.tpm_record.specs.Record.{Record}
 use Rattle.tpm_actions_base.specs.Request.{Request}
 use Rattle.tpm_actions_base.specs.Rows.{Success}
 use Rattle.tpm_machine_laws.specs.Draws.{DrawsAsSaid}
-use Rattle.tpm_machine_laws.specs.Footprint.{Touches, part_of}
+use Rattle.tpm_machine_laws.specs.Footprint.{Touches}
 use Rattle.tpm_machine_laws.specs.IndexChanges.{ChangesIndices}
 use Rattle.tpm_machine_laws.specs.Order.{Orders, Plain}
 use Rattle.tpm_machine_laws.specs.Sessions.{SessionsStay}
