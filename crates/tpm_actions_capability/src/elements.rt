@@ -161,7 +161,7 @@ pub(crate) fn commands(elements: &mut Elements)
     requires { elements.old.items ≡ [] }
     ensures { elements.new.items ≡ command_elements }
 {
-    list_commands(&CommandCode::ALL, elements);
+    list_commands(CommandCode::ALL, elements);
 }
 
 /// A property and its value.

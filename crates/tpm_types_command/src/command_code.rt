@@ -269,7 +269,7 @@ impl CommandCode {
     ghost use Rattle.tpm_types_command.specs.Shape.{facts_of};
 
     /// All of them, ascending by number.
-    pub const ALL: [CommandCode; 47] = facts!(all);
+    pub const ALL: &'static [CommandCode] = &facts!(all);
 
     /// The number on the wire.
     #[tactic(auto, unfolding(crate::specs::CommandCode::code_named))]
