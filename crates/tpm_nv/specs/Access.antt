@@ -1,6 +1,6 @@
--- What reads, changes and locks an NV index. TPM 2.0 Library, Part 3, sections 31.7 to 31.15
--- (TPM2_NV_Write, NV_Increment, NV_Extend, NV_SetBits, NV_WriteLock, NV_Read, NV_ReadLock and
--- NV_ChangeAuth), and Part 1, section 37. Who may do it is no matter of this page.
+-- What reads, changes and locks an NV index. TPM 2.0 Library, Part 3, sections 31.7 to 31.11 and
+-- 31.13 to 31.15 (writing, counting, extending, setting bits, reading, the locks, and another
+-- authorization value), and Part 1, section 37. Who may do it is no matter of this page.
 use Rattle.std.specs.Prelude.{◌≡◌, ℕ, ◌+◌, ◌^◌, ◌==◌, ◌&&◌, ◌||◌, max, nat_lt, nat_le, not, bit_or}
 use Rattle.std.specs.Prelude.{Bool, List, ◌++◌, length, replicate, Result, Ok, Err, ok_or, if◌then◌else◌}
 use Rattle.std.specs.Borrow.{Bor}
