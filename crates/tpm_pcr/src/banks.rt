@@ -113,10 +113,10 @@ impl Banks {
     {
         let number = usize::from(pcr.number());
         let mut value = Digest::new();
-        let _ = match bank {
-            HashAlg::Sha1 => value.try_extend_from_slice(&self.sha1[number]),
-            HashAlg::Sha256 => value.try_extend_from_slice(&self.sha256[number]),
-        };
+        match bank {
+            HashAlg::Sha1 => append(&mut value, &self.sha1[number]),
+            HashAlg::Sha256 => append(&mut value, &self.sha256[number]),
+        }
         value
     }
 }

@@ -118,11 +118,11 @@ impl NvPublic {
         ensures { result ≡ nv_public_text self.now }
     {
         let mut text = Sink::new();
-        let _ = text.put_u32(self.nv_index.number);
-        let _ = text.put_u16(hash_number(self.name_alg));
-        let _ = text.put_u32(self.attributes.bits);
-        let _ = text.put_sized(self.auth_policy.as_slice());
-        let _ = text.put_u16(self.data_size);
+        text.append_u32(self.nv_index.number);
+        text.append_u16(hash_number(self.name_alg));
+        text.append_u32(self.attributes.bits);
+        text.append_sized(self.auth_policy.as_slice());
+        text.append_u16(self.data_size);
         text
     }
 

@@ -97,13 +97,13 @@ impl CreationData {
         ensures { result ≡ creation_data_text self.now }
     {
         let mut text = Sink::new();
-        let _ = self.pcr_select.write(&mut text);
-        let _ = text.put_sized(self.pcr_digest.as_slice());
-        let _ = text.put_u8(self.locality);
-        let _ = text.put_u16(hash_or_null_number(self.parent_name_alg));
-        let _ = text.put_sized(self.parent_name.as_slice());
-        let _ = text.put_sized(self.parent_qualified_name.as_slice());
-        let _ = text.put_sized(self.outside_info.as_slice());
+        self.pcr_select.append_to(&mut text);
+        text.append_sized(self.pcr_digest.as_slice());
+        text.append_u8(self.locality);
+        text.append_u16(hash_or_null_number(self.parent_name_alg));
+        text.append_sized(self.parent_name.as_slice());
+        text.append_sized(self.parent_qualified_name.as_slice());
+        text.append_sized(self.outside_info.as_slice());
         text
     }
 

@@ -94,10 +94,10 @@ impl Sensitive {
         ensures { result ≡ sensitive_text self.now }
     {
         let mut text = Sink::new();
-        let _ = text.put_u16(self.object_type.number());
-        let _ = text.put_sized(self.auth_value.as_slice());
-        let _ = text.put_sized(self.seed_value.as_slice());
-        let _ = text.put_sized(self.sensitive.as_slice());
+        text.append_u16(self.object_type.number());
+        text.append_sized(self.auth_value.as_slice());
+        text.append_sized(self.seed_value.as_slice());
+        text.append_sized(self.sensitive.as_slice());
         text
     }
 

@@ -75,8 +75,8 @@ impl<'a> SensitiveCreate<'a> {
         ensures { result ≡ sensitive_create_text (sensitive_values_of self.now) }
     {
         let mut text = Sink::new();
-        let _ = text.put_sized(self.user_auth);
-        let _ = text.put_sized(self.data);
+        text.append_sized(self.user_auth);
+        text.append_sized(self.data);
         text
     }
 }

@@ -59,7 +59,7 @@ impl Connection {
             ≡ fed self.old (take (fitting self.old (length piece.now)) piece.now) }
     {
         let count = self.taken.remaining_capacity().min(piece.len());
-        let _ = self.taken.try_extend_from_slice(&piece[..count]);
+        append(&mut self.taken, &piece[..count]);
         count
     }
 

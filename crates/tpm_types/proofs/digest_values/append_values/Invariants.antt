@@ -1,6 +1,6 @@
 use Rattle.std.proofs.Common.{◌≡◌, ◌+◌, ◌*◌, ◌≤◌, ◌++◌, length, take}
 use Rattle.tpm_types.specs.DigestValues.{values_text}
-use Rattle.tpm_types.proofs.digest_values.write_values.Given as goal
+use Rattle.tpm_types.proofs.digest_values.append_values.Given as goal
 
 -- the digests so far are written, each in at most 34 bytes
 abbrev pub invariant-loop-value : goal.invariant-loop-value

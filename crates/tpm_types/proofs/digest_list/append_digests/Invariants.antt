@@ -1,6 +1,6 @@
 use Rattle.std.proofs.Common.{◌≡◌, ◌+◌, ◌*◌, ◌≤◌, ◌++◌, length, take}
 use Rattle.tpm_types.specs.DigestList.{digests_of, digests_text}
-use Rattle.tpm_types.proofs.digest_list.write_digests.Given as goal
+use Rattle.tpm_types.proofs.digest_list.append_digests.Given as goal
 
 -- the digests so far are written, each in at most 34 bytes
 abbrev pub invariant-loop-digest : goal.invariant-loop-digest
