@@ -19,6 +19,7 @@ ghost use Rattle.tpm_pcr.specs.Saved.{restored_in, saved_of};
 use crate::saved::SavedPcrs;
 use arrayvec::ArrayVec;
 use std::marker::Model;
+use tpm_bytes::append;
 use tpm_mac::{Digest, HashAlg, Hasher};
 use tpm_types::{BankSelection, DigestList, PCR_COUNT, PcrIndex, PcrSelect, PcrSelection};
 

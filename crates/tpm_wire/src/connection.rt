@@ -9,6 +9,7 @@ ghost use Rattle.tpm_wire.specs.Stream.{IsFront, cut_at, fed, fitting, opened};
 use crate::front::{Front, front_of};
 use arrayvec::ArrayVec;
 use std::marker::Model;
+use tpm_bytes::append;
 use tpm_types::BUFFER_LIMIT;
 
 /// The bytes that a connection has taken and that were not yet executed, and whether no buffer
