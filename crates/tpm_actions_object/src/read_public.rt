@@ -24,7 +24,9 @@ pub fn read_public<K: Keep>(keep: &mut K, call: &Call, answer: &mut Answer) -> R
 {
     let object = loaded(keep, call.first_handle()?)?;
     end(&Cursor::new(call.parameters))?;
-    answer.parameters.append_sized(object.public.text().as_slice());
+    answer
+        .parameters
+        .append_sized(object.public.text().as_slice());
     answer.parameters.append_sized(object.name().as_slice());
     answer
         .parameters

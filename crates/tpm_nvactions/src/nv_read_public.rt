@@ -32,7 +32,9 @@ pub fn nv_read_public<K: Keep>(
         return Err(handle_refusal());
     };
     end(&Cursor::new(call.parameters))?;
-    answer.parameters.append_sized(head.public.text().as_slice());
+    answer
+        .parameters
+        .append_sized(head.public.text().as_slice());
     answer
         .parameters
         .append_sized(tpm_name::of_nv(&head.public).as_slice());

@@ -81,13 +81,9 @@ impl DigestValue {
         ensures written { Puts N (digest_value_text self.now) sink.old result sink.new }
         ensures small { length (digest_value_text self.now) ≤ 34 }
     {
-        let digest = self.digest();
-        if N - sink.len() < 2 + digest.len() {
-            return Err(Full);
-        }
-        sink.append_u16(hash_number(self.hash()));
-        sink.append(digest);
-        Ok(())
+        let mut text: Sink<34> = Sink::new();
+        self.append_to(&mut text);
+        sink.put(text.as_slice())
     }
 
     /// Writes the digest at the end, where there is room for the longest: 34 bytes.
