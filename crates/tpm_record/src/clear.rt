@@ -59,8 +59,8 @@ impl Choice<Object> for Outlasting {
 pub(crate) fn clear_places<O: Slots<Object, OBJECT_LIMIT>>(places: &mut O)
     ensures { O.places places.new ≡ cleared_objects (O.places places.old) }
 {
-    let _ = places.get(8);
-    for place in 0..8 {
+    let _ = places.get(OBJECT_LIMIT);
+    for place in 0..OBJECT_LIMIT {
         clear_place(places, place);
     }
 }
