@@ -32,12 +32,13 @@ use Rattle.tpm_types_command.specs.Shape.{admin, unauthorized, user}
 use Rattle.tpm_types_command.specs.declared.command_code.CommandCode.{CommandCode}
 use Rattle.tpm_types_command.specs.declared.command_code.CommandCode.TheVariants as command
 use Rattle.tpm_types_command.specs.declared.shape.HandleKind.TheVariants as kind
-use Rattle.tpm_nv.specs.Access.{incremented, index_or_fault, with_auth_value}
+use Rattle.tpm_nv.specs.Access.{incremented, index_or_fault, undefined, with_auth_value}
 use Rattle.tpm_nv.specs.Clear.{cleared, is_by_platform}
 use Rattle.tpm_nv.specs.Definition.{defined_index}
 use Rattle.tpm_nv.specs.Index.{NvContents, NvIndex, changed_index, with_index, without_index}
 use Rattle.tpm_nv.specs.Startup.{started, started_index}
-use Rattle.tpm_nv.specs.declared.fault.NvFault.{NvFault}
+use Rattle.tpm_nv.specs.declared.fault.Undefined.{Undefined}
+use Rattle.tpm_nv.specs.declared.fault.WriteFault.TheVariants as write_fault
 use Rattle.tpm_object.specs.Areas.{new_object_areas}
 use Rattle.tpm_object.specs.Object.{transient_byte}
 use Rattle.tpm_object.specs.Primary.{primary_areas, primary_object}
@@ -52,7 +53,7 @@ use Rattle.tpm_record.specs.declared.fixed.Fixed.{Fixed}
 use Rattle.tpm_record.specs.declared.saved.SavedKind.{SavedKind}
 use Rattle.tpm_record.specs.declared.saved.SavedKind.TheVariants as saved
 use Rattle.tpm_record.proofs.ClearLaws.{are_cleared}
-use Rattle.tpm_actions_base.specs.Refusals.{or_refusal, parameter_refusal}
+use Rattle.tpm_actions_base.specs.Refusals.{handle_refusal, or_refusal, parameter_refusal}
 use Rattle.tpm_actions_base.specs.Request.{Request, first_handle, second_handle}
 use Rattle.tpm_actions_base.specs.Rows.{only}
 use Rattle.tpm_actions_base.specs.Target.{index_or_refusal}
@@ -66,7 +67,7 @@ use Rattle.tpm_actions_object.specs.EvictControl.{copied, evict_control_row, evi
 use Rattle.tpm_actions_object.specs.Load.{load_row, loaded_below, sensitive_of}
 use Rattle.tpm_actions_object.specs.Load as load
 use Rattle.tpm_actions_object.specs.Loaded.{is_fixed, loaded_at, parent_passes, place_for}
-use Rattle.tpm_nvactions.specs.Access.{changed_nv, lock_refusal}
+use Rattle.tpm_nvactions.specs.Access.{changed_nv}
 use Rattle.tpm_nvactions.specs.NvChangeAuth.{nv_change_auth_row}
 use Rattle.tpm_nvactions.specs.NvDefineSpace as definition
 use Rattle.tpm_machine_step.specs.Table.{row_of}
@@ -98,7 +99,7 @@ abbrev ShowSame : (old new : NvContents) → Type 0
 ShowSame old new = (n : ℕ) → index_auth (at_key new.indices n) ≡ index_auth (at_key old.indices n)
 
 changed_same : (nv : NvContents) (handle : Handle) (old new : NvIndex)
-    → index_or_fault nv handle ≡ Ok old → new.auth_value ≡ old.auth_value
+    → index_or_fault nv handle write_fault.Undefined ≡ Ok old → new.auth_value ≡ old.auth_value
     → ShowSame nv (changed_index nv handle new)
 changed_same nv handle old new is same =
     changed_shows (λ (index : NvIndex). index.auth_value) nv.indices handle.number old new (some_is _ _ old is) same
@@ -204,7 +205,7 @@ change_auth_sets r q values fits have =
 index_changed : (r : Record) (handle : Handle) (value : List ℕ) → is_nv_index handle ≡ true → IfOk (with_auth_value r.nv handle value) (λ nv. Sets handle value r (record r { nv = nv }))
 unfolding with_auth_value
 index_changed r handle value named =
-    ok_bind_is _ (index_or_fault r.nv handle) _ (λ index is.
+    ok_bind_is _ (index_or_fault r.nv handle undefined) _ (λ index is.
     let new : NvIndex = record index { auth_value = value } in
     index_set r (changed_index r.nv handle new) handle new named (index_keys.changed_found r.nv.indices handle.number index new (some_is _ _ index is)) (index_keys.changed_others r.nv.indices handle.number new))
 
@@ -219,7 +220,7 @@ nv_change_auth_sets r q values fits have =
     let fit : FitsRule r (admin kind.NvIndex) handle = first_fits r (admin kind.NvIndex) [] q.handles handle fits handle_is in
     by handle value set (with_auth_value r.nv handle value) (index_changed r handle value fit.0)))))
   where
-    by : (handle : Handle) (value : List ℕ) → changed_value q ≡ Ok (handle, value) → (new : Result NvContents NvFault) → IfOk new (λ nv. Sets handle value r (record r { nv = nv })) → IfOk (or_refusal lock_refusal new >>= λ nv. Ok (changed_nv r nv)) (λ s. HaveValues s.after (with_value (changed_value q) values))
+    by : (handle : Handle) (value : List ℕ) → changed_value q ≡ Ok (handle, value) → (new : Result NvContents Undefined) → IfOk new (λ nv. Sets handle value r (record r { nv = nv })) → IfOk (or_refusal (λ absence. handle_refusal) new >>= λ nv. Ok (changed_nv r nv)) (λ s. HaveValues s.after (with_value (changed_value q) values))
     by handle value set (Ok nv) sets = set_is r (record r { nv = nv }) values handle value (changed_value q) set sets have
     by handle value set (Err fault) sets = tt
 

@@ -9,7 +9,7 @@ use Rattle.tpm_types.specs.declared.handle.Handle.{Handle}
 use Rattle.tpm_types_nv.specs.declared.nv_type.NvType.TheVariants as type
 use Rattle.tpm_nv.specs.Access.{counted, incremented, index_or_fault, number_or, with_data, writable}
 use Rattle.tpm_nv.specs.Index.{NvContents, NvIndex, changed_index, index_at}
-use Rattle.tpm_nv.specs.declared.fault.NvFault.TheVariants.{Range}
+use Rattle.tpm_nv.specs.declared.fault.WriteFault.TheVariants.{Exhausted, Undefined}
 use Rattle.tpm_machine_laws.proofs.Binding.{ok_bind_is, some_is}
 use Rattle.tpm_machine_laws.specs.IndexChanges.{IsCounter}
 use Rattle.tpm_machine_laws.proofs.IndexChanges.{writable_type}
@@ -26,9 +26,9 @@ pub incremented_counts : (contents : NvContents) (handle : Handle)
     → IfOk (incremented contents handle) (CountsUp handle contents)
 unfolding incremented
 incremented_counts contents handle =
-    ok_bind_is _ (index_or_fault contents handle) _ (λ index is.
+    ok_bind_is _ (index_or_fault contents handle Undefined) _ (λ index is.
     ok_bind_is _ (writable type.Counter index) _ (λ counter may.
-    ok_bind_is _ (refused_if (nat_le (2 ^ 64) (number_or contents.max_count index + 1)) Range) _ (λ fits small.
+    ok_bind_is _ (refused_if (nat_le (2 ^ 64) (number_or contents.max_count index + 1)) Exhausted) _ (λ fits small.
     record {
       index = index;
       found = some_is _ _ index is;

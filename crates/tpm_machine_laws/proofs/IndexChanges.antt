@@ -23,14 +23,15 @@ use Rattle.tpm_types_nv.proofs.AttributeLaws.{are_attributes}
 use Rattle.tpm_sorted_map.proofs.SortedMapLaws.{changed_length}
 use Rattle.tpm_nv.specs.Access.{bits_set, data_or, extended, incremented, index_has, index_or_fault}
 use Rattle.tpm_nv.specs.Access.{marked, number_or, read_locked, with_auth_value, with_data}
-use Rattle.tpm_nv.specs.Access.{writable, write_locked, written}
+use Rattle.tpm_nv.specs.Access.{undefined, writable, write_locked, written}
 use Rattle.tpm_nv.specs.Bytes.{put_over}
 use Rattle.tpm_nv.specs.Definition.{definition_passes, has_type_size, index_attribute_conflicts}
 use Rattle.tpm_nv.specs.Index.{NvContents, NvIndex, changed_index}
 use Rattle.tpm_nv.specs.declared.definition.DefinitionFault.{DefinitionFault}
 use Rattle.tpm_nv.specs.declared.definition.DefinitionFault.TheVariants as fault
-use Rattle.tpm_nv.specs.declared.fault.NvFault.{NvFault}
-use Rattle.tpm_nv.specs.declared.fault.NvFault.TheVariants.{Attributes, Range}
+use Rattle.tpm_nv.specs.declared.fault.LockFault.TheVariants as lock_fault
+use Rattle.tpm_nv.specs.declared.fault.WriteFault.{WriteFault}
+use Rattle.tpm_nv.specs.declared.fault.WriteFault.TheVariants as write_fault
 use Rattle.tpm_nv.proofs.KeptLaws.{type_of_writable}
 use Rattle.tpm_record.specs.Record.{Record}
 use Rattle.tpm_actions_base.specs.Refusals.{or_refusal}
@@ -55,7 +56,8 @@ writable_type type.Extend index may = rw (eqb-true _ 4 (type_of_writable type.Ex
 
 -- data of another type than a counter's
 writes_data : (contents : NvContents) (handle : Handle) (index : NvIndex) (t : NvType)
-    (bytes : List ℕ) → index_or_fault contents handle ≡ Ok index → writable t index ≡ Ok tt
+    (bytes : List ℕ) → index_or_fault contents handle write_fault.Undefined ≡ Ok index
+    → writable t index ≡ Ok tt
     → (let some : Option NvType = Some t in some ≡ Some type.Counter → ⊥)
     → Writes contents (changed_index contents handle (with_data index bytes))
 writes_data contents handle index t bytes is may other = record {
@@ -70,7 +72,7 @@ writes_data contents handle index t bytes is may other = record {
 
 -- an attribute that has nothing to do with the count
 marks : (contents : NvContents) (handle : Handle) (index : NvIndex) (one : NvAttribute)
-    → index_or_fault contents handle ≡ Ok index
+    → index_or_fault contents handle lock_fault.Undefined ≡ Ok index
     → attribute_bit attribute.Written ≢ attribute_bit one
     → attribute_bit attribute.ClearStClear ≢ attribute_bit one
     → Writes contents (changed_index contents handle (marked index one))
@@ -95,17 +97,17 @@ pub written_writes : (contents : NvContents) (handle : Handle) (offset : ℕ) (b
     → IfOk (written contents handle offset bytes) (Writes contents)
 unfolding written
 written_writes contents handle offset bytes =
-    ok_bind_is _ (index_or_fault contents handle) _ (λ index is.
+    ok_bind_is _ (index_or_fault contents handle write_fault.Undefined) _ (λ index is.
     ok_bind_is _ (writable type.Ordinary index) _ (λ ordinary may.
-    ok_bind _ (refused_if (nat_lt index.public.data_size (offset + length bytes)) Range) _ (λ inside.
-    ok_bind _ (refused_if (index_has index attribute.WriteAll && not (length bytes == index.public.data_size)) Range) _ (λ whole.
+    ok_bind _ (refused_if (nat_lt index.public.data_size (offset + length bytes)) write_fault.PastData) _ (λ inside.
+    ok_bind _ (refused_if (index_has index attribute.WriteAll && not (length bytes == index.public.data_size)) write_fault.Partial) _ (λ whole.
     writes_data contents handle index type.Ordinary (put_over offset bytes (data_or 0xff index)) is may (λ same. cc)))))
 
 pub bits_write : (contents : NvContents) (handle : Handle) (bits : ℕ)
     → IfOk (bits_set contents handle bits) (Writes contents)
 unfolding bits_set
 bits_write contents handle bits =
-    ok_bind_is _ (index_or_fault contents handle) _ (λ index is.
+    ok_bind_is _ (index_or_fault contents handle write_fault.Undefined) _ (λ index is.
     ok_bind_is _ (writable type.Bits index) _ (λ field may.
     writes_data contents handle index type.Bits (to_be_bytes w64 (bit_or (number_or 0 index) bits)) is may (λ same. cc)))
 
@@ -113,7 +115,7 @@ pub extended_writes : (contents : NvContents) (handle : Handle) (bytes : List �
     → IfOk (extended contents handle bytes) (Writes contents)
 unfolding extended
 extended_writes contents handle bytes =
-    ok_bind_is _ (index_or_fault contents handle) _ (λ index is.
+    ok_bind_is _ (index_or_fault contents handle write_fault.Undefined) _ (λ index is.
     ok_bind_is _ (writable type.Extend index) _ (λ extendable may.
     writes_data contents handle index type.Extend (hash_of index.public.name_alg (data_or 0 index ++ bytes)) is may (λ same. cc)))
 
@@ -121,16 +123,16 @@ pub write_locked_writes : (contents : NvContents) (handle : Handle)
     → IfOk (write_locked contents handle) (Writes contents)
 unfolding write_locked
 write_locked_writes contents handle =
-    ok_bind_is _ (index_or_fault contents handle) _ (λ index is.
-    ok_bind _ (refused_if (not (index_has index attribute.WriteDefine || index_has index attribute.WriteStClear)) Attributes) _ (λ lockable.
+    ok_bind_is _ (index_or_fault contents handle lock_fault.Undefined) _ (λ index is.
+    ok_bind _ (refused_if (not (index_has index attribute.WriteDefine || index_has index attribute.WriteStClear)) lock_fault.Attributes) _ (λ lockable.
     marks contents handle index attribute.WriteLocked is (λ same. omega arith) (λ same. omega arith)))
 
 pub read_locked_writes : (contents : NvContents) (handle : Handle)
     → IfOk (read_locked contents handle) (Writes contents)
 unfolding read_locked
 read_locked_writes contents handle =
-    ok_bind_is _ (index_or_fault contents handle) _ (λ index is.
-    ok_bind _ (refused_if (not (index_has index attribute.ReadStClear)) Attributes) _ (λ lockable.
+    ok_bind_is _ (index_or_fault contents handle lock_fault.Undefined) _ (λ index is.
+    ok_bind _ (refused_if (not (index_has index attribute.ReadStClear)) lock_fault.Attributes) _ (λ lockable.
     marks contents handle index attribute.ReadLocked is (λ same. omega arith) (λ same. omega arith)))
 
 -- ---- a counter counts, and an index has another authorization value
@@ -139,7 +141,7 @@ pub counts_so : (q : Request) (contents : NvContents) (handle : Handle)
     → second_handle q.handles ≡ Ok handle → IfOk (incremented contents handle) (Increments q contents)
 counts_so q contents handle named = by (incremented contents handle) refl
   where
-    by : (x : Result NvContents NvFault) → incremented contents handle ≡ x → IfOk x (Increments q contents)
+    by : (x : Result NvContents WriteFault) → incremented contents handle ≡ x → IfOk x (Increments q contents)
     by (Ok new) is = record { handle = handle; named = named; is = is }
     by (Err fault) is = tt
 
@@ -147,7 +149,7 @@ pub auth_changes : (contents : NvContents) (handle : Handle) (value : List ℕ)
     → IfOk (with_auth_value contents handle value) (ChangesAuth contents)
 unfolding with_auth_value
 auth_changes contents handle value =
-    ok_bind_is _ (index_or_fault contents handle) _ (λ index is.
+    ok_bind_is _ (index_or_fault contents handle undefined) _ (λ index is.
     record { handle = handle; index = index; value = value; found = some_is _ _ index is; is = refl })
 
 -- ---- their number

@@ -29,8 +29,9 @@ use Rattle.tpm_nv.specs.Access.{with_auth_value, write_locked, written}
 use Rattle.tpm_nv.specs.Definition.{defined_index, definition_passes}
 use Rattle.tpm_nv.specs.Index.{NvContents, NvIndex, has_room, index_at, with_index, without_index}
 use Rattle.tpm_nv.specs.declared.definition.DefinitionFault.{DefinitionFault}
-use Rattle.tpm_nv.specs.declared.fault.NvFault.{NvFault}
-use Rattle.tpm_nv.specs.declared.fault.NvFault.TheVariants as fault
+use Rattle.tpm_nv.specs.declared.fault.LockFault.{LockFault}
+use Rattle.tpm_nv.specs.declared.fault.Undefined.{Undefined}
+use Rattle.tpm_nv.specs.declared.fault.WriteFault.{WriteFault}
 use Rattle.tpm_record.specs.Record.{Record}
 use Rattle.tpm_actions_base.specs.Refusals.{handle_refusal, or_refusal, parameter_refusal}
 use Rattle.tpm_actions_base.specs.Request.{Request, first_handle, second_handle}
@@ -74,26 +75,26 @@ use Rattle.tpm_machine_laws.proofs.Successes.{none_drawn}
 -- ---- how they refuse
 
 -- a step of a change, whose faults are refused so
-late_step : {A B : Type 0} (Fit : Type 0) (refusal : NvFault → Refused) (x : Result A NvFault)
-    (f : A → Result B NvFault) → Late Fit (or_refusal refusal x)
+late_step : {A B F : Type 0} (Fit : Type 0) (refusal : F → Refused) (x : Result A F)
+    (f : A → Result B F) → Late Fit (or_refusal refusal x)
     → ((a : A) → Late Fit (or_refusal refusal (f a))) → Late Fit (or_refusal refusal (x >>= f))
 late_step Fit refusal (Ok a) f late more = more a
 late_step Fit refusal (Err fault) f late more = late
 
-late_if : (Fit : Type 0) (refusal : NvFault → Refused) (b : Bool) (fault : NvFault)
+late_if : {F : Type 0} (Fit : Type 0) (refusal : F → Refused) (b : Bool) (fault : F)
     → IsLate Fit (refusal fault).check → Late Fit (or_refusal refusal (refused_if b fault))
 late_if Fit refusal true fault late = late
 late_if Fit refusal false fault late = tt
 
 -- the index that is changed, which is there where the handles fit
-late_index : {X : Type 0} (Fit : Type 0) (refusal : NvFault → Refused) (nv : NvContents)
-    (h : Handle) (f : NvIndex → Result X NvFault) → refusal fault.Undefined ≡ handle_refusal
+late_index : {X F : Type 0} (Fit : Type 0) (refusal : F → Refused) (nv : NvContents) (h : Handle)
+    (absence : F) (f : NvIndex → Result X F) → refusal absence ≡ handle_refusal
     → (Fit → is_some (index_at nv h) ≡ true) → ((i : NvIndex) → Late Fit (or_refusal refusal (f i)))
-    → Late Fit (or_refusal refusal (index_or_fault nv h >>= f))
-late_index Fit refusal nv h f is there more = by (index_at nv h) there
+    → Late Fit (or_refusal refusal (index_or_fault nv h absence >>= f))
+late_index Fit refusal nv h absence f is there more = by (index_at nv h) there
   where
     by : (o : Option NvIndex) → (Fit → is_some o ≡ true)
-        → Late Fit (or_refusal refusal (ok_or o fault.Undefined >>= f))
+        → Late Fit (or_refusal refusal (ok_or o absence >>= f))
     by (Some i) there = more i
     by None there = subst (λ (e : Refused). IsLate Fit e.check) (sym is) (λ fit. false≢true (there fit))
 
@@ -137,7 +138,7 @@ late_read_locked Fit nv h there = search changes
 -- of a command whose only handle is the index
 late_auth_value : (Fit : Type 0) (r : Record) (role : Option Role) (h : Handle) (value : List ℕ)
     → (Fit → FitsRule r (record { kind = handle_kind.NvIndex; role = role }) h)
-    → Late Fit (or_refusal lock_refusal (with_auth_value r.nv h value))
+    → Late Fit (or_refusal (λ absence. handle_refusal) (with_auth_value r.nv h value))
 unfolding with_auth_value
 late_auth_value Fit r role h value fits =
     let there = λ (fit : Fit). index_there r role h (fits fit) in
@@ -149,16 +150,21 @@ late_definition Fit x = grind arith
 
 ruleset index_orders = (ordered_steps, late_written, late_incremented, late_bits, late_extended, late_write_locked, late_read_locked)
 
-plain_writing : {X : Type 0} (x : Result X NvFault) → Plain (or_refusal writing_refusal x)
+plain_writing : {X : Type 0} (x : Result X WriteFault) → Plain (or_refusal writing_refusal x)
 plain_writing x = grind arith
 
-plain_lock : {X : Type 0} (x : Result X NvFault) → Plain (or_refusal lock_refusal x)
+plain_lock : {X : Type 0} (x : Result X LockFault) → Plain (or_refusal lock_refusal x)
 plain_lock x = grind arith
+
+plain_absence : {X : Type 0} (x : Result X Undefined)
+    → Plain (or_refusal (λ absence. handle_refusal) x)
+plain_absence (Ok x) = tt
+plain_absence (Err absence) = refl
 
 plain_definition : (x : Result (Unit {0}) DefinitionFault) → Plain (or_refusal definition_refusal x)
 plain_definition x = grind arith
 
-ruleset index_plain = (plain_steps, plain_writing, plain_lock, plain_definition)
+ruleset index_plain = (plain_steps, plain_writing, plain_lock, plain_absence, plain_definition)
 
 -- ---- an index is defined, or undefined
 
@@ -220,8 +226,8 @@ nv_undefine_space_laws = record {
 -- ---- an index is changed
 
 -- a change that leaves the number of indices, and what it refuses
-changed_success : (c : CommandCode) (r : Record) (q : Request) (refusal : NvFault → Refused)
-    (x : Result NvContents NvFault) → leaves_sessions (part_of c) ≡ true
+changed_success : {F : Type 0} (c : CommandCode) (r : Record) (q : Request)
+    (refusal : F → Refused) (x : Result NvContents F) → leaves_sessions (part_of c) ≡ true
     → keeps_count (part_of c) ≡ true
     → ((nv : NvContents) → Touches (part_of c) r (record r { nv = nv })) → GrowsNothing c
     → AnswersItsShape c (changed_nv r r.nv) → DrawsAsSaid c q (changed_nv r r.nv)
@@ -299,7 +305,7 @@ change_auth_orders r q =
     let long : Bool = nat_lt (digest_size index.public.name_alg) (length value) in
     let refusal : Refused = parameter_refusal action.First 1 code.Size in
     err_bind _ (refused_if long refusal) _ (err_if (λ (e : Refused). IsLate (HandlesFit r (admin handle_kind.NvIndex ∷ []) q.handles) e.check) long refusal tt) (λ a1.
-    err_bind _ (or_refusal lock_refusal (with_auth_value r.nv h value)) _
+    err_bind _ (or_refusal (λ absence. handle_refusal) (with_auth_value r.nv h value)) _
     (late_auth_value _ r (Some role.Admin) h value fits) (λ nv. tt)))))
 
 pub nv_change_auth_laws : RowLaws command.NvChangeAuth nv_change_auth_row

@@ -22,7 +22,7 @@ use Rattle.tpm_types_nv.specs.declared.nv_type.NvType.{NvType}
 use Rattle.tpm_types_nv.specs.declared.nv_type.NvType.TheVariants as type
 use Rattle.tpm_types_nv.proofs.AttributeLaws.{are_attributes}
 use Rattle.tpm_nv.specs.Access.{data_or, marked, with_data, writable}
-use Rattle.tpm_nv.specs.declared.fault.NvFault.TheVariants.{Locked, Attributes}
+use Rattle.tpm_nv.specs.declared.fault.WriteFault.TheVariants.{Locked, Attributes}
 use Rattle.tpm_nv.specs.Bytes.{closed_up, filled, piece_of, put_over}
 use Rattle.tpm_nv.specs.Definition.{has_type_size, is_type_size}
 use Rattle.tpm_nv.specs.Head.{AreHeads, AreKept, IsHead, IsIndexOf, head_of, index_with, indices_of, size_of, start_in, start_of, total, with_attributes}

@@ -31,7 +31,7 @@ mod values;
 
 pub use area::Area;
 pub use definition::{DefinitionFault, check_definition, has_type_size};
-pub use fault::{DefineFault, NvFault, RestoreFault};
+pub use fault::{DefineFault, LockFault, ReadFault, RestoreFault, Undefined, WriteFault};
 pub use head::Head;
 pub use indices::Indices;
 pub use item_area::{ByteItems, ItemArea, ListArea, SlotArea};
