@@ -8,6 +8,7 @@ pub mod Tick
 pub mod Cycle
 pub mod Clear
 pub mod Entity
+pub mod Resolved
 pub mod Kept
 pub use Rattle.tpm_lockout.specs.Lockout
 pub use Rattle.tpm_lockout.specs.Tries

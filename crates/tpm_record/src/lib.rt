@@ -24,6 +24,7 @@ pub mod keep;
 pub mod kept;
 pub mod laws;
 pub mod objects;
+pub mod of_handle;
 pub mod persistent;
 pub mod record;
 pub mod saved;
@@ -31,14 +32,12 @@ pub mod tick;
 
 pub use any_object::{add_object, add_persistent, next_object, remove_object};
 pub use cycle::power_cycle;
-pub use entity::{
-    Means, absence_rc, auth_value_of, copied_auth_value, is_available, is_present, name_of,
-    object_of, policy_of, protection_of, written_of,
-};
+pub use entity::{Entity, Means, Resolved, absence_rc, object_of, resolve};
 pub use fixed::Fixed;
 pub use hierarchy::{Hierarchies, Secrets};
 pub use keep::Keep;
 pub use kept::{ListKeep, SlotKeep};
+pub use of_handle::{auth_value_of, copied_auth_value, is_present, name_of, protection_of};
 pub use persistent::PersistentObjects;
 pub use record::read_widths;
 pub use saved::{Saved, SavedKind};
