@@ -12,7 +12,6 @@ use Rattle.tpm_types_nv.specs.declared.nv_attributes.NvAttribute.TheVariants as 
 use Rattle.tpm_nv.specs.Access.{index_has, index_or_fault, read_at, readable}
 use Rattle.tpm_nv.specs.Index.{NvContents, NvIndex, index_at}
 use Rattle.tpm_nv.specs.IsContents.{AreIndices, IsContents, IsIndex}
-use Rattle.tpm_nv.specs.declared.fault.ReadFault.{ReadFault}
 use Rattle.tpm_nv.specs.declared.fault.ReadFault.TheVariants as fault
 use Rattle.tpm_record.specs.Record.{Record}
 use Rattle.tpm_actions_base.specs.Target.{reading_passes}

@@ -3,7 +3,6 @@
 -- authorization value), and Part 1, section 37. Who may do it is no matter of this page.
 use Rattle.std.specs.Prelude.{◌≡◌, ℕ, ◌+◌, ◌^◌, ◌==◌, ◌&&◌, ◌||◌, max, nat_lt, nat_le, not, bit_or}
 use Rattle.std.specs.Prelude.{Bool, List, ◌++◌, length, replicate, Result, Ok, Err, ok_or, if◌then◌else◌}
-use Rattle.std.specs.Borrow.{Bor}
 use Rattle.std.specs.Int.{w64, from_be_bytes, to_be_bytes}
 use Rattle.tpm_bytes.specs.Reading.{◌>>=◌, refused_if}
 use Rattle.tpm_mac.specs.Digest.{hash_of}
