@@ -33,8 +33,9 @@ reader_passes target =
     refused_if (not (may_read target)) (action_refusal action.First (plain code.NvAuthorization))
 
 -- what refuses a write after that. A2: the index is locked against writing; A3: it is not of the
--- command's type; A4: what would be written goes past the data, or is not all of them where WRITEALL
--- is set, or the counter has the largest number that there is. That there is no index does not occur
+-- command's type; A4: what would be written goes past the data, or is not all of them where
+-- WRITEALL is set, or the counter has the largest number that there is. That there is no index does
+-- not occur
 abbrev pub writing_refusal : WriteFault → Refused
 writing_refusal write_fault.Locked = action_refusal action.Second (plain code.NvLocked)
 writing_refusal write_fault.Attributes =
@@ -44,8 +45,8 @@ writing_refusal write_fault.Partial = action_refusal action.Fourth (plain code.N
 writing_refusal write_fault.Exhausted = action_refusal action.Fourth (plain code.NvRange)
 writing_refusal write_fault.Undefined = handle_refusal
 
--- what refuses a lock after A1. A2: the index has no attribute that lets it be locked so. That there
--- is no index does not occur
+-- what refuses a lock after A1. A2: the index has no attribute that lets it be locked so. That
+-- there is no index does not occur
 abbrev pub lock_refusal : LockFault → Refused
 lock_refusal lock_fault.Attributes =
     action_refusal action.Second (at (place.Handle 2) (plain code.Attributes))
