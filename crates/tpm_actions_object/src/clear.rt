@@ -18,7 +18,7 @@ use tpm_types::{ActionCheck, Refused, ResponseCode};
 
 /// How many random bytes it draws: the owner's seed and proof, and the endorsement hierarchy's
 /// proof.
-const CLEAR_DRAWS: usize = 96;
+const CLEAR_DRAWS: usize = 3 * 32;
 
 /// What it does to the part that does not grow, once it is counted as an update of the PCRs.
 fn clear_fixed(fixed: &mut Fixed, random: &[u8; 256])

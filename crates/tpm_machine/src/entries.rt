@@ -50,10 +50,10 @@ fn roll_entry<K: Keep>(keep: &mut K, entry: &AuthEntry, draws: &mut Draws)
 /// Gives the sessions of the entries new nonces, in order.
 pub fn roll_entries<K: Keep>(keep: &mut K, entries: &[AuthEntry], draws: &mut Draws)
     requires few { length entries.now ≤ 3 }
-    requires random { 96 ≤ length draws.old }
+    requires random { 3 * 32 ≤ length draws.old }
     ensures rolled { entries_rolled (K.record_of keep.old) (map entry_of entries.now) draws.old
         ≡ record { after = K.record_of keep.new; left = draws.new } }
-    ensures drawn { length draws.old ≤ length draws.new + 96 }
+    ensures drawn { length draws.old ≤ length draws.new + 3 * 32 }
 {
     for entry in entries {
         roll_entry(keep, entry, draws);

@@ -1,7 +1,7 @@
 -- How many of an event's random bytes a command draws for itself, by its code and its parameters. The
 -- nonces of its entries are drawn after these. TPM 2.0 Library, Part 3, sections 11.1
 -- (TPM2_StartAuthSession), 12.1 (TPM2_Create), 16.1 (TPM2_GetRandom) and 24.6 (TPM2_Clear).
-use Rattle.std.specs.Prelude.{ℕ, ◌≡◌, ◌≤◌, ◌+◌, min, length, false, List, Result, Ok, Err}
+use Rattle.std.specs.Prelude.{ℕ, ◌≡◌, ◌≤◌, ◌+◌, ◌*◌, min, length, false, List, Result, Ok, Err}
 use Rattle.std.specs.Int.{w16}
 use Rattle.tpm_bytes.specs.Reading.{number_at, or_fault}
 use Rattle.tpm_object.specs.Creation.{drawn_by}
@@ -10,6 +10,7 @@ use Rattle.tpm_types.specs.declared.rc.ResponseCode.TheVariants as code
 use Rattle.tpm_types.specs.declared.refused.Refused.{Refused}
 use Rattle.tpm_types_command.specs.declared.command_code.CommandCode.{CommandCode}
 use Rattle.tpm_types_command.specs.declared.command_code.CommandCode.TheVariants as command
+use Rattle.tpm_actions_base.specs.Draws.{draw_limit}
 use Rattle.tpm_actions_base.specs.Request.{Request}
 use Rattle.tpm_actions_base.specs.Rows.{Success, only}
 use Rattle.tpm_actions_device.specs.StartAuthSession.{parameters_in as session_parameters}
@@ -37,11 +38,11 @@ draws_of command.StartAuthSession q =
     read_or_none (λ p. length p.nonce_caller) (session_parameters q.parameters)
 draws_of command.Create q =
     read_or_none (λ p. drawn_by p.template p.given + 16) (creation_parameters q.parameters)
-draws_of command.Clear q = 96
+draws_of command.Clear q = 3 * 32
 draws_of _ q = 0
 
--- A success draws at most 96 of the event's 256 random bytes, and as many as are said of its command,
+-- A success draws no more of the event's 256 random bytes than the limit, 96, and as many as are said of its command,
 -- but for TPM2_Startup.
 abbrev pub DrawsAsSaid : CommandCode → Request → Success → Type 0
 DrawsAsSaid c q s =
-    (s.answer.drawn ≤ 96) × (is_startup c ≡ false → s.answer.drawn ≡ draws_of c q)
+    (s.answer.drawn ≤ draw_limit) × (is_startup c ≡ false → s.answer.drawn ≡ draws_of c q)

@@ -25,6 +25,7 @@ ghost use Rattle.tpm_record.specs.Record.{Record, manufactured};
 ghost use Rattle.tpm_auth.specs.Entries.{entries_pass};
 ghost use Rattle.tpm_auth.specs.Grant.{authorize, grants_pass};
 ghost use Rattle.tpm_auth.specs.declared.session_grant.Grant.{Grant};
+ghost use Rattle.tpm_actions_base.specs.Draws.{draw_limit};
 ghost use Rattle.tpm_actions_base.specs.Request.{Request, first_handle, second_handle};
 ghost use Rattle.tpm_machine_step.specs.Answer.{Written, answer_to};
 ghost use Rattle.tpm_machine_step.specs.Events.{PlainEvent, IsEvent};
@@ -243,13 +244,14 @@ pub fn new_device_size_laws()
     ensures cycled { (r : Record) → AreSized (cycled r) }
 {}
 
-/// A success draws at most 96 of the event's 256 random bytes; and as many as its command's code and
-/// parameters say, but for TPM2_Startup, which has no entries for whose nonces it would count.
+/// A success draws no more of the event's 256 random bytes than a command may; and as many as its
+/// command's code and parameters say, but for TPM2_Startup, which has no entries for whose nonces it
+/// would count.
 #[inline(always)]
 #[tactic(auto, using(crate::proofs::Table::row_draws, crate::proofs::Table::row_draws_so))]
 pub fn draw_laws()
     ensures few { (r : Record) (c : CommandCode) (q : Request)
-        → IfOk (row_of r c q) (λ s. s.answer.drawn ≤ 96) }
+        → IfOk (row_of r c q) (λ s. s.answer.drawn ≤ draw_limit) }
     ensures drawn { (r : Record) (c : CommandCode) (q : Request) → is_startup c ≡ false
         → IfOk (row_of r c q) (λ s. s.answer.drawn ≡ draws_of c q) }
     ensures startup { (c : CommandCode) (q : Request) → is_startup c ≡ true

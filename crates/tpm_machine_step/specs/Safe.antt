@@ -6,6 +6,7 @@ use Rattle.tpm_types.specs.Limits.{answer_limit}
 use Rattle.tpm_types.specs.Check.{check_number}
 use Rattle.tpm_types.specs.declared.refused.Refused.{Refused}
 use Rattle.tpm_actions_base.specs.Answer.{answer_body_text}
+use Rattle.tpm_actions_base.specs.Draws.{draw_limit}
 use Rattle.tpm_machine_step.specs.Answer.{refusal_text}
 use Rattle.tpm_machine_step.specs.Entries.{DrawsFew}
 use Rattle.tpm_machine_step.specs.Events.{PlainEvent, Given, Cycled}
@@ -25,11 +26,11 @@ IsHarmless r event x = x.row.check ≢ 0
     × (x.row.check ≡ check_number refused.check)
     × (x.after ≡ counted_in refused.counted (only_ticked r event))
 
--- A row draws at most 96 of the event's 256 random bytes, and with three nonces of 32 bytes after
--- them at most 192 are drawn. Its parameters have no more bytes than the limit.
+-- A row draws no more of the event's 256 random bytes than the limit, 96, and with three nonces of 32
+-- bytes after them at most 192 are drawn. Its parameters have no more bytes than the limit.
 abbrev pub IsModest : List ℕ → Accepted → Type 0
 IsModest random a =
-    (a.success.answer.drawn ≤ 96) × (length (answer_body_text a.success.answer.body) ≤ answer_limit)
+    (a.success.answer.drawn ≤ draw_limit) × (length (answer_body_text a.success.answer.body) ≤ answer_limit)
     × DrawsFew random a.success.after a.command.entries a.success.answer.drawn
 
 -- Where a command is accepted, its success is modest.
