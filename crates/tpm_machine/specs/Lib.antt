@@ -1,4 +1,5 @@
 pub mod State
+pub mod Admission
 pub use Rattle.tpm_machine_step.specs.Events
 pub use Rattle.tpm_machine_step.specs.Step
 pub use Rattle.tpm_machine_step.specs.Run
