@@ -106,9 +106,9 @@ fn answer_session<K: Keep>(
     ensures same { hashes.new ≡ hashes.old }
 {
     let mac = answer_mac(keep, hashes, grant, entry, session);
-    let _ = area.put_sized(session.nonce_tpm.as_slice());
-    let _ = area.put_u8(entry.attributes.octet);
-    let _ = area.put_sized(mac.as_slice());
+    area.append_sized(session.nonce_tpm.as_slice());
+    area.append_u8(entry.attributes.octet);
+    area.append_sized(mac.as_slice());
 }
 
 #[tactic(auto, unfolding(tpm_machine_step::specs::Entries::entry_answer))]
@@ -127,9 +127,7 @@ fn answer_entry<K: Keep>(
 {
     match keep.sessions().get(entry.session) {
         Some(session) => answer_session(keep, hashes, grant, entry, session, area),
-        None => {
-            let _ = area.put(&PASSWORD_ANSWER);
-        }
+        None => area.append(&PASSWORD_ANSWER),
     }
 }
 

@@ -21,6 +21,7 @@ use arrayvec::ArrayVec;
 use tpm_actions_base::answer::Answer;
 use tpm_actions_base::call::Call;
 use tpm_auth::{Grant, Grants, any_decrypts};
+use tpm_bytes::copied;
 use tpm_machine_step::Direction;
 use tpm_record::Keep;
 use tpm_types::{BUFFER_LIMIT, Locality, Refused};
@@ -106,8 +107,7 @@ fn plain_parameters<K: Keep>(
     ensures { result.items ≡ plain_parameters (K.record_of keep.now)
         (zip (map entry_of entries.now) grants.now) parameters.now }
 {
-    let mut text = ArrayVec::new();
-    let _ = text.try_extend_from_slice(parameters);
+    let mut text = copied(parameters);
     pass_parameters(
         Direction::Decrypt,
         keep,
