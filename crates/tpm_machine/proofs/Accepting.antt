@@ -19,7 +19,6 @@ use Rattle.tpm_machine_step.specs.General.{general, in_command}
 use Rattle.tpm_machine_step.specs.Safe.{IsModest}
 use Rattle.tpm_machine_step.specs.Step.{Accepted, Accepts, Answers, RefusesOrWantsMemory, Stepped, Succeeds, acceptance, accepted, refusal_step, request_in, settled}
 use Rattle.tpm_machine_step.specs.Table.{row_of}
-use Rattle.tpm_machine_step.specs.declared.refused_command.RefusedCommand.{RefusedCommand}
 use Rattle.tpm_machine.proofs.Refusals.{answers_exactly, refused_answers}
 
 first_of_both : (a b : Bool) → (a && b) ≡ true → a ≡ true
@@ -73,23 +72,16 @@ accepted_modest random c grants (Ok a) answer effect few short drawn (same, gran
 -- what a command that is authorized does
 pub ruleset acting = (accepted_answers, accepted_modest, refused_answers)
 
--- a buffer that is not decoded is refused
-pub undecoded : (r : Record) (buffer : List ℕ) (locality : ℕ) (e : RefusedCommand) → general r buffer ≡ Err e → (random : List ℕ) → accepted r buffer locality random ≡ Err e
+-- a command that is not authorized is refused
+pub not_authorized : (can : Bool) (r : Record) (c : Whole) (locality : ℕ) (random : List ℕ) (e : Refused) → authorize r c locality ≡ Err e → RefusesOrWantsMemory can c (acceptance r c locality random) e
+unfolding acceptance
+not_authorized can r c locality random e refused = rw (refused) refl
+
+-- a command that is decoded, and then refused or refused memory
+pub command_refused : (can : Bool) (r : Record) (buffer : List ℕ) (locality : ℕ) (random : List ℕ) (c : Whole) (e : Refused) (x : Stepped) → general r buffer ≡ Ok c → RefusesOrWantsMemory can c (acceptance r c locality random) e → x ≡ refusal_step r (record { code = code_number c.code; refused = e }) → Answers can r random (accepted r buffer locality random) x
 unfolding accepted
-undecoded r buffer locality e decoded random = rw (decoded) refl
-
--- and a command that is not authorized
-pub unauthorized : (r : Record) (buffer : List ℕ) (locality : ℕ) (c : Whole) (e : Refused) → general r buffer ≡ Ok c → authorize r c locality ≡ Err e → (random : List ℕ) → accepted r buffer locality random ≡ Err (record { code = code_number c.code; refused = e })
-unfolding accepted acceptance
-unauthorized r buffer locality c e decoded refused random = rw (decoded, refused) refl
-
--- what is answered to it
-pub refused_before : (can : Bool) (r : Record) (random : List ℕ) (a : Result Accepted RefusedCommand) (e : RefusedCommand) (x : Stepped) → a ≡ Err e → x ≡ refusal_step r e → Answers can r random a x
-refused_before can r random a e x is seen = rw (is, seen) (answers_exactly can r random (Err e) (refusal_step r e) refl)
-
--- and it is no success
-pub no_success : (random : List ℕ) (a : Result Accepted RefusedCommand) (e : RefusedCommand) → a ≡ Err e → IfOk a (IsModest random)
-no_success random a e is = rw is tt
+command_refused can r buffer locality random c e x decoded is seen =
+    rw (decoded, seen) (refused_answers can r random c (acceptance r c locality random) e is)
 
 -- an authorized command whose row refuses, or is refused memory
 pub row_refused : (can : Bool) (r : Record) (random : List ℕ) (c : Whole) (a : Result Accepted Refused) (e : Refused) (x : Stepped) → RefusesOrWantsMemory can c a e → x ≡ refusal_step r (record { code = code_number c.code; refused = e }) → Answers can r random (in_command c.code a) x

@@ -1,5 +1,4 @@
 pub mod State
-pub mod Admission
 pub use Rattle.tpm_machine_step.specs.Events
 pub use Rattle.tpm_machine_step.specs.Step
 pub use Rattle.tpm_machine_step.specs.Run

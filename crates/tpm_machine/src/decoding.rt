@@ -7,13 +7,12 @@ ghost use Rattle.std.specs.Prelude.{◌≡◌, ◌≤◌, [], Ok, IfOk, length};
 ghost use Rattle.tpm_bytes.specs.Reading.{Reads};
 ghost use Rattle.tpm_types_command.specs.CommandCode.{code_number, handle_count};
 ghost use Rattle.tpm_types_command.specs.Command.{command_at, whole_of};
-ghost use Rattle.tpm_record.specs.Resolved.{AreFound, IsFound};
 ghost use Rattle.tpm_machine_step.specs.General.{body_of, general, header_check, header_refusal, present_handle_at, present_handles_at, sessions_pass};
 
 use arrayvec::ArrayVec;
 use tpm_bytes::{Cursor, ReadableBy};
 use tpm_machine_step::RefusedCommand;
-use tpm_record::{Keep, Resolved, absence_rc, resolve};
+use tpm_record::{Keep, absence_rc, is_present};
 use tpm_types::{Check, Handle, Rc, Refused, ResponseCode, bytes_fit};
 use tpm_types_command::{
     Command, CommandCode, HandleRule, Header, HeaderFault, Tag, read_sessions,
@@ -56,51 +55,42 @@ fn check_tag(code: CommandCode, tag: Tag) -> Result<(), Refused>
     Ok(())
 }
 
-/// Reads the handle of this number as its rule wants it, if there is what it names, and looks that
-/// up.
-#[tactic(auto, unfolding(tpm_machine_step::specs::General::present_handle_at, tpm_record::specs::Entity::is_present))]
-fn read_handle<'k, K: Keep>(
-    keep: &'k K,
+/// Reads the handle of this number as its rule wants it, if there is what it names.
+#[tactic(auto, unfolding(tpm_machine_step::specs::General::present_handle_at))]
+fn read_handle<K: Keep>(
+    keep: &K,
     number: u8,
     rule: &HandleRule,
     text: &mut Cursor,
-) -> Result<Resolved<'k>, Rc>
-    ensures exact { Reads (λ resolved. resolved.handle)
+) -> Result<Handle, Rc>
+    ensures { Reads (λ handle. handle)
         (present_handle_at (K.record_of keep.now) number rule.now text.old) text.old result text.new }
-    ensures found { IfOk result (IsFound (K.record_of keep.now)) }
 {
     let mut ahead = Cursor::new(text.rest());
     let handle = Handle::read(number, rule, &mut ahead)?;
-    let resolved = resolve(keep, handle);
-    if !resolved.is_present(keep) {
+    if !is_present(keep, handle) {
         return Err(absence_rc(number, handle));
     }
     *text = ahead;
-    Ok(resolved)
+    Ok(handle)
 }
 
-/// Reads the handles of a command, and looks up what they name.
-fn read_handles<'k, K: Keep>(
-    keep: &'k K,
+/// Reads the handles of a command.
+fn read_handles<K: Keep>(
+    keep: &K,
     code: CommandCode,
     text: &mut Cursor,
-    resolved: &mut ArrayVec<Resolved<'k>, 3>,
 ) -> Result<ArrayVec<Handle, 3>, Rc>
-    requires { resolved.old.items ≡ [] }
     ensures exact { Reads (λ handles. handles.items)
         (present_handles_at (K.record_of keep.now) code text.old) text.old result text.new }
     ensures all { IfOk result (λ handles. length handles.items ≡ handle_count code) }
-    ensures found { IfOk result (λ handles. AreFound (K.record_of keep.now) resolved.new.items
-        handles.items) }
 {
     let mut ahead = Cursor::new(text.rest());
     let mut handles = ArrayVec::new();
     let mut number = 1;
     let rules = code.shape().handles;
     for rule in rules {
-        let next = read_handle(keep, number, rule, &mut ahead)?;
-        handles.push(next.handle);
-        resolved.push(next);
+        handles.push(read_handle(keep, number, rule, &mut ahead)?);
         number += 1;
     }
     *text = ahead;
@@ -109,16 +99,12 @@ fn read_handles<'k, K: Keep>(
 
 /// Reads what stands after a command's header, or gives the first check that refuses it.
 #[tactic(auto, unfolding(tpm_machine_step::specs::General::body_of))]
-fn decode_body<'a, 'k, K: Keep>(
-    keep: &'k K,
+fn decode_body<'a, K: Keep>(
+    keep: &K,
     header: Header,
     mut text: Cursor<'a>,
-    resolved: &mut ArrayVec<Resolved<'k>, 3>,
 ) -> Result<Command<'a>, Refused>
-    requires { resolved.old.items ≡ [] }
-    ensures exact { Gives whole_of (body_of (K.record_of keep.now) header text.entry) result }
-    ensures found { IfOk result (λ command. AreFound (K.record_of keep.now) resolved.new.items
-        command.handles.items) }
+    ensures { Gives whole_of (body_of (K.record_of keep.now) header text.entry) result }
 {
     let code = header.code;
     let is_startup = code.number() == CommandCode::Startup.number();
@@ -126,7 +112,7 @@ fn decode_body<'a, 'k, K: Keep>(
         let rc = ResponseCode::Initialize.anywhere();
         return Err(Refused::by(Check::Started, rc));
     }
-    let handles = read_handles(keep, code, &mut text, resolved).map_err(|rc| Refused::by(
+    let handles = read_handles(keep, code, &mut text).map_err(|rc| Refused::by(
         Check::Handles,
         rc,
     ))?;
@@ -145,35 +131,17 @@ fn decode_body<'a, 'k, K: Keep>(
 
 #[inline(always)]
 #[tactic(auto, unfolding(tpm_machine_step::specs::General::general))]
-fn decode_whole<'a, 'k, K: Keep>(
-    keep: &'k K,
-    buffer: &'a [u8],
-    resolved: &mut ArrayVec<Resolved<'k>, 3>,
-) -> Result<Command<'a>, RefusedCommand>
-    requires { resolved.old.items ≡ [] }
-    ensures exact { Gives whole_of (general (K.record_of keep.now) buffer.now) result }
-    ensures found { IfOk result (λ command. AreFound (K.record_of keep.now) resolved.new.items
-        command.handles.items) }
+fn decode_whole<'a, K: Keep>(keep: &K, buffer: &'a [u8]) -> Result<Command<'a>, RefusedCommand>
+    ensures { Gives whole_of (general (K.record_of keep.now) buffer.now) result }
 {
     let mut text = Cursor::new(buffer);
     let header = Header::read(&mut text).map_err(header_refusal)?;
-    decode_body(keep, header, text, resolved).map_err(|refused| RefusedCommand::of(
-        header.code,
-        refused,
-    ))
+    decode_body(keep, header, text).map_err(|refused| RefusedCommand::of(header.code, refused))
 }
 
-/// Decodes a command's buffer, or gives the first general check that refuses it, and looks up what
-/// its handles name.
+/// Decodes a command's buffer, or gives the first general check that refuses it.
 #[tactic(auto, using(crate::proofs::DecodingLaws::decodes_reads, crate::proofs::DecodingLaws::decodes_short))]
-pub fn decode<'a, 'k, K: Keep>(
-    keep: &'k K,
-    buffer: &'a [u8],
-    resolved: &mut ArrayVec<Resolved<'k>, 3>,
-) -> Result<Command<'a>, RefusedCommand>
-    requires { resolved.old.items ≡ [] }
-    ensures found { IfOk result (λ command. AreFound (K.record_of keep.now) resolved.new.items
-        command.handles.items) }
+pub fn decode<'a, K: Keep>(keep: &K, buffer: &'a [u8]) -> Result<Command<'a>, RefusedCommand>
     ensures decoded { Gives whole_of (general (K.record_of keep.now) buffer.now) result }
 
     // It is the command that the whole buffer spells.
@@ -181,5 +149,5 @@ pub fn decode<'a, 'k, K: Keep>(
     ensures short { IfOk result (λ command. length command.parameters.now ≤ buffer_limit) }
 {
     bytes_fit(buffer);
-    decode_whole(keep, buffer, resolved)
+    decode_whole(keep, buffer)
 }

@@ -12,7 +12,6 @@
 //! of an event (Step) and runs of events (Run). [`machine::Machine::execute`] and
 //! [`machine::Machine::run`] are proved to be these, for each way of keeping the record.
 
-mod admission;
 mod decoding;
 mod draws;
 mod entries;

@@ -20,12 +20,12 @@ ghost use Rattle.tpm_machine_history.specs.Grounds.{AllHaveGrounds};
 ghost use Rattle.tpm_machine_history.specs.History.{History};
 ghost use Rattle.tpm_machine_history.specs.Replays.{ReplaysRepeat};
 
-use crate::admission::{Admitted, admit};
+use crate::decoding::decode;
 use crate::response::{write_refusal, write_success};
 use crate::table::accept;
 use std::alloc::Global;
 use tpm_actions_base::answer::Answer;
-use tpm_auth::Grants;
+use tpm_auth::{Grants, authorize};
 use tpm_bytes::NoMemory;
 use tpm_machine_step::{Event, Outcome, RefusedCommand, Response, Row};
 use tpm_record::tick::tick;
@@ -233,11 +233,18 @@ impl<K: Keep> Machine<K> {
             (IsModest random.now) }
         ensures fits { length text.new.items ≤ response_limit }
     {
-        let Admitted { command, grants } = match admit(&self.keep, buffer, locality) {
-            Ok(admitted) => admitted,
+        let command = match decode(&self.keep, buffer) {
+            Ok(command) => command,
             Err(refusal) => return refuse(&mut self.keep, refusal, text),
         };
-        self.perform(&command, &grants, locality, random, text)
+        match authorize(&self.keep, &command, locality) {
+            Ok(grants) => self.perform(&command, &grants, locality, random, text),
+            Err(refused) => refuse(
+                &mut self.keep,
+                RefusedCommand::of(command.code, refused),
+                text,
+            ),
+        }
     }
 
     ghost use Rattle.std.specs.Prelude.{Ok};

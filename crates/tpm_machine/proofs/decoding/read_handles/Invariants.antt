@@ -2,19 +2,15 @@ use Rattle.std.proofs.Common.{◌≡◌, ◌+◌, ◌≤◌, drop, length}
 use Rattle.tpm_bytes.specs.Many.{each_at}
 use Rattle.tpm_bytes.proofs.Joining.{behind}
 use Rattle.tpm_machine_step.specs.General.{present_handle_at}
-use Rattle.tpm_record.specs.Resolved.{AreFound}
 use Rattle.tpm_machine.proofs.decoding.read_handles.Given as goal
 
 -- what is left to read, after the handles so far, is what there was to read
 abbrev pub invariant-loop-rule : goal.invariant-loop-rule
 invariant-loop-rule g l =
-    let r = g.K.Keep.record_of l.keep in
-    let at = present_handle_at r in
+    let at = present_handle_at (g.K.Keep.record_of l.keep) in
     record {
       joined : behind l.handles.items (each_at at l.number (drop l.rule-index l.rules) l.ahead) ≡ each_at at 1 l.rules l.text;
       place : l.number ≡ l.rule-index + 1;
-      found : AreFound r l.resolved.items l.handles.items;
       size : length l.handles.items ≡ l.rule-index;
-      as_many : length l.resolved.items ≡ l.rule-index;
       few : length l.rules ≤ 3;
     }

@@ -1,10 +1,9 @@
 use Rattle.std.proofs.Common.{rules}
-use Rattle.tpm_machine.proofs.Accepting.{no_success, refused_before}
+use Rattle.tpm_types_command.specs.Command.{whole_of}
+use Rattle.tpm_machine.proofs.Accepting.{command_refused, not_authorized}
 use Rattle.tpm_machine.proofs.machine.Machine.command.Goals as goal
 
-pub returns-in-Err-clause-answer : goal.returns-in-Err-clause-answer
-returns-in-Err-clause-answer g c =
-    refused_before _ _ _ _ c.in-Err.refusal _ (c.in-Err.ensures.refused _) (search rules)
-
-pub returns-in-Err-clause-modest : goal.returns-in-Err-clause-modest
-returns-in-Err-clause-modest g c zero = no_success _ _ c.in-Err.refusal (c.in-Err.ensures.refused _)
+pub returns-in-Err-authorize-clause-answer : goal.returns-in-Err-authorize-clause-answer
+returns-in-Err-authorize-clause-answer g c =
+    let command = whole_of c.in-Ok.command in
+    command_refused _ _ _ _ _ command c.in-Err-authorize.refused _ c.in-Ok.ensures.decoded (not_authorized _ _ command _ _ c.in-Err-authorize.refused (search rules)) (search rules)
