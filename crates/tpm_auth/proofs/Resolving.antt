@@ -1,8 +1,10 @@
 -- What is resolved in a place is what the handle in it names, and the Names that are made of it.
-use Rattle.std.proofs.Common.{◌≡◌, ℕ, zero, suc, ◌<◌, List, [], ◌∷◌, ◌++◌, length, map, take, slice_get, get_or, Option, Some, None, option_map, refl, sym, subst, ap, ◌∙◌, arith, Bor}
+use Rattle.std.proofs.Common.{◌≡◌, ℕ, zero, suc, ◌<◌, ◌≤◌, List, [], ◌∷◌, ◌++◌, length, map, take, slice_get, slice_index_or, get_or, Option, Some, None, option_map, refl, sym, subst, ap, ◌∙◌, arith, Bor}
 use Rattle.std.proofs.lemmas.Option.{slice_get_read}
 use Rattle.std.specs.Option.{ForSome, IfSome, MatchOption}
 use Rattle.tpm_types.specs.declared.handle.Handle.{Handle}
+use Rattle.tpm_types_command.specs.AuthEntry.{entry_of}
+use Rattle.tpm_types_command.specs.declared.auth_entry.AuthEntry.{AuthEntry}
 use Rattle.tpm_record.specs.Entity.{entity_at, entity_name, entity_seen, name_of}
 use Rattle.tpm_record.specs.Record.{Record}
 use Rattle.tpm_record.specs.Resolved.{AreFound, Found, IsFound, found_at, found_by}
@@ -133,3 +135,15 @@ pub one_to_grant : (r : Record) (used : Used) (demand : Demand) → IsUsed r use
 one_to_grant r used demand is granted same =
     let those : granted ≡ record { used = used; demand = demand } = cc in
     record { used = subst (λ (g : Granted). IsUsed r g.used) (sym those) is }
+
+-- no Name is made yet
+pub none_named : (r : Record) (handles : List Handle) → AreNamesOf r [] handles
+none_named r handles place name handle at is = absurd cc
+
+-- ---- entries
+
+-- the entries are the first where there is one
+pub only_entry : (entries : List AuthEntry) (d : AuthEntry) → 1 ≤ length entries → length entries < 2 → map entry_of entries ≡ entry_of (slice_index_or entries 0 d) ∷ []
+only_entry [] d some one = absurd (omega arith)
+only_entry (entry ∷ []) d some one = refl
+only_entry (entry ∷ other ∷ entries) d some one = absurd (omega arith)

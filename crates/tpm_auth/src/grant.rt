@@ -13,7 +13,7 @@ ghost use Rattle.tpm_types.specs.declared.handle.SessionKind.TheVariants as kind
 ghost use Rattle.tpm_record.specs.Record.{Record};
 ghost use Rattle.tpm_record.specs.Entity.{name_of};
 ghost use Rattle.tpm_record.specs.Resolved.{AreFound, IsFound};
-ghost use Rattle.tpm_auth.specs.Grant.{AreGranted, authorize, grant, granted_by, grants_pass, password_grant};
+ghost use Rattle.tpm_auth.specs.Grant.{AreGranted, authorize, authorized, grant, granted_by, grants_pass, password_grant};
 ghost use Rattle.tpm_auth.specs.SessionGrant.{hashed_command};
 ghost use Rattle.tpm_auth.specs.Used.{IsResolved, IsUsed, used_handle};
 
@@ -23,9 +23,9 @@ use crate::session_grant::{Grant, check_session};
 use crate::used::{Sent, Used, used_at};
 use arrayvec::ArrayVec;
 use tpm_policy::Demand;
-use tpm_record::{Keep, Means, Resolved};
+use tpm_record::{Keep, Means, Resolved, resolve};
 use tpm_session::{HashedParameters, ParameterHashes, Protection, first_size};
-use tpm_types::{Check, Locality, Refused, ResponseCode, SessionKind};
+use tpm_types::{Check, Handle, Locality, Refused, ResponseCode, SessionKind};
 use tpm_types_command::{AuthEntry, Command, CommandCode};
 use tpm_types_name::Name;
 
@@ -202,7 +202,7 @@ fn names_of<K: Keep>(keep: &K, sent: Sent) -> ArrayVec<Name, 3>
 
 /// Checks each handle by the entry of its place, and the other entries, and tells what each
 /// authorizes.
-fn check_sessions<K: Keep>(keep: &K, sent: Sent) -> Result<Grants, Refused>
+fn check_resolved<K: Keep>(keep: &K, sent: Sent) -> Result<Grants, Refused>
     requires { IsResolved (K.record_of keep.now) sent }
     ensures { Gives granted_by (grants_pass (K.record_of keep.now) (whole_of sent.entry.command.now)
         (locality_number sent.entry.locality) [] (whole_of sent.entry.command.now).entries) result }
@@ -227,16 +227,67 @@ fn check_sessions<K: Keep>(keep: &K, sent: Sent) -> Result<Grants, Refused>
     Ok(Grants { grants: entries })
 }
 
+/// What the handles of a command name.
+fn resolve_all<'a, K: Keep>(keep: &'a K, handles: &[Handle]) -> ArrayVec<Resolved<'a>, 3>
+    requires { length handles.now ≤ 3 }
+    ensures { AreFound (K.record_of keep.now) result.items handles.now }
+{
+    let mut all = ArrayVec::new();
+    for handle in handles {
+        all.push(resolve(keep, *handle));
+    }
+    all
+}
+
+/// Looks up what each handle of a command names, and checks its entries.
+#[tactic(auto, using(crate::proofs::Resolving::none_named))]
+fn check_sessions<K: Keep>(
+    keep: &K,
+    command: &Command,
+    locality: Locality,
+) -> Result<Grants, Refused>
+    ensures { Gives granted_by (grants_pass (K.record_of keep.now) (whole_of command.now)
+        (locality_number locality) [] (whole_of command.now).entries) result }
+{
+    let resolved = resolve_all(keep, command.handles.as_slice());
+    let sent = Sent {
+        command,
+        resolved: resolved.as_slice(),
+        names: &[],
+        locality,
+    };
+    check_resolved(keep, sent)
+}
+
+/// What the first entry of a command is to authorize, or nothing.
+fn first_used<'a, K: Keep>(keep: &'a K, command: &Command) -> Option<Used<'a>>
+    ensures handle { option_map used_handle result
+        ≡ slice_get (authorized (whole_of command.now)) 0 }
+    ensures used { ForSome result (IsUsed (K.record_of keep.now)) }
+{
+    let handles = &command.handles.as_slice()[..command.code.authorized_handles()];
+    match handles.first() {
+        Some(handle) => Some(Used {
+            resolved: resolve(keep, *handle),
+            name: None,
+        }),
+        None => None,
+    }
+}
+
 /// Checks a handle by the only entry, which is a password.
 #[tactic(auto, unfolding(crate::specs::Grant::grant))]
-fn check_one_password<K: Keep>(keep: &K, sent: Sent, entry: &AuthEntry) -> Result<Grants, Refused>
-    requires password { session_kind entry.now.session ≡ kind.Password }
-    requires resolved { IsResolved (K.record_of keep.now) sent }
-    ensures { Gives granted_by (grants_pass (K.record_of keep.now) (whole_of sent.entry.command.now)
-        (locality_number sent.entry.locality) [] (entry_of entry.now ∷ [])) result }
+fn check_one_password<K: Keep>(
+    keep: &K,
+    command: &Command,
+    entry: &AuthEntry,
+) -> Result<Grants, Refused>
+    requires { session_kind entry.now.session ≡ kind.Password }
+    ensures { (locality : ℕ) → Gives granted_by (grants_pass (K.record_of keep.now)
+        (whole_of command.now) locality [] (entry_of entry.now ∷ [])) result }
 {
-    let used = used_at(sent, 0);
-    let grant = check_password(keep, sent.command.code, 1, used, entry)?;
+    let used = first_used(keep, command);
+    let grant = check_password(keep, command.code, 1, used, entry)?;
     let mut entries = ArrayVec::new();
     entries.push(grant);
     Ok(Grants { grants: entries })
@@ -244,36 +295,19 @@ fn check_one_password<K: Keep>(keep: &K, sent: Sent, entry: &AuthEntry) -> Resul
 
 /// Checks all entries in order. Nothing is hashed where there are none, or where there is a
 /// password alone.
-fn check_all<K: Keep>(keep: &K, sent: Sent) -> Result<Grants, Refused>
-    requires { IsResolved (K.record_of keep.now) sent }
-    ensures { Gives granted_by (grants_pass (K.record_of keep.now) (whole_of sent.entry.command.now)
-        (locality_number sent.entry.locality) [] (whole_of sent.entry.command.now).entries) result }
+fn check_all<K: Keep>(keep: &K, command: &Command, locality: Locality) -> Result<Grants, Refused>
+    ensures { Gives granted_by (grants_pass (K.record_of keep.now) (whole_of command.now)
+        (locality_number locality) [] (whole_of command.now).entries) result }
 {
-    match sent.command.entries.as_slice() {
+    match command.entries.as_slice() {
         [] => Ok(Grants {
             grants: ArrayVec::new(),
         }),
         [entry] if entry.session.session_kind() == SessionKind::Password => {
-            check_one_password(keep, sent, entry)
+            check_one_password(keep, command, entry)
         }
-        _ => check_sessions(keep, sent),
+        _ => check_sessions(keep, command, locality),
     }
-}
-
-/// Checks that a command without entries needs none.
-#[tactic(auto, unfolding(crate::specs::Grant::authorize))]
-fn check_none(command: &Command) -> Result<Grants, Refused>
-    requires { (whole_of command.now).entries ≡ [] }
-    ensures { (r : Record) (locality : ℕ)
-        → Gives granted_by (authorize r (whole_of command.now) locality) result }
-{
-    if command.code.authorized_handles() > 0 {
-        let rc = ResponseCode::AuthMissing.anywhere();
-        return Err(Refused::by(Check::Entries, rc));
-    }
-    Ok(Grants {
-        grants: ArrayVec::new(),
-    })
 }
 
 /// Checks the entries of a command, and by them the handles that need authorization: first each
@@ -283,29 +317,18 @@ fn check_none(command: &Command) -> Result<Grants, Refused>
 pub fn authorize<K: Keep>(
     keep: &K,
     command: &Command,
-    resolved: &[Resolved],
     locality: Locality,
 ) -> Result<Grants, Refused>
-    requires { AreFound (K.record_of keep.now) resolved.now (whole_of command.now).handles }
     ensures { Gives granted_by (authorize (K.record_of keep.now) (whole_of command.now)
         (locality_number locality)) result }
 {
     let entries = command.entries.as_slice();
-    if entries.is_empty() {
-        return check_none(command);
-    }
     check_entries(keep, command.code, entries).map_err(|rc| Refused::by(Check::Entries, rc))?;
     if entries.len() < command.code.authorized_handles() {
         let rc = ResponseCode::AuthMissing.anywhere();
         return Err(Refused::by(Check::Entries, rc));
     }
-    let sent = Sent {
-        command,
-        resolved,
-        names: &[],
-        locality,
-    };
-    let grants = check_all(keep, sent)?;
+    let grants = check_all(keep, command, locality)?;
     if any_decrypts(entries) && is_cut(command.parameters) {
         let rc = ResponseCode::Insufficient.anywhere().at_parameter(1);
         return Err(Refused::by(Check::Others, rc));
