@@ -15,8 +15,8 @@ use tpm_mac::{HashAlg, digest_parts, hmac_parts};
 use tpm_name::Name;
 use tpm_object::Object;
 use tpm_record::Keep;
-use tpm_types::{HierarchyHandle, Locality, Octets, PcrSelection, Refused};
-use tpm_types_object::{CreationData, Public, SensitiveCreate, read_filled};
+use tpm_types::{HierarchyHandle, Locality, Octets, PcrSelection, Refused, read_filled};
+use tpm_types_object::{CreationData, Public, SensitiveCreate};
 
 /// TPM_ST_CREATION.
 const CREATION_TAG: u16 = 0x8021;

@@ -18,8 +18,8 @@ use tpm_bytes::Cursor;
 use tpm_name::Name;
 use tpm_object::{Object, unwrap_named};
 use tpm_record::Keep;
-use tpm_types::{ActionCheck, Refused, ResponseCode, read_buffer};
-use tpm_types_object::{Public, Sensitive, read_filled};
+use tpm_types::{ActionCheck, Refused, ResponseCode, read_buffer, read_filled};
+use tpm_types_object::{Public, Sensitive};
 
 /// The most bytes of inPrivate.
 const PRIVATE_LIMIT: usize = 256;

@@ -7,16 +7,15 @@ ghost use Rattle.tpm_types.specs.AuthValue.{trimmed};
 ghost use Rattle.std.specs.Int.{w8, w16, w32, w64, to_be_bytes};
 ghost use Rattle.tpm_bytes.specs.Reading.{Reads};
 ghost use Rattle.tpm_bytes.specs.Writing.{sized_text};
-ghost use Rattle.tpm_types_object.specs.Filled.{filled_by};
+ghost use Rattle.tpm_types.specs.Filled.{filled_by};
 ghost use Rattle.tpm_image.specs.Fields.{auth_value_in, buffer_in, bytes_in, in_body, is_trimmed, number_in, yes_no_in, yes_no_text};
 
 use crate::fault::Malformed;
 use tpm_bytes::{Cursor, Readable, Sink};
 use tpm_types::{
-    AuthValue, NV_INDEX_LIMIT, NV_SPACE_LIMIT, PERSISTENT_LIMIT, Rc, read_buffer, read_yes_no,
-    trimmed,
+    AuthValue, NV_INDEX_LIMIT, NV_SPACE_LIMIT, PERSISTENT_LIMIT, Rc, read_buffer, read_filled,
+    read_yes_no, trimmed,
 };
-use tpm_types_object::read_filled;
 
 /// How many bytes the limits have; and the most bytes of what does not grow, of the persistent
 /// objects, and of the NV indices.

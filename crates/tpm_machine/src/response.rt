@@ -6,9 +6,9 @@ ghost use Rattle.std.specs.Int.{w16, w32, to_be_bytes};
 ghost use Rattle.std.specs.List.{zip};
 ghost use Rattle.tpm_types_command.specs.AuthEntry.{entry_of};
 ghost use Rattle.tpm_types_command.specs.Command.{whole_of};
-ghost use Rattle.tpm_machine_step.specs.Answer.{answer_to, framed, handle_answer, refusal_tag, refusal_text, text_of};
-ghost use Rattle.tpm_machine_step.specs.Entries.{DrawsFew};
-ghost use Rattle.tpm_machine_step.specs.Parameters.{encrypted_answer};
+ghost use Rattle.tpm_step.specs.Answer.{answer_to, framed, handle_answer, refusal_tag, refusal_text, text_of};
+ghost use Rattle.tpm_step.specs.Entries.{DrawsFew};
+ghost use Rattle.tpm_step.specs.Parameters.{encrypted_answer};
 
 use crate::draws::Draws;
 use crate::entries::{ENTRY_ANSWERS_LIMIT, answer_entries, end_entries, roll_entries};
@@ -16,9 +16,9 @@ use crate::parameters::pass_parameters;
 use tpm_actions_base::answer::{Answer, Parameters};
 use tpm_auth::{Grant, Grants};
 use tpm_bytes::{Sink, append};
-use tpm_machine_step::{Direction, Response};
 use tpm_record::Keep;
 use tpm_session::{HashedParameters, ParameterHashes};
+use tpm_step::{Direction, Response};
 use tpm_types::{ANSWER_LIMIT, Check, Handle, Refused};
 use tpm_types_command::{AuthEntry, Command, HEADER_SIZE, Tag};
 
@@ -160,7 +160,7 @@ fn write_with_sessions<K: Keep>(
 }
 
 /// Writes the response to a command that succeeded.
-#[tactic(auto, unfolding(tpm_machine_step::specs::Answer::success_text, tpm_machine_step::specs::Answer::answer_to))]
+#[tactic(auto, unfolding(tpm_step::specs::Answer::success_text, tpm_step::specs::Answer::answer_to))]
 pub fn write_success<K: Keep>(
     keep: &mut K,
     command: &Command,

@@ -30,8 +30,8 @@ use crate::values::{count_fits, digest_of, is_part, is_room, is_write_lockable, 
 use std::alloc::Global;
 use std::marker::Model;
 use tpm_bytes::NoMemory;
+use tpm_containers::{ListMap, SlotMap, SortedMap};
 use tpm_mac::Digest;
-use tpm_sorted_map::{ListMap, SlotMap, SortedMap};
 use tpm_types::{AuthValue, Handle, NV_INDEX_LIMIT};
 use tpm_types_nv::{NvAttribute, NvAttributes, NvPublic, NvType};
 

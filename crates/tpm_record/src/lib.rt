@@ -10,8 +10,8 @@
 //! tpm_nv's.
 //! [`tick::tick`] and [`cycle::power_cycle`] are what happens to a record whatever the command,
 //! [`entity`] what a handle's entity is. It stands on `tpm_lockout`, `tpm_pcr`, `tpm_session`,
-//! `tpm_object` and `tpm_nv`, on `tpm_slots` for the places of sessions and transient objects, and
-//! on `tpm_sorted_map` for the map of persistent ones. It promises for each keep the equations of
+//! `tpm_object` and `tpm_nv`, on `tpm_containers` for the places of sessions and transient objects, and
+//! on `tpm_containers` for the map of persistent ones. It promises for each keep the equations of
 //! `specs/` on its record.
 
 pub mod any_object;

@@ -5,11 +5,11 @@ ghost use Rattle.std.specs.Prelude.{◌≡◌, ℕ, ◌≤◌, List, ◌++◌, l
 ghost use Rattle.tpm_bytes.specs.Reading.{Reads};
 ghost use Rattle.tpm_bytes.specs.Writing.{Puts, sized_text};
 
-use crate::filled::read_filled;
 use tpm_bytes::{Cursor, Full, Readable, Sink};
 use tpm_mac::HashAlg;
 use tpm_types::{
-    Octets, PcrSelection, Rc, ResponseCode, bytes_fit, hash_or_null_number, read_hash_or_null,
+    Octets, PcrSelection, Rc, ResponseCode, bytes_fit, hash_or_null_number, read_filled,
+    read_hash_or_null,
 };
 
 /// What a new object was made with: TPMS_CREATION_DATA of TPM 2.0 Library, Part 2, section 15.1.
@@ -30,7 +30,7 @@ pub struct CreationData {
 
 impl CreationData {
     ghost use Rattle.tpm_types_object.specs.CreationData.{IsCreationData, creation_data_at, creation_data_text};
-    ghost use Rattle.tpm_types_object.specs.Filled.{filled_by};
+    ghost use Rattle.tpm_types.specs.Filled.{filled_by};
     ghost use Rattle.tpm_types_object.specs.declared.creation_data.CreationData.{CreationData};
 
     /// Reads creation data: INSUFFICIENT where they are cut, and else the first fault of a field.

@@ -5,11 +5,12 @@ ghost use Rattle.std.specs.Prelude.{◌≡◌, ℕ, ◌+◌, ◌≤◌, List, �
 ghost use Rattle.tpm_bytes.specs.Reading.{Reads};
 ghost use Rattle.tpm_bytes.specs.Writing.{Puts, sized_text};
 
-use crate::filled::read_filled;
 use crate::object_attributes::ObjectAttributes;
 use tpm_bytes::{Cursor, Full, Readable, Sink};
 use tpm_mac::HashAlg;
-use tpm_types::{Octets, Rc, ResponseCode, SymmetricDefinition, bytes_fit, hash_number, read_hash};
+use tpm_types::{
+    Octets, Rc, ResponseCode, SymmetricDefinition, bytes_fit, hash_number, read_filled, read_hash,
+};
 
 /// The type of an object: TPMI_ALG_PUBLIC of TPM 2.0 Library, Part 2, section 12.2.2.
 #[derive(Clone, Copy, Debug, PartialEq, Eq)]
@@ -201,7 +202,7 @@ pub struct Public {
 
 impl Public {
     ghost use Rattle.tpm_types_object.specs.Public.{IsPublic, object_type, public_at, public_text};
-    ghost use Rattle.tpm_types_object.specs.Filled.{filled_by};
+    ghost use Rattle.tpm_types.specs.Filled.{filled_by};
     ghost use Rattle.tpm_types_object.specs.declared.public.Public.{Public};
 
     /// Reads a public area: INSUFFICIENT where it is cut, and else the first fault of a field.
