@@ -2,7 +2,7 @@
 # Tries the patches under wrong/turned: each turns the code of a command and the definition of its
 # row together, and the proofs that spell the row. So the device does something wrong, and all crates
 # below the histories are proved of it; but what its history tells is something else, so a law of
-# tpm_machine_history has to fail. They are run whole before a piece of work is called done. Those
+# tpm_history has to fail. They are run whole before a piece of work is called done. Those
 # that name different laws are tried in one copy, which is a proof of the crates above what they
 # turn, from nothing. Needs rt, and git.
 #
@@ -12,14 +12,14 @@
 # A patch begins with what the device does then, and with two lines:
 #
 #   proves: CRATE..      what `rt ci` has to prove all the same, with the crates below
-#   law: FILE NAME       what it has to refuse, in crates/tpm_machine_history/proofs/FILE.antt
+#   law: FILE NAME       what it has to refuse, in crates/tpm_history/proofs/FILE.antt
 #
 # The last line is `N of M turned rows refused`, and the status is 0 where all are.
 set -eu
 
 cd "$(dirname "$0")/.."
 top=$PWD
-history=tpm_machine_history
+history=tpm_history
 if [ "$#" -eq 0 ]; then
     for patch in wrong/turned/*.patch; do
         name=${patch##*/}

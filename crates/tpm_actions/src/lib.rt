@@ -12,6 +12,7 @@
 pub use tpm_actions_base::answer::Answer;
 pub use tpm_actions_base::call::Call;
 pub use tpm_actions_capability::get_capability::get_capability;
+pub use tpm_actions_device::clear::clear;
 pub use tpm_actions_device::clear_control::clear_control;
 pub use tpm_actions_device::dictionary_attack_lock_reset::dictionary_attack_lock_reset;
 pub use tpm_actions_device::dictionary_attack_parameters::dictionary_attack_parameters;
@@ -27,7 +28,6 @@ pub use tpm_actions_device::self_test::self_test;
 pub use tpm_actions_device::shutdown::shutdown;
 pub use tpm_actions_device::start_auth_session::start_auth_session;
 pub use tpm_actions_device::startup::startup;
-pub use tpm_actions_object::clear::clear;
 pub use tpm_actions_object::create::create;
 pub use tpm_actions_object::create_primary::create_primary;
 pub use tpm_actions_object::evict_control::evict_control;

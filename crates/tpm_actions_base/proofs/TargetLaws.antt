@@ -10,7 +10,7 @@ use Rattle.tpm_types_nv.specs.declared.nv_attributes.NvAttribute.TheVariants as 
 use Rattle.tpm_types_nv.specs.declared.nv_attributes.NvAttributes.{NvAttributes}
 use Rattle.tpm_nv.specs.Access.{read_at}
 use Rattle.tpm_nv.specs.Index.{NvContents, NvIndex, index_at}
-use Rattle.tpm_nv.specs.declared.fault.NvFault.TheVariants.{Range}
+use Rattle.tpm_nv.specs.declared.fault.ReadFault.TheVariants.{PastData}
 use Rattle.tpm_record.specs.Record.{Record}
 use Rattle.tpm_actions_base.specs.Refusals.{handle_refusal}
 use Rattle.tpm_actions_base.specs.Request.{Request, first_handle, second_handle}
@@ -37,12 +37,12 @@ target_is r q target is =
     (index.0, same.0, same.1)
 
 -- what is not locked, and is written, is read within its data
-read_within : (nv : NvContents) (handle : Handle) (offset size : ℕ) (index : NvIndex) → index_at nv handle ≡ Some index → has index.public.attributes attribute.ReadLocked ≡ false → has index.public.attributes attribute.Written ≡ true → IfErr (read_at nv handle offset size) (λ fault. fault ≡ Range)
+read_within : (nv : NvContents) (handle : Handle) (offset size : ℕ) (index : NvIndex) → index_at nv handle ≡ Some index → has index.public.attributes attribute.ReadLocked ≡ false → has index.public.attributes attribute.Written ≡ true → IfErr (read_at nv handle offset size) (λ fault. fault ≡ PastData)
 unfolding read_at
 read_within nv handle offset size index there unlocked written =
-    rw (there, unlocked, written) (only_if (nat_lt index.public.data_size (offset + size)) Range _)
+    rw (there, unlocked, written) (only_if (nat_lt index.public.data_size (offset + size)) PastData _)
 
-pub reading_within : (r : Record) (q : Request) (offset size : ℕ) → IfOk (target_of r q) (λ target. reading_passes target ≡ Ok tt → IfErr (read_at r.nv target.handle offset size) (λ fault. fault ≡ Range))
+pub reading_within : (r : Record) (q : Request) (offset size : ℕ) → IfOk (target_of r q) (λ target. reading_passes target ≡ Ok tt → IfErr (read_at r.nv target.handle offset size) (λ fault. fault ≡ PastData))
 reading_within r q offset size = ok_where _ (target_of r q) (λ target is passes.
     let index = target_is r q target is in
     let a1 = bind_ok (refused_if (not (may_read target)) _) _ tt passes in

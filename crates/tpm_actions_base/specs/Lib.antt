@@ -1,4 +1,5 @@
 pub mod Request
+pub mod Draws
 pub mod Answer
 pub mod Refusals
 pub mod Rows

@@ -2,6 +2,7 @@
 //! One answer is lent to all commands.
 
 ghost use Rattle.std.specs.Prelude.{◌≤◌};
+ghost use Rattle.tpm_actions_base.specs.Draws.{draw_limit};
 
 use tpm_bytes::Sink;
 use tpm_types::{ANSWER_LIMIT, Handle};
@@ -18,7 +19,7 @@ pub struct Answer {
     pub parameters: Parameters,
     /// How many random bytes it drew, from the front of the event's.
     pub drawn: usize,
-    ghost few: { drawn ≤ 96 },
+    ghost few: { drawn ≤ draw_limit },
 }
 
 impl Answer {

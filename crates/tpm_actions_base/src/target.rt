@@ -3,7 +3,7 @@
 
 ghost use Rattle.std.specs.Prelude.{◌≡◌, ℕ, IfErr, IfOk, Ok};
 ghost use Rattle.tpm_nv.specs.Access.{read_at};
-ghost use Rattle.tpm_nv.specs.declared.fault.NvFault.TheVariants.{Range};
+ghost use Rattle.tpm_nv.specs.declared.fault.ReadFault.TheVariants.{PastData};
 ghost use Rattle.tpm_record.specs.Record.{Record};
 ghost use Rattle.tpm_actions_base.specs.Request.{Request, request_of};
 ghost use Rattle.tpm_actions_base.specs.Target.{attributes_of, may, may_read, may_write};
@@ -101,5 +101,5 @@ impl Target {
 pub fn reading_laws()
     ensures { (r : Record) (q : Request) (offset size : ℕ)
         → IfOk (target_of r q) (λ target. reading_passes target ≡ Ok tt
-        → IfErr (read_at r.nv target.handle offset size) (λ fault. fault ≡ Range)) }
+        → IfErr (read_at r.nv target.handle offset size) (λ fault. fault ≡ PastData)) }
 {}

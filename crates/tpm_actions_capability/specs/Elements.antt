@@ -7,13 +7,14 @@ use Rattle.std.specs.List.{flat_map}
 use Rattle.std.specs.Option.{option_map_or}
 use Rattle.tpm_lockout.specs.Lockout.{LockoutState}
 use Rattle.tpm_nv.specs.Head.{heads_of}
-use Rattle.tpm_slots.specs.Numbered.{number_of}
-use Rattle.tpm_slots.specs.Slots.{at_place}
+use Rattle.tpm_containers.specs.Numbered.{number_of}
+use Rattle.tpm_containers.specs.Slots.{at_place}
 use Rattle.tpm_session.specs.Sessions.{handle_of}
 use Rattle.tpm_session.specs.declared.session.Session.{Session}
 use Rattle.tpm_types.specs.Handle.{endorsement_handle, lockout_handle, null_handle, numbered, owner_handle, password_handle, platform_handle}
 use Rattle.tpm_types.specs.declared.handle.Handle.{Handle}
-use Rattle.tpm_types_command.specs.CommandCode.{all_codes, code_number, shape_of}
+use Rattle.tpm_types_command.specs.CommandCode.{code_number, shape_of}
+use Rattle.tpm_types_command.specs.CommandFacts.{all_codes}
 use Rattle.tpm_types_command.specs.declared.command_code.CommandCode.{CommandCode}
 use Rattle.tpm_record.specs.Objects.{object_at}
 use Rattle.tpm_record.specs.Record.{Record}

@@ -52,13 +52,10 @@ impl Element {
         ensures told { text.new ≡ text.old ++ told_text telling self.now }
         ensures few { length text.new ≤ length text.old + 8 }
     {
-        let _ = match telling {
-            Telling::Value => text.put_u32(self.told),
-            Telling::NumberAndValue => {
-                let _ = text.put_u32(self.number);
-                text.put_u32(self.told)
-            }
-        };
+        if telling == Telling::NumberAndValue {
+            text.append_u32(self.number);
+        }
+        text.append_u32(self.told);
     }
 }
 
@@ -117,8 +114,8 @@ pub(crate) fn list(
 {
     let found = found_count(elements, from);
     let told = found.min((count as usize).min(ELEMENT_LIMIT));
-    let _ = text.put_u8(u8::from(told < found));
-    let _ = text.put_u32(capability);
-    let _ = text.put_u32(told as u32);
+    text.append_u8(u8::from(told < found));
+    text.append_u32(capability);
+    text.append_u32(told as u32);
     tell_elements(elements, telling, from, told, text);
 }

@@ -9,11 +9,11 @@ ghost use Rattle.tpm_actions_capability.specs.Elements.{index_elements, object_e
 ghost use Rattle.tpm_actions_capability.specs.Elements.{pcr_elements, permanent_elements, property_elements, session_element, session_elements};
 
 use crate::element::{Element, Elements};
+use tpm_containers::numbered;
 use tpm_lockout::Lockout;
 use tpm_nv::Indices;
 use tpm_record::{Keep, PersistentObjects};
 use tpm_session::handle_of;
-use tpm_slots::numbered;
 use tpm_types::{Handle, OBJECT_LIMIT, PCR_COUNT, SESSION_LIMIT};
 use tpm_types_command::CommandCode;
 
@@ -161,7 +161,7 @@ pub(crate) fn commands(elements: &mut Elements)
     requires { elements.old.items ≡ [] }
     ensures { elements.new.items ≡ command_elements }
 {
-    list_commands(&CommandCode::ALL, elements);
+    list_commands(CommandCode::ALL, elements);
 }
 
 /// A property and its value.

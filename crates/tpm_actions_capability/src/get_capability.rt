@@ -154,9 +154,9 @@ fn tell_pcrs(text: &mut Parameters)
         hash: HashAlg::Sha256,
         select,
     });
-    let _ = text.put_u8(0);
-    let _ = text.put_u32(5);
-    let _ = PcrSelection { banks }.write(text);
+    text.append_u8(0);
+    text.append_u32(5);
+    PcrSelection { banks }.append_to(text);
 }
 
 fn tell_properties<K: Keep>(keep: &K, asked: CapabilityParameters, text: &mut Parameters)

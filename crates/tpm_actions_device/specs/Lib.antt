@@ -1,5 +1,6 @@
 pub mod PcrChange
 pub mod Startup
+pub mod Clear
 pub mod ClearControl
 pub mod Shutdown
 pub mod SelfTest

@@ -3,7 +3,7 @@ use Rattle.tpm_types.specs.declared.action_check.ActionCheck.TheVariants as acti
 use Rattle.std.specs.Prelude.{◌≡◌, ℕ, ◌==◌, not, Bool, false, List, length, take, Option, Some, None, if◌then◌else◌, Result, Ok, Err, ok_or, slice_set}
 use Rattle.tpm_bytes.specs.Reading.{◌>>=◌, refused_if}
 use Rattle.tpm_mac.specs.declared.algorithm.HashAlg.{HashAlg}
-use Rattle.tpm_slots.specs.Slots.{lowest_free}
+use Rattle.tpm_containers.specs.Slots.{lowest_free}
 use Rattle.tpm_session.specs.declared.session.Binding.{Binding}
 use Rattle.tpm_session.specs.declared.session.Session.{Session}
 use Rattle.tpm_types.specs.declared.session_type.SessionType.{SessionType}

@@ -27,7 +27,7 @@ pub fn get_random<K: Keep>(_keep: &mut K, call: &Call, answer: &mut Answer) -> R
     end(&parameters)?;
     let count = usize::from(requested).min(RANDOM_LIMIT);
     let random = call.random;
-    let _ = answer.parameters.put_sized(&random[..count]);
+    answer.parameters.append_sized(&random[..count]);
     answer.drawn = count;
     Ok(())
 }

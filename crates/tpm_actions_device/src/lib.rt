@@ -8,6 +8,7 @@
 //! call is proved to be its row, for each way of keeping the record, and a refusal leaves the
 //! record.
 
+pub mod clear;
 pub mod clear_control;
 pub mod dictionary_attack_lock_reset;
 pub mod dictionary_attack_parameters;

@@ -36,6 +36,6 @@ pub fn pcr_event<K: Keep>(keep: &mut K, call: &Call, answer: &mut Answer) -> Res
         }
         None => event_digests(event),
     };
-    let _ = digests.write(&mut answer.parameters);
+    digests.append_to(&mut answer.parameters);
     Ok(())
 }

@@ -25,9 +25,9 @@ fn write_reading(update_count: u64, reading: &PcrReading, answer: &mut Parameter
         ++ selection_text reading.now.selection.banks.items
         ++ digest_list_text (digests_of reading.now.values.digests.items) }
 {
-    let _ = answer.put_u32((update_count % (1 << 32)) as u32);
-    let _ = reading.selection.write(answer);
-    let _ = reading.values.write(answer);
+    answer.append_u32((update_count % (1 << 32)) as u32);
+    reading.selection.append_to(answer);
+    reading.values.append_to(answer);
 }
 
 /// TPM2_PCR_Read: the update counter, and the values of the first eight PCRs of a selection, with

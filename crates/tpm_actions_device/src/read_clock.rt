@@ -24,10 +24,10 @@ pub fn read_clock<K: Keep>(keep: &mut K, call: &Call, answer: &mut Answer) -> Re
     end(&Cursor::new(call.parameters))?;
     let fixed = keep.fixed();
     let text = &mut answer.parameters;
-    let _ = text.put_u64(fixed.time);
-    let _ = text.put_u64(fixed.clock);
-    let _ = text.put_u32(fixed.reset_count);
-    let _ = text.put_u32(fixed.restart_count);
-    let _ = text.put_u8(1);
+    text.append_u64(fixed.time);
+    text.append_u64(fixed.clock);
+    text.append_u32(fixed.reset_count);
+    text.append_u32(fixed.restart_count);
+    text.append_u8(1);
     Ok(())
 }

@@ -112,7 +112,7 @@ pub fn start_auth_session<K: Keep>(
     check_parameters(&asked)?;
     let random = call.random;
     let drawn = asked.nonce_caller.len();
-    let _ = answer.parameters.put_sized(&random[..drawn]);
+    answer.parameters.append_sized(&random[..drawn]);
     answer.drawn = drawn;
     let start = Start {
         kind: asked.kind,

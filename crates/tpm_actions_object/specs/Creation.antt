@@ -18,7 +18,7 @@ use Rattle.tpm_types.specs.declared.pcr_selection.BankSelection.{BankSelection}
 use Rattle.tpm_types_object.specs.declared.public.Public.{Public}
 use Rattle.tpm_types.specs.Buffer.{buffer_at}
 use Rattle.tpm_types_object.specs.CreationData.{creation_data_text}
-use Rattle.tpm_types_object.specs.Filled.{filled_by}
+use Rattle.tpm_types.specs.Filled.{filled_by}
 use Rattle.tpm_types.specs.Handle.{hierarchy_handle}
 use Rattle.tpm_types.specs.PcrSelection.{selection_at}
 use Rattle.tpm_types_object.specs.Public.{public_at, public_text}

@@ -1,5 +1,4 @@
 pub mod Checks
-pub mod Clear
 pub mod Loaded
 pub mod Creation
 pub mod CreatePrimary

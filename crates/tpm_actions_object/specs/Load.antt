@@ -10,7 +10,7 @@ use Rattle.tpm_types_object.specs.declared.public.Public.{Public}
 use Rattle.tpm_types.specs.declared.rc.ResponseCode.TheVariants as code
 use Rattle.tpm_types_object.specs.declared.sensitive.Sensitive.{Sensitive}
 use Rattle.tpm_types.specs.Buffer.{buffer_at}
-use Rattle.tpm_types_object.specs.Filled.{filled_by}
+use Rattle.tpm_types.specs.Filled.{filled_by}
 use Rattle.tpm_types_object.specs.Public.{public_at}
 use Rattle.tpm_record.specs.Objects.{object_handle, with_object}
 use Rattle.tpm_record.specs.Record.{Record}

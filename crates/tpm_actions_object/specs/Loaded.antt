@@ -6,7 +6,7 @@ use Rattle.std.specs.Borrow.{Bor}
 use Rattle.tpm_bytes.specs.Reading.{refused_if}
 use Rattle.tpm_object.specs.declared.object.Object.{Object}
 use Rattle.tpm_object.specs.Object.{is_storage_parent}
-use Rattle.tpm_slots.specs.Slots.{lowest_free}
+use Rattle.tpm_containers.specs.Slots.{lowest_free}
 use Rattle.tpm_types.specs.declared.handle.Handle.{Handle}
 use Rattle.tpm_types_object.specs.declared.object_attributes.ObjectAttribute.TheVariants as attribute
 use Rattle.tpm_types.specs.declared.rc.Place.TheVariants as place

@@ -48,7 +48,7 @@ pub fn create<K: Keep>(keep: &mut K, call: &Call, answer: &mut Answer) -> Result
     let name = tpm_name::of_object(&created.public);
     let private = wrap_named(parent, &name, &created.sensitive, &iv);
     let text = &mut answer.parameters;
-    let _ = text.put_sized(private.as_slice());
+    text.append_sized(private.as_slice());
     let above = Parent::of_object(parent);
     put_creation(
         keep,

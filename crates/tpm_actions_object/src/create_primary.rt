@@ -56,7 +56,7 @@ pub fn create_primary<K: Keep>(
         &name,
         text,
     );
-    let _ = answer.parameters.put_sized(name.as_slice());
+    answer.parameters.append_sized(name.as_slice());
     answer.handle = Some(load_object(keep, object, ActionCheck::Seventh)?);
     Ok(())
 }

@@ -15,8 +15,8 @@ use tpm_mac::{HashAlg, digest_parts, hmac_parts};
 use tpm_name::Name;
 use tpm_object::Object;
 use tpm_record::Keep;
-use tpm_types::{HierarchyHandle, Locality, Octets, PcrSelection, Refused};
-use tpm_types_object::{CreationData, Public, SensitiveCreate, read_filled};
+use tpm_types::{HierarchyHandle, Locality, Octets, PcrSelection, Refused, read_filled};
+use tpm_types_object::{CreationData, Public, SensitiveCreate};
 
 /// TPM_ST_CREATION.
 const CREATION_TAG: u16 = 0x8021;
@@ -118,9 +118,9 @@ fn ticket(hierarchy: HierarchyHandle, proof: &[u8; 32], name: &Name, hash: &[u8]
     let tag = CREATION_TAG.to_be_bytes();
     let hmac = hmac_parts(HashAlg::Sha256, proof, &[&tag, name.as_slice(), hash]);
     let mut text = Sink::new();
-    let _ = text.put(&tag);
-    let _ = text.put_u32(hierarchy.handle().number);
-    let _ = text.put_sized(hmac.as_slice());
+    text.append(&tag);
+    text.append_u32(hierarchy.handle().number);
+    text.append_sized(hmac.as_slice());
     text
 }
 
@@ -136,10 +136,10 @@ fn write_creation(area: &[u8], creation: &[u8], hash: &[u8], ticket: &[u8], text
         ++ (sized_text creation.now ++ sized_text hash.now ++ ticket.now)) }
     ensures small { length text.new ≤ length text.old + 405 }
 {
-    let _ = text.put_sized(area);
-    let _ = text.put_sized(creation);
-    let _ = text.put_sized(hash);
-    let _ = text.put(ticket);
+    text.append_sized(area);
+    text.append_sized(creation);
+    text.append_sized(hash);
+    text.append(ticket);
 }
 
 /// Writes what is answered about the creation of an object of this Name.

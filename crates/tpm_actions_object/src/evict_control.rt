@@ -16,9 +16,9 @@ use tpm_actions_base::call::Call;
 use tpm_actions_base::reading::{end, parameter};
 use tpm_actions_base::refusals::{action_refusal, memory_refusal, parameter_refusal};
 use tpm_bytes::Cursor;
+use tpm_containers::KeyFault;
 use tpm_object::Object;
 use tpm_record::{Keep, PersistentObjects};
-use tpm_sorted_map::KeyFault;
 use tpm_types::{
     ActionCheck, Handle, HierarchyHandle, Refused, ResponseCode, read_persistent_handle,
 };

@@ -86,6 +86,6 @@ pub fn hmac<K: Keep>(keep: &mut K, call: &Call, answer: &mut Answer) -> Result<(
         ));
     };
     let mac = hmac_parts(hash, object.sensitive.as_slice(), &[buffer]);
-    let _ = answer.parameters.put_sized(mac.as_slice());
+    answer.parameters.append_sized(mac.as_slice());
     Ok(())
 }

@@ -12,7 +12,6 @@
 //! refused memory.
 
 mod checks;
-pub mod clear;
 pub mod create;
 pub mod create_primary;
 mod creation;

@@ -18,8 +18,8 @@ use tpm_bytes::Cursor;
 use tpm_name::Name;
 use tpm_object::{Object, unwrap_named};
 use tpm_record::Keep;
-use tpm_types::{ActionCheck, Refused, ResponseCode, read_buffer};
-use tpm_types_object::{Public, Sensitive, read_filled};
+use tpm_types::{ActionCheck, Refused, ResponseCode, read_buffer, read_filled};
+use tpm_types_object::{Public, Sensitive};
 
 /// The most bytes of inPrivate.
 const PRIVATE_LIMIT: usize = 256;
@@ -58,7 +58,7 @@ pub fn load<K: Keep>(keep: &mut K, call: &Call, answer: &mut Answer) -> Result<(
     let sensitive = sensitive_of(parent, &public, &name, private)?;
     let above = parent.qualified_name.as_slice();
     let object = Object::loaded_named(parent.hierarchy, public, &name, &sensitive, above);
-    let _ = answer.parameters.put_sized(name.as_slice());
+    answer.parameters.append_sized(name.as_slice());
     answer.handle = Some(load_object(keep, object, ActionCheck::Sixth)?);
     Ok(())
 }

@@ -24,10 +24,12 @@ pub fn read_public<K: Keep>(keep: &mut K, call: &Call, answer: &mut Answer) -> R
 {
     let object = loaded(keep, call.first_handle()?)?;
     end(&Cursor::new(call.parameters))?;
-    let _ = answer.parameters.put_sized(object.public.text().as_slice());
-    let _ = answer.parameters.put_sized(object.name().as_slice());
-    let _ = answer
+    answer
         .parameters
-        .put_sized(object.qualified_name.as_slice());
+        .append_sized(object.public.text().as_slice());
+    answer.parameters.append_sized(object.name().as_slice());
+    answer
+        .parameters
+        .append_sized(object.qualified_name.as_slice());
     Ok(())
 }

@@ -38,6 +38,6 @@ pub fn unseal<K: Keep>(keep: &mut K, call: &Call, answer: &mut Answer) -> Result
             ResponseCode::Attributes.anywhere().at_handle(1),
         ));
     }
-    let _ = answer.parameters.put_sized(object.sensitive.as_slice());
+    answer.parameters.append_sized(object.sensitive.as_slice());
     Ok(())
 }

@@ -5,15 +5,14 @@ use Rattle.std.proofs.lemmas.Bool.{ltb-false}
 use Rattle.std.proofs.lemmas.List.{length-drop, length-take}
 use Rattle.tpm_bytes.proofs.Fields.{bind_ok, ok_is, ok_or_ok, or_fault_ok, passed}
 use Rattle.tpm_bytes.specs.Reading.{refused_if}
-use Rattle.tpm_sorted_map.specs.SortedMap.{Entries, at_key}
+use Rattle.tpm_containers.specs.SortedMap.{Entries, at_key}
 use Rattle.tpm_types.specs.declared.handle.Handle.{Handle}
 use Rattle.tpm_types_nv.specs.NvAttributes.{has}
 use Rattle.tpm_types_nv.specs.declared.nv_attributes.NvAttribute.TheVariants as attribute
 use Rattle.tpm_nv.specs.Access.{index_has, index_or_fault, read_at, readable}
 use Rattle.tpm_nv.specs.Index.{NvContents, NvIndex, index_at}
 use Rattle.tpm_nv.specs.IsContents.{AreIndices, IsContents, IsIndex}
-use Rattle.tpm_nv.specs.declared.fault.NvFault.{NvFault}
-use Rattle.tpm_nv.specs.declared.fault.NvFault.TheVariants as fault
+use Rattle.tpm_nv.specs.declared.fault.ReadFault.TheVariants as fault
 use Rattle.tpm_record.specs.Record.{Record}
 use Rattle.tpm_actions_base.specs.Target.{reading_passes}
 use Rattle.tpm_actions_base.specs.declared.target.Target.{Target}
@@ -58,10 +57,10 @@ read_whole : (contents : NvContents) (handle : Handle) (offset size : ℕ) (byte
     → IsContents contents → read_at contents handle offset size ≡ Ok bytes → length bytes ≡ size
 unfolding read_at
 read_whole contents handle offset size bytes is read =
-    let index = bind_ok (index_or_fault contents handle) _ bytes read in
+    let index = bind_ok (index_or_fault contents handle fault.Undefined) _ bytes read in
     let there = bind_ok (readable index.0) _ bytes index.2 in
-    let inside = bind_ok (refused_if (nat_lt index.0.public.data_size (offset + size)) fault.Range) _ bytes there.2 in
-    let fits : offset + size ≤ index.0.public.data_size = ltb-false _ _ (passed _ fault.Range inside.0 inside.1) in
+    let inside = bind_ok (refused_if (nat_lt index.0.public.data_size (offset + size)) fault.PastData) _ bytes there.2 in
+    let fits : offset + size ≤ index.0.public.data_size = ltb-false _ _ (passed _ fault.PastData inside.0 inside.1) in
     let found : index_at contents handle ≡ Some index.0 = ok_or_ok (index_at contents handle) fault.Undefined index.0 index.1 in
     let sized : HasItsSize index.0 = found_sized contents.indices handle.number index.0 is.indices found in
     let written = written_of index.0 there.0 there.1 in

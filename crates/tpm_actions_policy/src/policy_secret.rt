@@ -95,6 +95,6 @@ pub fn policy_secret<K: Keep>(keep: &mut K, call: &Call, answer: &mut Answer) ->
     let handle = call.second_handle()?;
     let secret = read_secret(call.first_handle()?, call.parameters)?;
     make_assertion(keep, handle, &AssertionParameters::Secret(secret))?;
-    let _ = answer.parameters.put(&NO_TICKET);
+    answer.parameters.append(&NO_TICKET);
     Ok(())
 }

@@ -1,2 +1,3 @@
 pub mod EmptyHmac
 pub mod Granting
+pub mod Resolving

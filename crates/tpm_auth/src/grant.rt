@@ -2,23 +2,28 @@
 //! its place, and [`Grants`] says what each authorizes.
 
 ghost use Rattle.tpm_bytes.specs.Reading.{Gives};
-ghost use Rattle.std.specs.Prelude.{◌≡◌, ◌+◌, ◌≤◌, [], ◌∷◌, length, map, not};
+ghost use Rattle.std.specs.Prelude.{◌≡◌, ◌+◌, ◌<◌, ◌≤◌, ℕ, [], ◌∷◌, length, map, not, option_map, slice_get, take};
+ghost use Rattle.std.specs.Option.{ForSome};
 ghost use Rattle.tpm_session.specs.FirstBuffer.{has_first_buffer};
 ghost use Rattle.tpm_types_command.specs.AuthEntry.{entry_of};
 ghost use Rattle.tpm_types_command.specs.Command.{whole_of};
 ghost use Rattle.tpm_types.specs.Handle.{session_kind};
 ghost use Rattle.tpm_types.specs.Locality.{locality_number};
 ghost use Rattle.tpm_types.specs.declared.handle.SessionKind.TheVariants as kind;
+ghost use Rattle.tpm_record.specs.Record.{Record};
 ghost use Rattle.tpm_record.specs.Entity.{name_of};
-ghost use Rattle.tpm_auth.specs.Grant.{AreGranted, authorize, authorized, grant, granted_by, grants_pass, is_unavailable, password_grant};
+ghost use Rattle.tpm_record.specs.Resolved.{AreFound, IsFound};
+ghost use Rattle.tpm_auth.specs.Grant.{AreGranted, authorize, authorized, grant, granted_by, grants_pass, password_grant};
 ghost use Rattle.tpm_auth.specs.SessionGrant.{hashed_command};
+ghost use Rattle.tpm_auth.specs.Used.{IsResolved, IsUsed, used_handle};
 
 use crate::comparison::{check_of, failure, is_locked_out, is_password_of, lockout_refusal};
 use crate::entries::{any_decrypts, check_entries, reference_of};
-use crate::session_grant::{Grant, Sent, check_session};
+use crate::session_grant::{Grant, check_session};
+use crate::used::{Sent, Used, used_at};
 use arrayvec::ArrayVec;
 use tpm_policy::Demand;
-use tpm_record::{Keep, Means, auth_value_of, is_available, name_of, protection_of};
+use tpm_record::{Keep, Means, Resolved, resolve};
 use tpm_session::{HashedParameters, ParameterHashes, Protection, first_size};
 use tpm_types::{Check, Handle, Locality, Refused, ResponseCode, SessionKind};
 use tpm_types_command::{AuthEntry, Command, CommandCode};
@@ -30,57 +35,59 @@ pub struct Grants {
     pub grants: ArrayVec<Option<Grant>, 3>,
 }
 
-/// Whether what the entry of this number is to authorize cannot be authorized by its authorization
-/// value.
-fn is_unavailable<K: Keep>(keep: &K, code: CommandCode, number: u8, used: Option<Handle>) -> bool
-    requires { 1 ≤ number }
-    ensures { result ≡ is_unavailable (K.record_of keep.now) code number used }
+/// Checks that the entry of this number is a password for what this handle names.
+#[tactic(auto, unfolding(crate::specs::Grant::password_grant, tpm_record::specs::Entity::auth_value_of, tpm_record::specs::Entity::is_available, tpm_record::specs::Entity::protection_of))]
+fn check_value<K: Keep>(
+    keep: &K,
+    code: CommandCode,
+    number: u8,
+    resolved: &Resolved,
+    entry: &AuthEntry,
+) -> Result<Option<Grant>, Refused>
+    requires number { 1 ≤ number }
+    requires found { IsFound (K.record_of keep.now) resolved.now }
+    ensures { result ≡ password_grant (K.record_of keep.now) code number
+        (Some resolved.now.handle) (entry_of entry.now) }
 {
-    match used {
-        Some(handle) => {
-            let nv_use = code.nv_use_at(usize::from(number) - 1);
-            !is_available(keep, handle, Means::AuthValue, nv_use)
-        }
-        None => false,
+    let nv_use = code.nv_use_at(usize::from(number) - 1);
+    if !resolved.is_available(Means::AuthValue, nv_use) {
+        let rc = ResponseCode::AuthUnavailable.anywhere();
+        return Err(Refused::by(Check::Authorization, rc));
+    }
+    let grant = Some(Grant {
+        handle: resolved.handle,
+        demand: Demand::None,
+    });
+    let protection = resolved.protection();
+    if is_locked_out(&keep.fixed().lockout, protection) {
+        return Err(lockout_refusal(grant));
+    }
+    if is_password_of(resolved.auth_value(keep), entry.hmac) {
+        Ok(grant)
+    } else {
+        Err(failure(Check::Authorization, number, protection))
     }
 }
 
-/// Checks that the entry of this number is a password for the handle that it is to authorize.
+/// Checks that the entry of this number is a password for what it is to authorize; where that is
+/// nothing, an empty one.
 #[tactic(auto, unfolding(crate::specs::Grant::password_grant))]
 fn check_password<K: Keep>(
     keep: &K,
     code: CommandCode,
     number: u8,
-    used: Option<Handle>,
+    used: Option<Used>,
     entry: &AuthEntry,
 ) -> Result<Option<Grant>, Refused>
-    requires { 1 ≤ number }
-    ensures { result
-        ≡ password_grant (K.record_of keep.now) code number used (entry_of entry.now) }
+    requires number { 1 ≤ number }
+    requires used { ForSome used (IsUsed (K.record_of keep.now)) }
+    ensures { result ≡ password_grant (K.record_of keep.now) code number
+        (option_map used_handle used.entry) (entry_of entry.now) }
 {
-    if is_unavailable(keep, code, number, used) {
-        let rc = ResponseCode::AuthUnavailable.anywhere();
-        return Err(Refused::by(Check::Authorization, rc));
-    }
-    let (grant, value, protection) = match used {
-        Some(handle) => {
-            let demand = Demand::None;
-            let value = auth_value_of(keep, handle);
-            (
-                Some(Grant { handle, demand }),
-                value,
-                protection_of(keep, handle),
-            )
-        }
-        None => (None, &[][..], Protection::None),
-    };
-    if is_locked_out(&keep.fixed().lockout, protection) {
-        return Err(lockout_refusal(grant));
-    }
-    if is_password_of(value, entry.hmac) {
-        Ok(grant)
-    } else {
-        Err(failure(check_of(grant), number, protection))
+    match used {
+        Some(used) => check_value(keep, code, number, &used.resolved, entry),
+        None if is_password_of(&[], entry.hmac) => Ok(None),
+        None => Err(failure(Check::Others, number, Protection::None)),
     }
 }
 
@@ -92,14 +99,16 @@ fn check_grant<K: Keep>(
     sent: Sent,
     hashes: &mut ParameterHashes,
     number: u8,
-    used: Option<Handle>,
+    used: Option<Used>,
     entry: &AuthEntry,
 ) -> Result<Option<Grant>, Refused>
     requires number { 1 ≤ number }
     requires hashed { hashes.old
         ≡ hashed_command (K.record_of keep.now) (whole_of sent.command.now) }
+    requires used { ForSome used (IsUsed (K.record_of keep.now)) }
     ensures value { result ≡ grant (K.record_of keep.now) (whole_of sent.entry.command.now)
-        (locality_number sent.entry.locality) number used (entry_of entry.now) }
+        (locality_number sent.entry.locality) number (option_map used_handle used.entry)
+        (entry_of entry.now) }
     ensures same { hashes.new ≡ hashes.old }
 {
     match entry.session.session_kind() {
@@ -115,13 +124,6 @@ fn check_grant<K: Keep>(
     }
 }
 
-/// The handles of a command that need authorization.
-fn authorized<'a>(command: &'a Command) -> &'a [Handle]
-    ensures { result.now ≡ authorized (whole_of command.now) }
-{
-    &command.handles.as_slice()[..command.code.authorized_handles()]
-}
-
 /// Checks these entries after those so far, and adds what each authorizes; the first that fails is
 /// answered.
 fn check_grants<K: Keep>(
@@ -134,6 +136,7 @@ fn check_grants<K: Keep>(
     requires hashed { hashes.old
         ≡ hashed_command (K.record_of keep.now) (whole_of sent.command.now) }
     requires few { length grants.old.items + length entries.now ≤ 3 }
+    requires resolved { IsResolved (K.record_of keep.now) sent }
     ensures { AreGranted (grants_pass (K.record_of keep.now) (whole_of sent.entry.command.now)
         (locality_number sent.entry.locality) grants.old.items (map entry_of entries.now)) result
         grants.new.items }
@@ -142,7 +145,7 @@ fn check_grants<K: Keep>(
         return Ok(());
     };
     let before = grants.len();
-    let used = authorized(sent.command).get(before).copied();
+    let used = used_at(sent, before);
     let grant = check_grant(keep, sent, hashes, before as u8 + 1, used, entry)?;
     grants.push(grant);
     check_grants(keep, sent, hashes, entries, grants)
@@ -155,33 +158,68 @@ fn is_cut(parameters: &[u8]) -> bool
     first_size(parameters).is_none()
 }
 
+/// What is resolved in a place.
+#[tactic(auto, using(std::proofs::lemmas::Option::slice_get_read))]
+fn resolved_at<'a>(resolved: &[Resolved<'a>], place: usize) -> Resolved<'a>
+    requires { place < length resolved.now }
+    ensures { slice_get resolved.now place ≡ Some result }
+{
+    resolved[place]
+}
+
+/// The Name of the handle after those with these Names: where a handle stands there for the second
+/// time, that is copied.
+fn next_name<K: Keep>(keep: &K, sent: Sent, names: &[Name]) -> Name
+    requires resolved { IsResolved (K.record_of keep.now) sent }
+    requires named { names.now ≡ map (name_of (K.record_of keep.now))
+        (take (length names.now) (whole_of sent.command.now).handles) }
+    requires more { length names.now < length sent.resolved.now }
+    ensures { Some result ≡ option_map (name_of (K.record_of keep.now))
+        (slice_get (whole_of sent.entry.command.now).handles (length names.now)) }
+{
+    let resolved = resolved_at(sent.resolved, names.len());
+    let first = resolved_at(sent.resolved, 0);
+    match names.first() {
+        Some(name) if first.handle == resolved.handle => name.copy(),
+        _ => resolved.name(),
+    }
+}
+
 /// The Names of a command's handles.
-fn names_of<K: Keep>(keep: &K, handles: &[Handle]) -> ArrayVec<Name, 3>
-    requires { length handles.now ≤ 3 }
-    ensures { result.items ≡ map (name_of (K.record_of keep.now)) handles.now }
+#[tactic(auto, using(crate::proofs::Resolving::one_more_named, crate::proofs::Resolving::as_many))]
+fn names_of<K: Keep>(keep: &K, sent: Sent) -> ArrayVec<Name, 3>
+    requires { IsResolved (K.record_of keep.now) sent }
+    ensures { result.items
+        ≡ map (name_of (K.record_of keep.now)) (whole_of sent.entry.command.now).handles }
 {
     let mut names = ArrayVec::new();
-    for handle in handles {
-        names.push(name_of(keep, *handle));
+    for _ in sent.command.handles.as_slice() {
+        let name = next_name(keep, sent, names.as_slice());
+        names.push(name);
     }
     names
 }
 
 /// Checks each handle by the entry of its place, and the other entries, and tells what each
 /// authorizes.
-fn check_sessions<K: Keep>(keep: &K, sent: Sent) -> Result<Grants, Refused>
+fn check_resolved<K: Keep>(keep: &K, sent: Sent) -> Result<Grants, Refused>
+    requires { IsResolved (K.record_of keep.now) sent }
     ensures { Gives granted_by (grants_pass (K.record_of keep.now) (whole_of sent.entry.command.now)
         (locality_number sent.entry.locality) [] (whole_of sent.entry.command.now).entries) result }
 {
     let command = sent.command;
-    let names = names_of(keep, command.handles.as_slice());
+    let names = names_of(keep, sent);
     let code = command.code.number();
     let hashed = HashedParameters::Command(code, names.as_slice(), command.parameters);
     let mut hashes = ParameterHashes::new(hashed);
+    let named = Sent {
+        names: names.as_slice(),
+        ..sent
+    };
     let mut entries = ArrayVec::new();
     check_grants(
         keep,
-        sent,
+        named,
         &mut hashes,
         command.entries.as_slice(),
         &mut entries,
@@ -189,15 +227,67 @@ fn check_sessions<K: Keep>(keep: &K, sent: Sent) -> Result<Grants, Refused>
     Ok(Grants { grants: entries })
 }
 
+/// What the handles of a command name.
+fn resolve_all<'a, K: Keep>(keep: &'a K, handles: &[Handle]) -> ArrayVec<Resolved<'a>, 3>
+    requires { length handles.now ≤ 3 }
+    ensures { AreFound (K.record_of keep.now) result.items handles.now }
+{
+    let mut all = ArrayVec::new();
+    for handle in handles {
+        all.push(resolve(keep, *handle));
+    }
+    all
+}
+
+/// Looks up what each handle of a command names, and checks its entries.
+#[tactic(auto, using(crate::proofs::Resolving::none_named))]
+fn check_sessions<K: Keep>(
+    keep: &K,
+    command: &Command,
+    locality: Locality,
+) -> Result<Grants, Refused>
+    ensures { Gives granted_by (grants_pass (K.record_of keep.now) (whole_of command.now)
+        (locality_number locality) [] (whole_of command.now).entries) result }
+{
+    let resolved = resolve_all(keep, command.handles.as_slice());
+    let sent = Sent {
+        command,
+        resolved: resolved.as_slice(),
+        names: &[],
+        locality,
+    };
+    check_resolved(keep, sent)
+}
+
+/// What the first entry of a command is to authorize, or nothing.
+fn first_used<'a, K: Keep>(keep: &'a K, command: &Command) -> Option<Used<'a>>
+    ensures handle { option_map used_handle result
+        ≡ slice_get (authorized (whole_of command.now)) 0 }
+    ensures used { ForSome result (IsUsed (K.record_of keep.now)) }
+{
+    let handles = &command.handles.as_slice()[..command.code.authorized_handles()];
+    match handles.first() {
+        Some(handle) => Some(Used {
+            resolved: resolve(keep, *handle),
+            name: None,
+        }),
+        None => None,
+    }
+}
+
 /// Checks a handle by the only entry, which is a password.
 #[tactic(auto, unfolding(crate::specs::Grant::grant))]
-fn check_one_password<K: Keep>(keep: &K, sent: Sent, entry: &AuthEntry) -> Result<Grants, Refused>
+fn check_one_password<K: Keep>(
+    keep: &K,
+    command: &Command,
+    entry: &AuthEntry,
+) -> Result<Grants, Refused>
     requires { session_kind entry.now.session ≡ kind.Password }
-    ensures { Gives granted_by (grants_pass (K.record_of keep.now) (whole_of sent.entry.command.now)
-        (locality_number sent.entry.locality) [] (entry_of entry.now ∷ [])) result }
+    ensures { (locality : ℕ) → Gives granted_by (grants_pass (K.record_of keep.now)
+        (whole_of command.now) locality [] (entry_of entry.now ∷ [])) result }
 {
-    let used = authorized(sent.command).first().copied();
-    let grant = check_password(keep, sent.command.code, 1, used, entry)?;
+    let used = first_used(keep, command);
+    let grant = check_password(keep, command.code, 1, used, entry)?;
     let mut entries = ArrayVec::new();
     entries.push(grant);
     Ok(Grants { grants: entries })
@@ -205,18 +295,18 @@ fn check_one_password<K: Keep>(keep: &K, sent: Sent, entry: &AuthEntry) -> Resul
 
 /// Checks all entries in order. Nothing is hashed where there are none, or where there is a
 /// password alone.
-fn check_all<K: Keep>(keep: &K, sent: Sent) -> Result<Grants, Refused>
-    ensures { Gives granted_by (grants_pass (K.record_of keep.now) (whole_of sent.entry.command.now)
-        (locality_number sent.entry.locality) [] (whole_of sent.entry.command.now).entries) result }
+fn check_all<K: Keep>(keep: &K, command: &Command, locality: Locality) -> Result<Grants, Refused>
+    ensures { Gives granted_by (grants_pass (K.record_of keep.now) (whole_of command.now)
+        (locality_number locality) [] (whole_of command.now).entries) result }
 {
-    match sent.command.entries.as_slice() {
+    match command.entries.as_slice() {
         [] => Ok(Grants {
             grants: ArrayVec::new(),
         }),
         [entry] if entry.session.session_kind() == SessionKind::Password => {
-            check_one_password(keep, sent, entry)
+            check_one_password(keep, command, entry)
         }
-        _ => check_sessions(keep, sent),
+        _ => check_sessions(keep, command, locality),
     }
 }
 
@@ -238,7 +328,7 @@ pub fn authorize<K: Keep>(
         let rc = ResponseCode::AuthMissing.anywhere();
         return Err(Refused::by(Check::Entries, rc));
     }
-    let grants = check_all(keep, Sent { command, locality })?;
+    let grants = check_all(keep, command, locality)?;
     if any_decrypts(entries) && is_cut(command.parameters) {
         let rc = ResponseCode::Insufficient.anywhere().at_parameter(1);
         return Err(Refused::by(Check::Others, rc));

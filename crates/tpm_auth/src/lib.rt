@@ -9,10 +9,13 @@
 
 mod comparison;
 mod entries;
+mod entry_key;
 mod grant;
 pub mod laws;
 mod session_grant;
+mod used;
 
 pub use entries::{any_decrypts, decrypts, encrypts};
+pub use entry_key::used_auth_value;
 pub use grant::{Grants, authorize};
-pub use session_grant::{Grant, empty_hmac_laws, granted_value, used_auth_value};
+pub use session_grant::{Grant, empty_hmac_laws, granted_value};

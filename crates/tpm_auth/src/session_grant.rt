@@ -1,26 +1,27 @@
 //! What the entry of a session authorizes, by its HMAC or by its policy: whether it may, what it
 //! comes up against, and whether its comparison holds.
 
-ghost use Rattle.std.specs.Prelude.{◌≡◌, ◌≤◌, length, map};
+ghost use Rattle.std.specs.Prelude.{◌≡◌, ◌≤◌, length, option_map};
+ghost use Rattle.std.specs.Option.{ForSome};
 ghost use Rattle.tpm_types_command.specs.AuthEntry.{entry_of};
 ghost use Rattle.tpm_types_command.specs.Command.{whole_of};
-ghost use Rattle.tpm_auth.specs.Entries.{decrypts};
 ghost use Rattle.tpm_types.specs.Locality.{locality_number};
-ghost use Rattle.tpm_policy.specs.Use.{parts_of};
+ghost use Rattle.tpm_policy.specs.Use.{entity_parts, parts_of};
+ghost use Rattle.tpm_record.specs.Entity.{entity_policy, entity_seen};
 ghost use Rattle.tpm_session.specs.ParameterHash.{parameter_hash_of};
 ghost use Rattle.tpm_auth.specs.Comparison.{is_locked_out};
 ghost use Rattle.tpm_auth.specs.EmptyHmac.{EmptyHmacHasNoKey};
-ghost use Rattle.tpm_auth.specs.SessionGrant.{binding_protection, by_policy, comparison_holds, demanded, entry_nonce, granted_value, hashed_command, is_authentic, is_bound_to, nonce_where, only_encrypts, or_protection, other_entries, session_grant, takes_value, entry_protection, use_of, used_auth_value};
+ghost use Rattle.tpm_auth.specs.SessionGrant.{binding_protection, by_policy, comparison, comparison_holds, demanded, entry_protection, granted_value, hashed_command, or_protection, session_grant, takes_value, use_of};
+ghost use Rattle.tpm_record.specs.Resolved.{IsFound};
+ghost use Rattle.tpm_auth.specs.Used.{IsToGrant, IsUsed, grant_by, used_handle};
 
 use crate::comparison::{check_of, failure, is_locked_out, is_password_of, lockout_refusal};
-use crate::entries::{decrypts, encrypts};
-use tpm_bytes::is_equal;
-use tpm_policy::{Demand, Use};
-use tpm_record::{
-    Keep, Means, auth_value_of, is_available, name_of, policy_of, protection_of, written_of,
-};
-use tpm_session::{CommandText, ParameterHashes, Protection, Session};
-use tpm_types::{Check, Handle, Locality, Refused, ResponseCode, SessionType};
+use crate::entry_key::{is_authentic, takes_value};
+use crate::used::{Granted, Sent, Used};
+use tpm_policy::{Demand, EntityPolicy, Use};
+use tpm_record::{Keep, Means, Resolved, auth_value_of};
+use tpm_session::{ParameterHashes, Protection, Session};
+use tpm_types::{Check, Handle, Refused, ResponseCode, SessionType};
 use tpm_types_command::{AuthEntry, Command};
 
 /// What an entry authorizes: a handle, and what the policy demanded by which it does so.
@@ -28,135 +29,6 @@ use tpm_types_command::{AuthEntry, Command};
 pub struct Grant {
     pub handle: Handle,
     pub demand: Demand,
-}
-
-/// A command, and where it comes from.
-#[derive(Clone, Copy)]
-pub struct Sent<'a, 'b> {
-    pub command: &'a Command<'b>,
-    pub locality: Locality,
-}
-
-/// Whether a session is bound to an entity, as that is now.
-#[tactic(auto, unfolding(crate::specs::SessionGrant::is_bound_to))]
-pub fn is_bound_to<K: Keep>(keep: &K, session: &Session, handle: Handle) -> bool
-    ensures { result ≡ is_bound_to (K.record_of keep.now) session.now handle }
-{
-    match &session.binding {
-        Some(binding) => {
-            binding.name.is_same(&name_of(keep, handle))
-                && binding.auth_value.is_same(auth_value_of(keep, handle))
-        }
-        None => false,
-    }
-}
-
-#[tactic(auto, unfolding(crate::specs::SessionGrant::takes_value))]
-fn takes_value<K: Keep>(keep: &K, session: &Session, grant: Grant) -> bool
-    ensures { result ≡ takes_value (K.record_of keep.now) session.now grant }
-{
-    match session.kind {
-        SessionType::Hmac => !is_bound_to(keep, session, grant.handle),
-        SessionType::Policy | SessionType::Trial => grant.demand == Demand::AuthValue,
-    }
-}
-
-/// The authorization value in the key of an entry that authorizes so, or nothing.
-#[tactic(auto, unfolding(crate::specs::SessionGrant::used_auth_value))]
-pub fn used_auth_value<'a, K: Keep>(
-    keep: &'a K,
-    session: &Session,
-    grant: Option<Grant>,
-) -> &'a [u8]
-    ensures value { result.now ≡ used_auth_value (K.record_of keep.now) session.now grant }
-    ensures fits { length result.now ≤ 32 }
-{
-    match grant {
-        Some(grant) if takes_value(keep, session, grant) => auth_value_of(keep, grant.handle),
-        _ => &[],
-    }
-}
-
-/// The nonce of an entry's session, if there is one.
-fn nonce_of<'a, K: Keep>(keep: &'a K, entry: &AuthEntry) -> &'a [u8]
-    ensures { result.now ≡ entry_nonce (K.record_of keep.now) (entry_of entry.now) }
-{
-    match keep.sessions().get(entry.session) {
-        Some(session) => session.nonce_tpm.as_slice(),
-        None => &[],
-    }
-}
-
-/// The nonce of the first entry that decrypts, or no byte.
-#[tactic(auto, unfolding(crate::specs::SessionGrant::nonce_where))]
-fn decrypting_nonce<'a, K: Keep>(keep: &'a K, entries: &[AuthEntry]) -> &'a [u8]
-    ensures { result.now ≡ nonce_where (K.record_of keep.now) decrypts (map entry_of entries.now) }
-{
-    match entries {
-        [first, ..] if decrypts(first) => nonce_of(keep, first),
-        [_, others @ ..] => decrypting_nonce(keep, others),
-        [] => &[],
-    }
-}
-
-/// The nonce of the first entry that encrypts and does not decrypt, or no byte.
-#[tactic(auto, unfolding(crate::specs::SessionGrant::nonce_where))]
-fn encrypting_nonce<'a, K: Keep>(keep: &'a K, entries: &[AuthEntry]) -> &'a [u8]
-    ensures { result.now
-        ≡ nonce_where (K.record_of keep.now) only_encrypts (map entry_of entries.now) }
-{
-    match entries {
-        [first, ..] if encrypts(first) && !decrypts(first) => nonce_of(keep, first),
-        [_, others @ ..] => encrypting_nonce(keep, others),
-        [] => &[],
-    }
-}
-
-/// The entries whose sessions' nonces stand in the text of this entry: those after the first,
-/// where that authorizes a handle.
-fn other_entries<'a, 'b>(command: &'a Command<'b>, number: u8) -> &'a [AuthEntry<'b>]
-    ensures { map entry_of result.now ≡ other_entries (whole_of command.now) number }
-{
-    let entries = command.entries.as_slice();
-    let authorizes = number == 1 && command.code.authorized_handles() > 0;
-    let first = if authorizes {
-        entries.len().min(1)
-    } else {
-        entries.len()
-    };
-    &entries[first..]
-}
-
-/// Whether the HMAC of an entry is right, that authorizes so, or nothing.
-#[tactic(auto, unfolding(crate::specs::SessionGrant::is_authentic, crate::specs::SessionGrant::entry_parts))]
-fn is_authentic<K: Keep>(
-    keep: &K,
-    command: &Command,
-    hashes: &mut ParameterHashes,
-    number: u8,
-    grant: Option<Grant>,
-    entry: &AuthEntry,
-    session: &Session,
-) -> bool
-    requires { hashes.old ≡ hashed_command (K.record_of keep.now) (whole_of command.now) }
-    ensures value { result ≡ is_authentic (K.record_of keep.now) (whole_of command.now) number grant
-        (entry_of entry.now) session.now }
-    ensures same { hashes.new ≡ hashes.old }
-{
-    let value = used_auth_value(keep, session, grant);
-    if session.key.as_slice().is_empty() && value.is_empty() && entry.hmac.is_empty() {
-        return true;
-    }
-    let others = other_entries(command, number);
-    let hash = hashes.by(session.hash);
-    let text = CommandText {
-        hash: hash.as_slice(),
-        nonce_caller: entry.nonce,
-        decrypt_nonce: decrypting_nonce(keep, others),
-        encrypt_nonce: encrypting_nonce(keep, others),
-        attributes: entry.attributes,
-    };
-    is_equal(entry.hmac, session.command_mac(value, &text).as_slice())
 }
 
 fn binding_protection(session: &Session) -> Protection
@@ -178,46 +50,74 @@ fn or_protection(protection: Protection, other: Protection) -> Protection
     }
 }
 
-/// How the entity is protected that an entry of a session touches.
-#[tactic(auto, unfolding(crate::specs::SessionGrant::entry_protection))]
-fn entry_protection<K: Keep>(keep: &K, session: &Session, grant: Option<Grant>) -> Protection
-    ensures { result ≡ entry_protection (K.record_of keep.now) session.now grant }
+/// How the entity is protected that an entry of a session touches, which authorizes so.
+#[tactic(auto, unfolding(crate::specs::SessionGrant::entry_protection, tpm_record::specs::Entity::protection_of))]
+fn granted_protection<K: Keep>(keep: &K, session: &Session, granted: &Granted) -> Protection
+    requires { IsToGrant (K.record_of keep.now) granted.now }
+    ensures { result ≡ entry_protection (K.record_of keep.now) session.now
+        (Some (grant_by granted.now)) }
 {
     let bound = binding_protection(session);
-    match grant {
-        Some(grant) if takes_value(keep, session, grant) || grant.demand == Demand::Password => {
-            or_protection(protection_of(keep, grant.handle), bound)
-        }
-        _ => bound,
+    if takes_value(keep, session, granted) || granted.demand == Demand::Password {
+        or_protection(granted.used.resolved.protection(), bound)
+    } else {
+        bound
+    }
+}
+
+/// How the entity is protected that an entry of a session touches.
+#[tactic(auto, unfolding(crate::specs::SessionGrant::entry_protection))]
+fn entry_protection<K: Keep>(keep: &K, session: &Session, granted: Option<Granted>) -> Protection
+    requires { ForSome granted (IsToGrant (K.record_of keep.now)) }
+    ensures { result ≡ entry_protection (K.record_of keep.now) session.now
+        (option_map grant_by granted.entry) }
+{
+    match granted {
+        Some(granted) => granted_protection(keep, session, &granted),
+        None => binding_protection(session),
     }
 }
 
 /// Whether what an entry of a session comes up against is locked out. Where nothing is, that is not
 /// looked for.
-fn comes_up_against_lockout<K: Keep>(keep: &K, session: &Session, grant: Option<Grant>) -> bool
+fn comes_up_against_lockout<K: Keep>(keep: &K, session: &Session, granted: Option<Granted>) -> bool
+    requires { ForSome granted (IsToGrant (K.record_of keep.now)) }
     ensures { result ≡ is_locked_out (K.record_of keep.now).fixed.lockout
-        (entry_protection (K.record_of keep.now) session.now grant) }
+        (entry_protection (K.record_of keep.now) session.now (option_map grant_by granted.entry)) }
 {
     let lockout = &keep.fixed().lockout;
     (lockout.is_locked() || lockout.lockout_closed())
-        && is_locked_out(lockout, entry_protection(keep, session, grant))
+        && is_locked_out(lockout, entry_protection(keep, session, granted))
+}
+
+/// The policy of what a handle names, lent no longer than that.
+fn policy_of<'a>(resolved: &'a Resolved) -> Option<EntityPolicy<'a>>
+    ensures { option_map entity_parts result
+        ≡ entity_policy (entity_seen resolved.now.entity) }
+{
+    let policy = resolved.policy()?;
+    Some(EntityPolicy {
+        hash: policy.hash,
+        digest: policy.digest,
+    })
 }
 
 /// What is to be authorized by the entry of this number, of a policy session.
-#[tactic(auto, unfolding(crate::specs::SessionGrant::use_of))]
+#[tactic(auto, unfolding(crate::specs::SessionGrant::use_of, tpm_record::specs::Entity::is_available, tpm_record::specs::Entity::written_of, tpm_record::specs::Entity::policy_of))]
 fn use_of<'a, K: Keep>(
-    keep: &'a K,
+    keep: &K,
     sent: Sent,
     cp_hash: &'a [u8],
     number: u8,
-    handle: Handle,
+    resolved: &'a Resolved,
     session: &Session,
 ) -> Use<'a>
     requires number { 1 ≤ number }
     requires hashed { cp_hash.now ≡ parameter_hash_of session.now.hash
         (hashed_command (K.record_of keep.now) (whole_of sent.command.now)) }
+    requires found { IsFound (K.record_of keep.now) resolved.now }
     ensures { parts_of result ≡ use_of (K.record_of keep.now) (whole_of sent.entry.command.now)
-        (locality_number sent.entry.locality) number handle session.now }
+        (locality_number sent.entry.locality) number resolved.now.handle session.now }
 {
     let code = sent.command.code;
     let place = usize::from(number) - 1;
@@ -225,14 +125,14 @@ fn use_of<'a, K: Keep>(
         entry: number,
         kind: session.kind,
         hash: session.hash,
-        available: is_available(keep, handle, Means::Policy, code.nv_use_at(place)),
+        available: resolved.is_available(Means::Policy, code.nv_use_at(place)),
         update_count: keep.fixed().banks.update_count(),
         command: code.number(),
         role: code.role_at(place),
         cp_hash,
-        written: written_of(keep, handle),
+        written: resolved.written(),
         locality: sent.locality,
-        entity: policy_of(keep, handle),
+        entity: policy_of(resolved),
     }
 }
 
@@ -242,18 +142,19 @@ fn policy_demand<K: Keep>(
     sent: Sent,
     hashes: &mut ParameterHashes,
     number: u8,
-    handle: Handle,
+    resolved: &Resolved,
     session: &Session,
 ) -> Result<Demand, Refused>
     requires number { 1 ≤ number }
     requires hashed { hashes.old
         ≡ hashed_command (K.record_of keep.now) (whole_of sent.command.now) }
+    requires found { IsFound (K.record_of keep.now) resolved.now }
     ensures value { result ≡ by_policy (K.record_of keep.now) (whole_of sent.entry.command.now)
-        (locality_number sent.entry.locality) number handle session.now }
+        (locality_number sent.entry.locality) number resolved.now.handle session.now }
     ensures same { hashes.new ≡ hashes.old }
 {
     let cp_hash = hashes.by(session.hash);
-    let asked = use_of(keep, sent, cp_hash.as_slice(), number, handle, session);
+    let asked = use_of(keep, sent, cp_hash.as_slice(), number, resolved, session);
     match session.policy.check_use(&asked) {
         Ok(demand) => Ok(demand),
         Err(rc) => Err(Refused::by(Check::Authorization, rc)),
@@ -261,33 +162,32 @@ fn policy_demand<K: Keep>(
 }
 
 /// What a session demands for this handle beside its comparison, if it can authorize it.
-#[tactic(auto, unfolding(crate::specs::SessionGrant::demanded))]
+#[tactic(auto, unfolding(crate::specs::SessionGrant::demanded, tpm_record::specs::Entity::is_available))]
 fn demand_of<K: Keep>(
     keep: &K,
     sent: Sent,
     hashes: &mut ParameterHashes,
     number: u8,
-    handle: Handle,
+    resolved: &Resolved,
     session: &Session,
 ) -> Result<Demand, Refused>
     requires number { 1 ≤ number }
     requires hashed { hashes.old
         ≡ hashed_command (K.record_of keep.now) (whole_of sent.command.now) }
+    requires found { IsFound (K.record_of keep.now) resolved.now }
     ensures value { result ≡ demanded (K.record_of keep.now) (whole_of sent.entry.command.now)
-        (locality_number sent.entry.locality) number handle session.now }
+        (locality_number sent.entry.locality) number resolved.now.handle session.now }
     ensures same { hashes.new ≡ hashes.old }
 {
     let nv_use = sent.command.code.nv_use_at(usize::from(number) - 1);
     match session.kind {
-        SessionType::Hmac if is_available(keep, handle, Means::AuthValue, nv_use) => {
-            Ok(Demand::None)
-        }
+        SessionType::Hmac if resolved.is_available(Means::AuthValue, nv_use) => Ok(Demand::None),
         SessionType::Hmac => {
             let rc = ResponseCode::AuthUnavailable.anywhere();
             Err(Refused::by(Check::Authorization, rc))
         }
         SessionType::Policy | SessionType::Trial => {
-            policy_demand(keep, sent, hashes, number, handle, session)
+            policy_demand(keep, sent, hashes, number, resolved, session)
         }
     }
 }
@@ -305,27 +205,65 @@ pub fn granted_value<'a, K: Keep>(keep: &'a K, grant: Option<Grant>) -> &'a [u8]
 
 /// Whether the comparison of an entry holds: of a password, where its policy demands one, else of
 /// an HMAC.
-#[tactic(auto, unfolding(crate::specs::SessionGrant::comparison_holds))]
+#[tactic(auto, unfolding(crate::specs::SessionGrant::comparison_holds, tpm_record::specs::Entity::auth_value_of))]
 fn comparison_holds<K: Keep>(
     keep: &K,
     command: &Command,
     hashes: &mut ParameterHashes,
     number: u8,
-    grant: Option<Grant>,
+    granted: Option<Granted>,
     entry: &AuthEntry,
     session: &Session,
 ) -> bool
-    requires { hashes.old ≡ hashed_command (K.record_of keep.now) (whole_of command.now) }
+    requires hashed { hashes.old ≡ hashed_command (K.record_of keep.now) (whole_of command.now) }
+    requires used { ForSome granted (IsToGrant (K.record_of keep.now)) }
     ensures value { result ≡ comparison_holds (K.record_of keep.now) (whole_of command.now) number
-        grant (entry_of entry.now) session.now }
+        (option_map grant_by granted.entry) (entry_of entry.now) session.now }
     ensures same { hashes.new ≡ hashes.old }
 {
-    match grant {
-        Some(grant) if grant.demand == Demand::Password => {
-            is_password_of(auth_value_of(keep, grant.handle), entry.hmac)
+    match granted {
+        Some(granted) if granted.demand == Demand::Password => {
+            is_password_of(granted.used.resolved.auth_value(keep), entry.hmac)
         }
-        _ => is_authentic(keep, command, hashes, number, grant, entry, session),
+        _ => is_authentic(keep, command, hashes, number, granted, entry, session),
     }
+}
+
+/// What an entry authorizes, without what that names.
+fn grant_of(granted: Option<Granted>) -> Option<Grant>
+    ensures { result ≡ option_map grant_by granted.entry }
+{
+    match granted {
+        Some(granted) => Some(granted.grant()),
+        None => None,
+    }
+}
+
+/// What is accepted of a session that is about to authorize so, or nothing, if its comparison holds.
+fn compare<K: Keep>(
+    keep: &K,
+    command: &Command,
+    hashes: &mut ParameterHashes,
+    number: u8,
+    granted: Option<Granted>,
+    entry: &AuthEntry,
+    session: &Session,
+) -> Result<Option<Grant>, Refused>
+    requires hashed { hashes.old ≡ hashed_command (K.record_of keep.now) (whole_of command.now) }
+    requires used { ForSome granted (IsToGrant (K.record_of keep.now)) }
+    ensures value { result ≡ comparison (K.record_of keep.now) (whole_of command.now) number
+        (option_map grant_by granted.entry) (entry_of entry.now) session.now }
+    ensures same { hashes.new ≡ hashes.old }
+{
+    let grant = grant_of(granted);
+    if comes_up_against_lockout(keep, session, granted) {
+        return Err(lockout_refusal(grant));
+    }
+    if comparison_holds(keep, command, hashes, number, granted, entry, session) {
+        return Ok(grant);
+    }
+    let protection = entry_protection(keep, session, granted);
+    Err(failure(check_of(grant), number, protection))
 }
 
 /// What the entry of a session authorizes, this handle or nothing, if it can and its comparison
@@ -336,36 +274,25 @@ pub fn check_session<K: Keep>(
     sent: Sent,
     hashes: &mut ParameterHashes,
     number: u8,
-    used: Option<Handle>,
+    used: Option<Used>,
     entry: &AuthEntry,
     session: &Session,
 ) -> Result<Option<Grant>, Refused>
     requires number { 1 ≤ number }
     requires hashed { hashes.old
         ≡ hashed_command (K.record_of keep.now) (whole_of sent.command.now) }
+    requires used { ForSome used (IsUsed (K.record_of keep.now)) }
     ensures value { result ≡ session_grant (K.record_of keep.now) (whole_of sent.entry.command.now)
-        (locality_number sent.entry.locality) number used (entry_of entry.now) session.now }
+        (locality_number sent.entry.locality) number (option_map used_handle used.entry)
+        (entry_of entry.now) session.now }
     ensures same { hashes.new ≡ hashes.old }
 {
-    let grant = match used {
-        Some(handle) => {
-            let demand = demand_of(keep, sent, hashes, number, handle, session)?;
-            Some(Grant { handle, demand })
-        }
-        None => None,
+    let Some(used) = used else {
+        return compare(keep, sent.command, hashes, number, None, entry, session);
     };
-    if comes_up_against_lockout(keep, session, grant) {
-        return Err(lockout_refusal(grant));
-    }
-    if comparison_holds(keep, sent.command, hashes, number, grant, entry, session) {
-        Ok(grant)
-    } else {
-        Err(failure(
-            check_of(grant),
-            number,
-            entry_protection(keep, session, grant),
-        ))
-    }
+    let demand = demand_of(keep, sent, hashes, number, &used.resolved, session)?;
+    let granted = Some(Granted { used, demand });
+    compare(keep, sent.command, hashes, number, granted, entry, session)
 }
 
 /// What is accepted of a session with an empty HMAC had an empty key, or a policy demanded a

@@ -1,8 +1,16 @@
 //! Bytes copied into a buffer of fixed capacity.
 
-ghost use Rattle.std.specs.Prelude.{◌≡◌, ◌≤◌, length};
+ghost use Rattle.std.specs.Prelude.{◌≡◌, ◌+◌, ◌≤◌, ◌++◌, length};
 
 use arrayvec::ArrayVec;
+
+/// These bytes at the end of a buffer, which has room for them.
+pub fn append<const N: usize>(buffer: &mut ArrayVec<u8, N>, bytes: &[u8])
+    requires { length buffer.old.items + length bytes.now ≤ N }
+    ensures { buffer.new.items ≡ buffer.old.items ++ bytes.now }
+{
+    let _ = buffer.try_extend_from_slice(bytes);
+}
 
 /// The bytes, copied.
 pub fn copied<const N: usize>(bytes: &[u8]) -> ArrayVec<u8, N>
@@ -11,6 +19,6 @@ pub fn copied<const N: usize>(bytes: &[u8]) -> ArrayVec<u8, N>
     ensures size { length result.items ≡ length bytes.now }
 {
     let mut copy = ArrayVec::new();
-    let _ = copy.try_extend_from_slice(bytes);
+    append(&mut copy, bytes);
     copy
 }

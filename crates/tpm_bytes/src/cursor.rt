@@ -73,44 +73,28 @@ impl<'a> Cursor<'a> {
     pub fn u8(&mut self) -> Result<u8, Short>
         ensures { Reads (λ n. n) (number_at w8 self.old) self.old result self.new }
     {
-        if self.left.is_empty() {
-            return Err(Short);
-        }
-        let (front, back) = self.left.split_at(1);
-        self.left = back;
+        let front = self.take(1)?;
         Ok(u8::from_be_bytes([front[0]]))
     }
 
     pub fn u16(&mut self) -> Result<u16, Short>
         ensures { Reads (λ n. n) (number_at w16 self.old) self.old result self.new }
     {
-        if self.left.len() < 2 {
-            return Err(Short);
-        }
-        let (front, back) = self.left.split_at(2);
-        self.left = back;
+        let front = self.take(2)?;
         Ok(u16::from_be_bytes([front[0], front[1]]))
     }
 
     pub fn u32(&mut self) -> Result<u32, Short>
         ensures { Reads (λ n. n) (number_at w32 self.old) self.old result self.new }
     {
-        if self.left.len() < 4 {
-            return Err(Short);
-        }
-        let (front, back) = self.left.split_at(4);
-        self.left = back;
+        let front = self.take(4)?;
         Ok(u32::from_be_bytes([front[0], front[1], front[2], front[3]]))
     }
 
     pub fn u64(&mut self) -> Result<u64, Short>
         ensures { Reads (λ n. n) (number_at w64 self.old) self.old result self.new }
     {
-        if self.left.len() < 8 {
-            return Err(Short);
-        }
-        let (front, back) = self.left.split_at(8);
-        self.left = back;
+        let front = self.take(8)?;
         Ok(u64::from_be_bytes([
             front[0], front[1], front[2], front[3], front[4], front[5], front[6], front[7],
         ]))

@@ -17,7 +17,7 @@ pub mod memory;
 pub mod sink;
 pub mod tap;
 
-pub use copy::copied;
+pub use copy::{append, copied};
 pub use cursor::{Cursor, Short, SizedFault};
 pub use equality::is_equal;
 pub use many::{Readable, ReadableBy, read_each, read_many};

@@ -1,11 +1,13 @@
 //! Writing of bytes to a text of fixed capacity: big-endian numbers, and sized buffers (TPM2B).
-//! What does not fit is refused, and nothing is written.
+//! What does not fit is refused by `put` and its like, and nothing is written; `append` and its
+//! like are for a caller who knows that there is room.
 
-ghost use Rattle.std.specs.Prelude.{◌≡◌, ℕ, ◌≤◌, List, [], length};
+ghost use Rattle.std.specs.Prelude.{◌≡◌, ℕ, ◌+◌, ◌≤◌, ◌<◌, ◌^◌, List, [], ◌++◌, length};
 ghost use Rattle.std.specs.Borrow.{sem};
 ghost use Rattle.std.specs.Int.{w8, w16, w32, w64, to_be_bytes};
-ghost use Rattle.tpm_bytes.specs.Writing.{Puts, PutsSized};
+ghost use Rattle.tpm_bytes.specs.Writing.{Puts, PutsSized, sized_text};
 
+use crate::copy::append;
 use arrayvec::ArrayVec;
 use std::marker::Model;
 
@@ -114,5 +116,51 @@ impl<const N: usize> Sink<N> {
         }
         self.put_u16(bytes.len() as u16)?;
         self.put(bytes)
+    }
+    /// These bytes at the end, where there is room for them.
+    pub fn append(&mut self, bytes: &[u8])
+        requires { length self.old + length bytes.now ≤ N }
+        ensures { self.new ≡ self.old ++ bytes.now }
+    {
+        append(&mut self.bytes, bytes);
+    }
+
+    pub fn append_u8(&mut self, number: u8)
+        requires { length self.old + 1 ≤ N }
+        ensures { self.new ≡ self.old ++ to_be_bytes w8 number }
+    {
+        self.append(&number.to_be_bytes());
+    }
+
+    pub fn append_u16(&mut self, number: u16)
+        requires { length self.old + 2 ≤ N }
+        ensures { self.new ≡ self.old ++ to_be_bytes w16 number }
+    {
+        self.append(&number.to_be_bytes());
+    }
+
+    pub fn append_u32(&mut self, number: u32)
+        requires { length self.old + 4 ≤ N }
+        ensures { self.new ≡ self.old ++ to_be_bytes w32 number }
+    {
+        self.append(&number.to_be_bytes());
+    }
+
+    pub fn append_u64(&mut self, number: u64)
+        requires { length self.old + 8 ≤ N }
+        ensures { self.new ≡ self.old ++ to_be_bytes w64 number }
+    {
+        self.append(&number.to_be_bytes());
+    }
+
+    /// A sized buffer of these bytes, where there is room for it: their size in two bytes, then the
+    /// bytes.
+    pub fn append_sized(&mut self, bytes: &[u8])
+        requires short { length bytes.now < 2 ^ 16 }
+        requires room { length self.old + (2 + length bytes.now) ≤ N }
+        ensures { self.new ≡ self.old ++ sized_text bytes.now }
+    {
+        self.append_u16(bytes.len() as u16);
+        self.append(bytes);
     }
 }

@@ -1,7 +1,7 @@
 -- An entry after entries whose keys are below its own.
 use Rattle.std.proofs.Common.{arith, ◌≡◌, ℕ, ◌+◌, ◌≤◌, [], ◌∷◌, ◌++◌, None, refl, ap}
 use Rattle.std.proofs.lemmas.Bool.{lt-leb, ne_eqb}
-use Rattle.tpm_sorted_map.specs.SortedMap.{Entries, at_key, with_key}
+use Rattle.tpm_containers.specs.SortedMap.{Entries, at_key, with_key}
 use Rattle.tpm_image.specs.Filling.{AllBelow}
 
 module _ {X : Type 0} where

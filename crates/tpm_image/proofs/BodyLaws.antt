@@ -4,7 +4,7 @@ use Rattle.tpm_image.specs.Sizes.{body_size}
 use Rattle.std.proofs.Common.{◌≡◌, ℕ, ◌≤◌, true, List, [], ◌∷◌, ◌++◌, length, Result, Ok, refl, ap, subst, ◌∙◌, append-nil, arith, length-append}
 use Rattle.std.specs.Prelude.{◌==◌, ◌↔◌, not}
 use Rattle.std.proofs.lemmas.Bool.{eqb-true}
-use Rattle.tpm_sorted_map.specs.SortedMap.{Entries}
+use Rattle.tpm_containers.specs.SortedMap.{Entries}
 use Rattle.tpm_bytes.specs.Reading.{◌>>=◌, refused_if}
 use Rattle.tpm_bytes.proofs.Fields.{AreBytes, Takes-then, bind_ok, ok_is, passed}
 use Rattle.tpm_nv.specs.Index.{NvIndex}

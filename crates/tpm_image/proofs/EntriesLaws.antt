@@ -2,7 +2,7 @@
 use Rattle.std.proofs.Common.{arith, ◌≡◌, ℕ, zero, suc, ◌+◌, ◌-◌, ◌<◌, ◌≤◌, Bool, true, false, List, [], ◌∷◌, ◌++◌, Result, Ok, Err, IfOk, refl, sym, ap, ◌∙◌, append-nil}
 use Rattle.std.specs.Prelude.{nat_le, not}
 use Rattle.std.proofs.lemmas.Bool.{le-leb, lt-leb}
-use Rattle.tpm_sorted_map.specs.SortedMap.{Entries}
+use Rattle.tpm_containers.specs.SortedMap.{Entries}
 use Rattle.tpm_bytes.specs.Many.{many_at}
 use Rattle.tpm_bytes.specs.Reading.{◌>>=◌, refused_if}
 use Rattle.tpm_bytes.proofs.Joining.{behind, moved}

@@ -2,9 +2,9 @@
 use Rattle.std.proofs.Common.{◌≡◌, Bool, ◌∷◌, Result, Ok, Err, IfOk, sym, subst}
 use Rattle.tpm_record.specs.Cycle.{cycled}
 use Rattle.tpm_record.specs.Record.{Record}
-use Rattle.tpm_machine_history.specs.Follows.{Follows}
-use Rattle.tpm_machine_history.specs.History.{History, PowerCycled}
-use Rattle.tpm_machine_history.proofs.Following.{cycled_follows}
+use Rattle.tpm_history.specs.Follows.{Follows}
+use Rattle.tpm_history.specs.History.{History, PowerCycled}
+use Rattle.tpm_history.proofs.Following.{cycled_follows}
 use Rattle.tpm_image.specs.Opening.{OpensAgain}
 use Rattle.tpm_image.specs.declared.fault.ImageFault.{ImageFault}
 

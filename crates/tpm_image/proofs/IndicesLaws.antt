@@ -4,7 +4,7 @@ use Rattle.std.proofs.Common.{arith, ◌≡◌, ℕ, suc, ◌+◌, ◌-◌, ◌<
 use Rattle.std.specs.Prelude.{◌⊎◌, ◌&&◌, map, nat_le, not}
 use Rattle.std.proofs.lemmas.List.Sums.{sum_by-append, sum_by-cons}
 use Rattle.std.proofs.lemmas.Bool.{le-leb, leb-false, lt-leb, lt-ltb}
-use Rattle.tpm_sorted_map.specs.SortedMap.{Entries}
+use Rattle.tpm_containers.specs.SortedMap.{Entries}
 use Rattle.tpm_bytes.specs.Reading.{◌>>=◌, refused_if}
 use Rattle.tpm_nv.specs.Head.{head_of, heads_of, total}
 use Rattle.tpm_nv.specs.declared.head.Head.{Head}

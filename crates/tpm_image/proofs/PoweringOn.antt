@@ -1,7 +1,7 @@
 -- The record that a body spells, from the keep that was just made.
 use Rattle.std.proofs.Common.{◌≡◌, ℕ, true, List, length, Ok, refl}
 use Rattle.std.specs.Prelude.{◌==◌, replicate}
-use Rattle.tpm_sorted_map.specs.SortedMap.{Entries}
+use Rattle.tpm_containers.specs.SortedMap.{Entries}
 use Rattle.tpm_nv.specs.Index.{NvContents, NvIndex}
 use Rattle.tpm_object.specs.declared.object.Object.{Object}
 use Rattle.tpm_record.specs.Record.{Record, manufactured}

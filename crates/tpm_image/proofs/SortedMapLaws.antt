@@ -3,7 +3,7 @@ use Rattle.std.proofs.Common.{◌≡◌, ℕ, ◌+◌, ◌<◌, Bool, true, fals
 use Rattle.std.specs.Prelude.{◌&&◌, nat_le}
 use Rattle.std.specs.List.{AllByRecursion}
 use Rattle.std.proofs.lemmas.Bool.{le-leb, leb-true}
-use Rattle.tpm_sorted_map.specs.SortedMap.{AllAbove, AreEach, Ascends, Entries}
+use Rattle.tpm_containers.specs.SortedMap.{AllAbove, AreEach, Ascends, Entries}
 use Rattle.tpm_image.specs.Body.{ascend_from}
 
 pub are_both : (a b : Bool) → (a && b) ≡ true → (a ≡ true) × (b ≡ true)

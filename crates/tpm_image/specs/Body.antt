@@ -6,7 +6,7 @@ use Rattle.std.specs.Prelude.{ℕ, ◌+◌, ◌==◌, ◌&&◌, nat_le, not, Boo
 use Rattle.std.specs.Prelude.{List, [], ◌∷◌, ◌++◌, length, ok_or, Result, Ok, Err}
 use Rattle.std.specs.Int.{w8, w16, w32, w64, to_be_bytes}
 use Rattle.std.specs.List.{flat_map, sum_by}
-use Rattle.tpm_sorted_map.specs.SortedMap.{Entries}
+use Rattle.tpm_containers.specs.SortedMap.{Entries}
 use Rattle.tpm_bytes.specs.Many.{many_at}
 use Rattle.tpm_bytes.specs.Reading.{◌>>=◌, refused_if}
 use Rattle.tpm_bytes.specs.Writing.{sized_text}
@@ -27,7 +27,7 @@ use Rattle.tpm_types_nv.specs.NvAttributes.{has}
 use Rattle.tpm_types_nv.specs.NvPublic.{nv_public_at, nv_public_text}
 use Rattle.tpm_types_nv.specs.declared.nv_attributes.NvAttribute.TheVariants as attribute
 use Rattle.tpm_types_nv.specs.declared.nv_public.NvPublic.{NvPublic}
-use Rattle.tpm_types_object.specs.Filled.{filled_by}
+use Rattle.tpm_types.specs.Filled.{filled_by}
 use Rattle.tpm_types_object.specs.Public.{object_type, object_type_number, public_at, public_text}
 use Rattle.tpm_types_object.specs.Sensitive.{sensitive_at, sensitive_text}
 use Rattle.tpm_types_object.specs.declared.public.Public.{Public}

@@ -1,6 +1,6 @@
 -- What filling the state of a device with what a text spells answers and leaves.
 use Rattle.std.specs.Prelude.{◌≡◌, ℕ, ◌+◌, ◌<◌, ◌≤◌, Bool, true, List, [], ◌∷◌, ◌++◌, Result, Ok, Err, IfOk}
-use Rattle.tpm_sorted_map.specs.SortedMap.{Entries}
+use Rattle.tpm_containers.specs.SortedMap.{Entries}
 use Rattle.tpm_lockout.specs.Lockout.{restored}
 use Rattle.tpm_record.specs.Record.{Record}
 use Rattle.tpm_record.specs.declared.fixed.Fixed.{Fixed}

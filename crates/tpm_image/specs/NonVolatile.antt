@@ -1,7 +1,7 @@
 -- What a device keeps without power. TPM 2.0 Library, Part 1, sections 12.2.2 (_TPM_Init) and 37
 -- (NV memory).
 use Rattle.std.specs.Prelude.{ℕ, ◌<◌, ◌^◌, Bool, false}
-use Rattle.tpm_sorted_map.specs.SortedMap.{Entries}
+use Rattle.tpm_containers.specs.SortedMap.{Entries}
 use Rattle.tpm_lockout.specs.Lockout.{IsLockout, restored}
 use Rattle.tpm_lockout.specs.declared.fields.LockoutFields.{LockoutFields}
 use Rattle.tpm_nv.specs.Index.{NvContents, NvIndex}

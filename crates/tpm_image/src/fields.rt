@@ -7,16 +7,15 @@ ghost use Rattle.tpm_types.specs.AuthValue.{trimmed};
 ghost use Rattle.std.specs.Int.{w8, w16, w32, w64, to_be_bytes};
 ghost use Rattle.tpm_bytes.specs.Reading.{Reads};
 ghost use Rattle.tpm_bytes.specs.Writing.{sized_text};
-ghost use Rattle.tpm_types_object.specs.Filled.{filled_by};
+ghost use Rattle.tpm_types.specs.Filled.{filled_by};
 ghost use Rattle.tpm_image.specs.Fields.{auth_value_in, buffer_in, bytes_in, in_body, is_trimmed, number_in, yes_no_in, yes_no_text};
 
 use crate::fault::Malformed;
 use tpm_bytes::{Cursor, Readable, Sink};
 use tpm_types::{
-    AuthValue, NV_INDEX_LIMIT, NV_SPACE_LIMIT, PERSISTENT_LIMIT, Rc, read_buffer, read_yes_no,
-    trimmed,
+    AuthValue, NV_INDEX_LIMIT, NV_SPACE_LIMIT, PERSISTENT_LIMIT, Rc, read_buffer, read_filled,
+    read_yes_no, trimmed,
 };
-use tpm_types_object::read_filled;
 
 /// How many bytes the limits have; and the most bytes of what does not grow, of the persistent
 /// objects, and of the NV indices.
@@ -148,7 +147,7 @@ pub(crate) fn write_array<const N: usize>(bytes: &[u8; N], text: &mut Text)
     ensures written { text.new ≡ text.old ++ bytes.now }
     ensures small { length text.new ≡ length text.old + N }
 {
-    let _ = text.put(bytes);
+    text.append(bytes);
 }
 
 pub(crate) fn write_u16(number: u16, text: &mut Text)
@@ -156,7 +155,7 @@ pub(crate) fn write_u16(number: u16, text: &mut Text)
     ensures written { text.new ≡ text.old ++ to_be_bytes w16 number }
     ensures small { length text.new ≡ length text.old + 2 }
 {
-    let _ = text.put_u16(number);
+    text.append_u16(number);
 }
 
 pub(crate) fn write_u32(number: u32, text: &mut Text)
@@ -164,7 +163,7 @@ pub(crate) fn write_u32(number: u32, text: &mut Text)
     ensures written { text.new ≡ text.old ++ to_be_bytes w32 number }
     ensures small { length text.new ≡ length text.old + 4 }
 {
-    let _ = text.put_u32(number);
+    text.append_u32(number);
 }
 
 pub(crate) fn write_u64(number: u64, text: &mut Text)
@@ -172,7 +171,7 @@ pub(crate) fn write_u64(number: u64, text: &mut Text)
     ensures written { text.new ≡ text.old ++ to_be_bytes w64 number }
     ensures small { length text.new ≡ length text.old + 8 }
 {
-    let _ = text.put_u64(number);
+    text.append_u64(number);
 }
 
 pub(crate) fn write_bool(is_yes: bool, text: &mut Text)
@@ -180,7 +179,7 @@ pub(crate) fn write_bool(is_yes: bool, text: &mut Text)
     ensures written { text.new ≡ text.old ++ yes_no_text is_yes }
     ensures small { length text.new ≡ length text.old + 1 }
 {
-    let _ = text.put_u8(u8::from(is_yes));
+    text.append_u8(u8::from(is_yes));
 }
 
 /// Writes a sized buffer of at most this many bytes.
@@ -191,5 +190,5 @@ pub(crate) fn write_sized(bytes: &[u8], most: usize, text: &mut Text)
     ensures written { text.new ≡ text.old ++ sized_text bytes.now }
     ensures small { length text.new ≤ length text.old + (2 + most) }
 {
-    let _ = text.put_sized(bytes);
+    text.append_sized(bytes);
 }

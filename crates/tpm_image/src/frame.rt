@@ -25,9 +25,9 @@ pub(crate) fn head(body_bytes: usize) -> Sink<10>
     ensures { result ≡ head_text Two (10 + body_bytes + 32) }
 {
     let mut head = Sink::new();
-    let _ = head.put(&MAGIC);
-    let _ = head.put_u16(Version::Two.number());
-    let _ = head.put_u32((HEAD_BYTES + body_bytes + DIGEST_BYTES) as u32);
+    head.append(&MAGIC);
+    head.append_u16(Version::Two.number());
+    head.append_u32((HEAD_BYTES + body_bytes + DIGEST_BYTES) as u32);
     head
 }
 

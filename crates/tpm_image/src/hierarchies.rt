@@ -64,8 +64,8 @@ fn write_secrets(secrets: &Secrets, text: &mut Text)
     ensures written { text.new ≡ text.old ++ secrets_text secrets.now }
     ensures small { length text.new ≤ length text.old + 64 }
 {
-    let _ = text.put(&secrets.seed);
-    let _ = text.put(&secrets.proof);
+    text.append(&secrets.seed);
+    text.append(&secrets.proof);
 }
 
 fn write_hierarchy(hierarchy: &Hierarchy, text: &mut Text)

@@ -11,8 +11,8 @@ ghost use Rattle.tpm_image.specs.Opening.{Opens, OpensAgain};
 ghost use Rattle.tpm_image.specs.declared.version.Version.{Version};
 ghost use Rattle.tpm_image.specs.declared.version.Version.TheVariants.{Two};
 ghost use Rattle.tpm_machine.specs.State.{state_of};
-ghost use Rattle.tpm_machine_history.specs.Follows.{Follows};
-ghost use Rattle.tpm_machine_history.specs.History.{History, PowerCycled};
+ghost use Rattle.tpm_history.specs.Follows.{Follows};
+ghost use Rattle.tpm_history.specs.History.{History, PowerCycled};
 ghost use Rattle.tpm_record.specs.IsRecord.{IsRecord};
 ghost use Rattle.tpm_record.specs.Record.{Record};
 

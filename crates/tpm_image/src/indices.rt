@@ -14,7 +14,7 @@ ghost use Rattle.tpm_nv.specs.Definition.{has_type_size};
 ghost use Rattle.tpm_nv.specs.Head.{index_with, indices_of, total};
 ghost use Rattle.tpm_nv.specs.Index.{data_bytes};
 ghost use Rattle.tpm_types_nv.specs.NvPublic.{IsNvPublic, nv_public_at};
-ghost use Rattle.tpm_types_object.specs.Filled.{filled_by};
+ghost use Rattle.tpm_types.specs.Filled.{filled_by};
 
 use crate::fault::{FillFault, Malformed};
 use crate::fields::{Text, read_auth_value, read_sized, read_u16, write_sized, write_u16};

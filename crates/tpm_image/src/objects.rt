@@ -19,9 +19,9 @@ use crate::fields::{
     write_u32,
 };
 use tpm_bytes::Cursor;
+use tpm_containers::KeyFault;
 use tpm_object::Object;
 use tpm_record::PersistentObjects;
-use tpm_sorted_map::KeyFault;
 use tpm_types::{AuthValue, Handle, HierarchyHandle, Octets, PERSISTENT_LIMIT};
 use tpm_types_name::Name;
 use tpm_types_object::{Public, Sensitive};

@@ -99,7 +99,7 @@ pub(crate) fn write_saved(saved: &Saved, text: &mut Text)
     ensures written { text.new ≡ text.old ++ saved_text saved.now }
     ensures small { length text.new ≤ length text.old + 833 }
 {
-    let _ = text.put_u8(match saved.kind() {
+    text.append_u8(match saved.kind() {
         SavedKind::Nothing => 0,
         SavedKind::Clear => 1,
         SavedKind::State => 2,

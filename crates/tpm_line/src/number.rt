@@ -14,12 +14,11 @@ pub enum Form {
 }
 
 impl Form {
-    /// That of the number at this place among a command's parameters.
+    /// That of the number at this place among a command's parameters, where it has not eight bytes.
     pub fn of(code: CommandCode, place: usize) -> Form {
         match code {
             CommandCode::FlushContext | CommandCode::EvictControl => Form::Handle,
-            CommandCode::PolicyCommandCode | CommandCode::PolicyLocality | CommandCode::NvSetBits =>
-                Form::Hexadecimal,
+            CommandCode::PolicyCommandCode | CommandCode::PolicyLocality => Form::Hexadecimal,
             CommandCode::GetCapability if place < 2 => Form::Hexadecimal,
             _ => Form::Decimal,
         }

@@ -21,7 +21,7 @@ pub fn put_parameters(
     Ok(())
 }
 
-/// Adds a parameter of a kind, in this form where it is a number.
+/// Adds a parameter of a kind, in this form where it is a number of four bytes or fewer.
 fn put_parameter(
     kind: ParameterKind,
     form: Form,
@@ -38,7 +38,8 @@ fn put_parameter(
         ParameterKind::U32 | ParameterKind::PersistentHandle => {
             put_number(u64::from(fields.u32()?), form, line)?;
         }
-        ParameterKind::U64 => put_number(fields.u64()?, form, line)?,
+        // Eight bytes are a set of bits.
+        ParameterKind::U64 => put_number(fields.u64()?, Form::Hexadecimal, line)?,
         ParameterKind::Hash | ParameterKind::HashOrNull => put_hash(fields, line)?,
         ParameterKind::Symmetric => put_symmetric(fields, line)?,
         ParameterKind::Selection => put_list(Element::Bank, fields, line)?,

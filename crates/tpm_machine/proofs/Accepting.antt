@@ -13,12 +13,12 @@ use Rattle.tpm_types.specs.declared.refused.Refused.{Refused}
 use Rattle.tpm_actions_base.specs.Request.{Request}
 use Rattle.tpm_actions_base.specs.Rows.{ActsIfRoom, Success}
 use Rattle.tpm_actions_base.specs.declared.answer.Answer.{Answer}
-use Rattle.tpm_machine_step.specs.Entries.{DrawsFew}
-use Rattle.tpm_machine_step.specs.Answer.{Written, answer_to, text_of, written_of}
-use Rattle.tpm_machine_step.specs.General.{general, in_command}
-use Rattle.tpm_machine_step.specs.Safe.{IsModest}
-use Rattle.tpm_machine_step.specs.Step.{Accepted, Accepts, Answers, RefusesOrWantsMemory, Stepped, Succeeds, acceptance, accepted, refusal_step, request_in, settled}
-use Rattle.tpm_machine_step.specs.Table.{row_of}
+use Rattle.tpm_step.specs.Entries.{DrawsFew}
+use Rattle.tpm_step.specs.Answer.{Written, answer_to, text_of, written_of}
+use Rattle.tpm_step.specs.General.{general, in_command}
+use Rattle.tpm_step.specs.Safe.{IsModest}
+use Rattle.tpm_step.specs.Step.{Accepted, Accepts, Answers, RefusesOrWantsMemory, Stepped, Succeeds, acceptance, accepted, refusal_step, request_in, settled}
+use Rattle.tpm_step.specs.Table.{row_of}
 use Rattle.tpm_machine.proofs.Refusals.{answers_exactly, refused_answers}
 
 first_of_both : (a b : Bool) → (a && b) ≡ true → a ≡ true

@@ -8,16 +8,16 @@ use Rattle.std.specs.List.{find, list_any, zip}
 use Rattle.tpm_bytes.proofs.Fields.{AreBytes}
 use Rattle.tpm_types_command.proofs.CommandLaws.{command_size-is, command_takes, length-body}
 use Rattle.tpm_auth.specs.Entries.{decrypts}
-use Rattle.tpm_machine_step.specs.Parameters.{plain_parameters}
+use Rattle.tpm_step.specs.Parameters.{plain_parameters}
 use Rattle.tpm_types_command.specs.AuthEntry.{Entry}
 use Rattle.tpm_types_command.specs.declared.command.Command.{Command}
 use Rattle.tpm_types_command.specs.Command.{Whole, command_body_text, command_at, command_size, sessions_text, whole_of}
 use Rattle.tpm_record.specs.Record.{Record}
 use Rattle.tpm_auth.specs.declared.session_grant.Grant.{Grant}
-use Rattle.tpm_machine_step.specs.General.{general}
-use Rattle.tpm_machine_step.specs.declared.refused_command.RefusedCommand.{RefusedCommand}
-use Rattle.tpm_machine_laws.proofs.Binding.{ok_at}
-use Rattle.tpm_machine_laws.proofs.Decoding.{general_reads}
+use Rattle.tpm_step.specs.General.{general}
+use Rattle.tpm_step.specs.declared.refused_command.RefusedCommand.{RefusedCommand}
+use Rattle.tpm_laws.proofs.Binding.{ok_at}
+use Rattle.tpm_laws.proofs.Decoding.{general_reads}
 
 -- the command that they let through is the one that is read, and nothing is left after it
 spells : (r : Record) (buffer : List ℕ) (c : Whole) → general r buffer ≡ Ok c → command_at buffer ≡ Ok (c, [])

@@ -2,20 +2,20 @@
 use Rattle.std.proofs.Common.{◌≡◌, Bool, List, [], Bor, ℕ, subst, sym}
 use Rattle.std.specs.Fn.{Mut}
 use Rattle.tpm_record.specs.Record.{Record, manufactured}
-use Rattle.tpm_machine_step.specs.Events.{PlainEvent}
-use Rattle.tpm_machine_step.specs.Execution.{Executes}
-use Rattle.tpm_machine_step.specs.Run.{Runs}
-use Rattle.tpm_machine_step.specs.Step.{Stepped}
-use Rattle.tpm_machine_step.specs.declared.event.Outcome.{Outcome}
-use Rattle.tpm_machine_history.specs.DeviceAuthValues.{HasAuthValues}
-use Rattle.tpm_machine_history.specs.DeviceCounters.{HasCounters}
-use Rattle.tpm_machine_history.specs.DevicePcrs.{HasPcrs}
-use Rattle.tpm_machine_history.specs.DeviceSessions.{HasSessions}
-use Rattle.tpm_machine_history.specs.Follows.{After, Follows, RunFollows}
-use Rattle.tpm_machine_history.specs.Grounds.{AllHaveGrounds}
-use Rattle.tpm_machine_history.specs.History.{History}
-use Rattle.tpm_machine_history.specs.Replays.{ReplaysRepeat}
-use Rattle.tpm_machine_history.proofs.Following.{execution_follows, manufactured_follows, run_follows}
+use Rattle.tpm_step.specs.Events.{PlainEvent}
+use Rattle.tpm_step.specs.Execution.{Executes}
+use Rattle.tpm_step.specs.Run.{Runs}
+use Rattle.tpm_step.specs.Step.{Stepped}
+use Rattle.tpm_step.specs.declared.event.Outcome.{Outcome}
+use Rattle.tpm_history.specs.DeviceAuthValues.{HasAuthValues}
+use Rattle.tpm_history.specs.DeviceCounters.{HasCounters}
+use Rattle.tpm_history.specs.DevicePcrs.{HasPcrs}
+use Rattle.tpm_history.specs.DeviceSessions.{HasSessions}
+use Rattle.tpm_history.specs.Follows.{After, Follows, RunFollows}
+use Rattle.tpm_history.specs.Grounds.{AllHaveGrounds}
+use Rattle.tpm_history.specs.History.{History}
+use Rattle.tpm_history.specs.Replays.{ReplaysRepeat}
+use Rattle.tpm_history.proofs.Following.{execution_follows, manufactured_follows, run_follows}
 
 pub new_follows : (r : Record) (random : List ℕ) → r ≡ manufactured random → Follows r []
 new_follows r random is = subst (λ (x : Record). Follows x []) (sym is) (manufactured_follows random)

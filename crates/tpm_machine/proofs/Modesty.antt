@@ -5,10 +5,10 @@ use Rattle.tpm_record.specs.Tick.{ticked}
 use Rattle.tpm_types.specs.Check.{check_number}
 use Rattle.tpm_types.specs.declared.check.Check.{Check}
 use Rattle.tpm_types.specs.declared.check.Check.TheVariants as check
-use Rattle.tpm_machine_step.specs.Events.{PlainEvent, Given, Cycled}
-use Rattle.tpm_machine_step.specs.Safe.{AcceptsModestly, IsModest, IsModestIfAccepted}
-use Rattle.tpm_machine_step.specs.Step.{Accepted, Stepped, Steps, accepted, answer_where}
-use Rattle.tpm_machine_step.specs.declared.refused_command.RefusedCommand.{RefusedCommand}
+use Rattle.tpm_step.specs.Events.{PlainEvent, Given, Cycled}
+use Rattle.tpm_step.specs.Safe.{AcceptsModestly, IsModest, IsModestIfAccepted}
+use Rattle.tpm_step.specs.Step.{Accepted, Stepped, Steps, accepted, answer_where}
+use Rattle.tpm_step.specs.declared.refused_command.RefusedCommand.{RefusedCommand}
 
 check_some : (c : Check) → check_number c ≡ 0 → ⊥
 check_some check.Length zero = absurd cc

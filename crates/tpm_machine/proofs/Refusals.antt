@@ -8,12 +8,12 @@ use Rattle.tpm_record.specs.Tick.{ticked}
 use Rattle.tpm_types.specs.declared.refused.Refused.{Refused}
 use Rattle.tpm_types.specs.Check.{check_number}
 use Rattle.tpm_actions_base.specs.Refusals.{memory_refusal}
-use Rattle.tpm_machine_step.specs.Answer.{refusal_text}
-use Rattle.tpm_machine_step.specs.Events.{PlainEvent, Given, Cycled}
-use Rattle.tpm_machine_step.specs.General.{in_command}
-use Rattle.tpm_machine_step.specs.Safe.{IsHarmless}
-use Rattle.tpm_machine_step.specs.Step.{Accepted, Answers, RefusesOrWantsMemory, Stepped, Steps, refusal_step, accepted, stepped_of, counted_in, refusal_without_memory, answer_without_memory, step, step_where, success_step}
-use Rattle.tpm_machine_step.specs.declared.refused_command.RefusedCommand.{RefusedCommand}
+use Rattle.tpm_step.specs.Answer.{refusal_text}
+use Rattle.tpm_step.specs.Events.{PlainEvent, Given, Cycled}
+use Rattle.tpm_step.specs.General.{in_command}
+use Rattle.tpm_step.specs.Safe.{IsHarmless}
+use Rattle.tpm_step.specs.Step.{Accepted, Answers, RefusesOrWantsMemory, Stepped, Steps, refusal_step, accepted, stepped_of, counted_in, refusal_without_memory, answer_without_memory, step, step_where, success_step}
+use Rattle.tpm_step.specs.declared.refused_command.RefusedCommand.{RefusedCommand}
 
 -- the same of a record whose time has passed
 abbrev LeavesRecord : Record → Stepped → Type 0

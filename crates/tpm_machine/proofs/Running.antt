@@ -4,12 +4,12 @@ use Rattle.std.proofs.lemmas.Bool.{false≢true}
 use Rattle.std.proofs.lemmas.List.{drop_more}
 use Rattle.std.specs.Fn.{Mut, CalledAt}
 use Rattle.tpm_record.specs.Record.{Record}
-use Rattle.tpm_machine_step.specs.Events.{PlainEvent, plain_event}
-use Rattle.tpm_machine_step.specs.Execution.{Executes}
-use Rattle.tpm_machine_step.specs.Run.{Runs, after_all}
-use Rattle.tpm_machine_step.specs.Step.{Stepped, Steps, outcome_step, step}
-use Rattle.tpm_machine_step.specs.declared.event.Event.{Event}
-use Rattle.tpm_machine_step.specs.declared.event.Outcome.{Outcome}
+use Rattle.tpm_step.specs.Events.{PlainEvent, plain_event}
+use Rattle.tpm_step.specs.Execution.{Executes}
+use Rattle.tpm_step.specs.Run.{Runs, after_all}
+use Rattle.tpm_step.specs.Step.{Stepped, Steps, outcome_step, step}
+use Rattle.tpm_step.specs.declared.event.Event.{Event}
+use Rattle.tpm_step.specs.declared.event.Outcome.{Outcome}
 
 -- a run of what is left after the event at i is a run from that event on
 pub run_more : {F : Type 0} {g : Mut F (Bor Outcome × Unit {0}) (Unit {0})} (can : Bool) (old mid new : Record) {p next : F} (q : F) (events : List Event) (i : ℕ) (event : Event) (outcome : Outcome) → i < length events → event ≡ get_or events i event → Executes can old (plain_event event) (outcome_step mid outcome) → CalledAt g p outcome tt next → Runs g can mid next (map plain_event (drop (i + 1) events)) new q → Runs g can old p (map plain_event (drop i events)) new q

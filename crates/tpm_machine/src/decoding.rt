@@ -7,12 +7,12 @@ ghost use Rattle.std.specs.Prelude.{◌≡◌, ◌≤◌, [], Ok, IfOk, length};
 ghost use Rattle.tpm_bytes.specs.Reading.{Reads};
 ghost use Rattle.tpm_types_command.specs.CommandCode.{code_number, handle_count};
 ghost use Rattle.tpm_types_command.specs.Command.{command_at, whole_of};
-ghost use Rattle.tpm_machine_step.specs.General.{body_of, general, header_check, header_refusal, present_handle_at, present_handles_at, sessions_pass};
+ghost use Rattle.tpm_step.specs.General.{body_of, general, header_check, header_refusal, present_handle_at, present_handles_at, sessions_pass};
 
 use arrayvec::ArrayVec;
 use tpm_bytes::{Cursor, ReadableBy};
-use tpm_machine_step::RefusedCommand;
 use tpm_record::{Keep, absence_rc, is_present};
+use tpm_step::RefusedCommand;
 use tpm_types::{Check, Handle, Rc, Refused, ResponseCode, bytes_fit};
 use tpm_types_command::{
     Command, CommandCode, HandleRule, Header, HeaderFault, Tag, read_sessions,
@@ -39,7 +39,7 @@ fn header_refusal(fault: HeaderFault) -> RefusedCommand
 }
 
 /// Refuses sessions where the command may have none, and none where it must have some.
-#[tactic(auto, unfolding(tpm_machine_step::specs::General::sessions_pass))]
+#[tactic(auto, unfolding(tpm_step::specs::General::sessions_pass))]
 fn check_tag(code: CommandCode, tag: Tag) -> Result<(), Refused>
     ensures { result ≡ sessions_pass code tag }
 {
@@ -56,7 +56,7 @@ fn check_tag(code: CommandCode, tag: Tag) -> Result<(), Refused>
 }
 
 /// Reads the handle of this number as its rule wants it, if there is what it names.
-#[tactic(auto, unfolding(tpm_machine_step::specs::General::present_handle_at))]
+#[tactic(auto, unfolding(tpm_step::specs::General::present_handle_at))]
 fn read_handle<K: Keep>(
     keep: &K,
     number: u8,
@@ -98,7 +98,7 @@ fn read_handles<K: Keep>(
 }
 
 /// Reads what stands after a command's header, or gives the first check that refuses it.
-#[tactic(auto, unfolding(tpm_machine_step::specs::General::body_of))]
+#[tactic(auto, unfolding(tpm_step::specs::General::body_of))]
 fn decode_body<'a, K: Keep>(
     keep: &K,
     header: Header,
@@ -130,7 +130,7 @@ fn decode_body<'a, K: Keep>(
 }
 
 #[inline(always)]
-#[tactic(auto, unfolding(tpm_machine_step::specs::General::general))]
+#[tactic(auto, unfolding(tpm_step::specs::General::general))]
 fn decode_whole<'a, K: Keep>(keep: &K, buffer: &'a [u8]) -> Result<Command<'a>, RefusedCommand>
     ensures { Gives whole_of (general (K.record_of keep.now) buffer.now) result }
 {

@@ -5,7 +5,7 @@ ghost use Rattle.std.specs.Prelude.{◌≡◌, ◌+◌, ◌*◌, ◌≤◌, ◌+
 ghost use Rattle.std.specs.List.{zip};
 ghost use Rattle.tpm_types_command.specs.AuthEntry.{entry_of};
 ghost use Rattle.tpm_auth.specs.SessionGrant.{demands_password};
-ghost use Rattle.tpm_machine_step.specs.Entries.{answer_mac, draw_of, entries_answer, entries_ended, entries_rolled, entry_answer, entry_ended, entry_restarted, entry_rolled, session_answer};
+ghost use Rattle.tpm_step.specs.Entries.{answer_mac, draw_of, entries_answer, entries_ended, entries_rolled, entry_answer, entry_ended, entry_restarted, entry_rolled, session_answer};
 
 use crate::draws::Draws;
 use tpm_auth::{Grant, used_auth_value};
@@ -25,7 +25,7 @@ const PASSWORD_ANSWER: [u8; 5] = [0, 0, 1, 0, 0];
 pub const ENTRY_ANSWERS_LIMIT: usize = 207;
 
 /// How many bytes the next nonce of an entry's session has.
-#[tactic(auto, unfolding(tpm_machine_step::specs::Entries::draw_of))]
+#[tactic(auto, unfolding(tpm_step::specs::Entries::draw_of))]
 fn draw_of<K: Keep>(keep: &K, entry: &AuthEntry) -> usize
     ensures value { result ≡ draw_of (K.record_of keep.now) (entry_of entry.now) }
     ensures small { result ≤ 32 }
@@ -36,7 +36,7 @@ fn draw_of<K: Keep>(keep: &K, entry: &AuthEntry) -> usize
     }
 }
 
-#[tactic(auto, unfolding(tpm_machine_step::specs::Entries::entry_rolled))]
+#[tactic(auto, unfolding(tpm_step::specs::Entries::entry_rolled))]
 fn roll_entry<K: Keep>(keep: &mut K, entry: &AuthEntry, draws: &mut Draws)
     requires { 32 ≤ length draws.old }
     ensures rolled { entry_rolled (K.record_of keep.old) (entry_of entry.now) draws.old
@@ -50,10 +50,10 @@ fn roll_entry<K: Keep>(keep: &mut K, entry: &AuthEntry, draws: &mut Draws)
 /// Gives the sessions of the entries new nonces, in order.
 pub fn roll_entries<K: Keep>(keep: &mut K, entries: &[AuthEntry], draws: &mut Draws)
     requires few { length entries.now ≤ 3 }
-    requires random { 96 ≤ length draws.old }
+    requires random { 3 * 32 ≤ length draws.old }
     ensures rolled { entries_rolled (K.record_of keep.old) (map entry_of entries.now) draws.old
         ≡ record { after = K.record_of keep.new; left = draws.new } }
-    ensures drawn { length draws.old ≤ length draws.new + 96 }
+    ensures drawn { length draws.old ≤ length draws.new + 3 * 32 }
 {
     for entry in entries {
         roll_entry(keep, entry, draws);
@@ -70,7 +70,7 @@ fn demands_password(grant: Option<Grant>) -> bool
 }
 
 /// The HMAC of the answer to an entry.
-#[tactic(auto, unfolding(tpm_machine_step::specs::Entries::answer_mac))]
+#[tactic(auto, unfolding(tpm_step::specs::Entries::answer_mac))]
 fn answer_mac<K: Keep>(
     keep: &K,
     hashes: &mut ParameterHashes,
@@ -90,7 +90,7 @@ fn answer_mac<K: Keep>(
     session.response_mac(value, hash.as_slice(), entry.nonce, entry.attributes)
 }
 
-#[tactic(auto, unfolding(tpm_machine_step::specs::Entries::session_answer))]
+#[tactic(auto, unfolding(tpm_step::specs::Entries::session_answer))]
 fn answer_session<K: Keep>(
     keep: &K,
     hashes: &mut ParameterHashes,
@@ -106,12 +106,12 @@ fn answer_session<K: Keep>(
     ensures same { hashes.new ≡ hashes.old }
 {
     let mac = answer_mac(keep, hashes, grant, entry, session);
-    let _ = area.put_sized(session.nonce_tpm.as_slice());
-    let _ = area.put_u8(entry.attributes.octet);
-    let _ = area.put_sized(mac.as_slice());
+    area.append_sized(session.nonce_tpm.as_slice());
+    area.append_u8(entry.attributes.octet);
+    area.append_sized(mac.as_slice());
 }
 
-#[tactic(auto, unfolding(tpm_machine_step::specs::Entries::entry_answer))]
+#[tactic(auto, unfolding(tpm_step::specs::Entries::entry_answer))]
 fn answer_entry<K: Keep>(
     keep: &K,
     hashes: &mut ParameterHashes,
@@ -127,9 +127,7 @@ fn answer_entry<K: Keep>(
 {
     match keep.sessions().get(entry.session) {
         Some(session) => answer_session(keep, hashes, grant, entry, session, area),
-        None => {
-            let _ = area.put(&PASSWORD_ANSWER);
-        }
+        None => area.append(&PASSWORD_ANSWER),
     }
 }
 
@@ -156,7 +154,7 @@ pub fn answer_entries<K: Keep>(
 }
 
 /// Returns the policy of an entry's session to its start, if it is a policy session.
-#[tactic(auto, unfolding(tpm_machine_step::specs::Entries::entry_restarted))]
+#[tactic(auto, unfolding(tpm_step::specs::Entries::entry_restarted))]
 fn restart_entry<K: Keep>(keep: &mut K, entry: &AuthEntry)
     ensures { K.record_of keep.new ≡ entry_restarted (K.record_of keep.old) (entry_of entry.now) }
 {
@@ -167,7 +165,7 @@ fn restart_entry<K: Keep>(keep: &mut K, entry: &AuthEntry)
     keep.sessions_mut().set_policy(entry.session, policy);
 }
 
-#[tactic(auto, unfolding(tpm_machine_step::specs::Entries::entry_ended))]
+#[tactic(auto, unfolding(tpm_step::specs::Entries::entry_ended))]
 fn end_entry<K: Keep>(keep: &mut K, entry: &AuthEntry, grant: Option<Grant>)
     ensures { K.record_of keep.new
         ≡ entry_ended (K.record_of keep.old) (entry_of entry.now) grant }

@@ -8,7 +8,7 @@
 //! a session decrypts, by [`parameters`]), and [`response`] writes the answer; new nonces, the
 //! entries' answers and session ends are [`entries`].
 //!
-//! It stands on tpm_machine_step, whose definitions say the same: General, Table, Answer, the step
+//! It stands on tpm_step, whose definitions say the same: General, Table, Answer, the step
 //! of an event (Step) and runs of events (Run). [`machine::Machine::execute`] and
 //! [`machine::Machine::run`] are proved to be these, for each way of keeping the record.
 
@@ -21,4 +21,4 @@ mod response;
 mod table;
 
 pub use machine::Machine;
-pub use tpm_machine_step::{Event, Outcome, Row};
+pub use tpm_step::{Event, Outcome, Row};

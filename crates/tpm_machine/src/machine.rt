@@ -1,24 +1,24 @@
 //! The device itself: it is manufactured, and executes one event or a run of them, by the step that
-//! tpm_machine_step defines.
+//! tpm_step defines.
 
 ghost use Rattle.tpm_types.specs.Limits.{buffer_limit, response_limit};
 ghost use Rattle.std.specs.Prelude.{◌≡◌, ◌≤◌, ◌<◌, ◌^◌, List, [], IfOk, OnErr, false, length, map, true};
 ghost use Rattle.tpm_record.specs.IsRecord.{IsRecord};
 ghost use Rattle.tpm_record.specs.Record.{manufactured};
-ghost use Rattle.tpm_machine_step.specs.Events.{IsEvent, plain_event};
-ghost use Rattle.tpm_machine_step.specs.Run.{Runs, after_all};
-ghost use Rattle.tpm_machine_step.specs.Execution.{Executes};
-ghost use Rattle.tpm_machine_step.specs.Safe.{IsModestIfAccepted};
+ghost use Rattle.tpm_step.specs.Events.{IsEvent, plain_event};
+ghost use Rattle.tpm_step.specs.Run.{Runs, after_all};
+ghost use Rattle.tpm_step.specs.Execution.{Executes};
+ghost use Rattle.tpm_step.specs.Safe.{IsModestIfAccepted};
 ghost use Rattle.tpm_machine.specs.State.{state_of};
-ghost use Rattle.tpm_machine_step.specs.Step.{Steps, outcome_step};
-ghost use Rattle.tpm_machine_history.specs.DeviceAuthValues.{HasAuthValues};
-ghost use Rattle.tpm_machine_history.specs.DeviceCounters.{HasCounters};
-ghost use Rattle.tpm_machine_history.specs.DevicePcrs.{HasPcrs};
-ghost use Rattle.tpm_machine_history.specs.DeviceSessions.{HasSessions};
-ghost use Rattle.tpm_machine_history.specs.Follows.{After, Follows, RunFollows};
-ghost use Rattle.tpm_machine_history.specs.Grounds.{AllHaveGrounds};
-ghost use Rattle.tpm_machine_history.specs.History.{History};
-ghost use Rattle.tpm_machine_history.specs.Replays.{ReplaysRepeat};
+ghost use Rattle.tpm_step.specs.Step.{Steps, outcome_step};
+ghost use Rattle.tpm_history.specs.DeviceAuthValues.{HasAuthValues};
+ghost use Rattle.tpm_history.specs.DeviceCounters.{HasCounters};
+ghost use Rattle.tpm_history.specs.DevicePcrs.{HasPcrs};
+ghost use Rattle.tpm_history.specs.DeviceSessions.{HasSessions};
+ghost use Rattle.tpm_history.specs.Follows.{After, Follows, RunFollows};
+ghost use Rattle.tpm_history.specs.Grounds.{AllHaveGrounds};
+ghost use Rattle.tpm_history.specs.History.{History};
+ghost use Rattle.tpm_history.specs.Replays.{ReplaysRepeat};
 
 use crate::decoding::decode;
 use crate::response::{write_refusal, write_success};
@@ -27,9 +27,9 @@ use std::alloc::Global;
 use tpm_actions_base::answer::Answer;
 use tpm_auth::{Grants, authorize};
 use tpm_bytes::NoMemory;
-use tpm_machine_step::{Event, Outcome, RefusedCommand, Response, Row};
 use tpm_record::tick::tick;
 use tpm_record::{Fixed, Keep, power_cycle, read_widths};
+use tpm_step::{Event, Outcome, RefusedCommand, Response, Row};
 use tpm_types::{Counted, Locality};
 use tpm_types_command::{Command, CommandCode};
 
@@ -205,12 +205,12 @@ impl<K: Keep> Machine<K> {
     }
 
     ghost use Rattle.tpm_types.specs.Locality.{locality_number};
-    ghost use Rattle.tpm_machine_step.specs.Safe.{IsModest};
-    ghost use Rattle.tpm_machine_step.specs.Step.{Answers, accepted};
+    ghost use Rattle.tpm_step.specs.Safe.{IsModest};
+    ghost use Rattle.tpm_step.specs.Step.{Answers, accepted};
 
     /// Executes a command's buffer, after its time has passed: writes the response, and gives the
     /// row.
-    #[tactic(auto, unfolding(tpm_machine_step::specs::Step::accepted))]
+    #[tactic(auto, unfolding(tpm_step::specs::Step::accepted))]
     fn command(
         &mut self,
         buffer: &[u8],
@@ -250,8 +250,8 @@ impl<K: Keep> Machine<K> {
     ghost use Rattle.std.specs.Prelude.{Ok};
     ghost use Rattle.tpm_types_command.specs.Command.{whole_of};
     ghost use Rattle.tpm_auth.specs.Grant.{authorize as authorization};
-    ghost use Rattle.tpm_machine_step.specs.General.{in_command};
-    ghost use Rattle.tpm_machine_step.specs.Step.{acceptance};
+    ghost use Rattle.tpm_step.specs.General.{in_command};
+    ghost use Rattle.tpm_step.specs.Step.{acceptance};
 
     /// Does what a command asks for that its entries authorize so.
     #[inline(always)]
@@ -297,8 +297,8 @@ impl<K: Keep> Machine<K> {
 }
 
 ghost use Rattle.tpm_types.specs.Check.{check_number};
-ghost use Rattle.tpm_machine_step.specs.Step.{counted_in, settled};
-ghost use Rattle.tpm_machine_step.specs.Answer.{refusal_text};
+ghost use Rattle.tpm_step.specs.Step.{counted_in, settled};
+ghost use Rattle.tpm_step.specs.Answer.{refusal_text};
 ghost use Rattle.tpm_types.specs.Locality.{locality_number};
 
 /// Does nothing. What holds of every command's event is what the types of its parts say of them.

@@ -6,20 +6,19 @@ ghost use Rattle.std.specs.Int.{w16, w32, to_be_bytes};
 ghost use Rattle.std.specs.List.{zip};
 ghost use Rattle.tpm_types_command.specs.AuthEntry.{entry_of};
 ghost use Rattle.tpm_types_command.specs.Command.{whole_of};
-ghost use Rattle.tpm_machine_step.specs.Answer.{answer_to, framed, handle_answer, refusal_tag, refusal_text, text_of};
-ghost use Rattle.tpm_machine_step.specs.Entries.{DrawsFew};
-ghost use Rattle.tpm_machine_step.specs.Parameters.{encrypted_answer};
+ghost use Rattle.tpm_step.specs.Answer.{answer_to, framed, handle_answer, refusal_tag, refusal_text, text_of};
+ghost use Rattle.tpm_step.specs.Entries.{DrawsFew};
+ghost use Rattle.tpm_step.specs.Parameters.{encrypted_answer};
 
 use crate::draws::Draws;
 use crate::entries::{ENTRY_ANSWERS_LIMIT, answer_entries, end_entries, roll_entries};
 use crate::parameters::pass_parameters;
-use arrayvec::ArrayVec;
 use tpm_actions_base::answer::{Answer, Parameters};
 use tpm_auth::{Grant, Grants};
-use tpm_bytes::Sink;
-use tpm_machine_step::{Direction, Response};
+use tpm_bytes::{Sink, append};
 use tpm_record::Keep;
 use tpm_session::{HashedParameters, ParameterHashes};
+use tpm_step::{Direction, Response};
 use tpm_types::{ANSWER_LIMIT, Check, Handle, Refused};
 use tpm_types_command::{AuthEntry, Command, HEADER_SIZE, Tag};
 
@@ -27,22 +26,14 @@ use tpm_types_command::{AuthEntry, Command, HEADER_SIZE, Tag};
 /// Part 2, section 6.9).
 const BAD_TAG_RESPONSE: u16 = 0x00c4;
 
-/// Appends bytes for which there is room.
-fn put(text: &mut Response, bytes: &[u8])
-    requires { length text.old.items + length bytes.now ≤ buffer_limit }
-    ensures { text.new.items ≡ text.old.items ++ bytes.now }
-{
-    let _ = text.try_extend_from_slice(bytes);
-}
-
 fn write_header(tag: u16, size: usize, code: u32, text: &mut Response)
     requires size { size ≤ buffer_limit }
     requires empty { text.old.items ≡ [] }
     ensures { text.new.items ≡ to_be_bytes w16 tag ++ to_be_bytes w32 size ++ to_be_bytes w32 code }
 {
-    put(text, &tag.to_be_bytes());
-    put(text, &(size as u32).to_be_bytes());
-    put(text, &code.to_be_bytes());
+    append(text, &tag.to_be_bytes());
+    append(text, &(size as u32).to_be_bytes());
+    append(text, &code.to_be_bytes());
 }
 
 fn refusal_tag(check: Check) -> u16
@@ -84,7 +75,7 @@ fn write_handle(handle: Option<Handle>, text: &mut Response)
     ensures { text.new.items ≡ text.old.items ++ handle_answer handle }
 {
     if let Some(handle) = handle {
-        put(text, &handle.number.to_be_bytes());
+        append(text, &handle.number.to_be_bytes());
     }
 }
 
@@ -98,7 +89,7 @@ fn write_plain(handle: Option<Handle>, parameters: &[u8], text: &mut Response)
     let size = HEADER_SIZE + handle_size(handle) + parameters.len();
     write_header(Tag::NoSessions.number(), size, 0, text);
     write_handle(handle, text);
-    put(text, parameters);
+    append(text, parameters);
 }
 
 /// Writes a success whose entries are answered so.
@@ -113,9 +104,9 @@ fn write_with_area(handle: Option<Handle>, parameters: &[u8], area: &[u8], text:
     let size = HEADER_SIZE + handle_size(handle) + 4 + parameters.len() + area.len();
     write_header(Tag::Sessions.number(), size, 0, text);
     write_handle(handle, text);
-    put(text, &(parameters.len() as u32).to_be_bytes());
-    put(text, parameters);
-    put(text, area);
+    append(text, &(parameters.len() as u32).to_be_bytes());
+    append(text, parameters);
+    append(text, area);
 }
 
 /// Encrypts the parameters of an answer in their place, as the sessions of the entries ask for.
@@ -169,7 +160,7 @@ fn write_with_sessions<K: Keep>(
 }
 
 /// Writes the response to a command that succeeded.
-#[tactic(auto, unfolding(tpm_machine_step::specs::Answer::success_text, tpm_machine_step::specs::Answer::answer_to))]
+#[tactic(auto, unfolding(tpm_step::specs::Answer::success_text, tpm_step::specs::Answer::answer_to))]
 pub fn write_success<K: Keep>(
     keep: &mut K,
     command: &Command,

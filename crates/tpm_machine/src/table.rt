@@ -12,23 +12,24 @@ ghost use Rattle.tpm_auth.specs.Grant.{authorize};
 ghost use Rattle.tpm_actions_base.specs.Answer.{IsEmpty};
 ghost use Rattle.tpm_actions_base.specs.Request.{request_of};
 ghost use Rattle.tpm_actions_base.specs.Rows.{ActsIfRoom};
-ghost use Rattle.tpm_machine_step.specs.Step.{Accepts, acceptance};
-ghost use Rattle.tpm_machine_step.specs.Table.{row_of};
-ghost use Rattle.tpm_machine_step.specs.Parameters.{plain_parameters};
+ghost use Rattle.tpm_step.specs.Step.{Accepts, acceptance};
+ghost use Rattle.tpm_step.specs.Table.{row_of};
+ghost use Rattle.tpm_step.specs.Parameters.{plain_parameters};
 
 use crate::parameters::pass_parameters;
 use arrayvec::ArrayVec;
 use tpm_actions_base::answer::Answer;
 use tpm_actions_base::call::Call;
 use tpm_auth::{Grant, Grants, any_decrypts};
-use tpm_machine_step::Direction;
+use tpm_bytes::copied;
 use tpm_record::Keep;
+use tpm_step::Direction;
 use tpm_types::{BUFFER_LIMIT, Locality, Refused};
 use tpm_types_command::{AuthEntry, Command, CommandCode};
 
 /// Does what the command's row says; only a command that grows something can be refused memory.
 #[inline(always)]
-#[tactic(auto, unfolding(tpm_machine_step::specs::Table::row_of, tpm_types_command::specs::CommandCode::shape_of))]
+#[tactic(auto, unfolding(tpm_step::specs::Table::row_of, tpm_types_command::specs::CommandCode::shape_of))]
 fn act<K: Keep>(
     keep: &mut K,
     code: CommandCode,
@@ -106,8 +107,7 @@ fn plain_parameters<K: Keep>(
     ensures { result.items ≡ plain_parameters (K.record_of keep.now)
         (zip (map entry_of entries.now) grants.now) parameters.now }
 {
-    let mut text = ArrayVec::new();
-    let _ = text.try_extend_from_slice(parameters);
+    let mut text = copied(parameters);
     pass_parameters(
         Direction::Decrypt,
         keep,
@@ -148,7 +148,7 @@ fn act_decrypted<K: Keep>(
 }
 
 /// Does what the row of a command says that its entries authorize so; a refusal leaves the record.
-#[tactic(auto, using(crate::proofs::DecodingLaws::plain_as_sent), unfolding(tpm_machine_step::specs::Step::acceptance))]
+#[tactic(auto, using(crate::proofs::DecodingLaws::plain_as_sent), unfolding(tpm_step::specs::Step::acceptance))]
 pub fn accept<K: Keep>(
     keep: &mut K,
     command: &Command,

@@ -6,8 +6,8 @@ use std::alloc::Global;
 use std::process::Abort;
 use std::test::Fail;
 use tpm_machine::Machine;
-use tpm_machine_step::Event;
 use tpm_record::{Fixed, Keep};
+use tpm_step::Event;
 use tpm_types::Locality;
 
 /// TPM2_Startup(CLEAR).

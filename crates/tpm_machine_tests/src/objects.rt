@@ -9,10 +9,9 @@ use super::keeps::{Trial, run_over_both};
 use std::alloc::Global;
 use std::process::Abort;
 use std::test::Fail;
+use tpm_containers::{KeyFault, SlotFault};
 use tpm_object::Object;
 use tpm_record::{Keep, PersistentObjects, add_object, add_persistent, remove_object};
-use tpm_slots::SlotFault;
-use tpm_sorted_map::KeyFault;
 use tpm_types::{Handle, HierarchyHandle};
 
 /// An object that can be persistent.

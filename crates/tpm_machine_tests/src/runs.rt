@@ -6,8 +6,8 @@ use std::alloc::Global;
 use std::process::Abort;
 use std::test::Fail;
 use tpm_machine::Machine;
-use tpm_machine_step::{Event, Outcome, Row};
 use tpm_record::Keep;
+use tpm_step::{Event, Outcome, Row};
 use tpm_types::Locality;
 
 const STARTUP: u32 = 0x144;

@@ -2,8 +2,8 @@
 use Rattle.std.proofs.Common.{◌≡◌, ℕ, ◌+◌, ◌-◌, ◌≤◌, Bool, true, false, cond, List, [], ◌∷◌, ◌++◌, length, take, drop, refl, sym, ap, ◌∙◌, arith, append_assoc, length-append, length-drop}
 use Rattle.std.proofs.lemmas.Bool.{cond_both}
 use Rattle.std.proofs.lemmas.List.{drop-drop, drop_at, length-take-le, take_at}
-use Rattle.tpm_sorted_map.specs.SortedMap.{Entries, kept_entries}
-use Rattle.tpm_sorted_map.proofs.SortedMapLaws.{kept_ascends, kept_few}
+use Rattle.tpm_containers.specs.SortedMap.{Entries, kept_entries}
+use Rattle.tpm_containers.proofs.SortedMapLaws.{kept_ascends, kept_few}
 use Rattle.tpm_nv.specs.Bytes.{moved_down, piece_of}
 use Rattle.tpm_nv.specs.Clear.{is_by_platform}
 use Rattle.tpm_nv.specs.Head.{AreHeads, AreKept, index_with, indices_of, kept_bytes, size_of, stays, total}

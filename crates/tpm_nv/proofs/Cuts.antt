@@ -6,7 +6,7 @@ use Rattle.std.specs.Prelude.{map}
 use Rattle.std.proofs.lemmas.Bool.{cases_eq, cases_lt, cond_both, cond-true, cond-false, eq-eqb, ne_eqb, le-leb, lt-leb}
 use Rattle.std.proofs.lemmas.List.{append-nil, drop-drop, drop-append-le, drop-take, drop-replicate, drop_all, drop_at, length-replicate, length-take-le, take-append-drop, take-append-le, take-take, take_at}
 use Rattle.std.proofs.lemmas.List.Sums.{sum_by-cons}
-use Rattle.tpm_sorted_map.specs.SortedMap.{AllAbove, Ascends, Entries, at_key, changed_key, key_from, with_key, without_key}
+use Rattle.tpm_containers.specs.SortedMap.{AllAbove, Ascends, Entries, at_key, changed_key, key_from, with_key, without_key}
 use Rattle.tpm_nv.specs.Bytes.{closed_up, opened, piece_of, put_over}
 use Rattle.tpm_nv.specs.Head.{AreHeads, IsHead, head_of, index_with, indices_of, size_of, start_of, total}
 use Rattle.tpm_nv.specs.Index.{NvIndex}

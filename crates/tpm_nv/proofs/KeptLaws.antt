@@ -8,8 +8,8 @@ use Rattle.std.proofs.lemmas.Bool.{eqb-true, leb-true, ltb-true}
 use Rattle.std.proofs.lemmas.List.{append-nil, length-replicate, length-take-le, nil_from_length}
 use Rattle.tpm_bytes.specs.Reading.{refused_if}
 use Rattle.tpm_bytes.proofs.Fields.{bind_ok, passed}
-use Rattle.tpm_sorted_map.specs.SortedMap.{Ascends, Entries, at_key, changed_key, with_key, without_key}
-use Rattle.tpm_sorted_map.proofs.SortedMapLaws.{changed_ascends, changed_length, put_ascends, put_length, removed_ascends, removed_few}
+use Rattle.tpm_containers.specs.SortedMap.{Ascends, Entries, at_key, changed_key, with_key, without_key}
+use Rattle.tpm_containers.proofs.SortedMapLaws.{changed_ascends, changed_length, put_ascends, put_length, removed_ascends, removed_few}
 use Rattle.tpm_types.specs.AuthValue.{IsAuthValue}
 use Rattle.tpm_types.specs.declared.handle.Handle.{Handle}
 use Rattle.tpm_types_nv.specs.NvAttributes.{IsNvAttributes, attribute_bit, has, index_type, is_of, type_number, with_attribute}
@@ -22,7 +22,7 @@ use Rattle.tpm_types_nv.specs.declared.nv_type.NvType.{NvType}
 use Rattle.tpm_types_nv.specs.declared.nv_type.NvType.TheVariants as type
 use Rattle.tpm_types_nv.proofs.AttributeLaws.{are_attributes}
 use Rattle.tpm_nv.specs.Access.{data_or, marked, with_data, writable}
-use Rattle.tpm_nv.specs.declared.fault.NvFault.TheVariants.{Locked, Attributes}
+use Rattle.tpm_nv.specs.declared.fault.WriteFault.TheVariants.{Locked, Attributes}
 use Rattle.tpm_nv.specs.Bytes.{closed_up, filled, piece_of, put_over}
 use Rattle.tpm_nv.specs.Definition.{has_type_size, is_type_size}
 use Rattle.tpm_nv.specs.Head.{AreHeads, AreKept, IsHead, IsIndexOf, head_of, index_with, indices_of, size_of, start_in, start_of, total, with_attributes}

@@ -3,7 +3,7 @@ use Rattle.std.proofs.Common.{◌≡◌, ◌≢◌, ℕ, zero, suc, ◌+◌, ◌
 use Rattle.std.specs.Prelude.{◌&&◌, map}
 use Rattle.std.proofs.lemmas.Bool.{cond_both, cond-true, cond-false, eq-eqb, ne_eqb}
 use Rattle.std.proofs.lemmas.List.{length-map}
-use Rattle.tpm_sorted_map.specs.SortedMap.{AllAbove, Ascends, Entries, at_key, changed_key}
+use Rattle.tpm_containers.specs.SortedMap.{AllAbove, Ascends, Entries, at_key, changed_key}
 use Rattle.tpm_types_nv.specs.NvAttributes.{IsNvAttributes, has, index_type, without_attribute}
 use Rattle.tpm_types_nv.specs.declared.nv_attributes.NvAttribute.{NvAttribute}
 use Rattle.tpm_types_nv.specs.declared.nv_attributes.NvAttribute.TheVariants as attribute

@@ -1,9 +1,8 @@
--- What reads, changes and locks an NV index. TPM 2.0 Library, Part 3, sections 31.7 to 31.15
--- (TPM2_NV_Write, NV_Increment, NV_Extend, NV_SetBits, NV_WriteLock, NV_Read, NV_ReadLock and
--- NV_ChangeAuth), and Part 1, section 37. Who may do it is no matter of this page.
+-- What reads, changes and locks an NV index. TPM 2.0 Library, Part 3, sections 31.7 to 31.11 and
+-- 31.13 to 31.15 (writing, counting, extending, setting bits, reading, the locks, and another
+-- authorization value), and Part 1, section 37. Who may do it is no matter of this page.
 use Rattle.std.specs.Prelude.{◌≡◌, ℕ, ◌+◌, ◌^◌, ◌==◌, ◌&&◌, ◌||◌, max, nat_lt, nat_le, not, bit_or}
 use Rattle.std.specs.Prelude.{Bool, List, ◌++◌, length, replicate, Result, Ok, Err, ok_or, if◌then◌else◌}
-use Rattle.std.specs.Borrow.{Bor}
 use Rattle.std.specs.Int.{w64, from_be_bytes, to_be_bytes}
 use Rattle.tpm_bytes.specs.Reading.{◌>>=◌, refused_if}
 use Rattle.tpm_mac.specs.Digest.{hash_of}
@@ -15,19 +14,28 @@ use Rattle.tpm_types_nv.specs.declared.nv_type.NvType.{NvType}
 use Rattle.tpm_types_nv.specs.declared.nv_type.NvType.TheVariants as type
 use Rattle.tpm_nv.specs.Bytes.{piece_of, put_over}
 use Rattle.tpm_nv.specs.Index.{NvContents, NvIndex, changed_index, index_at}
-use Rattle.tpm_nv.specs.declared.fault.NvFault.{NvFault}
-use Rattle.tpm_nv.specs.declared.fault.NvFault.TheVariants.{Undefined, Locked, Attributes, Range, Uninitialized}
+use Rattle.tpm_nv.specs.declared.fault.LockFault.{LockFault}
+use Rattle.tpm_nv.specs.declared.fault.LockFault.TheVariants as lock_fault
+use Rattle.tpm_nv.specs.declared.fault.ReadFault.{ReadFault}
+use Rattle.tpm_nv.specs.declared.fault.ReadFault.TheVariants as read_fault
+use Rattle.tpm_nv.specs.declared.fault.Undefined.{Undefined}
+use Rattle.tpm_nv.specs.declared.fault.WriteFault.{WriteFault}
+use Rattle.tpm_nv.specs.declared.fault.WriteFault.TheVariants as write_fault
 
 -- A call gave the contents that it is to give, or was refused with its fault and changed nothing.
-abbrev pub ChangesContents : Result NvContents NvFault
-    → NvContents → Result (Unit {0}) NvFault → NvContents
+abbrev pub ChangesContents : {F : Type 0} → Result NvContents F
+    → NvContents → Result (Unit {0}) F → NvContents
     → Type 0
 ChangesContents answer old (Ok done) new = answer ≡ Ok new
 ChangesContents answer old (Err fault) new = (answer ≡ Err fault) × (new ≡ old)
 
--- the index of a handle, which is to be there
-abbrev pub index_or_fault : NvContents → Handle → Result NvIndex NvFault
-index_or_fault contents handle = ok_or (index_at contents handle) Undefined
+-- the index of a handle, which is to be there, or else this fault
+abbrev pub index_or_fault : {F : Type 0} → NvContents → Handle → F → Result NvIndex F
+index_or_fault contents handle fault = ok_or (index_at contents handle) fault
+
+-- that there is none, where nothing else is refused
+abbrev pub undefined : Undefined
+undefined = record {}
 
 -- ---- what an index has
 
@@ -61,25 +69,27 @@ number_or number index =
 
 -- whether a command for this type may write an index: it is not locked against writing, and it is
 -- of the type
-abbrev pub writable : NvType → NvIndex → Result (Unit {0}) NvFault
+abbrev pub writable : NvType → NvIndex → Result (Unit {0}) WriteFault
 writable type index = do
-  unlocked ← refused_if (index_has index attribute.WriteLocked) Locked
-  refused_if (not (is_of index.public.attributes type)) Attributes
+  unlocked ← refused_if (index_has index attribute.WriteLocked) write_fault.Locked
+  refused_if (not (is_of index.public.attributes type)) write_fault.Attributes
 
-abbrev pub check_writable : NvContents → Handle → NvType → Result (Unit {0}) NvFault
+abbrev pub check_writable : NvContents → Handle → NvType → Result (Unit {0}) WriteFault
 check_writable contents handle type = do
-  index ← index_or_fault contents handle
+  index ← index_or_fault contents handle write_fault.Undefined
   writable type index
 
 -- bytes are put over the data from an offset on: within the data, and over all of it where the
 -- index has WRITEALL; the other bytes of a first write are FF (this device's own)
-unfoldable pub written : NvContents → Handle → (offset : ℕ) → List ℕ → Result NvContents NvFault
+unfoldable pub written : NvContents → Handle → (offset : ℕ) → List ℕ
+    → Result NvContents WriteFault
 written contents handle offset bytes = do
-  index ← index_or_fault contents handle
+  index ← index_or_fault contents handle write_fault.Undefined
   ordinary ← writable type.Ordinary index
-  inside ← refused_if (nat_lt index.public.data_size (offset + length bytes)) Range
+  inside ← refused_if (nat_lt index.public.data_size (offset + length bytes)) write_fault.PastData
   whole ← refused_if
-      (index_has index attribute.WriteAll && not (length bytes == index.public.data_size)) Range
+      (index_has index attribute.WriteAll && not (length bytes == index.public.data_size))
+      write_fault.Partial
   Ok (changed_index contents handle (with_data index (put_over offset bytes (data_or 0xff index))))
 
 -- a counter had this value
@@ -88,28 +98,29 @@ counted contents count = record contents { max_count = max contents.max_count co
 
 -- a counter becomes one more than it was, or at first one more than any counter ever was (section
 -- 31.2); the largest value of any counter rises to it if it was less. A counter that would pass
--- 2^64 - 1 is out of range (this device's own)
-unfoldable pub incremented : NvContents → Handle → Result NvContents NvFault
+-- 2^64 - 1 is exhausted (this device's own)
+unfoldable pub incremented : NvContents → Handle → Result NvContents WriteFault
 incremented contents handle = do
-  index ← index_or_fault contents handle
+  index ← index_or_fault contents handle write_fault.Undefined
   counter ← writable type.Counter index
-  fits ← refused_if (nat_le (2 ^ 64) (number_or contents.max_count index + 1)) Range
+  fits ← refused_if (nat_le (2 ^ 64) (number_or contents.max_count index + 1))
+      write_fault.Exhausted
   let count : ℕ = number_or contents.max_count index + 1 in
       Ok (counted (changed_index contents handle (with_data index (to_be_bytes w64 count))) count)
 
 -- bits are set; before the first write none is
-unfoldable pub bits_set : NvContents → Handle → ℕ → Result NvContents NvFault
+unfoldable pub bits_set : NvContents → Handle → ℕ → Result NvContents WriteFault
 bits_set contents handle bits = do
-  index ← index_or_fault contents handle
+  index ← index_or_fault contents handle write_fault.Undefined
   field ← writable type.Bits index
   let number : ℕ = bit_or (number_or 0 index) bits in
       Ok (changed_index contents handle (with_data index (to_be_bytes w64 number)))
 
 -- the data becomes the digest, by nameAlg, of itself and these bytes; before the first write it is
 -- zeros
-unfoldable pub extended : NvContents → Handle → List ℕ → Result NvContents NvFault
+unfoldable pub extended : NvContents → Handle → List ℕ → Result NvContents WriteFault
 extended contents handle bytes = do
-  index ← index_or_fault contents handle
+  index ← index_or_fault contents handle write_fault.Undefined
   extendable ← writable type.Extend index
   let digest : List ℕ = hash_of index.public.name_alg (data_or 0 index ++ bytes) in
       Ok (changed_index contents handle (with_data index digest))
@@ -118,38 +129,39 @@ extended contents handle bytes = do
 
 -- whether an index may be read: it is not locked against reading, and it is written. A command
 -- that reads asks this once its parameters are read, and before it looks at their values
-abbrev pub readable : NvIndex → Result (Unit {0}) NvFault
+abbrev pub readable : NvIndex → Result (Unit {0}) ReadFault
 readable index = do
-  unlocked ← refused_if (index_has index attribute.ReadLocked) Locked
-  refused_if (not (index_has index attribute.Written)) Uninitialized
+  unlocked ← refused_if (index_has index attribute.ReadLocked) read_fault.Locked
+  refused_if (not (index_has index attribute.Written)) read_fault.Uninitialized
 
 -- a number of bytes of the data, from an offset on
-unfoldable pub read_at : NvContents → Handle → (offset size : ℕ) → Result (List ℕ) NvFault
+unfoldable pub read_at : NvContents → Handle → (offset size : ℕ) → Result (List ℕ) ReadFault
 read_at contents handle offset size = do
-  index ← index_or_fault contents handle
+  index ← index_or_fault contents handle read_fault.Undefined
   initialized ← readable index
-  inside ← refused_if (nat_lt index.public.data_size (offset + size)) Range
+  inside ← refused_if (nat_lt index.public.data_size (offset + size)) read_fault.PastData
   Ok (piece_of offset size index.bytes)
 
 -- ---- locks, and the authorization value
 
 -- an index that has WRITEDEFINE or WRITE_STCLEAR is locked against writing
-unfoldable pub write_locked : NvContents → Handle → Result NvContents NvFault
+unfoldable pub write_locked : NvContents → Handle → Result NvContents LockFault
 write_locked contents handle = do
-  index ← index_or_fault contents handle
+  index ← index_or_fault contents handle lock_fault.Undefined
   lockable ← refused_if
-      (not (index_has index attribute.WriteDefine || index_has index attribute.WriteStClear)) Attributes
+      (not (index_has index attribute.WriteDefine || index_has index attribute.WriteStClear))
+      lock_fault.Attributes
   Ok (changed_index contents handle (marked index attribute.WriteLocked))
 
 -- and one that has READ_STCLEAR against reading
-unfoldable pub read_locked : NvContents → Handle → Result NvContents NvFault
+unfoldable pub read_locked : NvContents → Handle → Result NvContents LockFault
 read_locked contents handle = do
-  index ← index_or_fault contents handle
-  lockable ← refused_if (not (index_has index attribute.ReadStClear)) Attributes
+  index ← index_or_fault contents handle lock_fault.Undefined
+  lockable ← refused_if (not (index_has index attribute.ReadStClear)) lock_fault.Attributes
   Ok (changed_index contents handle (marked index attribute.ReadLocked))
 
 -- another authorization value; that it is not too long is the command's to check
-unfoldable pub with_auth_value : NvContents → Handle → List ℕ → Result NvContents NvFault
+unfoldable pub with_auth_value : NvContents → Handle → List ℕ → Result NvContents Undefined
 with_auth_value contents handle value = do
-  index ← index_or_fault contents handle
+  index ← index_or_fault contents handle undefined
   Ok (changed_index contents handle (record index { auth_value = value }))

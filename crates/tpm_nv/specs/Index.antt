@@ -4,7 +4,7 @@
 use Rattle.tpm_types.specs.Limits.{nv_index_limit, nv_space_limit}
 use Rattle.std.specs.Prelude.{ℕ, ◌+◌, ◌&&◌, nat_lt, nat_le, Bool, List, [], length, Option}
 use Rattle.std.specs.List.{sum_by}
-use Rattle.tpm_sorted_map.specs.SortedMap.{Entries, at_key, changed_key, key_from, with_key, without_key}
+use Rattle.tpm_containers.specs.SortedMap.{Entries, at_key, changed_key, key_from, with_key, without_key}
 use Rattle.tpm_types.specs.declared.handle.Handle.{Handle}
 use Rattle.tpm_types_nv.specs.declared.nv_public.NvPublic.{NvPublic}
 

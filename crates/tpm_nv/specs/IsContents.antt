@@ -1,7 +1,7 @@
 -- What holds of the NV indices of a device, whatever came before.
 use Rattle.tpm_types.specs.Limits.{nv_index_limit, nv_space_limit}
 use Rattle.std.specs.Prelude.{◌≡◌, ℕ, ◌<◌, ◌≤◌, ◌^◌, true, [], ◌∷◌, length, if◌then◌else◌}
-use Rattle.tpm_sorted_map.specs.SortedMap.{Ascends, Entries}
+use Rattle.tpm_containers.specs.SortedMap.{Ascends, Entries}
 use Rattle.tpm_types.specs.AuthValue.{IsAuthValue}
 use Rattle.tpm_types_nv.specs.NvAttributes.{has}
 use Rattle.tpm_types_nv.specs.NvPublic.{IsNvPublic}

@@ -7,7 +7,7 @@ pub mod Clear
 pub mod IsContents
 pub mod Head
 pub mod Place
-pub use Rattle.tpm_sorted_map.specs.SortedMap
-pub use Rattle.tpm_sorted_map.specs.IsSortedMap
+pub use Rattle.tpm_containers.specs.SortedMap
+pub use Rattle.tpm_containers.specs.IsSortedMap
 pub use Rattle.tpm_types_nv.specs.NvAttributes
 pub use Rattle.tpm_types_nv.specs.NvPublic

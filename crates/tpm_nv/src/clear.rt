@@ -7,7 +7,7 @@ ghost use Rattle.tpm_nv.specs.Head.{kept_bytes, kept_piece, size_of, stays, tota
 
 use crate::area::Area;
 use crate::head::Head;
-use tpm_sorted_map::Choice;
+use tpm_containers::Choice;
 use tpm_types_nv::NvAttribute;
 
 /// The indices that the platform defined.

@@ -1,18 +1,46 @@
 //! Why a call on an NV index is refused, or the definition of one, or its return from what was kept.
 
-/// Why a call on an index was refused.
+/// The handle has no index: all that refuses another authorization value.
 #[derive(Clone, Copy, Debug, PartialEq, Eq)]
-pub enum NvFault {
+pub struct Undefined;
+
+/// Why an index was not written, counted up or extended, or no bits of it were set.
+#[derive(Clone, Copy, Debug, PartialEq, Eq)]
+pub enum WriteFault {
     /// The handle has no index.
     Undefined,
-    /// The index is locked: READLOCKED for a read, WRITELOCKED for a write.
+    /// The index is locked against writing: it has WRITELOCKED.
     Locked,
-    /// The index is not of the type, or its attributes allow no lock.
+    /// The index is not of the type that the call writes.
     Attributes,
-    /// Past the data; not all of them, though the index has WRITEALL; or a counter at its end.
-    Range,
+    /// What would be written goes past the data.
+    PastData,
+    /// Not all of the data would be written, though the index has WRITEALL.
+    Partial,
+    /// The counter has the largest number that there is.
+    Exhausted,
+}
+
+/// Why an index was not read.
+#[derive(Clone, Copy, Debug, PartialEq, Eq)]
+pub enum ReadFault {
+    /// The handle has no index.
+    Undefined,
+    /// The index is locked against reading: it has READLOCKED.
+    Locked,
     /// The index was not yet written.
     Uninitialized,
+    /// What would be read goes past the data.
+    PastData,
+}
+
+/// Why an index was not locked.
+#[derive(Clone, Copy, Debug, PartialEq, Eq)]
+pub enum LockFault {
+    /// The handle has no index.
+    Undefined,
+    /// The index has no attribute that lets it be locked so.
+    Attributes,
 }
 
 /// Why an index was not defined.

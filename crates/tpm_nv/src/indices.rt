@@ -15,7 +15,7 @@ ghost use Rattle.tpm_types_nv.specs.NvAttributes.{has};
 ghost use Rattle.tpm_types_nv.specs.NvPublic.{IsNvPublic};
 ghost use Rattle.tpm_types_nv.specs.declared.nv_attributes.NvAttribute.TheVariants as attribute;
 
-use crate::fault::{DefineFault, NvFault, RestoreFault};
+use crate::fault::{DefineFault, LockFault, ReadFault, RestoreFault, Undefined, WriteFault};
 use crate::head::Head;
 use std::alloc::Global;
 use tpm_types::{AuthValue, Handle};
@@ -82,42 +82,42 @@ pub trait Indices: Drop + Sized {
         ensures after { contents self.new ≡ without_index (contents self.old) handle };
 
     /// Writes data from an offset on (Part 3, section 31.7).
-    fn write(&mut self, handle: Handle, offset: u16, bytes: &[u8]) -> Result<(), NvFault>
+    fn write(&mut self, handle: Handle, offset: u16, bytes: &[u8]) -> Result<(), WriteFault>
         ensures { ChangesContents (written (contents self.old) handle offset bytes.now) (contents self.old)
             result (contents self.new) };
 
     /// Raises a counter (Part 3, section 31.8).
-    fn increment(&mut self, handle: Handle) -> Result<(), NvFault>
+    fn increment(&mut self, handle: Handle) -> Result<(), WriteFault>
         ensures { ChangesContents (incremented (contents self.old) handle) (contents self.old)
             result (contents self.new) };
 
     /// Sets bits (Part 3, section 31.10).
-    fn set_bits(&mut self, handle: Handle, bits: u64) -> Result<(), NvFault>
+    fn set_bits(&mut self, handle: Handle, bits: u64) -> Result<(), WriteFault>
         ensures { ChangesContents (bits_set (contents self.old) handle bits) (contents self.old)
             result (contents self.new) };
 
     /// Extends a digest (Part 3, section 31.9).
-    fn extend(&mut self, handle: Handle, bytes: &[u8]) -> Result<(), NvFault>
+    fn extend(&mut self, handle: Handle, bytes: &[u8]) -> Result<(), WriteFault>
         ensures { ChangesContents (extended (contents self.old) handle bytes.now) (contents self.old)
             result (contents self.new) };
 
     /// A number of bytes of the data from an offset on (Part 3, section 31.13).
-    fn read(&self, handle: Handle, offset: u16, size: u16) -> Result<&[u8], NvFault>
+    fn read(&self, handle: Handle, offset: u16, size: u16) -> Result<&[u8], ReadFault>
         ensures { Gives (λ bytes. bytes.now)
             (read_at (contents self.now) handle offset size) result };
 
     /// Locks an index against writing (Part 3, section 31.11).
-    fn lock_write(&mut self, handle: Handle) -> Result<(), NvFault>
+    fn lock_write(&mut self, handle: Handle) -> Result<(), LockFault>
         ensures { ChangesContents (write_locked (contents self.old) handle) (contents self.old)
             result (contents self.new) };
 
     /// Locks an index against reading (Part 3, section 31.14).
-    fn lock_read(&mut self, handle: Handle) -> Result<(), NvFault>
+    fn lock_read(&mut self, handle: Handle) -> Result<(), LockFault>
         ensures { ChangesContents (read_locked (contents self.old) handle) (contents self.old)
             result (contents self.new) };
 
     /// Gives an index another authorization value (Part 3, section 31.15).
-    fn change_auth(&mut self, handle: Handle, value: AuthValue) -> Result<(), NvFault>
+    fn change_auth(&mut self, handle: Handle, value: AuthValue) -> Result<(), Undefined>
         ensures { ChangesContents (with_auth_value (contents self.old) handle value) (contents self.old)
             result (contents self.new) };
 

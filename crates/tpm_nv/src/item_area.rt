@@ -9,7 +9,7 @@ use crate::area::{Area, copy_down, fill_piece, move_from_end, move_to_end, put_p
 use arrayvec::ArrayVec;
 use std::alloc::Global;
 use tpm_bytes::NoMemory;
-use tpm_items::Items;
+use tpm_containers::Items;
 use tpm_types::NV_SPACE_LIMIT;
 
 /// Bytes as items, with room for all NV data.

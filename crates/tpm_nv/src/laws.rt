@@ -2,7 +2,7 @@
 //! in fixed places.
 
 ghost use Rattle.std.specs.Prelude.{◌≡◌, false};
-ghost use Rattle.tpm_sorted_map.specs.IsSortedMap.{IsSortedMap};
+ghost use Rattle.tpm_containers.specs.IsSortedMap.{IsSortedMap};
 ghost use Rattle.tpm_nv.specs.Index.{NvIndex};
 
 use crate::indices::Indices;
@@ -12,7 +12,7 @@ use crate::stored_indices::SlotIndices;
 /// the handles still ascend, how many there are, and which comes next; and no memory is refused
 /// where they stand in fixed places. It does nothing.
 #[inline(always)]
-#[tactic(auto, using(tpm_sorted_map::proofs::SortedMapLaws::is_map))]
+#[tactic(auto, using(tpm_containers::proofs::SortedMapLaws::is_map))]
 pub fn index_laws()
     ensures map { IsSortedMap NvIndex }
     ensures never_refused { ⟦<SlotIndices as Indices>⟧.can_refuse ≡ false }

@@ -4,7 +4,7 @@
 //! power cycle, each under a handle, that are written, counted up, whose bits are set, or that are
 //! extended.
 //!
-//! It stands on `tpm_types_nv` for their public areas, on `tpm_sorted_map` for the map of their
+//! It stands on `tpm_types_nv` for their public areas, on `tpm_containers` for the map of their
 //! handles, on `tpm_mac` for the digest that extends one, and on `tpm_bytes` for the number that a
 //! counter is. [`indices::Indices`] is what a device does with them: contracts see a finite map
 //! from handles to public area, authorization value and data, with the largest value that a counter
@@ -31,7 +31,7 @@ mod values;
 
 pub use area::Area;
 pub use definition::{DefinitionFault, check_definition, has_type_size};
-pub use fault::{DefineFault, NvFault, RestoreFault};
+pub use fault::{DefineFault, LockFault, ReadFault, RestoreFault, Undefined, WriteFault};
 pub use head::Head;
 pub use indices::Indices;
 pub use item_area::{ByteItems, ItemArea, ListArea, SlotArea};

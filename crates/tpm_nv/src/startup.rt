@@ -2,14 +2,14 @@
 //! 3, section 9.3).
 
 ghost use Rattle.std.specs.Prelude.{◌≡◌, ◌<◌, ℕ, Some, length, map, slice_index_or};
-ghost use Rattle.tpm_sorted_map.specs.SortedMap.{Ascends, at_key, changed_key};
+ghost use Rattle.tpm_containers.specs.SortedMap.{Ascends, at_key, changed_key};
 ghost use Rattle.tpm_nv.specs.Head.{started_head, with_attributes};
 ghost use Rattle.tpm_nv.specs.Startup.{kept_written, started_attributes, unlocked};
 ghost use Rattle.tpm_nv.specs.declared.head.Head.{Head};
 
 use crate::head::Head;
 use crate::heads::set_attributes;
-use tpm_sorted_map::SortedMap;
+use tpm_containers::SortedMap;
 use tpm_types::NV_INDEX_LIMIT;
 use tpm_types_nv::{NvAttribute, NvAttributes};
 

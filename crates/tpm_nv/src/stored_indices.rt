@@ -18,7 +18,7 @@ ghost use Rattle.tpm_types_nv.specs.declared.nv_attributes.NvAttribute.TheVarian
 use crate::area::Area;
 use crate::clear::{PlatformIndices, keep_bytes};
 use crate::definition::has_type_size;
-use crate::fault::{DefineFault, NvFault, RestoreFault};
+use crate::fault::{DefineFault, LockFault, ReadFault, RestoreFault, Undefined, WriteFault};
 use crate::head::Head;
 use crate::heads::{auth_value_fits, found_at, put_head, set_attributes, set_auth_value, start_of};
 use crate::indices::Indices;
@@ -30,8 +30,8 @@ use crate::values::{count_fits, digest_of, is_part, is_room, is_write_lockable, 
 use std::alloc::Global;
 use std::marker::Model;
 use tpm_bytes::NoMemory;
+use tpm_containers::{ListMap, SlotMap, SortedMap};
 use tpm_mac::Digest;
-use tpm_sorted_map::{ListMap, SlotMap, SortedMap};
 use tpm_types::{AuthValue, Handle, NV_INDEX_LIMIT};
 use tpm_types_nv::{NvAttribute, NvAttributes, NvPublic, NvType};
 
@@ -86,7 +86,7 @@ impl<H: SortedMap<Head, NV_INDEX_LIMIT>, R: Area> StoredIndices<H, R> {
     }
 
     /// An index that a command for this type may write.
-    fn writable(&self, handle: Handle, kind: NvType) -> Result<Found<'_>, NvFault>
+    fn writable(&self, handle: Handle, kind: NvType) -> Result<Found<'_>, WriteFault>
         ensures refused { IfErr result (λ fault. check_writable self.now handle kind ≡ Err fault) }
         ensures there { IfOk result (λ found. (old : List ℕ)
             × IsIndexOf self.now handle found.head.now old
@@ -94,13 +94,13 @@ impl<H: SortedMap<Head, NV_INDEX_LIMIT>, R: Area> StoredIndices<H, R> {
             × (found.start ≡ start_in self.now handle)) }
     {
         let Some(found) = self.find(handle) else {
-            return Err(NvFault::Undefined);
+            return Err(WriteFault::Undefined);
         };
         if found.head.public.attributes.has(NvAttribute::WriteLocked) {
-            return Err(NvFault::Locked);
+            return Err(WriteFault::Locked);
         }
         if !found.head.public.attributes.is_of(kind) {
-            return Err(NvFault::Attributes);
+            return Err(WriteFault::Attributes);
         }
         Ok(found)
     }
@@ -314,26 +314,26 @@ impl<H: SortedMap<Head, NV_INDEX_LIMIT>, R: Area> Indices for StoredIndices<H, R
     }
 
     #[tactic(auto, unfolding(crate::specs::Access::written))]
-    fn write(&mut self, handle: Handle, offset: u16, bytes: &[u8]) -> Result<(), NvFault> {
+    fn write(&mut self, handle: Handle, offset: u16, bytes: &[u8]) -> Result<(), WriteFault> {
         let place = self.writable(handle, NvType::Ordinary)?.place();
         let offset = usize::from(offset);
         if offset + bytes.len() > place.size {
-            return Err(NvFault::Range);
+            return Err(WriteFault::PastData);
         }
         if is_part(place.attributes, bytes.len(), place.size) {
-            return Err(NvFault::Range);
+            return Err(WriteFault::Partial);
         }
         self.put_data(handle, place, offset, 0xff, bytes);
         Ok(())
     }
 
     #[tactic(auto, unfolding(crate::specs::Access::incremented))]
-    fn increment(&mut self, handle: Handle) -> Result<(), NvFault> {
+    fn increment(&mut self, handle: Handle) -> Result<(), WriteFault> {
         let found = self.writable(handle, NvType::Counter)?;
         let place = found.place();
         let last = self.number(found, self.max_count);
         if last == u64::MAX {
-            return Err(NvFault::Range);
+            return Err(WriteFault::Exhausted);
         }
         let count = last + 1;
         self.set_data(handle, place, &count.to_be_bytes());
@@ -342,7 +342,7 @@ impl<H: SortedMap<Head, NV_INDEX_LIMIT>, R: Area> Indices for StoredIndices<H, R
     }
 
     #[tactic(auto, unfolding(crate::specs::Access::bits_set))]
-    fn set_bits(&mut self, handle: Handle, bits: u64) -> Result<(), NvFault> {
+    fn set_bits(&mut self, handle: Handle, bits: u64) -> Result<(), WriteFault> {
         let found = self.writable(handle, NvType::Bits)?;
         let place = found.place();
         let number = self.number(found, 0) | bits;
@@ -351,7 +351,7 @@ impl<H: SortedMap<Head, NV_INDEX_LIMIT>, R: Area> Indices for StoredIndices<H, R
     }
 
     #[tactic(auto, unfolding(crate::specs::Access::extended))]
-    fn extend(&mut self, handle: Handle, bytes: &[u8]) -> Result<(), NvFault> {
+    fn extend(&mut self, handle: Handle, bytes: &[u8]) -> Result<(), WriteFault> {
         let found = self.writable(handle, NvType::Extend)?;
         let place = found.place();
         let digest = self.extended_digest(found, bytes);
@@ -360,55 +360,55 @@ impl<H: SortedMap<Head, NV_INDEX_LIMIT>, R: Area> Indices for StoredIndices<H, R
     }
 
     #[tactic(auto, unfolding(crate::specs::Access::read_at))]
-    fn read(&self, handle: Handle, offset: u16, size: u16) -> Result<&[u8], NvFault> {
+    fn read(&self, handle: Handle, offset: u16, size: u16) -> Result<&[u8], ReadFault> {
         let Some(found) = self.find(handle) else {
-            return Err(NvFault::Undefined);
+            return Err(ReadFault::Undefined);
         };
         let head = found.head;
         if head.public.attributes.has(NvAttribute::ReadLocked) {
-            return Err(NvFault::Locked);
+            return Err(ReadFault::Locked);
         }
         if !head.public.attributes.has(NvAttribute::Written) {
-            return Err(NvFault::Uninitialized);
+            return Err(ReadFault::Uninitialized);
         }
         let offset = usize::from(offset);
         let size = usize::from(size);
         if offset + size > usize::from(head.public.data_size) {
-            return Err(NvFault::Range);
+            return Err(ReadFault::PastData);
         }
         Ok(piece_at(self.data(found), offset, size))
     }
 
     #[tactic(auto, unfolding(crate::specs::Access::write_locked))]
-    fn lock_write(&mut self, handle: Handle) -> Result<(), NvFault> {
+    fn lock_write(&mut self, handle: Handle) -> Result<(), LockFault> {
         let Some(head) = self.head(handle) else {
-            return Err(NvFault::Undefined);
+            return Err(LockFault::Undefined);
         };
         let attributes = head.public.attributes;
         if !is_write_lockable(attributes) {
-            return Err(NvFault::Attributes);
+            return Err(LockFault::Attributes);
         }
         self.mark(handle, attributes, NvAttribute::WriteLocked);
         Ok(())
     }
 
     #[tactic(auto, unfolding(crate::specs::Access::read_locked))]
-    fn lock_read(&mut self, handle: Handle) -> Result<(), NvFault> {
+    fn lock_read(&mut self, handle: Handle) -> Result<(), LockFault> {
         let Some(head) = self.head(handle) else {
-            return Err(NvFault::Undefined);
+            return Err(LockFault::Undefined);
         };
         let attributes = head.public.attributes;
         if !attributes.has(NvAttribute::ReadStClear) {
-            return Err(NvFault::Attributes);
+            return Err(LockFault::Attributes);
         }
         self.mark(handle, attributes, NvAttribute::ReadLocked);
         Ok(())
     }
 
     #[tactic(auto, unfolding(crate::specs::Access::with_auth_value))]
-    fn change_auth(&mut self, handle: Handle, value: AuthValue) -> Result<(), NvFault> {
+    fn change_auth(&mut self, handle: Handle, value: AuthValue) -> Result<(), Undefined> {
         let Some(_) = self.head(handle) else {
-            return Err(NvFault::Undefined);
+            return Err(Undefined);
         };
         self.replace_auth(handle, value);
         Ok(())

@@ -10,8 +10,10 @@ use Rattle.tpm_types.specs.declared.rc.Place.TheVariants as place
 use Rattle.tpm_types.specs.declared.rc.ResponseCode.TheVariants as code
 use Rattle.tpm_types.specs.declared.refused.Refused.{Refused}
 use Rattle.tpm_nv.specs.Index.{NvContents}
-use Rattle.tpm_nv.specs.declared.fault.NvFault.{NvFault}
-use Rattle.tpm_nv.specs.declared.fault.NvFault.TheVariants as fault
+use Rattle.tpm_nv.specs.declared.fault.LockFault.{LockFault}
+use Rattle.tpm_nv.specs.declared.fault.LockFault.TheVariants as lock_fault
+use Rattle.tpm_nv.specs.declared.fault.WriteFault.{WriteFault}
+use Rattle.tpm_nv.specs.declared.fault.WriteFault.TheVariants as write_fault
 use Rattle.tpm_record.specs.Record.{Record}
 use Rattle.tpm_actions_base.specs.Answer.{nothing}
 use Rattle.tpm_actions_base.specs.Refusals.{action_refusal, handle_refusal, or_refusal}
@@ -31,21 +33,24 @@ reader_passes target =
     refused_if (not (may_read target)) (action_refusal action.First (plain code.NvAuthorization))
 
 -- what refuses a write after that. A2: the index is locked against writing; A3: it is not of the
--- command's type; A4: what would be written is out of range. The last two do not occur
-abbrev pub writing_refusal : NvFault → Refused
-writing_refusal fault.Locked = action_refusal action.Second (plain code.NvLocked)
-writing_refusal fault.Attributes = action_refusal action.Third (at (place.Handle 2) (plain code.Attributes))
-writing_refusal fault.Range = action_refusal action.Fourth (plain code.NvRange)
-writing_refusal fault.Uninitialized = handle_refusal
-writing_refusal fault.Undefined = handle_refusal
+-- command's type; A4: what would be written goes past the data, or is not all of them where
+-- WRITEALL is set, or the counter has the largest number that there is. That there is no index does
+-- not occur
+abbrev pub writing_refusal : WriteFault → Refused
+writing_refusal write_fault.Locked = action_refusal action.Second (plain code.NvLocked)
+writing_refusal write_fault.Attributes =
+    action_refusal action.Third (at (place.Handle 2) (plain code.Attributes))
+writing_refusal write_fault.PastData = action_refusal action.Fourth (plain code.NvRange)
+writing_refusal write_fault.Partial = action_refusal action.Fourth (plain code.NvRange)
+writing_refusal write_fault.Exhausted = action_refusal action.Fourth (plain code.NvRange)
+writing_refusal write_fault.Undefined = handle_refusal
 
--- what refuses a lock after A1. A2: the index has no attribute that lets it be locked so
-abbrev pub lock_refusal : NvFault → Refused
-lock_refusal fault.Attributes = action_refusal action.Second (at (place.Handle 2) (plain code.Attributes))
-lock_refusal fault.Locked = handle_refusal
-lock_refusal fault.Range = handle_refusal
-lock_refusal fault.Uninitialized = handle_refusal
-lock_refusal fault.Undefined = handle_refusal
+-- what refuses a lock after A1. A2: the index has no attribute that lets it be locked so. That
+-- there is no index does not occur
+abbrev pub lock_refusal : LockFault → Refused
+lock_refusal lock_fault.Attributes =
+    action_refusal action.Second (at (place.Handle 2) (plain code.Attributes))
+lock_refusal lock_fault.Undefined = handle_refusal
 
 -- a command that changed NV indices alone
 abbrev pub changed_nv : Record → NvContents → Success
@@ -53,7 +58,7 @@ changed_nv r nv = record { answer = nothing; after = record r { nv = nv } }
 
 -- a command that writes what it reads from its parameters so: A1, and then what the change refuses
 abbrev pub write_row : {P : Type 0} → Record → Request → Result P Refused
-    → (P → Handle → Result NvContents NvFault) → Result Success Refused
+    → (P → Handle → Result NvContents WriteFault) → Result Success Refused
 write_row r q read change = do
   target ← target_of r q
   p ← read

@@ -8,11 +8,11 @@ use Rattle.tpm_types.specs.declared.rc.ResponseCode.TheVariants as code
 use Rattle.tpm_types.specs.declared.refused.Refused.{Refused}
 use Rattle.tpm_nv.specs.Access.{with_auth_value}
 use Rattle.tpm_record.specs.Record.{Record}
-use Rattle.tpm_actions_base.specs.Refusals.{or_refusal, parameter_refusal}
+use Rattle.tpm_actions_base.specs.Refusals.{handle_refusal, or_refusal, parameter_refusal}
 use Rattle.tpm_actions_base.specs.Request.{Request, first_handle}
 use Rattle.tpm_actions_base.specs.Rows.{Success, only}
 use Rattle.tpm_actions_base.specs.Target.{index_or_refusal}
-use Rattle.tpm_nvactions.specs.Access.{changed_nv, lock_refusal}
+use Rattle.tpm_nvactions.specs.Access.{changed_nv}
 
 -- nvIndex, authorized in the role ADMIN; newAuth, at most 32 bytes, whose trailing
 -- zeros do not count. A1: it has more bytes than a digest of nameAlg
@@ -23,5 +23,5 @@ nv_change_auth_row r q = do
   value ← only (auth_value_at q.parameters)
   a1 ← refused_if (nat_lt (digest_size index.public.name_alg) (length value))
       (parameter_refusal action.First 1 code.Size)
-  nv ← or_refusal lock_refusal (with_auth_value r.nv handle value)
+  nv ← or_refusal (λ absence. handle_refusal) (with_auth_value r.nv handle value)
   Ok (changed_nv r nv)

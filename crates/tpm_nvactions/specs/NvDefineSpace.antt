@@ -9,7 +9,7 @@ use Rattle.tpm_types.specs.declared.rc.ResponseCode.TheVariants as code
 use Rattle.tpm_types.specs.declared.refused.Refused.{Refused}
 use Rattle.tpm_types_nv.specs.NvPublic.{nv_public_at}
 use Rattle.tpm_types_nv.specs.declared.nv_public.NvPublic.{NvPublic}
-use Rattle.tpm_types_object.specs.Filled.{filled_by}
+use Rattle.tpm_types.specs.Filled.{filled_by}
 use Rattle.tpm_nv.specs.Definition.{defined_index, definition_passes}
 use Rattle.tpm_nv.specs.Index.{has_room, index_at, with_index}
 use Rattle.tpm_nv.specs.declared.definition.DefinitionFault.{DefinitionFault}

@@ -6,7 +6,7 @@ ghost use Rattle.tpm_nvactions.specs.Access.{lock_refusal, reader_passes, writin
 
 use tpm_actions_base::refusals::{action_refusal, handle_refusal};
 use tpm_actions_base::target::Target;
-use tpm_nv::NvFault;
+use tpm_nv::{LockFault, WriteFault};
 use tpm_types::{ActionCheck, Refused, ResponseCode};
 
 /// Refuses an authHandle that may not write the index.
@@ -32,29 +32,33 @@ pub fn check_reader(target: &Target) -> Result<(), Refused>
 }
 
 /// The refusal of a write.
-pub fn writing_refusal(fault: NvFault) -> Refused
+pub fn writing_refusal(fault: WriteFault) -> Refused
     ensures { result ≡ writing_refusal fault }
 {
     match fault {
-        NvFault::Locked => action_refusal(ActionCheck::Second, ResponseCode::NvLocked.anywhere()),
-        NvFault::Attributes => action_refusal(
+        WriteFault::Locked => {
+            action_refusal(ActionCheck::Second, ResponseCode::NvLocked.anywhere())
+        }
+        WriteFault::Attributes => action_refusal(
             ActionCheck::Third,
             ResponseCode::Attributes.anywhere().at_handle(2),
         ),
-        NvFault::Range => action_refusal(ActionCheck::Fourth, ResponseCode::NvRange.anywhere()),
-        NvFault::Uninitialized | NvFault::Undefined => handle_refusal(),
+        WriteFault::PastData | WriteFault::Partial | WriteFault::Exhausted => {
+            action_refusal(ActionCheck::Fourth, ResponseCode::NvRange.anywhere())
+        }
+        WriteFault::Undefined => handle_refusal(),
     }
 }
 
 /// The refusal of a lock.
-pub fn lock_refusal(fault: NvFault) -> Refused
+pub fn lock_refusal(fault: LockFault) -> Refused
     ensures { result ≡ lock_refusal fault }
 {
     match fault {
-        NvFault::Attributes => action_refusal(
+        LockFault::Attributes => action_refusal(
             ActionCheck::Second,
             ResponseCode::Attributes.anywhere().at_handle(2),
         ),
-        _ => handle_refusal(),
+        LockFault::Undefined => handle_refusal(),
     }
 }

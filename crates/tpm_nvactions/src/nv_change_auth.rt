@@ -7,13 +7,12 @@ ghost use Rattle.tpm_actions_base.specs.Request.{request_of};
 ghost use Rattle.tpm_actions_base.specs.Rows.{Acts};
 ghost use Rattle.tpm_nvactions.specs.NvChangeAuth.{nv_change_auth_row};
 
-use crate::access::lock_refusal;
 use tpm_actions_base::answer::Answer;
 use tpm_actions_base::call::Call;
 use tpm_actions_base::reading::{end, parameter};
 use tpm_actions_base::refusals::{handle_refusal, parameter_refusal};
 use tpm_bytes::Cursor;
-use tpm_nv::Indices;
+use tpm_nv::{Indices, Undefined};
 use tpm_record::Keep;
 use tpm_types::{ActionCheck, AuthValue, Refused, ResponseCode};
 
@@ -41,6 +40,6 @@ pub fn nv_change_auth<K: Keep>(
     }
     match keep.nv_mut().change_auth(handle, value) {
         Ok(()) => Ok(()),
-        Err(fault) => Err(lock_refusal(fault)),
+        Err(Undefined) => Err(handle_refusal()),
     }
 }

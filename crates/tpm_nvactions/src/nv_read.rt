@@ -49,7 +49,7 @@ pub fn nv_read<K: Keep>(keep: &mut K, call: &Call, answer: &mut Answer) -> Resul
     }
     match keep.nv().read(target.handle, asked.offset, asked.size) {
         Ok(bytes) => {
-            let _ = answer.parameters.put_sized(bytes);
+            answer.parameters.append_sized(bytes);
             Ok(())
         }
         Err(_) => Err(action_refusal(ActionCheck::Fifth, ResponseCode::NvRange.anywhere())),

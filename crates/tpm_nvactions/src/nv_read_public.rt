@@ -32,9 +32,11 @@ pub fn nv_read_public<K: Keep>(
         return Err(handle_refusal());
     };
     end(&Cursor::new(call.parameters))?;
-    let _ = answer.parameters.put_sized(head.public.text().as_slice());
-    let _ = answer
+    answer
         .parameters
-        .put_sized(tpm_name::of_nv(&head.public).as_slice());
+        .append_sized(head.public.text().as_slice());
+    answer
+        .parameters
+        .append_sized(tpm_name::of_nv(&head.public).as_slice());
     Ok(())
 }

@@ -12,11 +12,11 @@ use Rattle.tpm_types_object.specs.declared.public.ObjectType.{ObjectType}
 use Rattle.tpm_types.specs.declared.rc.Rc.{Rc}
 use Rattle.tpm_types.specs.declared.rc.ResponseCode.TheVariants as code
 use Rattle.tpm_types.specs.Buffer.{buffer_at, or_sized_rc}
-use Rattle.tpm_types_object.specs.Filled.{filled_by, or_size}
+use Rattle.tpm_types.specs.Filled.{filled_by, or_size}
 use Rattle.tpm_types_object.specs.Public.{object_type_at, object_type_named}
 use Rattle.tpm_types.specs.Rc.{plain}
 use Rattle.tpm_types_object.specs.Sensitive.{sensitive_at}
-use Rattle.tpm_types_object.proofs.FilledLaws.{or_size_ok}
+use Rattle.tpm_types.proofs.FilledLaws.{or_size_ok}
 use Rattle.tpm_types.proofs.SelectionLaws.{is_equal}
 
 -- it takes no more than this many bytes

@@ -15,7 +15,7 @@ use Rattle.tpm_mac.specs.Digest.{digest_size}
 use Rattle.tpm_mac.specs.declared.algorithm.HashAlg.{HashAlg}
 use Rattle.tpm_mac.specs.declared.algorithm.HashAlg.TheVariants.{Sha1, Sha256}
 use Rattle.tpm_name.specs.ObjectName.{object_name}
-use Rattle.tpm_types_object.specs.Filled.{filled_by}
+use Rattle.tpm_types.specs.Filled.{filled_by}
 use Rattle.tpm_types_object.specs.Public.{object_type, object_type_number}
 use Rattle.tpm_types_object.specs.Sensitive.{IsSensitive, sensitive_at, sensitive_text}
 use Rattle.tpm_types_object.specs.declared.public.ObjectType.{ObjectType}

@@ -5,9 +5,9 @@ ghost use Rattle.std.specs.Prelude.{◌≡◌};
 ghost use Rattle.tpm_name.specs.ObjectName.{object_name};
 ghost use Rattle.tpm_object.specs.Object.{are_of_cipher, is_cipher, is_keyed_hash, is_storage_parent, loaded_object};
 
+use tpm_containers::{Kinded, Sizes};
 use tpm_mac::HashAlg;
 use tpm_name::Name;
-use tpm_slots::{Kinded, Sizes};
 use tpm_types::{AuthValue, Handle, HierarchyHandle, Octets, SENSITIVE_LIMIT};
 use tpm_types_object::{ObjectAttribute, ObjectAttributes, Public, PublicParameters, Sensitive};
 

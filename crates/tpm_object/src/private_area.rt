@@ -14,7 +14,7 @@ ghost use Rattle.tpm_types_object.specs.declared.sensitive.Sensitive.{Sensitive}
 use crate::object::Object;
 use arrayvec::ArrayVec;
 use tpm_aes::Aes128;
-use tpm_bytes::{Cursor, Sink};
+use tpm_bytes::{Cursor, Sink, append};
 use tpm_mac::{Digest, hmac_parts, kdfa};
 use tpm_name::Name;
 use tpm_types::bytes_fit;
@@ -64,7 +64,7 @@ fn integrity_key(parent: &Object) -> ArrayVec<u8, 32>
     let out = &mut key[..alg.size()];
     kdfa(alg, seed, INTEGRITY_LABEL, &[], &[], out);
     let mut bytes = ArrayVec::new();
-    let _ = bytes.try_extend_from_slice(&key[..alg.size()]);
+    append(&mut bytes, &key[..alg.size()]);
     bytes
 }
 
@@ -93,7 +93,7 @@ fn encrypted_area(
     ensures { result.items ≡ encrypted_area parent.now name.now iv.now sensitive.now }
 {
     let mut text: Sink<AREA_LIMIT> = Sink::new();
-    let _ = text.put_sized(sensitive.text().as_slice());
+    text.append_sized(sensitive.text().as_slice());
     let mut bytes = text.into_bytes();
     Aes128::new(&storage_key(parent, name)).cfb_encrypt(iv, bytes.as_mut_slice());
     bytes
@@ -105,8 +105,8 @@ fn protected_text(parent: &Object, name: &Name, sensitive: &Sensitive, iv: &[u8;
 {
     let encrypted = encrypted_area(parent, name, sensitive, iv);
     let mut text = Sink::new();
-    let _ = text.put_sized(iv);
-    let _ = text.put(encrypted.as_slice());
+    text.append_sized(iv);
+    text.append(encrypted.as_slice());
     text
 }
 
@@ -151,8 +151,8 @@ pub fn wrap_named(parent: &Object, name: &Name, sensitive: &Sensitive, iv: &[u8;
     let protected = protected_text(parent, name, sensitive, iv);
     let integrity = integrity(parent, name, protected.as_slice());
     let mut text = Sink::new();
-    let _ = text.put_sized(integrity.as_slice());
-    let _ = text.put(protected.as_slice());
+    text.append_sized(integrity.as_slice());
+    text.append(protected.as_slice());
     text
 }
 
@@ -198,7 +198,7 @@ fn decrypted(parent: &Object, name: &Name, iv: &[u8; 16], cipher: &[u8]) -> Arra
         ≡ cipher.now }
 {
     let mut bytes = ArrayVec::new();
-    let _ = bytes.try_extend_from_slice(cipher);
+    append(&mut bytes, cipher);
     Aes128::new(&storage_key(parent, name)).cfb_decrypt(iv, bytes.as_mut_slice());
     bytes
 }

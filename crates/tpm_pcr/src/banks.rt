@@ -19,6 +19,7 @@ ghost use Rattle.tpm_pcr.specs.Saved.{restored_in, saved_of};
 use crate::saved::SavedPcrs;
 use arrayvec::ArrayVec;
 use std::marker::Model;
+use tpm_bytes::append;
 use tpm_mac::{Digest, HashAlg, Hasher};
 use tpm_types::{BankSelection, DigestList, PCR_COUNT, PcrIndex, PcrSelect, PcrSelection};
 
@@ -113,10 +114,10 @@ impl Banks {
     {
         let number = usize::from(pcr.number());
         let mut value = Digest::new();
-        let _ = match bank {
-            HashAlg::Sha1 => value.try_extend_from_slice(&self.sha1[number]),
-            HashAlg::Sha256 => value.try_extend_from_slice(&self.sha256[number]),
-        };
+        match bank {
+            HashAlg::Sha1 => append(&mut value, &self.sha1[number]),
+            HashAlg::Sha256 => append(&mut value, &self.sha256[number]),
+        }
         value
     }
 }

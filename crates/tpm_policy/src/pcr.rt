@@ -59,7 +59,7 @@ impl PolicyState {
             ++ taken_digest trial (pcr_parts about.now))) }
     {
         let mut selection: Sink<100> = Sink::new();
-        let _ = about.selection.write(&mut selection);
+        about.selection.append_to(&mut selection);
         let code = CommandCode::PolicyPcr.number().to_be_bytes();
         let (digest, taken) = (self.digest.as_slice(), about.taken(trial));
         digest_parts(hash, &[digest, &code, selection.as_slice(), taken])

@@ -6,7 +6,7 @@ ghost use Rattle.tpm_mac.specs.Digest.{digest_size};
 
 use arrayvec::ArrayVec;
 use std::marker::Model;
-use tpm_bytes::copied;
+use tpm_bytes::{append, copied};
 use tpm_mac::{Digest, HashAlg};
 
 /// What a policy demands in addition to its digest.
@@ -65,7 +65,7 @@ fn zeros(hash: HashAlg) -> Digest
     ensures { result.items ≡ replicate (digest_size hash) 0 }
 {
     let mut digest = ArrayVec::new();
-    let _ = digest.try_extend_from_slice(hash.zeros());
+    append(&mut digest, hash.zeros());
     digest
 }
 

@@ -4,9 +4,9 @@ use Rattle.std.specs.Prelude.{IfSome, map, option_and_then, slice_set}
 use Rattle.std.proofs.lemmas.List.Sums.{sum_by-cons}
 use Rattle.tpm_object.specs.Object.{transient_byte}
 use Rattle.tpm_object.specs.declared.object.Object.{Object}
-use Rattle.tpm_slots.specs.Numbered.{at_number, if_of_kind, kind_of, place_of}
-use Rattle.tpm_slots.specs.Slots.{AreAll, at_place, taken_count}
-use Rattle.tpm_slots.proofs.SlotLaws.{counted}
+use Rattle.tpm_containers.specs.Numbered.{at_number, if_of_kind, kind_of, place_of}
+use Rattle.tpm_containers.specs.Slots.{AreAll, at_place, taken_count}
+use Rattle.tpm_containers.proofs.SlotLaws.{counted}
 use Rattle.tpm_record.specs.Clear.{ClearingLaws, cleared_objects, cleared_place, is_cleared, is_place_cleared}
 
 -- the first ones are cleared

@@ -4,10 +4,10 @@
 use Rattle.tpm_types.specs.Limits.{object_limit, persistent_limit}
 use Rattle.std.specs.Prelude.{◌≡◌, ℕ, zero, suc, ◌&&◌, nat_le, Bool, is_some, if◌then◌else◌, List, Option, Some, None, option_map, Result}
 use Rattle.tpm_object.specs.declared.object.Object.{Object}
-use Rattle.tpm_slots.specs.Numbered.{number_of}
-use Rattle.tpm_slots.specs.declared.slots.SlotFault.{SlotFault}
-use Rattle.tpm_sorted_map.specs.SortedMap.{PutsKey}
-use Rattle.tpm_sorted_map.specs.declared.sorted_map.KeyFault.{KeyFault}
+use Rattle.tpm_containers.specs.Numbered.{number_of}
+use Rattle.tpm_containers.specs.declared.slots.SlotFault.{SlotFault}
+use Rattle.tpm_containers.specs.SortedMap.{PutsKey}
+use Rattle.tpm_containers.specs.declared.sorted_map.KeyFault.{KeyFault}
 use Rattle.tpm_types.specs.Handle.{is_persistent}
 use Rattle.tpm_types.specs.declared.handle.Handle.{Handle}
 use Rattle.tpm_record.specs.Objects.{Adds, object_at, object_handle, without_object}

@@ -2,11 +2,11 @@
 -- endorsement hierarchy are gone. TPM 2.0 Library, Part 3, section 24.6. What it does to the
 -- hierarchies stands in Hierarchy, to NV indices in tpm_nv/Clear.
 use Rattle.std.specs.Prelude.{◌≡◌, ◌≤◌, ℕ, Bool, true, false, not, List, Option, Some, None, map, if◌then◌else◌}
-use Rattle.tpm_sorted_map.specs.SortedMap.{Entries, kept_entries}
+use Rattle.tpm_containers.specs.SortedMap.{Entries, kept_entries}
 use Rattle.tpm_object.specs.Object.{transient_byte}
 use Rattle.tpm_object.specs.declared.object.Object.{Object}
-use Rattle.tpm_slots.specs.Numbered.{at_number}
-use Rattle.tpm_slots.specs.Slots.{taken_count}
+use Rattle.tpm_containers.specs.Numbered.{at_number}
+use Rattle.tpm_containers.specs.Slots.{taken_count}
 use Rattle.tpm_types.specs.declared.handle.HierarchyHandle.{HierarchyHandle}
 use Rattle.tpm_types.specs.declared.handle.HierarchyHandle.TheVariants as hierarchy
 

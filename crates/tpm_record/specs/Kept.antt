@@ -1,6 +1,6 @@
 -- The record that is kept in containers of any kind.
 use Rattle.std.specs.Prelude.{List, Option}
-use Rattle.tpm_sorted_map.specs.SortedMap.{Entries}
+use Rattle.tpm_containers.specs.SortedMap.{Entries}
 use Rattle.tpm_nv.specs.Index.{NvContents}
 use Rattle.tpm_object.specs.declared.object.Object.{Object}
 use Rattle.tpm_session.specs.declared.session.Session.{Session}

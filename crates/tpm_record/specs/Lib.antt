@@ -8,6 +8,7 @@ pub mod Tick
 pub mod Cycle
 pub mod Clear
 pub mod Entity
+pub mod Resolved
 pub mod Kept
 pub use Rattle.tpm_lockout.specs.Lockout
 pub use Rattle.tpm_lockout.specs.Tries
@@ -18,6 +19,6 @@ pub use Rattle.tpm_pcr.specs.Saved as SavedPcrs
 pub use Rattle.tpm_session.specs.Sessions
 pub use Rattle.tpm_types_name.specs.Name
 pub use Rattle.tpm_object.specs.Object
-pub use Rattle.tpm_slots.specs.Numbered
-pub use Rattle.tpm_sorted_map.specs.SortedMap
+pub use Rattle.tpm_containers.specs.Numbered
+pub use Rattle.tpm_containers.specs.SortedMap
 pub mod AnyObject

@@ -4,10 +4,10 @@
 use Rattle.std.specs.Prelude.{◌≡◌, ℕ, Bool, true, List, Option, Some, option_map, Result, Ok, Err, None, slice_set}
 use Rattle.tpm_object.specs.Object.{transient_byte}
 use Rattle.tpm_object.specs.declared.object.Object.{Object}
-use Rattle.tpm_slots.specs.Numbered.{at_number, number_of, without_number}
-use Rattle.tpm_slots.specs.Slots.{lowest_free}
-use Rattle.tpm_slots.specs.declared.slots.SlotFault.{SlotFault}
-use Rattle.tpm_slots.specs.declared.slots.SlotFault.TheVariants.{Full, NoMemory}
+use Rattle.tpm_containers.specs.Numbered.{at_number, number_of, without_number}
+use Rattle.tpm_containers.specs.Slots.{lowest_free}
+use Rattle.tpm_containers.specs.declared.slots.SlotFault.{SlotFault}
+use Rattle.tpm_containers.specs.declared.slots.SlotFault.TheVariants.{Full, NoMemory}
 use Rattle.tpm_types.specs.declared.handle.Handle.{Handle}
 use Rattle.tpm_record.specs.declared.objects.Objects.{Objects}
 

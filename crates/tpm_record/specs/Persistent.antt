@@ -3,7 +3,7 @@
 -- (TPM_HT_PERSISTENT: a handle whose highest byte is 81).
 use Rattle.tpm_types.specs.Limits.{persistent_limit}
 use Rattle.std.specs.Prelude.{◌≡◌, ℕ, ◌≤◌, Bool, true, false, [], length, Option}
-use Rattle.tpm_sorted_map.specs.SortedMap.{AreEach, Ascends, Entries, at_key, key_from, with_key, without_key}
+use Rattle.tpm_containers.specs.SortedMap.{AreEach, Ascends, Entries, at_key, key_from, with_key, without_key}
 use Rattle.tpm_object.specs.Object.{IsObject}
 use Rattle.tpm_object.specs.declared.object.Object.{Object}
 use Rattle.tpm_types.specs.Handle.{is_persistent, numbered}

@@ -10,9 +10,8 @@ ghost use Rattle.tpm_types.specs.Handle.{is_persistent};
 
 use crate::keep::Keep;
 use crate::persistent::PersistentObjects;
+use tpm_containers::{KeyFault, SlotFault, numbered};
 use tpm_object::{Object, TRANSIENT_BYTE};
-use tpm_slots::{SlotFault, numbered};
-use tpm_sorted_map::KeyFault;
 use tpm_types::{Handle, OBJECT_LIMIT};
 
 /// Adds a transient object under the lowest free handle, which it gives.

@@ -1,12 +1,11 @@
 //! What TPM2_Clear does to objects, transient and persistent.
 
 ghost use Rattle.std.specs.Prelude.{◌≡◌, None, if◌then◌else◌, option_copied, slice_set};
-ghost use Rattle.tpm_slots.specs.Slots.{at_place};
+ghost use Rattle.tpm_containers.specs.Slots.{at_place};
 ghost use Rattle.tpm_record.specs.Clear.{cleared_objects, is_cleared, is_place_cleared};
 
+use tpm_containers::{Choice, Slots};
 use tpm_object::Object;
-use tpm_slots::Slots;
-use tpm_sorted_map::Choice;
 use tpm_types::{HierarchyHandle, OBJECT_LIMIT};
 
 /// Whether a hierarchy is cleared.
@@ -59,8 +58,8 @@ impl Choice<Object> for Outlasting {
 pub(crate) fn clear_places<O: Slots<Object, OBJECT_LIMIT>>(places: &mut O)
     ensures { O.places places.new ≡ cleared_objects (O.places places.old) }
 {
-    let _ = places.get(8);
-    for place in 0..8 {
+    let _ = places.get(OBJECT_LIMIT);
+    for place in 0..OBJECT_LIMIT {
         clear_place(places, place);
     }
 }

@@ -18,10 +18,10 @@ use crate::objects::Objects;
 use crate::persistent::PersistentObjects;
 use std::alloc::Global;
 use tpm_bytes::NoMemory;
+use tpm_containers::Slots;
 use tpm_nv::Indices;
 use tpm_object::Object;
 use tpm_session::{Session, Sessions};
-use tpm_slots::Slots;
 use tpm_types::{OBJECT_LIMIT, SESSION_LIMIT};
 
 /// A way of keeping the device's state, which is seen as the record that it stands for.

@@ -9,10 +9,10 @@ use crate::objects::Objects;
 use crate::persistent::{ListObjects, PersistentObjects, SlotObjects};
 use std::alloc::Global;
 use tpm_bytes::NoMemory;
+use tpm_containers::{FixedSlots, ListSlots, Slots};
 use tpm_nv::{Indices, ListIndices, SlotIndices};
 use tpm_object::Object;
 use tpm_session::{Session, Sessions};
-use tpm_slots::{FixedSlots, ListSlots, Slots};
 use tpm_types::{OBJECT_LIMIT, SESSION_LIMIT};
 
 /// The record, with its sessions, its objects, transient and persistent, and its NV indices in

@@ -5,10 +5,10 @@ ghost use Rattle.std.specs.Prelude.{◌≡◌, false};
 use crate::keep::Keep;
 use crate::kept::SlotKeep;
 use crate::persistent::PersistentObjects;
+use tpm_containers::Slots;
 use tpm_nv::Indices;
 use tpm_object::Object;
 use tpm_session::Session;
-use tpm_slots::Slots;
 use tpm_types::{OBJECT_LIMIT, SESSION_LIMIT};
 
 /// A record in fixed places is never refused memory, neither where it grows nor where it is made,

@@ -10,8 +10,8 @@
 //! tpm_nv's.
 //! [`tick::tick`] and [`cycle::power_cycle`] are what happens to a record whatever the command,
 //! [`entity`] what a handle's entity is. It stands on `tpm_lockout`, `tpm_pcr`, `tpm_session`,
-//! `tpm_object` and `tpm_nv`, on `tpm_slots` for the places of sessions and transient objects, and
-//! on `tpm_sorted_map` for the map of persistent ones. It promises for each keep the equations of
+//! `tpm_object` and `tpm_nv`, on `tpm_containers` for the places of sessions and transient objects, and
+//! on `tpm_containers` for the map of persistent ones. It promises for each keep the equations of
 //! `specs/` on its record.
 
 pub mod any_object;
@@ -24,6 +24,7 @@ pub mod keep;
 pub mod kept;
 pub mod laws;
 pub mod objects;
+pub mod of_handle;
 pub mod persistent;
 pub mod record;
 pub mod saved;
@@ -31,14 +32,12 @@ pub mod tick;
 
 pub use any_object::{add_object, add_persistent, next_object, remove_object};
 pub use cycle::power_cycle;
-pub use entity::{
-    Means, absence_rc, auth_value_of, copied_auth_value, is_available, is_present, name_of,
-    object_of, policy_of, protection_of, written_of,
-};
+pub use entity::{Entity, Means, Resolved, absence_rc, object_of, resolve};
 pub use fixed::Fixed;
 pub use hierarchy::{Hierarchies, Secrets};
 pub use keep::Keep;
 pub use kept::{ListKeep, SlotKeep};
+pub use of_handle::{auth_value_of, copied_auth_value, is_present, name_of, protection_of};
 pub use persistent::PersistentObjects;
 pub use record::read_widths;
 pub use saved::{Saved, SavedKind};

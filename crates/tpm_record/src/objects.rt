@@ -4,16 +4,16 @@
 ghost use Rattle.tpm_types.specs.Limits.{object_limit};
 ghost use Rattle.std.specs.Prelude.{◌≡◌, ◌<◌, is_some, length, option_copied};
 ghost use Rattle.tpm_object.specs.Object.{IsObject, transient_byte};
-ghost use Rattle.tpm_slots.specs.Numbered.{MapLaws};
-ghost use Rattle.tpm_slots.specs.Slots.{AreAll};
+ghost use Rattle.tpm_containers.specs.Numbered.{MapLaws};
+ghost use Rattle.tpm_containers.specs.Slots.{AreAll};
 ghost use Rattle.tpm_record.specs.Clear.{ClearingLaws, cleared_objects};
 ghost use Rattle.tpm_record.specs.Objects.{Adds, next_handle, object_at, object_handle, objects_of, without_object};
 ghost use Rattle.tpm_record.specs.Record.{no_objects};
 
 use crate::clear::clear_places;
 use std::alloc::Global;
+use tpm_containers::{SlotFault, Slots, numbered};
 use tpm_object::{Object, TRANSIENT_BYTE};
-use tpm_slots::{SlotFault, Slots, numbered};
 use tpm_types::{Handle, OBJECT_LIMIT};
 
 /// The transient objects of a device, at most [`OBJECT_LIMIT`], by their handles. Their places are

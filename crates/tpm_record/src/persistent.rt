@@ -3,7 +3,7 @@
 
 ghost use Rattle.tpm_types.specs.Limits.{persistent_limit};
 ghost use Rattle.std.specs.Prelude.{◌≡◌, Bool, is_some, length, option_copied, true};
-ghost use Rattle.tpm_sorted_map.specs.SortedMap.{Entries, PutsKey};
+ghost use Rattle.tpm_containers.specs.SortedMap.{Entries, PutsKey};
 ghost use Rattle.tpm_object.specs.declared.object.Object.{Object as ObjectParts};
 ghost use Rattle.tpm_record.specs.Clear.{cleared_persistent};
 ghost use Rattle.tpm_record.specs.Persistent.{ArePersistent, can_persist, next_persistent, no_persistent, persistent_at, without_persistent};
@@ -12,9 +12,8 @@ ghost use Rattle.tpm_types.specs.Handle.{is_persistent};
 use crate::clear::Outlasting;
 use std::alloc::Global;
 use std::marker::Model;
+use tpm_containers::{KeyFault, ListMap, Sizes, SlotMap, SortedMap};
 use tpm_object::Object;
-use tpm_slots::Sizes;
-use tpm_sorted_map::{KeyFault, ListMap, SlotMap, SortedMap};
 use tpm_types::{Handle, PERSISTENT_LIMIT};
 
 /// The persistent objects of a device by their handles, at most [`PERSISTENT_LIMIT`]. Who may make
@@ -82,7 +81,7 @@ pub type ListObjects = StoredObjects<ListMap<Object, PERSISTENT_LIMIT>>;
 pub type SlotObjects = StoredObjects<SlotMap<Object, PERSISTENT_LIMIT>>;
 
 impl<P: SortedMap<Object, PERSISTENT_LIMIT>> Model for StoredObjects<P> {
-    ghost use Rattle.tpm_sorted_map.specs.SortedMap.{AreEach, Entries};
+    ghost use Rattle.tpm_containers.specs.SortedMap.{AreEach, Entries};
     ghost use Rattle.tpm_object.specs.declared.object.Object.{Object as ObjectParts};
     ghost use Rattle.tpm_record.specs.Persistent.{IsPersistent};
 
@@ -120,18 +119,18 @@ impl<P: SortedMap<Object, PERSISTENT_LIMIT>> PersistentObjects for StoredObjects
         self.objects.next(handle.number)
     }
 
-    #[tactic(auto, using(tpm_sorted_map::proofs::SortedMapLaws::put_each))]
+    #[tactic(auto, using(tpm_containers::proofs::SortedMapLaws::put_each))]
     fn add(&mut self, handle: Handle, object: Object) -> Result<(), KeyFault> {
         object.read_sizes();
         self.objects.insert(handle.number, object)
     }
 
-    #[tactic(auto, using(tpm_sorted_map::proofs::SortedMapLaws::removed_each))]
+    #[tactic(auto, using(tpm_containers::proofs::SortedMapLaws::removed_each))]
     fn remove(&mut self, handle: Handle) -> bool {
         self.objects.remove(handle.number)
     }
 
-    #[tactic(auto, using(tpm_sorted_map::proofs::SortedMapLaws::kept_each))]
+    #[tactic(auto, using(tpm_containers::proofs::SortedMapLaws::kept_each))]
     fn clear_hierarchies(&mut self) {
         self.objects.retain::<Outlasting>();
     }

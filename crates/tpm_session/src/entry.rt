@@ -10,7 +10,7 @@ ghost use Rattle.tpm_session.specs.EntryText.{entry_text};
 use crate::session::Session;
 use arrayvec::ArrayVec;
 use std::marker::Model;
-use tpm_bytes::{Full, Sink};
+use tpm_bytes::{Full, Sink, append};
 use tpm_mac::{Digest, HashAlg, hmac_parts};
 use tpm_types::SessionAttributes;
 
@@ -92,12 +92,12 @@ impl<'a> EntryText<'a> {
         if !self.fits(N - sink.len()) {
             return Err(Full);
         }
-        let _ = sink.put(self.hash);
-        let _ = sink.put(self.newer);
-        let _ = sink.put(self.older);
-        let _ = sink.put(self.decrypt);
-        let _ = sink.put(self.encrypt);
-        let _ = sink.put(&[self.attributes.octet]);
+        sink.append(self.hash);
+        sink.append(self.newer);
+        sink.append(self.older);
+        sink.append(self.decrypt);
+        sink.append(self.encrypt);
+        sink.append(&[self.attributes.octet]);
         Ok(())
     }
 
@@ -126,8 +126,8 @@ impl Session {
         ensures { result.items ≡ entry_key self.now auth_value.now }
     {
         let mut key = ArrayVec::new();
-        let _ = key.try_extend_from_slice(self.key.as_slice());
-        let _ = key.try_extend_from_slice(auth_value);
+        append(&mut key, self.key.as_slice());
+        append(&mut key, auth_value);
         key
     }
 

@@ -4,10 +4,10 @@
 //! by their handles, the HMAC of an entry by a session, and parameters that a session encrypts.
 //!
 //! It stands on `tpm_policy` for the state of a policy session, on `tpm_mac` and `tpm_aes` for
-//! HMACs, keys and encryption, on `tpm_types_name` for the Names in a command's hash, on `tpm_slots` for
+//! HMACs, keys and encryption, on `tpm_types_name` for the Names in a command's hash, on `tpm_containers` for
 //! the places of sessions, and on `tpm_types`. Contracts see the sessions of
 //! [`sessions::Sessions`] as places, each free or with a session, whatever keeps them
-//! (`tpm_slots::slots::Slots`). A refused start changes nothing. Only the start of a session may
+//! (`tpm_containers::slots::Slots`). A refused start changes nothing. Only the start of a session may
 //! take memory, and none does where the places are fixed.
 
 pub mod encryption;

@@ -3,7 +3,7 @@
 
 ghost use Rattle.tpm_types.specs.Limits.{session_limit};
 ghost use Rattle.std.specs.Prelude.{◌≡◌, ◌<◌, is_some, length, option_copied};
-ghost use Rattle.tpm_slots.specs.Slots.{AreAll, at_place, free};
+ghost use Rattle.tpm_containers.specs.Slots.{AreAll, at_place, free};
 ghost use Rattle.tpm_session.specs.Session.{IsSession};
 ghost use Rattle.tpm_session.specs.Sessions.{Starts, flushed, handle_of, places_of, rolled, session_at, started_session, with_session_policy};
 
@@ -11,9 +11,9 @@ use crate::key::{SessionKey, is_nonce_size};
 use crate::nonce::Nonce;
 use crate::session::{Binding, Session};
 use std::alloc::Global;
+use tpm_containers::{SlotFault, Slots, numbered};
 use tpm_mac::HashAlg;
 use tpm_policy::PolicyState;
-use tpm_slots::{SlotFault, Slots, numbered};
 use tpm_types::{Handle, SESSION_LIMIT, SessionType, SymmetricDefinition};
 
 /// With what a session starts (TPM 2.0 Library, Part 3, section 11.1).

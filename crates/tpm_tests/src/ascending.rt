@@ -2,7 +2,7 @@
 
 use super::comparison::check;
 use std::process::Abort;
-use tpm_sorted_map::{KeyFault, ListMap, SlotMap, SortedMap};
+use tpm_containers::{KeyFault, ListMap, SlotMap, SortedMap};
 
 /// Writes a value under a key, and tells whether it is there.
 fn set<M: SortedMap<u32, 3>>(map: &mut M, key: u32, value: u32) -> bool {

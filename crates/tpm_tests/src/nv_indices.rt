@@ -6,8 +6,8 @@ use std::alloc::Global;
 use std::process::Abort;
 use tpm_bytes::{Cursor, Sink};
 use tpm_nv::{
-    DefineFault, DefinitionFault, Indices, ListIndices, NvFault, SlotIndices, auth,
-    check_definition, public,
+    DefineFault, DefinitionFault, Indices, ListIndices, LockFault, ReadFault, SlotIndices,
+    WriteFault, auth, check_definition, public,
 };
 use tpm_types::{AuthValue, Handle};
 use tpm_types_nv::NvPublic;
@@ -77,7 +77,7 @@ fn is_read<N: Indices>(indices: &N, handle: Handle, size: u16, bytes: &[u8]) -> 
 }
 
 /// Why the first byte of an index is not read.
-fn read_fault<N: Indices>(indices: &N, handle: Handle) -> Option<NvFault> {
+fn read_fault<N: Indices>(indices: &N, handle: Handle) -> Option<ReadFault> {
     indices.read(handle, 0, 1).err()
 }
 
@@ -124,7 +124,7 @@ fn ordinary<N: Indices>(rt: &impl Abort, mut indices: N) {
     check(
         rt,
         read_fault(&indices, FIRST),
-        Some(NvFault::Uninitialized),
+        Some(ReadFault::Uninitialized),
     );
     check(rt, indices.write(FIRST, 2, b"\x5a"), Ok(()));
     check(
@@ -135,11 +135,15 @@ fn ordinary<N: Indices>(rt: &impl Abort, mut indices: N) {
     check(
         rt,
         indices.write(FIRST, 1, b"abcdefgh"),
-        Err(NvFault::Range),
+        Err(WriteFault::PastData),
     );
-    check(rt, indices.lock_write(FIRST), Err(NvFault::Attributes));
-    check(rt, indices.increment(FIRST), Err(NvFault::Attributes));
-    check(rt, indices.write(SECOND, 0, b"a"), Err(NvFault::Undefined));
+    check(rt, indices.lock_write(FIRST), Err(LockFault::Attributes));
+    check(rt, indices.increment(FIRST), Err(WriteFault::Attributes));
+    check(
+        rt,
+        indices.write(SECOND, 0, b"a"),
+        Err(WriteFault::Undefined),
+    );
     check(rt, has_auth(&indices, FIRST, b"a"), true);
     check(rt, indices.change_auth(FIRST, AuthValue::of(b"bc")), Ok(()));
     check(rt, has_auth(&indices, FIRST, b"bc"), true);
@@ -172,14 +176,14 @@ fn counters<N: Indices>(rt: &impl Abort, mut indices: N) {
         true,
     );
     check(rt, indices.lock_write(FIRST), Ok(()));
-    check(rt, indices.set_bits(FIRST, 1), Err(NvFault::Locked));
+    check(rt, indices.set_bits(FIRST, 1), Err(WriteFault::Locked));
     check(rt, indices.lock_read(SECOND), Ok(()));
-    check(rt, read_fault(&indices, SECOND), Some(NvFault::Locked));
+    check(rt, read_fault(&indices, SECOND), Some(ReadFault::Locked));
     indices.startup();
     check(
         rt,
         read_fault(&indices, FIRST),
-        Some(NvFault::Uninitialized),
+        Some(ReadFault::Uninitialized),
     );
     check(rt, indices.set_bits(FIRST, 1), Ok(()));
     check(

@@ -7,13 +7,13 @@ use super::comparison::check;
 use std::alloc::Global;
 use std::process::Abort;
 use tpm_bytes::Sink;
+use tpm_containers::{FixedSlots, ListSlots, Slots};
 use tpm_mac::HashAlg;
 use tpm_policy::PolicyState;
 use tpm_session::{
     Binding, CommandText, Nonce, Protection, Session, SessionKey, Sessions, Start, StartFault,
     SymmetricFault, command_hash, is_nonce_size, response_hash,
 };
-use tpm_slots::{FixedSlots, ListSlots, Slots};
 use tpm_types::{
     AuthValue, Handle, SESSION_LIMIT, SessionAttributes, SessionType, SymmetricDefinition,
 };

@@ -9,8 +9,7 @@ use Rattle.tpm_types_command.specs.declared.command_code.CommandCode.{CommandCod
 use Rattle.tpm_types_command.specs.declared.shape.ParameterKind.{ParameterKind}
 use Rattle.tpm_types_command.specs.AuthEntry.{Entry}
 use Rattle.tpm_types_command.specs.Command.{Whole, command_size, command_text}
-use Rattle.tpm_types_command.specs.CommandCode.{handle_count, shape_of}
-use Rattle.tpm_types_command.specs.CommandName.{code_called}
+use Rattle.tpm_types_command.specs.CommandCode.{code_called, handle_count, shape_of}
 use Rattle.tpm_text.specs.declared.fault.AsmFault.{AsmFault}
 use Rattle.tpm_text.specs.declared.fault.AsmFault.TheVariants as fault
 use Rattle.tpm_text.specs.declared.fault.TokenFault.{TokenFault}

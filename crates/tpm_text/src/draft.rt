@@ -141,8 +141,8 @@ fn header_of(tag: Tag, size: u32, code: CommandCode) -> Sink<10>
     ensures ten { length result ≡ 10 }
 {
     let mut header: Sink<10> = Sink::new();
-    let _ = header.put_u16(tag.number());
-    let _ = header.put_u32(size);
-    let _ = header.put_u32(code.number());
+    header.append_u16(tag.number());
+    header.append_u32(size);
+    header.append_u32(code.number());
     header
 }

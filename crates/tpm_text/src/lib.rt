@@ -11,7 +11,7 @@
 //! line which command came from which locality, which row of the table it took, and what was
 //! answered.
 //!
-//! It stands on `tpm_types_command` for the shapes of commands, and on `tpm_machine_step` for
+//! It stands on `tpm_types_command` for the shapes of commands, and on `tpm_step` for
 //! events. Each call equals its definition in `specs/`: a line gives the buffer of the command that
 //! it spells, which is read back as that command, or its first fault.
 

@@ -63,7 +63,7 @@ fn put_bank(piece: &[u8], draft: &mut Draft) -> Result<(), TokenFault>
     let (hash, numbers) = hash_and_rest_in(piece)?;
     let select = pcrs_in(numbers)?;
     let mut text: Sink<6> = Sink::new();
-    let _ = BankSelection { hash, select }.write(&mut text);
+    BankSelection { hash, select }.append_to(&mut text);
     draft.put(text.as_slice());
     Ok(())
 }

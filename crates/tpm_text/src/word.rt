@@ -63,7 +63,7 @@ pub fn put_symmetric(word: &[u8], draft: &mut Draft) -> Result<(), TokenFault>
 {
     let definition = symmetric_in(word)?;
     let mut text: Sink<6> = Sink::new();
-    let _ = definition.write(&mut text);
+    definition.append_to(&mut text);
     draft.put(text.as_slice());
     Ok(())
 }

@@ -14,3 +14,4 @@ pub mod DigestListLaws
 pub mod Spelled
 pub mod FieldLaws
 pub mod AttributeBitsLaws
+pub mod FilledLaws

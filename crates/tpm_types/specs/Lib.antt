@@ -18,6 +18,7 @@ pub mod ActionFault
 pub mod Check
 pub mod Refused
 pub mod Buffer
+pub mod Filled
 pub mod Symmetric
 pub mod AttributeBits
 pub mod AuthValue

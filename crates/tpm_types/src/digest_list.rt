@@ -10,7 +10,7 @@ use crate::buffer::read_buffer;
 use crate::grammar::bytes_fit;
 use crate::rc::{Rc, ResponseCode};
 use arrayvec::ArrayVec;
-use tpm_bytes::{Cursor, Full, Readable, Sink, read_many};
+use tpm_bytes::{Cursor, Full, Readable, Sink, append, read_many};
 use tpm_mac::Digest;
 
 /// How many digests a list that is read has at least.
@@ -109,23 +109,34 @@ impl DigestList {
     fn text(&self) -> Sink<276>
         ensures { result ≡ digest_list_text (digests_of self.now.digests.items) }
     {
-        let digests = self.digests.as_slice();
         let mut text = Sink::new();
-        let _ = text.put_u32(digests.len() as u32);
-        write_digests(digests, &mut text);
+        self.append_to(&mut text);
         text
+    }
+
+    /// Writes the list at the end, where there is room for the longest: 276 bytes.
+    pub fn append_to<const N: usize>(&self, sink: &mut Sink<N>)
+        requires { length sink.old + 276 ≤ N }
+        ensures written { sink.new
+            ≡ sink.old ++ digest_list_text (digests_of self.now.digests.items) }
+        ensures small { length sink.new ≤ length sink.old + 276 }
+    {
+        let digests = self.digests.as_slice();
+        sink.append_u32(digests.len() as u32);
+        append_digests(digests, sink);
     }
 }
 
 ghost use Rattle.std.specs.Prelude.{◌*◌, map};
 ghost use Rattle.tpm_types.specs.DigestList.{digests_of, digests_text};
 
-fn write_digests<const N: usize>(digests: &[Digest], sink: &mut Sink<N>)
+fn append_digests<const N: usize>(digests: &[Digest], sink: &mut Sink<N>)
     requires { length sink.old + 34 * length digests.now ≤ N }
-    ensures { sink.new ≡ sink.old ++ digests_text (digests_of digests.now) }
+    ensures written { sink.new ≡ sink.old ++ digests_text (digests_of digests.now) }
+    ensures small { length sink.new ≤ length sink.old + 34 * length digests.now }
 {
     for digest in digests {
-        let _ = sink.put_sized(digest.as_slice());
+        sink.append_sized(digest.as_slice());
     }
 }
 
@@ -137,7 +148,7 @@ fn copied(listed: &[ListedDigest]) -> ArrayVec<Digest, 8>
     let mut digests = ArrayVec::new();
     for one in listed {
         let mut digest = ArrayVec::new();
-        let _ = digest.try_extend_from_slice(one.bytes);
+        append(&mut digest, one.bytes);
         digests.push(digest);
     }
     digests

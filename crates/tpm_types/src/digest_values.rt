@@ -81,13 +81,20 @@ impl DigestValue {
         ensures written { Puts N (digest_value_text self.now) sink.old result sink.new }
         ensures small { length (digest_value_text self.now) ≤ 34 }
     {
-        let digest = self.digest();
-        if N - sink.len() < 2 + digest.len() {
-            return Err(Full);
-        }
-        let _ = sink.put_u16(hash_number(self.hash()));
-        let _ = sink.put(digest);
-        Ok(())
+        let mut text: Sink<34> = Sink::new();
+        self.append_to(&mut text);
+        sink.put(text.as_slice())
+    }
+
+    /// Writes the digest at the end, where there is room for the longest: 34 bytes.
+    #[tactic(auto, unfolding(crate::specs::DigestValues::digest_value_text))]
+    pub fn append_to<const N: usize>(&self, sink: &mut Sink<N>)
+        requires { length sink.old + 34 ≤ N }
+        ensures written { sink.new ≡ sink.old ++ digest_value_text self.now }
+        ensures small { length sink.new ≤ length sink.old + 34 }
+    {
+        sink.append_u16(hash_number(self.hash()));
+        sink.append(self.digest());
     }
 }
 
@@ -170,19 +177,29 @@ impl DigestValues {
     fn text(&self) -> Sink<72>
         ensures { result ≡ digest_values_text self.now.values.items }
     {
-        let values = self.values.as_slice();
         let mut text = Sink::new();
-        let _ = text.put_u32(values.len() as u32);
-        write_values(values, &mut text);
+        self.append_to(&mut text);
         text
+    }
+
+    /// Writes the list at the end, where there is room for the longest: 72 bytes.
+    pub fn append_to<const N: usize>(&self, sink: &mut Sink<N>)
+        requires { length sink.old + 72 ≤ N }
+        ensures written { sink.new ≡ sink.old ++ digest_values_text self.now.values.items }
+        ensures small { length sink.new ≤ length sink.old + 72 }
+    {
+        let values = self.values.as_slice();
+        sink.append_u32(values.len() as u32);
+        append_values(values, sink);
     }
 }
 
-fn write_values<const N: usize>(values: &[DigestValue], sink: &mut Sink<N>)
+fn append_values<const N: usize>(values: &[DigestValue], sink: &mut Sink<N>)
     requires { length sink.old + 34 * length values.now ≤ N }
-    ensures { sink.new ≡ sink.old ++ values_text values.now }
+    ensures written { sink.new ≡ sink.old ++ values_text values.now }
+    ensures small { length sink.new ≤ length sink.old + 34 * length values.now }
 {
     for value in values {
-        let _ = value.write(sink);
+        value.append_to(sink);
     }
 }

@@ -23,6 +23,7 @@ pub mod buffer;
 pub mod check;
 pub mod digest_list;
 pub mod digest_values;
+pub mod filled;
 pub mod grammar;
 pub mod handle;
 pub mod limits;
@@ -53,6 +54,7 @@ pub use buffer::{DIGEST_LIMIT, read_buffer};
 pub use check::Check;
 pub use digest_list::DigestList;
 pub use digest_values::{DigestValue, DigestValues};
+pub use filled::read_filled;
 pub use grammar::bytes_fit;
 pub use handle::{Handle, HierarchyAuth, HierarchyHandle, SessionKind};
 pub use limits::{

@@ -68,10 +68,19 @@ impl BankSelection {
         if N - sink.len() < 6 {
             return Err(Full);
         }
-        let _ = sink.put_u16(hash_number(self.hash));
-        let _ = sink.put_u8(SELECT_SIZE);
-        let _ = sink.put(&self.select.octets());
+        self.append_to(sink);
         Ok(())
+    }
+
+    /// Writes the selection at the end, where there is room for six bytes.
+    #[tactic(auto, unfolding(crate::specs::PcrSelection::bank_text))]
+    pub fn append_to<const N: usize>(&self, sink: &mut Sink<N>)
+        requires { length sink.old + 6 ≤ N }
+        ensures { sink.new ≡ sink.old ++ bank_text self.now }
+    {
+        sink.append_u16(hash_number(self.hash));
+        sink.append_u8(SELECT_SIZE);
+        sink.append(&self.select.octets());
     }
 }
 
@@ -147,20 +156,41 @@ impl PcrSelection {
         if N - sink.len() < 4 + 6 * banks.len() {
             return Err(Full);
         }
-        let _ = sink.put_u32(banks.len() as u32);
-        write_banks(banks, sink);
+        append_selection(banks, sink);
         Ok(())
+    }
+
+    /// Writes the selection at the end, where there is room for the longest: 100 bytes.
+    pub fn append_to<const N: usize>(&self, sink: &mut Sink<N>)
+        requires { length sink.old + 100 ≤ N }
+        ensures written { sink.new ≡ sink.old ++ selection_text self.now.banks.items }
+        ensures small { length sink.new ≤ length sink.old + 100 }
+    {
+        append_selection(self.banks.as_slice(), sink);
     }
 }
 
-ghost use Rattle.tpm_types.specs.PcrSelection.{banks_text};
+ghost use Rattle.tpm_types.specs.PcrSelection.{banks_text, selection_text};
+
+/// Writes the selections after their count.
+#[tactic(auto, using(crate::proofs::BanksLemmas::writing_banks))]
+fn append_selection<const N: usize>(banks: &[BankSelection], sink: &mut Sink<N>)
+    requires few { length banks.now ≤ 16 }
+    requires room { length sink.old + (4 + 6 * length banks.now) ≤ N }
+    ensures written { sink.new ≡ sink.old ++ selection_text banks.now }
+    ensures size { length sink.new ≡ length sink.old + (4 + 6 * length banks.now) }
+{
+    sink.append_u32(banks.len() as u32);
+    append_banks(banks, sink);
+}
 
 #[tactic(auto, using(crate::proofs::BanksLemmas::writing_banks))]
-fn write_banks<const N: usize>(banks: &[BankSelection], sink: &mut Sink<N>)
+fn append_banks<const N: usize>(banks: &[BankSelection], sink: &mut Sink<N>)
     requires { length sink.old + 6 * length banks.now ≤ N }
-    ensures { sink.new ≡ sink.old ++ banks_text banks.now }
+    ensures written { sink.new ≡ sink.old ++ banks_text banks.now }
+    ensures size { length sink.new ≡ length sink.old + 6 * length banks.now }
 {
     for bank in banks {
-        let _ = bank.write(sink);
+        bank.append_to(sink);
     }
 }

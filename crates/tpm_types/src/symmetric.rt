@@ -1,7 +1,7 @@
 //! How a session encrypts parameters: not at all, by AES-128 in CFB mode, or by the exclusive or with
 //! masks (TPMT_SYM_DEF; TPM 2.0 Library, Part 2, section 11.1.6).
 
-ghost use Rattle.std.specs.Prelude.{◌≡◌, ℕ, List, ◌++◌, Ok, IfOk};
+ghost use Rattle.std.specs.Prelude.{◌≡◌, ◌+◌, ◌≤◌, ℕ, List, ◌++◌, length, Ok, IfOk};
 ghost use Rattle.tpm_bytes.specs.Reading.{Reads};
 ghost use Rattle.tpm_bytes.specs.Writing.{Puts};
 
@@ -113,15 +113,32 @@ impl SymmetricDefinition {
     }
 
     /// Writes the definition at the end, two bytes, four or six, or nothing where it does not fit.
-    #[tactic(auto, unfolding(crate::specs::Symmetric::symmetric_text))]
     pub fn write<const N: usize>(&self, sink: &mut Sink<N>) -> Result<(), Full>
         ensures { Puts N (symmetric_text self.now) sink.old result sink.new }
     {
+        sink.put(self.text())
+    }
+
+    /// Writes the definition at the end, where there is room for the longest: six bytes.
+    pub fn append_to<const N: usize>(&self, sink: &mut Sink<N>)
+        requires { length sink.old + 6 ≤ N }
+        ensures written { sink.new ≡ sink.old ++ symmetric_text self.now }
+        ensures small { length sink.new ≤ length sink.old + 6 }
+    {
+        sink.append(self.text());
+    }
+
+    /// The text of the definition.
+    #[tactic(auto, unfolding(crate::specs::Symmetric::symmetric_text))]
+    fn text(&self) -> &'static [u8]
+        ensures value { result.now ≡ symmetric_text self.now }
+        ensures small { length result.now ≤ 6 }
+    {
         match *self {
-            SymmetricDefinition::Null => sink.put_u16(0x0010),
-            SymmetricDefinition::Aes128Cfb => sink.put(b"\x00\x06\x00\x80\x00\x43"),
-            SymmetricDefinition::Xor(HashAlg::Sha1) => sink.put(b"\x00\x0a\x00\x04"),
-            SymmetricDefinition::Xor(HashAlg::Sha256) => sink.put(b"\x00\x0a\x00\x0b"),
+            SymmetricDefinition::Null => b"\x00\x10",
+            SymmetricDefinition::Aes128Cfb => b"\x00\x06\x00\x80\x00\x43",
+            SymmetricDefinition::Xor(HashAlg::Sha1) => b"\x00\x0a\x00\x04",
+            SymmetricDefinition::Xor(HashAlg::Sha256) => b"\x00\x0a\x00\x0b",
         }
     }
 }

@@ -5,7 +5,8 @@ use Rattle.std.specs.List.{find}
 use Rattle.std.proofs.lemmas.Bool.{eqb-true}
 use Rattle.tpm_types_command.specs.declared.command_code.CommandCode.{CommandCode}
 use Rattle.tpm_types_command.specs.declared.command_code.CommandCode.TheVariants as code
-use Rattle.tpm_types_command.specs.CommandCode.{all_codes, code_named, code_number}
+use Rattle.tpm_types_command.specs.CommandCode.{code_named, code_number}
+use Rattle.tpm_types_command.specs.CommandFacts.{all_codes}
 
 -- what is found passes the test
 pub found_passes : {X : Type 0} (test : X → Bool) (xs : List X) → IfSome (find test xs) (λ x. test x ≡ true)

@@ -1,14 +1,13 @@
 -- That a loop reads the entries of an authorization area one after the other, and that a loop
 -- writes them so.
 use Rattle.std.proofs.Common.{◌≡◌, ℕ, zero, suc, ◌+◌, ◌*◌, List, [], ◌∷◌, ◌++◌, ◌<◌, ◌≤◌, length, arith, map, take, get_or, append-nil, Result, Ok, Err, refl, ap, sym, subst, ◌∙◌, append_assoc, length-append}
-use Rattle.std.proofs.lemmas.Bool.{false≢true}
 use Rattle.std.proofs.lemmas.List.{take_more}
 use Rattle.std.proofs.lemmas.List.Folds.{flat_map-map}
 use Rattle.std.specs.List.{flat_map, AllByRecursion}
-use Rattle.tpm_bytes.proofs.Putting.{fits_more, written_more}
+use Rattle.tpm_bytes.proofs.Putting.{written_more}
 use Rattle.tpm_types_command.specs.declared.auth_entry.AuthEntry.{AuthEntry}
 use Rattle.tpm_bytes.specs.Reading.{◌>>=◌}
-use Rattle.tpm_types_command.specs.AuthEntry.{Entry, HasSizes, PutsEntry, entry_at, entry_of, auth_entry_text}
+use Rattle.tpm_types_command.specs.AuthEntry.{Entry, HasSizes, entry_at, entry_of, auth_entry_text}
 use Rattle.tpm_types_command.specs.AuthArea.{entries_in, entries_text}
 use Rattle.tpm_types_command.proofs.EntryLaws.{length-auth_entry_text}
 use Rattle.tpm_types.specs.declared.rc.Rc.{Rc}
@@ -88,14 +87,3 @@ small_text bytes i more entry so sizes is =
     let nonce = sizes.0 in
     let hmac = sizes.1 in
     omega (arith, length-auth_entry_text entry)
-
--- an entry that has a text is written where it fits
-entry_fits : {E : Type 0} (capacity : ℕ) (entry : Entry) (old new : List ℕ) (result : Result (Unit {0}) E) → PutsEntry capacity entry old result new → HasSizes entry → length old + length (auth_entry_text entry) ≤ capacity → new ≡ old ++ auth_entry_text entry
-entry_fits capacity entry old new (Ok x) puts sizes fits = puts.1
-entry_fits capacity entry old new (Err e) puts sizes fits = absurd (false≢true (puts.0.1 (sizes.0, sizes.1, omega (arith, length-auth_entry_text entry))))
-
-pub entry_written : {E : Type 0} (capacity : ℕ) (entries : List AuthEntry) (i : ℕ) (d : AuthEntry) (start so_far new : List ℕ) (result : Result (Unit {0}) E) → i < length entries → so_far ≡ start ++ flat_map text_in (take i entries) → AllByRecursion HasSizes (map entry_of entries) → length start + length (flat_map text_in entries) ≤ capacity → PutsEntry capacity (entry_of (get_or entries i d)) so_far result new → new ≡ start ++ flat_map text_in (take (i + 1) entries)
-entry_written capacity entries i d start so_far new result below so sizes room puts =
-    let entry = get_or entries i d in
-    let fits = fits_more text_in entries i capacity d entry start so_far below refl so room in
-    written_more text_in entries i d entry start so_far new below refl so (entry_fits capacity (entry_of entry) so_far new result puts (sizes_at entries i d sizes below) fits)

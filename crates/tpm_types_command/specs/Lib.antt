@@ -1,7 +1,8 @@
 pub mod Tag
 pub mod Shape
+pub mod Part
+pub mod CommandFacts
 pub mod CommandCode
-pub mod CommandName
 pub mod HandleArea
 pub mod AuthEntry
 pub mod AuthArea

@@ -1,7 +1,7 @@
 //! One entry of an authorization area: session, nonce, attributes, and HMAC or password
 //! (TPMS_AUTH_COMMAND; TPM 2.0 Library, Part 2, section 10.13.2).
 
-ghost use Rattle.std.specs.Prelude.{◌≡◌, ℕ, ◌<◌, List, ◌++◌, length, Ok, IfOk};
+ghost use Rattle.std.specs.Prelude.{◌≡◌, ℕ, ◌+◌, ◌≤◌, ◌<◌, List, ◌++◌, length, Ok, IfOk};
 ghost use Rattle.std.specs.Option.{SomeIff};
 ghost use Rattle.tpm_bytes.specs.Reading.{Reads};
 
@@ -89,10 +89,20 @@ impl<'a> AuthEntry<'a> {
         if N - sink.len() < 9 + nonce.len() + hmac.len() {
             return Err(Full);
         }
-        let _ = sink.put_u32(self.session.number);
-        let _ = sink.put_sized(nonce);
-        let _ = sink.put_u8(self.attributes.octet);
-        let _ = sink.put_sized(hmac);
+        self.append_to(sink);
         Ok(())
+    }
+
+    /// Writes the entry at the end, where its sizes fit their bytes, and there is room for it.
+    #[tactic(auto, using(crate::proofs::EntryLaws::entry_sizes))]
+    pub fn append_to<const N: usize>(&self, sink: &mut Sink<N>)
+        requires sizes { HasSizes (entry_of self.now) }
+        requires room { length sink.old + length (auth_entry_text (entry_of self.now)) ≤ N }
+        ensures { sink.new ≡ sink.old ++ auth_entry_text (entry_of self.now) }
+    {
+        sink.append_u32(self.session.number);
+        sink.append_sized(self.nonce);
+        sink.append_u8(self.attributes.octet);
+        sink.append_sized(self.hmac);
     }
 }

@@ -1,7 +1,7 @@
-//! The commands that are served, each with its number and its [`Shape`]: every other fact of it but
-//! its name (TPM_CC; TPM 2.0 Library, Part 2, section 6.5.2).
+//! The commands that are served, each with its facts: its number (TPM_CC; TPM 2.0 Library, Part 2,
+//! section 6.5.2), its name, and its [`Shape`], which has every other one.
 
-ghost use Rattle.std.specs.Prelude.{◌≡◌, ◌≤◌, ◌==◌, IfSome, length, true};
+ghost use Rattle.std.specs.Prelude.{◌≡◌, ◌≤◌, ◌==◌, IfSome, Some, length, true};
 
 use crate::shape::ParameterKind::{
     Buffer, DigestList, Digests, Hash, HashOrNull, NvPublic, Operation, PersistentHandle, Public,
@@ -10,57 +10,57 @@ use crate::shape::ParameterKind::{
 use crate::shape::{HandleKind, HandleRule, ParameterKind, Shape};
 use tpm_types::{DATA_LIMIT, NvUse, Role};
 
-/// The commands that are served, ascending by number: TPM_CC of TPM 2.0 Library, Part 2, section
-/// 6.5.2.
+/// The commands that are served, ascending by number. What is to be known of each stands in one line
+/// of `facts!`.
 #[derive(Clone, Copy, Debug, PartialEq, Eq)]
 pub enum CommandCode {
-    EvictControl = 0x120,
-    NvUndefineSpace = 0x122,
-    Clear = 0x126,
-    ClearControl = 0x127,
-    HierarchyChangeAuth = 0x129,
-    NvDefineSpace = 0x12a,
-    CreatePrimary = 0x131,
-    NvIncrement = 0x134,
-    NvSetBits = 0x135,
-    NvExtend = 0x136,
-    NvWrite = 0x137,
-    NvWriteLock = 0x138,
-    DictionaryAttackLockReset = 0x139,
-    DictionaryAttackParameters = 0x13a,
-    NvChangeAuth = 0x13b,
-    PcrEvent = 0x13c,
-    PcrReset = 0x13d,
-    SelfTest = 0x143,
-    Startup = 0x144,
-    Shutdown = 0x145,
-    PolicyNv = 0x149,
-    NvRead = 0x14e,
-    NvReadLock = 0x14f,
-    PolicySecret = 0x151,
-    Create = 0x153,
-    Hmac = 0x155,
-    Load = 0x157,
-    Unseal = 0x15e,
-    FlushContext = 0x165,
-    NvReadPublic = 0x169,
-    PolicyAuthValue = 0x16b,
-    PolicyCommandCode = 0x16c,
-    PolicyCpHash = 0x16e,
-    PolicyLocality = 0x16f,
-    PolicyOr = 0x171,
-    ReadPublic = 0x173,
-    StartAuthSession = 0x176,
-    GetCapability = 0x17a,
-    GetRandom = 0x17b,
-    PcrRead = 0x17e,
-    PolicyPcr = 0x17f,
-    PolicyRestart = 0x180,
-    ReadClock = 0x181,
-    PcrExtend = 0x182,
-    PolicyGetDigest = 0x189,
-    PolicyPassword = 0x18c,
-    PolicyNvWritten = 0x18f,
+    EvictControl,
+    NvUndefineSpace,
+    Clear,
+    ClearControl,
+    HierarchyChangeAuth,
+    NvDefineSpace,
+    CreatePrimary,
+    NvIncrement,
+    NvSetBits,
+    NvExtend,
+    NvWrite,
+    NvWriteLock,
+    DictionaryAttackLockReset,
+    DictionaryAttackParameters,
+    NvChangeAuth,
+    PcrEvent,
+    PcrReset,
+    SelfTest,
+    Startup,
+    Shutdown,
+    PolicyNv,
+    NvRead,
+    NvReadLock,
+    PolicySecret,
+    Create,
+    Hmac,
+    Load,
+    Unseal,
+    FlushContext,
+    NvReadPublic,
+    PolicyAuthValue,
+    PolicyCommandCode,
+    PolicyCpHash,
+    PolicyLocality,
+    PolicyOr,
+    ReadPublic,
+    StartAuthSession,
+    GetCapability,
+    GetRandom,
+    PcrRead,
+    PolicyPcr,
+    PolicyRestart,
+    ReadClock,
+    PcrExtend,
+    PolicyGetDigest,
+    PolicyPassword,
+    PolicyNvWritten,
 }
 
 const USER_PCR: HandleRule = HandleRule {
@@ -179,60 +179,97 @@ macro_rules! shape {
     }};
 }
 
+/// One column of the lines of `facts!`: all commands, the number, the name or the shape of a command,
+/// or the command of a number.
+macro_rules! column {
+    (all; $($number:literal $variant:ident $name:literal $shape:tt)*) => {
+        [$(CommandCode::$variant),*]
+    };
+    (number of $code:expr; $($number:literal $variant:ident $name:literal $shape:tt)*) => {
+        match $code { $(CommandCode::$variant => $number,)* }
+    };
+    (code of $code:expr; $($number:literal $variant:ident $name:literal $shape:tt)*) => {
+        match $code { $($number => Some(CommandCode::$variant),)* _ => None }
+    };
+    (name of $code:expr; $($number:literal $variant:ident $name:literal $shape:tt)*) => {
+        match $code { $(CommandCode::$variant => $name,)* }
+    };
+    (shape of $code:expr; $($number:literal $variant:ident $name:literal $shape:tt)*) => {
+        match $code { $(CommandCode::$variant => shape! $shape,)* }
+    };
+}
+
+/// The facts of each command, a line a command, ascending by number: its number, its variant, its
+/// name, which is what stands after "TPM2_" at the head of its section of TPM 2.0 Library, Part 3,
+/// and its shape.
+macro_rules! facts {
+    ($($asked:tt)*) => {
+        column! {
+            $($asked)*;
+            0x120 EvictControl "EvictControl" ([USER_PROVISION, OBJECT], &[PersistentHandle], grows)
+            0x122 NvUndefineSpace "NV_UndefineSpace" ([USER_PROVISION, NV_INDEX], &[])
+            0x126 Clear "Clear" ([USER_CLEAR], &[])
+            0x127 ClearControl "ClearControl" ([USER_CLEAR], &[YesNo])
+            0x129 HierarchyChangeAuth "HierarchyChangeAuth" ([USER_HIERARCHY_AUTH], &[Buffer(32)])
+            0x12a NvDefineSpace "NV_DefineSpace" ([USER_PROVISION], &[Buffer(32), NvPublic], grows)
+            0x131 CreatePrimary "CreatePrimary"
+                ([USER_HIERARCHY], CREATE, sized_answer, answers_handle, grows)
+            0x134 NvIncrement "NV_Increment" ([USER_NV_AUTH, NV_INDEX], &[])
+            0x135 NvSetBits "NV_SetBits" ([USER_NV_AUTH, NV_INDEX], &[U64])
+            0x136 NvExtend "NV_Extend" ([USER_NV_AUTH, NV_INDEX], &[Buffer(DATA_SIZE)])
+            0x137 NvWrite "NV_Write" ([USER_NV_AUTH, NV_INDEX], &[Buffer(DATA_SIZE), U16])
+            0x138 NvWriteLock "NV_WriteLock" ([USER_NV_AUTH, NV_INDEX], &[])
+            0x139 DictionaryAttackLockReset "DictionaryAttackLockReset" ([USER_LOCKOUT], &[])
+            0x13a DictionaryAttackParameters "DictionaryAttackParameters"
+                ([USER_LOCKOUT], &[U32, U32, U32])
+            0x13b NvChangeAuth "NV_ChangeAuth" ([ADMIN_NV_INDEX], &[Buffer(32)])
+            0x13c PcrEvent "PCR_Event" ([USER_PCR_OR_NULL], &[Buffer(DATA_SIZE)])
+            0x13d PcrReset "PCR_Reset" ([USER_PCR], &[])
+            0x143 SelfTest "SelfTest" ([], &[YesNo], keeps_shutdown)
+            0x144 Startup "Startup" ([], &[StartupType], forbids_sessions)
+            0x145 Shutdown "Shutdown" ([], &[StartupType], keeps_shutdown)
+            0x149 PolicyNv "PolicyNV" ([USER_NV_AUTH, NV_INDEX, POLICY_SESSION], COMPARED, reads_nv)
+            0x14e NvRead "NV_Read"
+                ([USER_NV_AUTH, NV_INDEX], &[U16, U16], sized_answer, reads_nv, keeps_shutdown)
+            0x14f NvReadLock "NV_ReadLock" ([USER_NV_AUTH, NV_INDEX], &[], reads_nv)
+            0x151 PolicySecret "PolicySecret"
+                ([USER_ENTITY, POLICY_SESSION], SECRET, sized_answer, reads_nv)
+            0x153 Create "Create" ([USER_OBJECT], CREATE, sized_answer, keeps_shutdown)
+            0x155 Hmac "HMAC"
+                ([USER_OBJECT], &[Buffer(DATA_SIZE), HashOrNull], sized_answer, keeps_shutdown)
+            0x157 Load "Load" ([USER_OBJECT], LOAD, sized_answer, answers_handle, grows)
+            0x15e Unseal "Unseal" ([USER_OBJECT], &[], sized_answer, keeps_shutdown)
+            0x165 FlushContext "FlushContext" ([], &[U32], forbids_sessions)
+            0x169 NvReadPublic "NV_ReadPublic" ([NV_INDEX], &[], sized_answer, keeps_shutdown)
+            0x16b PolicyAuthValue "PolicyAuthValue" ([POLICY_SESSION], &[])
+            0x16c PolicyCommandCode "PolicyCommandCode" ([POLICY_SESSION], &[U32])
+            0x16e PolicyCpHash "PolicyCpHash" ([POLICY_SESSION], &[Buffer(32)])
+            0x16f PolicyLocality "PolicyLocality" ([POLICY_SESSION], &[U8])
+            0x171 PolicyOr "PolicyOR" ([POLICY_SESSION], &[DigestList])
+            0x173 ReadPublic "ReadPublic" ([OBJECT], &[], sized_answer, keeps_shutdown)
+            0x176 StartAuthSession "StartAuthSession"
+                ([NULL, ENTITY], START, sized_answer, answers_handle, grows)
+            0x17a GetCapability "GetCapability" ([], &[U32, U32, U32], keeps_shutdown)
+            0x17b GetRandom "GetRandom" ([], &[U16], sized_answer, keeps_shutdown)
+            0x17e PcrRead "PCR_Read" ([], &[Selection], keeps_shutdown)
+            0x17f PolicyPcr "PolicyPCR" ([POLICY_SESSION], &[Buffer(32), Selection])
+            0x180 PolicyRestart "PolicyRestart" ([POLICY_SESSION], &[])
+            0x181 ReadClock "ReadClock" ([], &[], forbids_sessions, keeps_shutdown)
+            0x182 PcrExtend "PCR_Extend" ([USER_PCR_OR_NULL], &[Digests])
+            0x189 PolicyGetDigest "PolicyGetDigest"
+                ([POLICY_SESSION], &[], sized_answer, keeps_shutdown)
+            0x18c PolicyPassword "PolicyPassword" ([POLICY_SESSION], &[])
+            0x18f PolicyNvWritten "PolicyNvWritten" ([POLICY_SESSION], &[YesNo])
+        }
+    };
+}
+
 impl CommandCode {
-    ghost use Rattle.tpm_types_command.specs.CommandCode.{is_served, authorized_handles, code_named, code_number, handle_count, has_sized_parameter, nv_use_at, role_at, shape_of};
+    ghost use Rattle.tpm_types_command.specs.CommandCode.{authorized_handles, code_called, code_name, code_named, code_number, handle_count, has_sized_parameter, is_served, nv_use_at, role_at, shape_of};
     ghost use Rattle.tpm_types_command.specs.Shape.{facts_of};
 
     /// All of them, ascending by number.
-    pub const ALL: [CommandCode; 47] = [
-        CommandCode::EvictControl,
-        CommandCode::NvUndefineSpace,
-        CommandCode::Clear,
-        CommandCode::ClearControl,
-        CommandCode::HierarchyChangeAuth,
-        CommandCode::NvDefineSpace,
-        CommandCode::CreatePrimary,
-        CommandCode::NvIncrement,
-        CommandCode::NvSetBits,
-        CommandCode::NvExtend,
-        CommandCode::NvWrite,
-        CommandCode::NvWriteLock,
-        CommandCode::DictionaryAttackLockReset,
-        CommandCode::DictionaryAttackParameters,
-        CommandCode::NvChangeAuth,
-        CommandCode::PcrEvent,
-        CommandCode::PcrReset,
-        CommandCode::SelfTest,
-        CommandCode::Startup,
-        CommandCode::Shutdown,
-        CommandCode::PolicyNv,
-        CommandCode::NvRead,
-        CommandCode::NvReadLock,
-        CommandCode::PolicySecret,
-        CommandCode::Create,
-        CommandCode::Hmac,
-        CommandCode::Load,
-        CommandCode::Unseal,
-        CommandCode::FlushContext,
-        CommandCode::NvReadPublic,
-        CommandCode::PolicyAuthValue,
-        CommandCode::PolicyCommandCode,
-        CommandCode::PolicyCpHash,
-        CommandCode::PolicyLocality,
-        CommandCode::PolicyOr,
-        CommandCode::ReadPublic,
-        CommandCode::StartAuthSession,
-        CommandCode::GetCapability,
-        CommandCode::GetRandom,
-        CommandCode::PcrRead,
-        CommandCode::PolicyPcr,
-        CommandCode::PolicyRestart,
-        CommandCode::ReadClock,
-        CommandCode::PcrExtend,
-        CommandCode::PolicyGetDigest,
-        CommandCode::PolicyPassword,
-        CommandCode::PolicyNvWritten,
-    ];
+    pub const ALL: &'static [CommandCode] = &facts!(all);
 
     /// The number on the wire.
     #[tactic(auto, unfolding(crate::specs::CommandCode::code_named))]
@@ -241,7 +278,7 @@ impl CommandCode {
         // The number names the command.
         ensures again { code_named result ≡ Some self }
     {
-        self as u32
+        facts!(number of self)
     }
 
     /// Whether a command of this number is served, and so whether a policy can name it.
@@ -258,56 +295,29 @@ impl CommandCode {
         // It has this number.
         ensures found { IfSome result (λ code. code_number code ≡ number) }
     {
-        match number {
-            0x120 => Some(CommandCode::EvictControl),
-            0x122 => Some(CommandCode::NvUndefineSpace),
-            0x126 => Some(CommandCode::Clear),
-            0x127 => Some(CommandCode::ClearControl),
-            0x129 => Some(CommandCode::HierarchyChangeAuth),
-            0x12a => Some(CommandCode::NvDefineSpace),
-            0x131 => Some(CommandCode::CreatePrimary),
-            0x134 => Some(CommandCode::NvIncrement),
-            0x135 => Some(CommandCode::NvSetBits),
-            0x136 => Some(CommandCode::NvExtend),
-            0x137 => Some(CommandCode::NvWrite),
-            0x138 => Some(CommandCode::NvWriteLock),
-            0x139 => Some(CommandCode::DictionaryAttackLockReset),
-            0x13a => Some(CommandCode::DictionaryAttackParameters),
-            0x13b => Some(CommandCode::NvChangeAuth),
-            0x13c => Some(CommandCode::PcrEvent),
-            0x13d => Some(CommandCode::PcrReset),
-            0x143 => Some(CommandCode::SelfTest),
-            0x144 => Some(CommandCode::Startup),
-            0x145 => Some(CommandCode::Shutdown),
-            0x149 => Some(CommandCode::PolicyNv),
-            0x14e => Some(CommandCode::NvRead),
-            0x14f => Some(CommandCode::NvReadLock),
-            0x151 => Some(CommandCode::PolicySecret),
-            0x153 => Some(CommandCode::Create),
-            0x155 => Some(CommandCode::Hmac),
-            0x157 => Some(CommandCode::Load),
-            0x15e => Some(CommandCode::Unseal),
-            0x165 => Some(CommandCode::FlushContext),
-            0x169 => Some(CommandCode::NvReadPublic),
-            0x16b => Some(CommandCode::PolicyAuthValue),
-            0x16c => Some(CommandCode::PolicyCommandCode),
-            0x16e => Some(CommandCode::PolicyCpHash),
-            0x16f => Some(CommandCode::PolicyLocality),
-            0x171 => Some(CommandCode::PolicyOr),
-            0x173 => Some(CommandCode::ReadPublic),
-            0x176 => Some(CommandCode::StartAuthSession),
-            0x17a => Some(CommandCode::GetCapability),
-            0x17b => Some(CommandCode::GetRandom),
-            0x17e => Some(CommandCode::PcrRead),
-            0x17f => Some(CommandCode::PolicyPcr),
-            0x180 => Some(CommandCode::PolicyRestart),
-            0x181 => Some(CommandCode::ReadClock),
-            0x182 => Some(CommandCode::PcrExtend),
-            0x189 => Some(CommandCode::PolicyGetDigest),
-            0x18c => Some(CommandCode::PolicyPassword),
-            0x18f => Some(CommandCode::PolicyNvWritten),
-            _ => None,
-        }
+        facts!(code of number)
+    }
+
+    /// The name. No two commands share one.
+    #[tactic(auto, unfolding(crate::specs::CommandCode::code_called))]
+    pub fn name(self) -> &'static str
+        ensures value { result.now ≡ code_name self }
+        // No other command has it.
+        ensures again { code_called (code_name self) ≡ Some self }
+        ensures short { length result.now ≤ 26 }
+    {
+        facts!(name of self)
+    }
+
+    /// The command of this name, if it is served.
+    #[tactic(auto, unfolding(crate::specs::CommandCode::code_called))]
+    pub fn called(name: &[u8]) -> Option<CommandCode>
+        ensures { result ≡ code_called name.now }
+    {
+        CommandCode::ALL
+            .iter()
+            .copied()
+            .find(|code| name == code.name().as_bytes())
     }
 
     /// Every other fact of the command.
@@ -316,96 +326,7 @@ impl CommandCode {
         ensures value { facts_of result ≡ shape_of self }
         ensures few { length result.handles.now ≤ 3 }
     {
-        match self {
-            CommandCode::EvictControl => shape!(
-                [USER_PROVISION, OBJECT],
-                &[PersistentHandle],
-                grows
-            ),
-            CommandCode::NvUndefineSpace => shape!([USER_PROVISION, NV_INDEX], &[]),
-            CommandCode::Clear => shape!([USER_CLEAR], &[]),
-            CommandCode::ClearControl => shape!([USER_CLEAR], &[YesNo]),
-            CommandCode::HierarchyChangeAuth => shape!([USER_HIERARCHY_AUTH], &[Buffer(32)]),
-            CommandCode::NvDefineSpace => shape!([USER_PROVISION], &[Buffer(32), NvPublic], grows),
-            CommandCode::CreatePrimary => shape!(
-                [USER_HIERARCHY],
-                CREATE,
-                sized_answer,
-                answers_handle,
-                grows
-            ),
-            CommandCode::NvIncrement => shape!([USER_NV_AUTH, NV_INDEX], &[]),
-            CommandCode::NvSetBits => shape!([USER_NV_AUTH, NV_INDEX], &[U64]),
-            CommandCode::NvExtend => shape!([USER_NV_AUTH, NV_INDEX], &[Buffer(DATA_SIZE)]),
-            CommandCode::NvWrite => shape!([USER_NV_AUTH, NV_INDEX], &[Buffer(DATA_SIZE), U16]),
-            CommandCode::NvWriteLock => shape!([USER_NV_AUTH, NV_INDEX], &[]),
-            CommandCode::DictionaryAttackLockReset => shape!([USER_LOCKOUT], &[]),
-            CommandCode::DictionaryAttackParameters => shape!([USER_LOCKOUT], &[U32, U32, U32]),
-            CommandCode::NvChangeAuth => shape!([ADMIN_NV_INDEX], &[Buffer(32)]),
-            CommandCode::PcrEvent => shape!([USER_PCR_OR_NULL], &[Buffer(DATA_SIZE)]),
-            CommandCode::PcrReset => shape!([USER_PCR], &[]),
-            CommandCode::SelfTest => shape!([], &[YesNo], keeps_shutdown),
-            CommandCode::Startup => shape!([], &[StartupType], forbids_sessions),
-            CommandCode::Shutdown => shape!([], &[StartupType], keeps_shutdown),
-            CommandCode::PolicyNv => shape!(
-                [USER_NV_AUTH, NV_INDEX, POLICY_SESSION],
-                COMPARED,
-                reads_nv
-            ),
-            CommandCode::NvRead => shape!(
-                [USER_NV_AUTH, NV_INDEX],
-                &[U16, U16],
-                sized_answer,
-                reads_nv,
-                keeps_shutdown
-            ),
-            CommandCode::NvReadLock => shape!([USER_NV_AUTH, NV_INDEX], &[], reads_nv),
-            CommandCode::PolicySecret => shape!(
-                [USER_ENTITY, POLICY_SESSION],
-                SECRET,
-                sized_answer,
-                reads_nv
-            ),
-            CommandCode::Create => shape!([USER_OBJECT], CREATE, sized_answer, keeps_shutdown),
-            CommandCode::Hmac => shape!(
-                [USER_OBJECT],
-                &[Buffer(DATA_SIZE), HashOrNull],
-                sized_answer,
-                keeps_shutdown
-            ),
-            CommandCode::Load => shape!([USER_OBJECT], LOAD, sized_answer, answers_handle, grows),
-            CommandCode::Unseal => shape!([USER_OBJECT], &[], sized_answer, keeps_shutdown),
-            CommandCode::FlushContext => shape!([], &[U32], forbids_sessions),
-            CommandCode::NvReadPublic => shape!([NV_INDEX], &[], sized_answer, keeps_shutdown),
-            CommandCode::PolicyAuthValue => shape!([POLICY_SESSION], &[]),
-            CommandCode::PolicyCommandCode => shape!([POLICY_SESSION], &[U32]),
-            CommandCode::PolicyCpHash => shape!([POLICY_SESSION], &[Buffer(32)]),
-            CommandCode::PolicyLocality => shape!([POLICY_SESSION], &[U8]),
-            CommandCode::PolicyOr => shape!([POLICY_SESSION], &[DigestList]),
-            CommandCode::ReadPublic => shape!([OBJECT], &[], sized_answer, keeps_shutdown),
-            CommandCode::StartAuthSession => shape!(
-                [NULL, ENTITY],
-                START,
-                sized_answer,
-                answers_handle,
-                grows
-            ),
-            CommandCode::GetCapability => shape!([], &[U32, U32, U32], keeps_shutdown),
-            CommandCode::GetRandom => shape!([], &[U16], sized_answer, keeps_shutdown),
-            CommandCode::PcrRead => shape!([], &[Selection], keeps_shutdown),
-            CommandCode::PolicyPcr => shape!([POLICY_SESSION], &[Buffer(32), Selection]),
-            CommandCode::PolicyRestart => shape!([POLICY_SESSION], &[]),
-            CommandCode::ReadClock => shape!([], &[], forbids_sessions, keeps_shutdown),
-            CommandCode::PcrExtend => shape!([USER_PCR_OR_NULL], &[Digests]),
-            CommandCode::PolicyGetDigest => shape!(
-                [POLICY_SESSION],
-                &[],
-                sized_answer,
-                keeps_shutdown
-            ),
-            CommandCode::PolicyPassword => shape!([POLICY_SESSION], &[]),
-            CommandCode::PolicyNvWritten => shape!([POLICY_SESSION], &[YesNo]),
-        }
+        facts!(shape of self)
     }
 
     /// How many handles stand after the command's header.

@@ -4,7 +4,7 @@
 //! headers, handles, authorization areas and entries.
 //!
 //! Every fact of a command but its number, its name and what it does stands in its
-//! [`shape::Shape`].
+//! [`shape::Shape`]; all of them stand in one line a command, in [`command_code`].
 //!
 //! It stands on `tpm_types` for handles and response codes. A read gives the value or the first
 //! fault, as the response code that the standard has for it, and a refused read or write changes
@@ -15,7 +15,6 @@ pub mod auth_area;
 pub mod auth_entry;
 pub mod command;
 pub mod command_code;
-pub mod command_name;
 pub mod handle_area;
 pub mod header;
 pub mod shape;

@@ -8,7 +8,7 @@ ghost use Rattle.tpm_types_name.specs.Name.{handle_name, hashed_name, qualified_
 
 use arrayvec::ArrayVec;
 use std::marker::Model;
-use tpm_bytes::copied;
+use tpm_bytes::{append, copied};
 use tpm_mac::{HashAlg, digest_parts};
 use tpm_types::{Handle, hash_number};
 
@@ -63,8 +63,8 @@ impl Name {
         ensures { result ≡ hashed_name alg (joined_text parts.now) }
     {
         let mut bytes = ArrayVec::new();
-        let _ = bytes.try_extend_from_slice(&hash_number(alg).to_be_bytes());
-        let _ = bytes.try_extend_from_slice(digest_parts(alg, parts).as_slice());
+        append(&mut bytes, &hash_number(alg).to_be_bytes());
+        append(&mut bytes, digest_parts(alg, parts).as_slice());
         Name { bytes }
     }
 

@@ -21,8 +21,8 @@ use Rattle.tpm_types_nv.specs.declared.nv_attributes.NvAttributes.{NvAttributes}
 use Rattle.tpm_types_nv.specs.declared.nv_public.NvPublic.{NvPublic}
 use Rattle.tpm_types_nv.specs.NvAttributes.{IsNvAttributes, nv_attributes_at, nv_attributes_text, reserved_bits}
 use Rattle.tpm_types_nv.specs.NvPublic.{IsNvIndex, IsNvPublic, nv_index_at, nv_index_text, nv_public_at, nv_public_text}
-use Rattle.tpm_types_object.specs.Filled.{filled_by}
-use Rattle.tpm_types_object.proofs.FilledLaws.{filled_spelled}
+use Rattle.tpm_types.specs.Filled.{filled_by}
+use Rattle.tpm_types.proofs.FilledLaws.{filled_spelled}
 
 -- ---- attributes
 

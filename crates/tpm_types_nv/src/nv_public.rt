@@ -7,8 +7,7 @@ ghost use Rattle.tpm_bytes.specs.Writing.{Puts, sized_text};
 use crate::nv_attributes::NvAttributes;
 use tpm_bytes::{Cursor, Full, Readable, Sink};
 use tpm_mac::HashAlg;
-use tpm_types::{Handle, Octets, Rc, ResponseCode, bytes_fit, hash_number, read_hash};
-use tpm_types_object::read_filled;
+use tpm_types::{Handle, Octets, Rc, ResponseCode, bytes_fit, hash_number, read_filled, read_hash};
 
 /// The public area of an NV index: TPMS_NV_PUBLIC of TPM 2.0 Library, Part 2, section 13.5.
 #[derive(Drop)]
@@ -26,7 +25,7 @@ pub struct NvPublic {
 impl NvPublic {
     ghost use Rattle.tpm_types_nv.specs.NvPublic.{IsNvPublic, nv_index_at, nv_public_at, nv_public_text};
     ghost use Rattle.tpm_types_nv.specs.declared.nv_public.NvPublic.{NvPublic};
-    ghost use Rattle.tpm_types_object.specs.Filled.{filled_by};
+    ghost use Rattle.tpm_types.specs.Filled.{filled_by};
 
     /// Reads a public area: INSUFFICIENT where it is cut, and else the first fault of a field.
     pub fn read(text: &mut Cursor) -> Result<NvPublic, Rc>
@@ -45,7 +44,7 @@ impl NvPublic {
     }
 
     /// Reads a public area that fills a sized buffer (TPM2B_NV_PUBLIC): as
-    /// [`tpm_types_object::read_filled`].
+    /// [`tpm_types::read_filled`].
     pub fn read_sized(text: &mut Cursor) -> Result<NvPublic, Rc>
         ensures exact { Reads (λ public. public) (filled_by nv_public_at text.old) text.old
             result text.new }
@@ -118,11 +117,11 @@ impl NvPublic {
         ensures { result ≡ nv_public_text self.now }
     {
         let mut text = Sink::new();
-        let _ = text.put_u32(self.nv_index.number);
-        let _ = text.put_u16(hash_number(self.name_alg));
-        let _ = text.put_u32(self.attributes.bits);
-        let _ = text.put_sized(self.auth_policy.as_slice());
-        let _ = text.put_u16(self.data_size);
+        text.append_u32(self.nv_index.number);
+        text.append_u16(hash_number(self.name_alg));
+        text.append_u32(self.attributes.bits);
+        text.append_sized(self.auth_policy.as_slice());
+        text.append_u16(self.data_size);
         text
     }
 

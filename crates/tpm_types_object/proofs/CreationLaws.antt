@@ -9,12 +9,12 @@ use Rattle.tpm_types.specs.declared.pcr_selection.BankSelection.{BankSelection}
 use Rattle.tpm_types.specs.declared.rc.ResponseCode.TheVariants as code
 use Rattle.tpm_types.specs.Algorithm.{hash_or_null_number}
 use Rattle.tpm_types_object.specs.CreationData.{IsCreationData, creation_data_at, creation_data_text}
-use Rattle.tpm_types_object.specs.Filled.{filled_by}
+use Rattle.tpm_types.specs.Filled.{filled_by}
 use Rattle.tpm_types.specs.PcrSelection.{selection_text}
 use Rattle.tpm_types.specs.Rc.{plain}
 use Rattle.tpm_types.proofs.BanksLemmas.{length-selection_text}
 use Rattle.tpm_types.proofs.FieldLaws.{buffer_spelled, number_spelled, selection_spelled}
-use Rattle.tpm_types_object.proofs.FilledLaws.{filled_spelled}
+use Rattle.tpm_types.proofs.FilledLaws.{filled_spelled}
 use Rattle.tpm_types.proofs.HashLaws.{hash_or_null_spelled}
 use Rattle.tpm_types.proofs.Spelled.{Spelled, all_read, first, respelled, seven_texts, then}
 

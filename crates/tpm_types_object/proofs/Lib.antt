@@ -1,5 +1,4 @@
 pub mod ObjectFields
-pub mod FilledLaws
 pub mod PublicLaws
 pub mod SensitiveLaws
 pub mod CreationLaws

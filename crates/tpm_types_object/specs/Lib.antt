@@ -1,4 +1,3 @@
-pub mod Filled
 pub mod ObjectAttributes
 pub mod Public
 pub mod Sensitive
@@ -7,3 +6,4 @@ pub mod CreationData
 pub use Rattle.tpm_bytes.specs.Reading
 pub use Rattle.tpm_bytes.specs.Writing
 pub use Rattle.tpm_types.specs.PcrSelection
+pub use Rattle.tpm_types.specs.Filled

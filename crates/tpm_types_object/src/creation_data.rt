@@ -5,11 +5,11 @@ ghost use Rattle.std.specs.Prelude.{◌≡◌, ℕ, ◌≤◌, List, ◌++◌, l
 ghost use Rattle.tpm_bytes.specs.Reading.{Reads};
 ghost use Rattle.tpm_bytes.specs.Writing.{Puts, sized_text};
 
-use crate::filled::read_filled;
 use tpm_bytes::{Cursor, Full, Readable, Sink};
 use tpm_mac::HashAlg;
 use tpm_types::{
-    Octets, PcrSelection, Rc, ResponseCode, bytes_fit, hash_or_null_number, read_hash_or_null,
+    Octets, PcrSelection, Rc, ResponseCode, bytes_fit, hash_or_null_number, read_filled,
+    read_hash_or_null,
 };
 
 /// What a new object was made with: TPMS_CREATION_DATA of TPM 2.0 Library, Part 2, section 15.1.
@@ -30,7 +30,7 @@ pub struct CreationData {
 
 impl CreationData {
     ghost use Rattle.tpm_types_object.specs.CreationData.{IsCreationData, creation_data_at, creation_data_text};
-    ghost use Rattle.tpm_types_object.specs.Filled.{filled_by};
+    ghost use Rattle.tpm_types.specs.Filled.{filled_by};
     ghost use Rattle.tpm_types_object.specs.declared.creation_data.CreationData.{CreationData};
 
     /// Reads creation data: INSUFFICIENT where they are cut, and else the first fault of a field.
@@ -97,13 +97,13 @@ impl CreationData {
         ensures { result ≡ creation_data_text self.now }
     {
         let mut text = Sink::new();
-        let _ = self.pcr_select.write(&mut text);
-        let _ = text.put_sized(self.pcr_digest.as_slice());
-        let _ = text.put_u8(self.locality);
-        let _ = text.put_u16(hash_or_null_number(self.parent_name_alg));
-        let _ = text.put_sized(self.parent_name.as_slice());
-        let _ = text.put_sized(self.parent_qualified_name.as_slice());
-        let _ = text.put_sized(self.outside_info.as_slice());
+        self.pcr_select.append_to(&mut text);
+        text.append_sized(self.pcr_digest.as_slice());
+        text.append_u8(self.locality);
+        text.append_u16(hash_or_null_number(self.parent_name_alg));
+        text.append_sized(self.parent_name.as_slice());
+        text.append_sized(self.parent_qualified_name.as_slice());
+        text.append_sized(self.outside_info.as_slice());
         text
     }
 

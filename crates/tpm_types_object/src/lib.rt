@@ -9,14 +9,12 @@
 //! so is read. No call here takes memory.
 
 pub mod creation_data;
-pub mod filled;
 pub mod object_attributes;
 pub mod public;
 pub mod sensitive;
 pub mod sensitive_create;
 
 pub use creation_data::CreationData;
-pub use filled::read_filled;
 pub use object_attributes::{ObjectAttribute, ObjectAttributes};
 pub use public::{KeyedHashScheme, Public, PublicParameters};
 pub use sensitive::Sensitive;

@@ -1,15 +1,16 @@
 //! The public area of an object, with its type and its parameters (TPMT_PUBLIC; TPM 2.0 Library,
 //! Part 2, section 12.2).
 
-ghost use Rattle.std.specs.Prelude.{◌≡◌, ℕ, ◌≤◌, List, ◌++◌, length, Ok, IfOk};
+ghost use Rattle.std.specs.Prelude.{◌≡◌, ℕ, ◌+◌, ◌≤◌, List, ◌++◌, length, Ok, IfOk};
 ghost use Rattle.tpm_bytes.specs.Reading.{Reads};
 ghost use Rattle.tpm_bytes.specs.Writing.{Puts, sized_text};
 
-use crate::filled::read_filled;
 use crate::object_attributes::ObjectAttributes;
 use tpm_bytes::{Cursor, Full, Readable, Sink};
 use tpm_mac::HashAlg;
-use tpm_types::{Octets, Rc, ResponseCode, SymmetricDefinition, bytes_fit, hash_number, read_hash};
+use tpm_types::{
+    Octets, Rc, ResponseCode, SymmetricDefinition, bytes_fit, hash_number, read_filled, read_hash,
+};
 
 /// The type of an object: TPMI_ALG_PUBLIC of TPM 2.0 Library, Part 2, section 12.2.2.
 #[derive(Clone, Copy, Debug, PartialEq, Eq)]
@@ -98,15 +99,23 @@ impl KeyedHashScheme {
         ensures written { Puts N (scheme_text self) sink.old result sink.new }
         ensures small { length (scheme_text self) ≤ 4 }
     {
+        let mut text: Sink<4> = Sink::new();
+        self.append_to(&mut text);
+        sink.put(text.as_slice())
+    }
+
+    /// Writes the scheme at the end, where there is room for the longest: four bytes.
+    #[tactic(auto, unfolding(crate::specs::Public::scheme_text))]
+    pub fn append_to<const N: usize>(self, sink: &mut Sink<N>)
+        requires { length sink.old + 4 ≤ N }
+        ensures written { sink.new ≡ sink.old ++ scheme_text self }
+        ensures small { length sink.new ≤ length sink.old + 4 }
+    {
         match self {
-            KeyedHashScheme::Null => sink.put_u16(0x0010),
+            KeyedHashScheme::Null => sink.append_u16(0x0010),
             KeyedHashScheme::Hmac(hash) => {
-                if N - sink.len() < 4 {
-                    return Err(Full);
-                }
-                let _ = sink.put_u16(0x0005);
-                let _ = sink.put_u16(hash_number(hash));
-                Ok(())
+                sink.append_u16(0x0005);
+                sink.append_u16(hash_number(hash));
             }
         }
     }
@@ -165,6 +174,19 @@ impl PublicParameters {
             PublicParameters::SymCipher => SymmetricDefinition::Aes128Cfb.write(sink),
         }
     }
+
+    /// Writes the parameters at the end, where there is room for the longest: six bytes.
+    #[tactic(auto, unfolding(tpm_types::specs::Symmetric::symmetric_text))]
+    pub fn append_to<const N: usize>(self, sink: &mut Sink<N>)
+        requires { length sink.old + 6 ≤ N }
+        ensures written { sink.new ≡ sink.old ++ parameters_text self }
+        ensures small { length sink.new ≤ length sink.old + 6 }
+    {
+        match self {
+            PublicParameters::KeyedHash(scheme) => scheme.append_to(sink),
+            PublicParameters::SymCipher => SymmetricDefinition::Aes128Cfb.append_to(sink),
+        }
+    }
 }
 
 /// The public area of an object: TPMT_PUBLIC (Part 2, section 12.2.4).
@@ -180,7 +202,7 @@ pub struct Public {
 
 impl Public {
     ghost use Rattle.tpm_types_object.specs.Public.{IsPublic, object_type, public_at, public_text};
-    ghost use Rattle.tpm_types_object.specs.Filled.{filled_by};
+    ghost use Rattle.tpm_types.specs.Filled.{filled_by};
     ghost use Rattle.tpm_types_object.specs.declared.public.Public.{Public};
 
     /// Reads a public area: INSUFFICIENT where it is cut, and else the first fault of a field.
@@ -260,12 +282,12 @@ impl Public {
         ensures { result ≡ public_text self.now }
     {
         let mut text = Sink::new();
-        let _ = text.put_u16(self.object_type().number());
-        let _ = text.put_u16(hash_number(self.name_alg));
-        let _ = text.put_u32(self.attributes.bits());
-        let _ = text.put_sized(self.auth_policy.as_slice());
-        let _ = self.parameters.write(&mut text);
-        let _ = text.put_sized(self.unique.as_slice());
+        text.append_u16(self.object_type().number());
+        text.append_u16(hash_number(self.name_alg));
+        text.append_u32(self.attributes.bits());
+        text.append_sized(self.auth_policy.as_slice());
+        self.parameters.append_to(&mut text);
+        text.append_sized(self.unique.as_slice());
         text
     }
 

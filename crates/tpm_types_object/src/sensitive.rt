@@ -5,10 +5,9 @@ ghost use Rattle.std.specs.Prelude.{◌≡◌, ℕ, ◌≤◌, List, ◌++◌, l
 ghost use Rattle.tpm_bytes.specs.Reading.{Reads};
 ghost use Rattle.tpm_bytes.specs.Writing.{Puts, sized_text};
 
-use crate::filled::read_filled;
 use crate::public::ObjectType;
 use tpm_bytes::{Cursor, Full, Readable, Sink};
-use tpm_types::{Octets, Rc, SENSITIVE_LIMIT, bytes_fit};
+use tpm_types::{Octets, Rc, SENSITIVE_LIMIT, bytes_fit, read_filled};
 
 /// The sensitive area of an object: TPMT_SENSITIVE of TPM 2.0 Library, Part 2, section 12.3.2.4.
 #[derive(Drop)]
@@ -24,7 +23,7 @@ pub struct Sensitive {
 
 impl Sensitive {
     ghost use Rattle.tpm_types_object.specs.Sensitive.{IsSensitive, sensitive_at, sensitive_text};
-    ghost use Rattle.tpm_types_object.specs.Filled.{filled_by};
+    ghost use Rattle.tpm_types.specs.Filled.{filled_by};
     ghost use Rattle.tpm_types_object.specs.declared.sensitive.Sensitive.{Sensitive};
 
     /// Reads a sensitive area: INSUFFICIENT where it is cut, TYPE, and SIZE where a buffer is too
@@ -94,10 +93,10 @@ impl Sensitive {
         ensures { result ≡ sensitive_text self.now }
     {
         let mut text = Sink::new();
-        let _ = text.put_u16(self.object_type.number());
-        let _ = text.put_sized(self.auth_value.as_slice());
-        let _ = text.put_sized(self.seed_value.as_slice());
-        let _ = text.put_sized(self.sensitive.as_slice());
+        text.append_u16(self.object_type.number());
+        text.append_sized(self.auth_value.as_slice());
+        text.append_sized(self.seed_value.as_slice());
+        text.append_sized(self.sensitive.as_slice());
         text
     }
 

@@ -5,11 +5,10 @@ ghost use Rattle.std.specs.Prelude.{◌≡◌, ◌≤◌, ℕ, List, ◌++◌, l
 ghost use Rattle.tpm_bytes.specs.Reading.{Reads};
 ghost use Rattle.tpm_bytes.specs.Writing.{sized_text};
 ghost use Rattle.tpm_types.specs.Limits.{sensitive_limit};
-ghost use Rattle.tpm_types_object.specs.Filled.{filled_by};
+ghost use Rattle.tpm_types.specs.Filled.{filled_by};
 
-use crate::filled::read_filled;
 use tpm_bytes::{Cursor, Readable, Sink};
-use tpm_types::{Rc, SENSITIVE_LIMIT, bytes_fit, read_buffer};
+use tpm_types::{Rc, SENSITIVE_LIMIT, bytes_fit, read_buffer, read_filled};
 
 /// What the caller gives to a new object's sensitive area: TPMS_SENSITIVE_CREATE of TPM 2.0
 /// Library, Part 2, section 11.1.15.
@@ -75,8 +74,8 @@ impl<'a> SensitiveCreate<'a> {
         ensures { result ≡ sensitive_create_text (sensitive_values_of self.now) }
     {
         let mut text = Sink::new();
-        let _ = text.put_sized(self.user_auth);
-        let _ = text.put_sized(self.data);
+        text.append_sized(self.user_auth);
+        text.append_sized(self.data);
         text
     }
 }

@@ -9,11 +9,11 @@ use Rattle.std.specs.Fn.{Called}
 use Rattle.std.specs.Io.KnownBytes.{Appends}
 use Rattle.tpm_bytes.specs.Tap.{AppendsFront, Marks}
 use Rattle.tpm_record.specs.Record.{Record}
-use Rattle.tpm_machine_step.specs.Execution.{Executes}
-use Rattle.tpm_machine_step.specs.Step.{outcome_step}
-use Rattle.tpm_machine_step.specs.declared.event.Outcome.{Outcome}
-use Rattle.tpm_machine_history.specs.Executions.{Execution, Leads}
-use Rattle.tpm_machine_history.proofs.PowerCycles.{leads_on}
+use Rattle.tpm_step.specs.Execution.{Executes}
+use Rattle.tpm_step.specs.Step.{outcome_step}
+use Rattle.tpm_step.specs.declared.event.Outcome.{Outcome}
+use Rattle.tpm_history.specs.Executions.{Execution, Leads}
+use Rattle.tpm_history.proofs.PowerCycles.{leads_on}
 use Rattle.tpm_wire.specs.Serve.{AreFewer, AreFirst, Asking, Asks, AsksForEach, AsksInVain, Delivers, Ends, Finishes, HoldsLastBack, LosesLast, Saves, SavesEach, buffer_in, buffers_of, responses_of}
 use Rattle.tpm_wire.specs.Stream.{Cut, Cutting, CutsTo, Stream, cut_of, cut_with, fed, next_of, uncut}
 use Rattle.tpm_wire.specs.Wire.{given}

@@ -5,18 +5,18 @@ use Rattle.std.specs.List.{AllZip, FoldsTo}
 use Rattle.std.proofs.lemmas.Bool.{cases_eq}
 use Rattle.std.proofs.lemmas.Option.{unwrap_or-slice_get}
 use Rattle.std.proofs.Math.Seq.{get_or-append_seam}
-use Rattle.tpm_slots.specs.Slots.{at_place, free}
-use Rattle.tpm_slots.proofs.SlotLaws.{at_inside, at_set-here, at_set-other, lowest_free-free}
+use Rattle.tpm_containers.specs.Slots.{at_place, free}
+use Rattle.tpm_containers.proofs.SlotLaws.{at_inside, at_set-here, at_set-other, lowest_free-free}
 use Rattle.tpm_record.specs.Cycle.{cycled}
 use Rattle.tpm_record.specs.IsRecord.{IsRecord}
 use Rattle.tpm_record.specs.Record.{Record}
-use Rattle.tpm_machine_step.specs.Execution.{Executes}
-use Rattle.tpm_machine_step.specs.Run.{after_all}
-use Rattle.tpm_machine_step.specs.Step.{Stepped, outcome_step}
-use Rattle.tpm_machine_step.specs.declared.event.Outcome.{Outcome}
-use Rattle.tpm_machine_history.specs.Executions.{Execution, Leads, power_cycle}
-use Rattle.tpm_machine_history.proofs.Following.{stretch_follows}
-use Rattle.tpm_machine_history.proofs.PowerCycles.{power_cycle_executes}
+use Rattle.tpm_step.specs.Execution.{Executes}
+use Rattle.tpm_step.specs.Run.{after_all}
+use Rattle.tpm_step.specs.Step.{Stepped, outcome_step}
+use Rattle.tpm_step.specs.declared.event.Outcome.{Outcome}
+use Rattle.tpm_history.specs.Executions.{Execution, Leads, power_cycle}
+use Rattle.tpm_history.proofs.Following.{stretch_follows}
+use Rattle.tpm_history.proofs.PowerCycles.{power_cycle_executes}
 use Rattle.tpm_wire.specs.Number.{number_of}
 use Rattle.tpm_wire.specs.Schedule.{Call, Closing, Does, Event, Executed, Feeding, IsOf, IsServed, Life, Opening, PowerCycled, PowerCycling, Schedules, SchedulesAreRuns, SchedulesAreServed, SchedulesLead, Turning, buffer_due, events_in, events_of, executed, plain_event_of, lives_after, lives_after_all, new_life, with_life}
 use Rattle.tpm_wire.specs.Stream.{Cut, Cutting, Stream, cut_of, fed, fitting, next_of, opened, uncut}

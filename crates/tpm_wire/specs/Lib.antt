@@ -5,11 +5,11 @@ pub mod Serve
 pub mod Schedule
 pub use Rattle.tpm_bytes.specs.Tap
 pub use Rattle.tpm_machine.specs.State
-pub use Rattle.tpm_machine_step.specs.Events
-pub use Rattle.tpm_machine_step.specs.Execution
-pub use Rattle.tpm_machine_step.specs.Run
-pub use Rattle.tpm_machine_step.specs.Step
-pub use Rattle.tpm_slots.specs.Slots
+pub use Rattle.tpm_step.specs.Events
+pub use Rattle.tpm_step.specs.Execution
+pub use Rattle.tpm_step.specs.Run
+pub use Rattle.tpm_step.specs.Step
+pub use Rattle.tpm_containers.specs.Slots
 pub use Rattle.tpm_record.specs.Cycle
 pub use Rattle.tpm_record.specs.Record
 pub mod History

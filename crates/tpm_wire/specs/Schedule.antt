@@ -3,17 +3,17 @@
 use Rattle.std.specs.Prelude.{◌≡◌, ℕ, Bool, false, List, [], ◌∷◌, ◌++◌, length, take, map, slice_set, slice_get}
 use Rattle.std.specs.Prelude.{Option, Some, None, option_map, unwrap_or, Result, Ok}
 use Rattle.std.specs.List.{AllZip, FoldsTo}
-use Rattle.tpm_slots.specs.Slots.{at_place, free}
+use Rattle.tpm_containers.specs.Slots.{at_place, free}
 use Rattle.tpm_record.specs.Cycle.{cycled}
 use Rattle.tpm_record.specs.IsRecord.{IsRecord}
 use Rattle.tpm_record.specs.Record.{Record}
-use Rattle.tpm_machine_step.specs.Events.{PlainEvent, Cycled}
-use Rattle.tpm_machine_step.specs.Run.{after_all}
-use Rattle.tpm_machine_step.specs.Step.{outcome_step}
-use Rattle.tpm_machine_step.specs.declared.event.Outcome.{Outcome}
-use Rattle.tpm_machine_history.specs.Executions.{Execution, Leads}
-use Rattle.tpm_machine_history.specs.Follows.{Follows, StretchFollows}
-use Rattle.tpm_machine_history.specs.History.{History}
+use Rattle.tpm_step.specs.Events.{PlainEvent, Cycled}
+use Rattle.tpm_step.specs.Run.{after_all}
+use Rattle.tpm_step.specs.Step.{outcome_step}
+use Rattle.tpm_step.specs.declared.event.Outcome.{Outcome}
+use Rattle.tpm_history.specs.Executions.{Execution, Leads}
+use Rattle.tpm_history.specs.Follows.{Follows, StretchFollows}
+use Rattle.tpm_history.specs.History.{History}
 use Rattle.tpm_wire.specs.Number.{number_of}
 use Rattle.tpm_wire.specs.Stream.{Stream, cut_of, cut_with}
 use Rattle.tpm_wire.specs.Wire.{Closes, Feeds, Opens, Turns, Wire, given, new_wire}

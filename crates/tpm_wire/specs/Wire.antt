@@ -2,11 +2,11 @@
 use Rattle.std.specs.Prelude.{◌≡◌, ℕ, Bool, List, length, take, slice_set, if◌then◌else◌}
 use Rattle.std.specs.Prelude.{Option, Some, None, Result, Ok, Err}
 use Rattle.tpm_types.specs.Locality.{locality_number}
-use Rattle.tpm_slots.specs.Slots.{at_place, free, lowest_free}
+use Rattle.tpm_containers.specs.Slots.{at_place, free, lowest_free}
 use Rattle.tpm_record.specs.Record.{Record}
-use Rattle.tpm_machine_step.specs.Events.{PlainEvent, Given}
-use Rattle.tpm_machine_step.specs.Execution.{Executes}
-use Rattle.tpm_machine_step.specs.Step.{outcome_step}
+use Rattle.tpm_step.specs.Events.{PlainEvent, Given}
+use Rattle.tpm_step.specs.Execution.{Executes}
+use Rattle.tpm_step.specs.Step.{outcome_step}
 use Rattle.tpm_machine.specs.State.{state_of}
 use Rattle.tpm_wire.specs.Number.{number_of}
 use Rattle.tpm_wire.specs.Stream.{Cut, Stream, fed, fitting, next_of, opened}

@@ -9,6 +9,7 @@ ghost use Rattle.tpm_wire.specs.Stream.{IsFront, cut_at, fed, fitting, opened};
 use crate::front::{Front, front_of};
 use arrayvec::ArrayVec;
 use std::marker::Model;
+use tpm_bytes::append;
 use tpm_types::BUFFER_LIMIT;
 
 /// The bytes that a connection has taken and that were not yet executed, and whether no buffer
@@ -59,7 +60,7 @@ impl Connection {
             ≡ fed self.old (take (fitting self.old (length piece.now)) piece.now) }
     {
         let count = self.taken.remaining_capacity().min(piece.len());
-        let _ = self.taken.try_extend_from_slice(&piece[..count]);
+        append(&mut self.taken, &piece[..count]);
         count
     }
 

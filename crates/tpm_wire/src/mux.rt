@@ -2,12 +2,12 @@
 
 ghost use Rattle.std.specs.Prelude.{◌≡◌, ◌<◌, ◌≤◌, ◌∷◌, IfSome, None, if◌then◌else◌, length, take};
 ghost use Rattle.tpm_machine.specs.State.{state_of};
-ghost use Rattle.tpm_machine_step.specs.Execution.{Executes};
-ghost use Rattle.tpm_machine_step.specs.Step.{outcome_step};
-ghost use Rattle.tpm_slots.specs.Slots.{lowest_free};
+ghost use Rattle.tpm_step.specs.Execution.{Executes};
+ghost use Rattle.tpm_step.specs.Step.{outcome_step};
+ghost use Rattle.tpm_containers.specs.Slots.{lowest_free};
 ghost use Rattle.tpm_record.specs.Cycle.{cycled};
-ghost use Rattle.tpm_machine_history.specs.Follows.{Follows};
-ghost use Rattle.tpm_machine_history.specs.History.{History, PowerCycled};
+ghost use Rattle.tpm_history.specs.Follows.{Follows};
+ghost use Rattle.tpm_history.specs.History.{History, PowerCycled};
 ghost use Rattle.tpm_wire.specs.History.{turn_history};
 ghost use Rattle.tpm_wire.specs.Number.{number_of};
 ghost use Rattle.tpm_wire.specs.Stream.{cut_at};
@@ -21,8 +21,8 @@ use crate::host::Host;
 use crate::number::ConnectionNumber;
 use crate::turn::Turn;
 use tpm_machine::Machine;
-use tpm_machine_step::{Event, Outcome};
 use tpm_record::Keep;
+use tpm_step::{Event, Outcome};
 
 /// How many connections can be open.
 const CONNECTION_LIMIT: usize = 8;

@@ -5,8 +5,8 @@ ghost use Rattle.tpm_types.specs.Limits.{buffer_limit};
 ghost use Rattle.std.specs.Prelude.{◌≡◌, ◌≢◌, ◌+◌, ◌≤◌, Err, IfOk, List, None, OnOk, length};
 ghost use Rattle.tpm_bytes.specs.Tap.{device_of, marks_of, unmarked};
 ghost use Rattle.tpm_machine.specs.State.{state_of};
-ghost use Rattle.tpm_machine_history.specs.Executions.{Execution, Leads};
-ghost use Rattle.tpm_slots.specs.Slots.{lowest_free};
+ghost use Rattle.tpm_history.specs.Executions.{Execution, Leads};
+ghost use Rattle.tpm_containers.specs.Slots.{lowest_free};
 ghost use Rattle.tpm_wire.specs.Serve.{Delivers, Finishes, Saves, Serves, buffers_of};
 ghost use Rattle.tpm_wire.specs.Stream.{CutsTo};
 ghost use Rattle.tpm_wire.specs.Wire.{wire_of};
@@ -20,9 +20,9 @@ use crate::reading::fill;
 use std::io::{Read, Write};
 use tpm_bytes::Tap;
 use tpm_machine::Machine;
-use tpm_machine_step::Outcome;
 use tpm_record::Keep;
 use tpm_saver::{Saver, SavesNothing};
+use tpm_step::Outcome;
 use tpm_types::BUFFER_LIMIT;
 
 /// In how many reads one connection may give bytes.

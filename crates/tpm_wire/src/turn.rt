@@ -1,6 +1,6 @@
 //! What a turn of a connection gives: nothing yet, an outcome, or the end.
 
-use tpm_machine_step::Outcome;
+use tpm_step::Outcome;
 
 /// What a turn of a connection gave.
 #[derive(Drop)]

@@ -4,8 +4,8 @@
 use std::alloc::Global;
 use std::test::Fail;
 use tpm_machine::Machine;
-use tpm_machine_step::Outcome;
 use tpm_record::Keep;
+use tpm_step::Outcome;
 use tpm_types::Locality;
 use tpm_wire::{ConnectionNumber, Host, Mux, NoConnection, Turn};
 

@@ -4,8 +4,8 @@ use Rattle.std.specs.Prelude.{nat_le, option_and_then}
 use Rattle.std.proofs.lemmas.Bool.{false≢true, le-leb, lt-leb}
 use Rattle.std.specs.Io.KnownBytes.{Appends}
 use Rattle.std.specs.Prelude.{OnOk, OnErr}
-use Rattle.tpm_machine_step.specs.Events.{Cycled}
-use Rattle.tpm_machine_step.specs.Step.{Stepped, step}
+use Rattle.tpm_step.specs.Events.{Cycled}
+use Rattle.tpm_step.specs.Step.{Stepped, step}
 use Rattle.tpmsim_script.specs.Line.{Meaning, line_meaning}
 use Rattle.tpmsim_script.specs.Answers.{CutOff}
 use Rattle.tpmsim_script.specs.Player.{Did, Told}

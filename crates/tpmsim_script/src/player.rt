@@ -5,8 +5,8 @@ ghost use Rattle.std.specs.Prelude.{◌≡◌, ◌≤◌, [], false, true, lengt
 ghost use Rattle.std.specs.Io.KnownBytes.{Appends, Keeps};
 ghost use Rattle.tpm_bytes.specs.Tap.{device_of, marks_of};
 ghost use Rattle.tpm_machine.specs.State.{state_of};
-ghost use Rattle.tpm_machine_step.specs.Events.{plain_event};
-ghost use Rattle.tpm_machine_step.specs.Step.{outcome_step};
+ghost use Rattle.tpm_step.specs.Events.{plain_event};
+ghost use Rattle.tpm_step.specs.Step.{outcome_step};
 ghost use Rattle.tpm_text.specs.Trace.{IsTraceable};
 ghost use Rattle.tpmsim_script.specs.Answers.{CutOff, backlog, printout};
 ghost use Rattle.tpmsim_script.specs.Keeping.{Tells};
@@ -25,9 +25,9 @@ use std::alloc::{AllocError, Global};
 use std::io::Write;
 use tpm_bytes::Tap;
 use tpm_machine::Machine;
-use tpm_machine_step::{Event, Outcome};
 use tpm_record::Keep;
 use tpm_saver::Saver;
+use tpm_step::{Event, Outcome};
 use tpm_text::{trace_text, traceable_laws};
 
 /// A device, by a way of keeping its state, and what the lines of a script so far say of its next

@@ -8,7 +8,7 @@ ghost use Rattle.tpmsim_script.specs.Script.{repeated};
 
 use crate::line::BadLine;
 use std::mem;
-use tpm_machine_step::Event;
+use tpm_step::Event;
 use tpm_types::Locality;
 
 /// How many random bytes each command gets.

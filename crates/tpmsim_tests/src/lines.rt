@@ -3,7 +3,7 @@
 use std::alloc::Global;
 use std::process::Abort;
 use std::test::Fail;
-use tpm_machine_step::{Event, Outcome};
+use tpm_step::{Event, Outcome};
 use tpm_text::{AsmFault, assemble, trace_line};
 
 const STARTUP: &[u8] = &[0x80, 1, 0, 0, 0, 0x0c, 0, 0, 1, 0x44, 0, 0];

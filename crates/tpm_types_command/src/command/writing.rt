@@ -57,7 +57,7 @@ impl Command<'_> {
         write_header(self.tag(), size as u32, self.code, sink);
         write_handles(self.handles.as_slice(), sink);
         write_sessions(self.entries.as_slice(), sink);
-        let _ = sink.put(self.parameters);
+        sink.append(self.parameters);
         Ok(())
     }
 }
@@ -89,13 +89,14 @@ fn sessions_len(entries: &[AuthEntry]) -> Option<usize>
     Some(4 + entries_len(entries)?)
 }
 
+#[tactic(auto, unfolding(crate::specs::Header::header_text))]
 fn write_header<const N: usize>(tag: Tag, size: u32, code: CommandCode, sink: &mut Sink<N>)
     requires { length sink.old + 10 ≤ N }
     ensures { sink.new ≡ sink.old ++ header_text tag size code }
 {
-    let _ = sink.put_u16(tag.number());
-    let _ = sink.put_u32(size);
-    let _ = sink.put_u32(code.number());
+    sink.append_u16(tag.number());
+    sink.append_u32(size);
+    sink.append_u32(code.number());
 }
 
 fn write_handles<const N: usize>(handles: &[Handle], sink: &mut Sink<N>)
@@ -103,7 +104,7 @@ fn write_handles<const N: usize>(handles: &[Handle], sink: &mut Sink<N>)
     ensures { sink.new ≡ sink.old ++ handles_text handles.now }
 {
     for handle in handles {
-        let _ = sink.put_u32(handle.number);
+        sink.append_u32(handle.number);
     }
 }
 
@@ -113,7 +114,7 @@ fn write_entries<const N: usize>(entries: &[AuthEntry], sink: &mut Sink<N>)
     ensures { sink.new ≡ sink.old ++ entries_text (map entry_of entries.now) }
 {
     for entry in entries {
-        let _ = entry.write(sink);
+        entry.append_to(sink);
     }
 }
 
@@ -125,7 +126,7 @@ fn write_sessions<const N: usize>(entries: &[AuthEntry], sink: &mut Sink<N>)
 {
     if !entries.is_empty() {
         let size = entries_len(entries).unwrap_or(0);
-        let _ = sink.put_u32(size as u32);
+        sink.append_u32(size as u32);
         write_entries(entries, sink);
     }
 }

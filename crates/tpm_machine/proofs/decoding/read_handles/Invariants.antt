@@ -1,7 +1,7 @@
 use Rattle.std.proofs.Common.{◌≡◌, ◌+◌, ◌≤◌, drop, length}
 use Rattle.tpm_bytes.specs.Many.{each_at}
 use Rattle.tpm_bytes.proofs.Joining.{behind}
-use Rattle.tpm_machine_step.specs.General.{present_handle_at}
+use Rattle.tpm_step.specs.General.{present_handle_at}
 use Rattle.tpm_machine.proofs.decoding.read_handles.Given as goal
 
 -- what is left to read, after the handles so far, is what there was to read

@@ -1,6 +1,6 @@
 use Rattle.std.proofs.Common.{◌≡◌, ◌+◌, ◌*◌, ◌≤◌, drop, length, map}
 use Rattle.tpm_types_command.specs.AuthEntry.{entry_of}
-use Rattle.tpm_machine_step.specs.Entries.{entries_rolled}
+use Rattle.tpm_step.specs.Entries.{entries_rolled}
 use Rattle.tpm_machine.proofs.entries.roll_entries.Given as goal
 
 -- what is left to roll, from here on, leads where all of it does

@@ -1,5 +1,5 @@
 use Rattle.std.proofs.Common.{◌≡◌, ◌+◌, drop}
-use Rattle.tpm_sorted_map.specs.SortedMap.{Ascends, at_key}
+use Rattle.tpm_containers.specs.SortedMap.{Ascends, at_key}
 use Rattle.tpm_nv.specs.Head.{start_of}
 use Rattle.tpm_nv.proofs.heads.found_at.Given as goal
 

@@ -1,5 +1,5 @@
 use Rattle.std.proofs.Common.{◌≡◌, ◌<◌, ◌+◌, ℕ, suc, Some, length, get_or, ap, ◌∙◌, arith}
-use Rattle.tpm_sorted_map.specs.SortedMap.{Entries, at_key, changed_key}
+use Rattle.tpm_containers.specs.SortedMap.{Entries, at_key, changed_key}
 use Rattle.tpm_types_nv.specs.declared.nv_attributes.NvAttributes.{NvAttributes}
 use Rattle.tpm_nv.specs.Head.{with_attributes}
 use Rattle.tpm_nv.specs.Startup.{started_attributes}

@@ -1,7 +1,7 @@
 use Rattle.std.proofs.Common.{◌≡◌, ◌<◌, ◌+◌, ℕ, suc, cond, List, Option, None, length, ap, ◌∙◌, arith}
 use Rattle.std.specs.Prelude.{slice_set}
 use Rattle.tpm_object.specs.declared.object.Object.{Object}
-use Rattle.tpm_slots.specs.Slots.{at_place}
+use Rattle.tpm_containers.specs.Slots.{at_place}
 use Rattle.tpm_record.specs.Clear.{is_place_cleared}
 use Rattle.tpm_record.proofs.ClearLaws.{cleared_in_turn, cleared_up_to}
 use Rattle.tpm_record.proofs.clear.clear_places.Goals as goal

@@ -1,4 +1,4 @@
-use Rattle.tpm_slots.specs.Slots.{lowest_free}
+use Rattle.tpm_containers.specs.Slots.{lowest_free}
 use Rattle.tpm_wire.specs.Wire.{wire_of}
 use Rattle.tpm_wire.proofs.Executing.{never_unsaved, unsaved_where}
 use Rattle.tpm_wire.proofs.serving.serve.Goals as goal

@@ -1,8 +1,8 @@
 use Rattle.std.proofs.Common.{drop, map}
 use denote.Param.Always.{always_mut}
 use Rattle.tpm_record.specs.Record.{Record}
-use Rattle.tpm_machine_step.specs.Events.{plain_event}
-use Rattle.tpm_machine_step.specs.Run.{Runs}
+use Rattle.tpm_step.specs.Events.{plain_event}
+use Rattle.tpm_step.specs.Run.{Runs}
 use Rattle.tpm_machine.proofs.machine.Machine.execute_all.Given as goal
 
 -- if what is left runs from here, then all events run from the start

@@ -1,6 +1,6 @@
 use Rattle.std.proofs.Common.{◌≡◌, ◌≤◌, ℕ, List, refl, sym, ap, ◌∙◌, length, ◌++◌, take, drop, arith, length-append, length-drop}
 use Rattle.std.proofs.lemmas.List.{length-take-le}
-use Rattle.tpm_sorted_map.specs.SortedMap.{Entries, with_key}
+use Rattle.tpm_containers.specs.SortedMap.{Entries, with_key}
 use Rattle.tpm_nv.specs.Bytes.{closed_up}
 use Rattle.tpm_nv.specs.Head.{IsHead, indices_of, start_of}
 use Rattle.tpm_nv.specs.Index.{NvContents, NvIndex, with_index}

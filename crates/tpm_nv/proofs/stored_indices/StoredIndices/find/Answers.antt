@@ -1,6 +1,6 @@
 use Rattle.std.proofs.Common.{◌≡◌, Some, None, subst}
 use Rattle.std.specs.Prelude.{IfNone, IfSome}
-use Rattle.tpm_sorted_map.specs.SortedMap.{Entries, at_key}
+use Rattle.tpm_containers.specs.SortedMap.{Entries, at_key}
 use Rattle.tpm_nv.specs.Head.{start_of}
 use Rattle.tpm_nv.specs.declared.head.Head.{Head}
 use Rattle.tpm_nv.proofs.KeptLaws.{found_none, found_some}

@@ -1,5 +1,5 @@
 use Rattle.std.proofs.Common.{◌≡◌, refl, ap, ◌∙◌}
-use Rattle.tpm_sorted_map.specs.SortedMap.{changed_key}
+use Rattle.tpm_containers.specs.SortedMap.{changed_key}
 use Rattle.tpm_types_nv.specs.NvAttributes.{with_attribute}
 use Rattle.tpm_types_nv.specs.declared.nv_attributes.NvAttributes.{NvAttributes}
 use Rattle.tpm_nv.specs.Access.{marked}

@@ -1,5 +1,5 @@
 use Rattle.std.proofs.Common.{◌≡◌, ◌+◌, ◌≤◌, length, ap, ◌∙◌, arith}
-use Rattle.tpm_sorted_map.specs.SortedMap.{changed_key}
+use Rattle.tpm_containers.specs.SortedMap.{changed_key}
 use Rattle.tpm_types_nv.specs.NvAttributes.{has, with_attribute}
 use Rattle.tpm_types_nv.specs.declared.nv_attributes.NvAttribute.TheVariants as attribute
 use Rattle.tpm_types_nv.specs.declared.nv_attributes.NvAttributes.{NvAttributes}

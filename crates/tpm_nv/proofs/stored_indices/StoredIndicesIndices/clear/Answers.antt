@@ -1,5 +1,5 @@
 use Rattle.std.proofs.Common.{List, ℕ, ap, ◌∙◌, arith}
-use Rattle.tpm_sorted_map.specs.SortedMap.{kept_entries}
+use Rattle.tpm_containers.specs.SortedMap.{kept_entries}
 use Rattle.tpm_nv.specs.Clear.{cleared}
 use Rattle.tpm_nv.specs.Head.{indices_of, kept_bytes, stays}
 use Rattle.tpm_nv.specs.Index.{NvContents, NvIndex}

@@ -5,7 +5,7 @@ use Rattle.tpm_types_nv.specs.declared.nv_type.NvType.TheVariants as type
 use Rattle.tpm_nv.specs.Access.{with_data}
 use Rattle.tpm_nv.specs.Head.{index_with, size_of}
 use Rattle.tpm_nv.specs.Index.{NvContents, changed_index}
-use Rattle.tpm_nv.specs.declared.fault.NvFault.{NvFault}
+use Rattle.tpm_nv.specs.declared.fault.WriteFault.{WriteFault}
 use Rattle.tpm_mac.specs.Digest.{digest_size}
 use Rattle.tpm_nv.proofs.KeptLaws.{data_long, size_of_type, type_of_writable}
 use Rattle.tpm_nv.proofs.AreaLaws.{extended_is}
@@ -29,5 +29,5 @@ returns g c =
     let set : c.set_data.new.self ≡ changed_index c.args.self.now c.args.handle (with_data index digest) =
     c.set_data.ensures index t.1.found
     ∙ ap (λ (l : List ℕ). changed_index c.args.self.now c.args.handle (with_data index l)) c.as_slice.ensures.value in
-    let ok : NvContents → Result NvContents NvFault = λ s. Ok s in
+    let ok : NvContents → Result NvContents WriteFault = λ s. Ok s in
     extended_is c.args.self.now c.args.handle h t.0 c.args.bytes.now digest t.1 t.2 (c.extended_digest-digest.ensures.value c.args.handle t.0 t.1 t.3 size) ∙ ap ok (sym set)

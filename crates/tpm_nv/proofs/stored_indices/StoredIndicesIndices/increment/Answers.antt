@@ -5,7 +5,7 @@ use Rattle.tpm_types_nv.specs.declared.nv_type.NvType.TheVariants as type
 use Rattle.tpm_nv.specs.Access.{with_data, counted, number_or}
 use Rattle.tpm_nv.specs.Head.{index_with, size_of, indices_of}
 use Rattle.tpm_nv.specs.Index.{NvContents, changed_index}
-use Rattle.tpm_nv.specs.declared.fault.NvFault.{NvFault}
+use Rattle.tpm_nv.specs.declared.fault.WriteFault.{WriteFault}
 use Rattle.std.specs.Int.{to_be_bytes, w64}
 use Rattle.tpm_nv.proofs.KeptLaws.{data_long, size_of_type, type_of_writable}
 use Rattle.tpm_nv.proofs.AreaLaws.{incremented_is}
@@ -34,5 +34,5 @@ returns g c =
     ∙ ap (λ (l : List ℕ). changed_index c.args.self.now c.args.handle (with_data index l)) c.to_be_bytes.ensures in
     let made : ℕ → NvContents = λ m. record { indices = indices_of (g.H.SortedMap.entries c.self-2.inside.heads) (g.R.Area.bytes c.self-2.inside.area); max_count = m } in
     let counts = ap made c.max-self-inside.ensures ∙ ap (λ (s : NvContents). counted s (last + 1)) (c.self-2.view_is ∙ set) in
-    let ok : NvContents → Result NvContents NvFault = λ s. Ok s in
+    let ok : NvContents → Result NvContents WriteFault = λ s. Ok s in
     incremented_is c.args.self.now c.args.handle h t.0 last t.1 t.2 number fits ∙ ap ok (sym counts)

@@ -4,7 +4,7 @@ use Rattle.tpm_types_nv.specs.NvAttributes.{has}
 use Rattle.tpm_types_nv.specs.declared.nv_attributes.NvAttribute.TheVariants as attribute
 use Rattle.tpm_nv.specs.Bytes.{piece_of}
 use Rattle.tpm_nv.specs.Head.{size_of}
-use Rattle.tpm_nv.specs.declared.fault.NvFault.{NvFault}
+use Rattle.tpm_nv.specs.declared.fault.ReadFault.{ReadFault}
 use Rattle.tpm_nv.proofs.AreaLaws.{read_is}
 use Rattle.tpm_nv.proofs.stored_indices.StoredIndicesIndices.read.Goals as goal
 
@@ -24,7 +24,7 @@ returns g c =
     let free : has h.public.attributes attribute.ReadLocked ≡ false = sym c.has.ensures ∙ c.if-has.false in
     let shown : c.data.result.now ≡ t.0 = c.data.ensures c.args.handle t.0 t.1 t.2 was_written in
     let inside : c.args.offset + c.args.size ≤ size_of h = omega (arith, c.from.ensures, c.from-offset.ensures, c.from-size.ensures, c.if-offset-size.false) in
-    let ok : List ℕ → Result (List ℕ) NvFault = λ l. Ok l in
+    let ok : List ℕ → Result (List ℕ) ReadFault = λ l. Ok l in
     let piece : c.piece_at.result.now ≡ piece_of c.args.offset c.args.size t.0 =
     c.piece_at.ensures
     ∙ ap (λ s. piece_of s c.from-size.result c.data.result.now) c.from-offset.ensures

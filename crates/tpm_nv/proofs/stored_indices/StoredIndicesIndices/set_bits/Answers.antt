@@ -5,7 +5,7 @@ use Rattle.tpm_types_nv.specs.declared.nv_type.NvType.TheVariants as type
 use Rattle.tpm_nv.specs.Access.{with_data}
 use Rattle.tpm_nv.specs.Head.{index_with, size_of}
 use Rattle.tpm_nv.specs.Index.{NvContents, changed_index}
-use Rattle.tpm_nv.specs.declared.fault.NvFault.{NvFault}
+use Rattle.tpm_nv.specs.declared.fault.WriteFault.{WriteFault}
 use Rattle.std.specs.Int.{to_be_bytes, w64}
 use Rattle.tpm_nv.proofs.KeptLaws.{data_long, size_of_type, type_of_writable}
 use Rattle.tpm_nv.proofs.AreaLaws.{bits_set_is}
@@ -29,5 +29,5 @@ returns g c =
     let set : c.set_data.new.self ≡ changed_index c.args.self.now c.args.handle (with_data index (to_be_bytes w64 (bit_or last c.args.bits))) =
     c.set_data.ensures index t.1.found
     ∙ ap (λ (l : List ℕ). changed_index c.args.self.now c.args.handle (with_data index l)) c.to_be_bytes.ensures in
-    let ok : NvContents → Result NvContents NvFault = λ s. Ok s in
+    let ok : NvContents → Result NvContents WriteFault = λ s. Ok s in
     bits_set_is c.args.self.now c.args.handle h t.0 c.args.bits last t.1 t.2 (c.number.ensures c.args.handle t.0 t.1 t.3 (t.1.long ∙ size)) ∙ ap ok (sym set)

@@ -1,6 +1,6 @@
 use Rattle.std.proofs.Common.{◌≡◌, Some, is_some, sym, ap, ◌∙◌, arith}
-use Rattle.tpm_sorted_map.specs.SortedMap.{at_key, without_key}
-use Rattle.tpm_sorted_map.proofs.SortedMapLaws.{removed_absent}
+use Rattle.tpm_containers.specs.SortedMap.{at_key, without_key}
+use Rattle.tpm_containers.proofs.SortedMapLaws.{removed_absent}
 use Rattle.tpm_nv.specs.Bytes.{closed_up}
 use Rattle.tpm_nv.specs.Head.{indices_of, size_of, start_of}
 use Rattle.tpm_nv.specs.Index.{NvContents}

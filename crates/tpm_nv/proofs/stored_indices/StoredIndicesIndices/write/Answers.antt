@@ -6,7 +6,7 @@ use Rattle.tpm_nv.specs.Access.{data_or, with_data}
 use Rattle.tpm_nv.specs.Bytes.{put_over}
 use Rattle.tpm_nv.specs.Head.{index_with, size_of}
 use Rattle.tpm_nv.specs.Index.{NvContents, changed_index}
-use Rattle.tpm_nv.specs.declared.fault.NvFault.{NvFault}
+use Rattle.tpm_nv.specs.declared.fault.WriteFault.{WriteFault}
 use Rattle.tpm_nv.specs.declared.place.DataPlace.{DataPlace}
 use Rattle.tpm_nv.proofs.AreaLaws.{written_is}
 use Rattle.tpm_nv.proofs.stored_indices.StoredIndicesIndices.write.Goals as goal
@@ -26,5 +26,5 @@ returns g c =
     let put : c.put_data.new.self ≡ changed_index c.args.self.now c.args.handle (with_data index (put_over c.args.offset bytes (data_or 0xff index))) =
     c.put_data.ensures index t.1.found
     ∙ ap (λ (o : ℕ). changed_index c.args.self.now c.args.handle (with_data index (put_over o bytes (data_or 0xff index)))) c.from-offset.ensures in
-    let ok : NvContents → Result NvContents NvFault = λ s. Ok s in
+    let ok : NvContents → Result NvContents WriteFault = λ s. Ok s in
     written_is c.args.self.now c.args.handle h t.0 c.args.offset bytes t.1 t.2 inside whole ∙ ap ok (sym put)

@@ -1,6 +1,5 @@
 use Rattle.std.proofs.Common.{◌≡◌, ◌+◌, ◌*◌, ◌≤◌, ◌∙◌, ◌++◌, List, length, map, ap, sym, subst, refl, arith, rules, length-append}
 use Rattle.std.specs.List.{AllByRecursion}
-use Rattle.tpm_bytes.proofs.Putting.{put_fits}
 use Rattle.tpm_types_command.specs.declared.auth_entry.AuthEntry.{AuthEntry}
 use Rattle.tpm_types.specs.declared.handle.Handle.{Handle}
 use Rattle.tpm_types_command.specs.AuthEntry.{HasSizes, entry_of}
@@ -37,11 +36,10 @@ write_sessions-requires g c =
     let bytes : length (sessions_text (map entry_of c.as_slice-2.result.now)) ≡ length (sessions_text whole.entries) = ap (λ (l : List AuthEntry). length (sessions_text (map entry_of l))) same in
     (search rules, (c.as_slice-2.ensures.fits, (subst (λ (l : List AuthEntry). AllByRecursion HasSizes (map entry_of l)) (sym same) has.entries, omega arith)))
 
-pub returns : goal.returns
-returns g c =
+pub append-requires : goal.append-requires
+append-requires g c =
     let whole = whole_of c.args.self.now in
     let text = c.in-Some.ensures in
-    let has = text.0 in
     let size = text.1 in
     let fits : length c.args.sink.now + command_size whole ≤ g.row.N = omega arith in
     let room = room_behind_header whole g.row.N c.in-Some.size c.tag.result c.args.sink.now c.write_header.new.sink c.write_header.ensures fits in
@@ -49,6 +47,16 @@ returns g c =
     let three : c.write_sessions.new.sink ≡ c.write_handles.new.sink ++ sessions_text whole.entries = c.write_sessions.ensures ∙ ap (λ (l : List AuthEntry). c.write_handles.new.sink ++ sessions_text (map entry_of l)) c.as_slice-2.ensures.value in
     let handles : length c.write_handles.new.sink ≡ length c.write_header.new.sink + 4 * length whole.handles = ap length two ∙ length-append c.write_header.new.sink (handles_text whole.handles) ∙ ap (λ n. length c.write_header.new.sink + n) (length-handles_text whole.handles) in
     let sessions : length c.write_sessions.new.sink ≡ length c.write_handles.new.sink + length (sessions_text whole.entries) = ap length three ∙ length-append c.write_handles.new.sink (sessions_text whole.entries) in
-    let last = put_fits g.row.N whole.parameters c.write_sessions.new.sink c.put.result c.put.new.self c.put.ensures (omega arith) in
-    let written = command_written whole c.in-Some.size c.tag.result c.args.sink.now c.write_header.new.sink c.write_handles.new.sink c.write_sessions.new.sink c.put.new.self size c.tag.ensures c.write_header.ensures two three last in
+    (search rules, omega arith)
+
+pub returns : goal.returns
+returns g c =
+    let whole = whole_of c.args.self.now in
+    let text = c.in-Some.ensures in
+    let has = text.0 in
+    let size = text.1 in
+    let fits : length c.args.sink.now + command_size whole ≤ g.row.N = omega arith in
+    let two : c.write_handles.new.sink ≡ c.write_header.new.sink ++ handles_text whole.handles = c.write_handles.ensures ∙ ap (λ (l : List Handle). c.write_header.new.sink ++ handles_text l) c.as_slice.ensures.value in
+    let three : c.write_sessions.new.sink ≡ c.write_handles.new.sink ++ sessions_text whole.entries = c.write_sessions.ensures ∙ ap (λ (l : List AuthEntry). c.write_handles.new.sink ++ sessions_text (map entry_of l)) c.as_slice-2.ensures.value in
+    let written = command_written whole c.in-Some.size c.tag.result c.args.sink.now c.write_header.new.sink c.write_handles.new.sink c.write_sessions.new.sink c.append.new.self size c.tag.ensures c.write_header.ensures two three c.append.ensures in
     ((λ _. (has, fits), λ _. refl), written, tt)

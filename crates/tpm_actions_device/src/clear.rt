@@ -1,0 +1,56 @@
+//! TPM2_Clear: removes what is the owner's and the endorsement hierarchy's, by its row in
+//! `specs/Clear`.
+
+ghost use Rattle.std.specs.Prelude.{◌≡◌};
+ghost use Rattle.tpm_actions_base.specs.Answer.{IsEmpty};
+ghost use Rattle.tpm_actions_base.specs.Request.{request_of};
+ghost use Rattle.tpm_actions_base.specs.Rows.{Acts};
+ghost use Rattle.tpm_actions_device.specs.Clear.{clear_row, cleared_fixed};
+
+use tpm_actions_base::answer::Answer;
+use tpm_actions_base::call::Call;
+use tpm_actions_base::reading::end;
+use tpm_actions_base::refusals::action_refusal;
+use tpm_bytes::Cursor;
+use tpm_nv::Indices;
+use tpm_record::{Fixed, Keep, PersistentObjects};
+use tpm_types::{ActionCheck, Refused, ResponseCode};
+
+/// How many random bytes it draws: the owner's seed and proof, and the endorsement hierarchy's
+/// proof.
+const CLEAR_DRAWS: usize = 3 * 32;
+
+/// What it does to the part that does not grow, once it is counted as an update of the PCRs.
+fn clear_fixed(fixed: &mut Fixed, random: &[u8; 256])
+    ensures { fixed.new ≡ cleared_fixed fixed.old.banks random.now fixed.old }
+{
+    fixed.hierarchies.clear(random);
+    fixed.lockout.reset();
+    fixed.lockout.lockout_open();
+    fixed.clock = 0;
+    fixed.reset_count = 0;
+    fixed.restart_count = 0;
+}
+
+/// TPM2_Clear: removes what is the owner's and the endorsement hierarchy's; DISABLED where
+/// TPM2_ClearControl refused it, FAILURE where the update of the PCRs could not be counted.
+#[tactic(auto, unfolding(crate::specs::Clear::clear_row))]
+pub fn clear<K: Keep>(keep: &mut K, call: &Call, answer: &mut Answer) -> Result<(), Refused>
+    requires { IsEmpty answer.old }
+    ensures { Acts (clear_row (K.record_of keep.old) (request_of call.now))
+        (K.record_of keep.old) result answer.new (K.record_of keep.new) }
+{
+    end(&Cursor::new(call.parameters))?;
+    if keep.fixed().disable_clear {
+        return Err(action_refusal(ActionCheck::First, ResponseCode::Disabled.anywhere()));
+    }
+    let Ok(()) = keep.fixed_mut().banks.count_clear() else {
+        return Err(action_refusal(ActionCheck::Second, ResponseCode::Failure.anywhere()));
+    };
+    clear_fixed(keep.fixed_mut(), call.random);
+    keep.objects_mut().clear_hierarchies();
+    keep.persistent_mut().clear_hierarchies();
+    keep.nv_mut().clear();
+    answer.drawn = CLEAR_DRAWS;
+    Ok(())
+}

@@ -1,0 +1,190 @@
+//! The HMAC of an entry of a session: the authorization value in its key, the nonces in its text, and
+//! whether it is right.
+
+ghost use Rattle.std.specs.Prelude.{◌≡◌, ◌≤◌, length, map, option_map};
+ghost use Rattle.std.specs.Option.{ForSome};
+ghost use Rattle.tpm_types_command.specs.AuthEntry.{entry_of};
+ghost use Rattle.tpm_types_command.specs.Command.{whole_of};
+ghost use Rattle.tpm_auth.specs.Entries.{decrypts};
+ghost use Rattle.tpm_auth.specs.SessionGrant.{entry_nonce, hashed_command, is_authentic, is_bound_to, nonce_where, only_encrypts, other_entries, takes_value, used_auth_value};
+ghost use Rattle.tpm_auth.specs.Used.{IsToGrant, IsUsed, grant_by, used_handle};
+
+use crate::entries::{decrypts, encrypts};
+use crate::session_grant::Grant;
+use crate::used::{Granted, Used};
+use tpm_bytes::is_equal;
+use tpm_policy::Demand;
+use tpm_record::{Keep, resolve};
+use tpm_session::{CommandText, ParameterHashes, Session};
+use tpm_types::SessionType;
+use tpm_types_command::{AuthEntry, Command};
+
+/// Whether a session is bound to an entity, as that is now. Its Name is not asked for where it has
+/// another authorization value.
+#[tactic(auto, unfolding(crate::specs::SessionGrant::is_bound_to, tpm_record::specs::Entity::auth_value_of))]
+fn is_bound_to<K: Keep>(keep: &K, session: &Session, used: &Used) -> bool
+    requires { IsUsed (K.record_of keep.now) used.now }
+    ensures { result ≡ is_bound_to (K.record_of keep.now) session.now (used_handle used.now) }
+{
+    match &session.binding {
+        Some(binding) => {
+            binding.auth_value.is_same(used.resolved.auth_value(keep))
+                && used.is_named(&binding.name)
+        }
+        None => false,
+    }
+}
+
+/// Whether the authorization value is in the key of an entry that authorizes so.
+#[tactic(auto, unfolding(crate::specs::SessionGrant::takes_value))]
+pub fn takes_value<K: Keep>(keep: &K, session: &Session, granted: &Granted) -> bool
+    requires { IsToGrant (K.record_of keep.now) granted.now }
+    ensures { result ≡ takes_value (K.record_of keep.now) session.now (grant_by granted.now) }
+{
+    match session.kind {
+        SessionType::Hmac => !is_bound_to(keep, session, &granted.used),
+        SessionType::Policy | SessionType::Trial => granted.demand == Demand::AuthValue,
+    }
+}
+
+/// The authorization value in the key of an entry that authorizes so. An empty one is in each key.
+#[tactic(auto, unfolding(crate::specs::SessionGrant::used_auth_value, tpm_record::specs::Entity::auth_value_of))]
+fn key_value<'a, K: Keep>(keep: &'a K, session: &Session, granted: &Granted<'a>) -> &'a [u8]
+    requires { IsToGrant (K.record_of keep.now) granted.now }
+    ensures value { result.now
+        ≡ used_auth_value (K.record_of keep.now) session.now (Some (grant_by granted.now)) }
+    ensures fits { length result.now ≤ 32 }
+{
+    let value = granted.used.resolved.auth_value(keep);
+    if value.is_empty() || takes_value(keep, session, granted) {
+        value
+    } else {
+        &[]
+    }
+}
+
+/// The authorization value in the key of an entry that authorizes so, or nothing.
+#[tactic(auto, unfolding(crate::specs::SessionGrant::used_auth_value))]
+pub fn used_auth_value<'a, K: Keep>(
+    keep: &'a K,
+    session: &Session,
+    grant: Option<Grant>,
+) -> &'a [u8]
+    ensures value { result.now ≡ used_auth_value (K.record_of keep.now) session.now grant }
+    ensures fits { length result.now ≤ 32 }
+{
+    match grant {
+        Some(grant) => {
+            let granted = Granted {
+                used: Used {
+                    resolved: resolve(keep, grant.handle),
+                    name: None,
+                },
+                demand: grant.demand,
+            };
+            key_value(keep, session, &granted)
+        }
+        None => &[],
+    }
+}
+
+/// The nonce of an entry's session, if there is one.
+fn nonce_of<'a, K: Keep>(keep: &'a K, entry: &AuthEntry) -> &'a [u8]
+    ensures { result.now ≡ entry_nonce (K.record_of keep.now) (entry_of entry.now) }
+{
+    match keep.sessions().get(entry.session) {
+        Some(session) => session.nonce_tpm.as_slice(),
+        None => &[],
+    }
+}
+
+/// The nonce of the first entry that decrypts, or no byte.
+#[tactic(auto, unfolding(crate::specs::SessionGrant::nonce_where))]
+fn decrypting_nonce<'a, K: Keep>(keep: &'a K, entries: &[AuthEntry]) -> &'a [u8]
+    ensures { result.now ≡ nonce_where (K.record_of keep.now) decrypts (map entry_of entries.now) }
+{
+    match entries {
+        [first, ..] if decrypts(first) => nonce_of(keep, first),
+        [_, others @ ..] => decrypting_nonce(keep, others),
+        [] => &[],
+    }
+}
+
+/// The nonce of the first entry that encrypts and does not decrypt, or no byte.
+#[tactic(auto, unfolding(crate::specs::SessionGrant::nonce_where))]
+fn encrypting_nonce<'a, K: Keep>(keep: &'a K, entries: &[AuthEntry]) -> &'a [u8]
+    ensures { result.now
+        ≡ nonce_where (K.record_of keep.now) only_encrypts (map entry_of entries.now) }
+{
+    match entries {
+        [first, ..] if encrypts(first) && !decrypts(first) => nonce_of(keep, first),
+        [_, others @ ..] => encrypting_nonce(keep, others),
+        [] => &[],
+    }
+}
+
+/// The entries whose sessions' nonces stand in the text of this entry: those after the first,
+/// where that authorizes a handle.
+fn other_entries<'a, 'b>(command: &'a Command<'b>, number: u8) -> &'a [AuthEntry<'b>]
+    ensures { map entry_of result.now ≡ other_entries (whole_of command.now) number }
+{
+    let entries = command.entries.as_slice();
+    let authorizes = number == 1 && command.code.authorized_handles() > 0;
+    let first = if authorizes {
+        entries.len().min(1)
+    } else {
+        entries.len()
+    };
+    &entries[first..]
+}
+
+/// The authorization value in the key of an entry that is about to authorize so, or nothing.
+#[tactic(auto, unfolding(crate::specs::SessionGrant::used_auth_value))]
+fn value_in_key<'a, K: Keep>(
+    keep: &'a K,
+    session: &Session,
+    granted: Option<Granted<'a>>,
+) -> &'a [u8]
+    requires { ForSome granted (IsToGrant (K.record_of keep.now)) }
+    ensures value { result.now ≡ used_auth_value (K.record_of keep.now) session.now
+        (option_map grant_by granted.entry) }
+    ensures fits { length result.now ≤ 32 }
+{
+    match granted {
+        Some(granted) => key_value(keep, session, &granted),
+        None => &[],
+    }
+}
+
+/// Whether the HMAC of an entry is right, that authorizes so, or nothing.
+#[tactic(auto, unfolding(crate::specs::SessionGrant::is_authentic, crate::specs::SessionGrant::entry_parts))]
+pub fn is_authentic<K: Keep>(
+    keep: &K,
+    command: &Command,
+    hashes: &mut ParameterHashes,
+    number: u8,
+    granted: Option<Granted>,
+    entry: &AuthEntry,
+    session: &Session,
+) -> bool
+    requires hashed { hashes.old ≡ hashed_command (K.record_of keep.now) (whole_of command.now) }
+    requires used { ForSome granted (IsToGrant (K.record_of keep.now)) }
+    ensures value { result ≡ is_authentic (K.record_of keep.now) (whole_of command.now) number
+        (option_map grant_by granted.entry) (entry_of entry.now) session.now }
+    ensures same { hashes.new ≡ hashes.old }
+{
+    let value = value_in_key(keep, session, granted);
+    if session.key.as_slice().is_empty() && value.is_empty() && entry.hmac.is_empty() {
+        return true;
+    }
+    let others = other_entries(command, number);
+    let hash = hashes.by(session.hash);
+    let text = CommandText {
+        hash: hash.as_slice(),
+        nonce_caller: entry.nonce,
+        decrypt_nonce: decrypting_nonce(keep, others),
+        encrypt_nonce: encrypting_nonce(keep, others),
+        attributes: entry.attributes,
+    };
+    is_equal(entry.hmac, session.command_mac(value, &text).as_slice())
+}

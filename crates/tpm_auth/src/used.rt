@@ -1,0 +1,93 @@
+//! What an entry is to authorize: a handle of its command, with what that names, which was looked up
+//! once.
+
+ghost use Rattle.std.specs.Prelude.{◌≡◌, ◌≤◌, length, map, slice_get, take};
+ghost use Rattle.std.specs.Str.{bytes_eq};
+ghost use Rattle.tpm_types_command.specs.Command.{whole_of};
+ghost use Rattle.tpm_types_command.specs.CommandCode.{authorized_handles};
+ghost use Rattle.tpm_record.specs.Entity.{name_of};
+ghost use Rattle.tpm_record.specs.Record.{Record};
+ghost use Rattle.tpm_auth.specs.Grant.{authorized};
+ghost use Rattle.tpm_auth.specs.Used.{IsResolved, IsUsed, IsUsedFor, grant_by, used_handle};
+
+use crate::session_grant::Grant;
+use tpm_policy::Demand;
+use tpm_record::Resolved;
+use tpm_types::Locality;
+use tpm_types_command::Command;
+use tpm_types_name::Name;
+
+/// A command with what its handles name, and where it comes from.
+#[derive(Clone, Copy)]
+pub struct Sent<'a, 'b> {
+    pub command: &'a Command<'b>,
+    pub resolved: &'a [Resolved<'a>],
+    /// The Names of its handles, or of none where nothing asks for them.
+    pub names: &'a [Name],
+    pub locality: Locality,
+}
+
+/// What an entry is to authorize, with its Name where that was made.
+#[derive(Clone, Copy)]
+pub struct Used<'a> {
+    pub resolved: Resolved<'a>,
+    pub name: Option<&'a Name>,
+}
+
+/// What an entry authorizes, and what the policy demanded by which it does so.
+#[derive(Clone, Copy)]
+pub struct Granted<'a> {
+    pub used: Used<'a>,
+    pub demand: Demand,
+}
+
+impl Granted<'_> {
+    /// The same without what the handle names.
+    pub fn grant(&self) -> Grant
+        ensures { result ≡ grant_by self.now }
+    {
+        Grant {
+            handle: self.used.resolved.handle,
+            demand: self.demand,
+        }
+    }
+}
+
+impl Used<'_> {
+    /// Whether this is its Name, which is made here where it was not before.
+    #[tactic(auto, unfolding(tpm_record::specs::Entity::name_of))]
+    pub fn is_named(&self, name: &Name) -> bool
+        ensures { (r : Record) → IsUsed r self.now
+            → result ≡ bytes_eq name.now (name_of r (used_handle self.now)) }
+    {
+        match self.name {
+            Some(made) => name.is_same(made),
+            None => name.is_same(&self.resolved.name()),
+        }
+    }
+}
+
+/// What the handles of a command name that need authorization.
+fn authorized<'a>(sent: Sent<'a, '_>) -> &'a [Resolved<'a>]
+    requires { length sent.resolved.now ≡ length (whole_of sent.command.now).handles }
+    ensures { result.now ≡ take (authorized_handles (whole_of sent.entry.command.now).code)
+        sent.entry.resolved.now }
+{
+    &sent.resolved[..sent.command.code.authorized_handles()]
+}
+
+/// What the entry in a place is to authorize, or nothing.
+#[tactic(auto, using(crate::proofs::Resolving::used_in, crate::proofs::Resolving::nothing_in))]
+pub fn used_at<'a>(sent: Sent<'a, '_>, place: usize) -> Option<Used<'a>>
+    requires { length sent.resolved.now ≡ length (whole_of sent.command.now).handles }
+    ensures { (r : Record) → IsResolved r sent.entry
+        → IsUsedFor r (slice_get (authorized (whole_of sent.entry.command.now)) place) result }
+{
+    match authorized(sent).get(place) {
+        Some(resolved) => Some(Used {
+            resolved: *resolved,
+            name: sent.names.get(place),
+        }),
+        None => None,
+    }
+}

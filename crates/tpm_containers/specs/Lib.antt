@@ -1,0 +1,4 @@
+pub mod Slots
+pub mod Numbered
+pub mod SortedMap
+pub mod IsSortedMap

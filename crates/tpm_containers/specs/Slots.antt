@@ -1,0 +1,36 @@
+-- Slots, numbered from 0, each free or with a value.
+use Rattle.std.specs.Prelude.{◌≡◌, ℕ, ◌-◌, ◌<◌, Bool, true, IfSome, is_none, is_some, count_by, List, ◌++◌, length, Option, Some, None, option_and_then, Result, Ok, Err, replicate, slice_get, slice_set, position}
+use Rattle.tpm_containers.specs.declared.slots.SlotFault.{SlotFault}
+use Rattle.tpm_containers.specs.declared.slots.SlotFault.TheVariants.{Full, NoMemory}
+
+-- a number of free places
+abbrev pub free : {X : Type 0} → ℕ → List (Option X)
+free n = replicate n None
+
+-- what is in a place
+abbrev pub at_place : {X : Type 0} → List (Option X) → ℕ → Option X
+at_place places place = option_and_then (λ x. x) (slice_get places place)
+
+-- what is in each place is such a one
+abbrev pub AreAll : {X : Type 0} → (X → Type 0) → List (Option X) → Type 0
+AreAll IsOne places = (place : ℕ) → IfSome (at_place places place) IsOne
+
+abbrev pub lowest_free : {X : Type 0} → List (Option X) → Option ℕ
+lowest_free places = position is_none places
+
+-- how many places are taken
+abbrev pub taken_count : {X : Type 0} → List (Option X) → ℕ
+taken_count places = count_by is_some places
+
+-- A value took the lowest free of `most` places, unless all are taken or memory was refused.
+abbrev pub Inserts : {X : Type 0} → ℕ → Bool → List (Option X) → X
+    → Result ℕ SlotFault → List (Option X) → Type 0
+Inserts most can old x (Ok place) new =
+    (lowest_free old ≡ Some place) × (place < most) × (new ≡ slice_set old place (Some x))
+Inserts most can old x (Err Full) new = (lowest_free old ≡ None) × (new ≡ old)
+Inserts most can old x (Err NoMemory) new =
+    (place : ℕ) × (lowest_free old ≡ Some place) × (can ≡ true) × (new ≡ old)
+
+-- the places of a list that grows to this many: those after its end are free
+abbrev pub padded_to : {X : Type 0} → ℕ → List (Option X) → List (Option X)
+padded_to most cells = cells ++ free (most - length cells)

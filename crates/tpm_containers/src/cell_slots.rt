@@ -1,0 +1,93 @@
+//! Slots in cells, of which those after the last one are free: in a list that grows as places are
+//! taken, and so may be refused memory, or in one area of fixed size, which never takes memory.
+
+use crate::Items;
+use crate::cells::free_place;
+use crate::slots::{SlotFault, Slots};
+use arrayvec::ArrayVec;
+use std::alloc::Global;
+use std::marker::{Model, PhantomData};
+
+/// `N` places, numbered from 0, in as many cells as were ever taken. Contracts see each place, free
+/// or with its value.
+#[derive(Drop)]
+pub struct CellSlots<T: Drop, C: Items<N, Item = Option<T>>, const N: usize> {
+    cells: C,
+    of: PhantomData<T>,
+}
+
+/// Slots in a list that grows as they are taken.
+pub type ListSlots<T, const N: usize> = CellSlots<T, Vec<Option<T>>, N>;
+
+/// Slots in one area that is as large as they are; no memory is ever taken.
+pub type FixedSlots<T, const N: usize> = CellSlots<T, ArrayVec<Option<T>, N>, N>;
+
+impl<T: Drop, C: Items<N, Item = Option<T>>, const N: usize> Model for CellSlots<T, C, N> {
+    ghost use Rattle.std.specs.Prelude.{List, Option, ◌≤◌, length};
+    ghost use Rattle.tpm_containers.specs.Slots.{padded_to};
+
+    ghost Value = { List (Option T) };
+
+    ghost view = { λ p. padded_to N (C.items p.cells) };
+
+    ghost invariant = { λ p. length (C.items p.cells) ≤ N };
+}
+
+impl<T: Drop, C: Items<N, Item = Option<T>>, const N: usize> Slots<T, N> for CellSlots<T, C, N> {
+    ghost use Rattle.std.specs.Prelude.{Some, refl, slice_set};
+
+    ghost places = { λ p. p };
+
+    ghost with_place = { λ p place value. slice_set p place (Some value) };
+
+    ghost can_refuse = { C.can_refuse };
+
+    fn new(alloc: Global) -> CellSlots<T, C, N> {
+        CellSlots {
+            cells: C::new(alloc),
+            of: PhantomData,
+        }
+    }
+
+    fn get(&self, place: usize) -> Option<&T> {
+        match self.cells.as_slice().get(place) {
+            Some(Some(value)) => Some(value),
+            _ => None,
+        }
+    }
+
+    fn get_mut(&mut self, place: usize) -> Option<&mut T> {
+        self.cells.item_mut(place)?.as_mut()
+    }
+
+    fn free(&self) -> Option<usize> {
+        free_place(self.cells.as_slice(), N)
+    }
+
+    fn insert(&mut self, value: T) -> Result<usize, SlotFault> {
+        let Some(place) = self.free() else {
+            return Err(SlotFault::Full);
+        };
+        if let Some(cell) = self.cells.item_mut(place) {
+            *cell = Some(value);
+            return Ok(place);
+        }
+        match self.cells.insert(place, Some(value)) {
+            Ok(()) => Ok(place),
+            Err(_) => Err(SlotFault::NoMemory),
+        }
+    }
+
+    fn remove(&mut self, place: usize) {
+        let Some(cell) = self.cells.item_mut(place) else {
+            return;
+        };
+        *cell = None;
+    }
+
+    fn clear(&mut self) {
+        self.cells.truncate(0);
+    }
+
+    ghost written = { λ p place value. refl };
+}

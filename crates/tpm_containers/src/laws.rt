@@ -1,0 +1,34 @@
+//! The laws that make keys in ascending order, each with a value, a map.
+
+ghost use Rattle.std.specs.Prelude.{◌≡◌, ◌⊎◌, ℕ, Bool, None, Some, map, option_map};
+ghost use Rattle.tpm_containers.specs.IsSortedMap.{IsSortedMap};
+ghost use Rattle.tpm_containers.specs.SortedMap.{Ascends, Entries, at_key, changed_key};
+ghost use Rattle.tpm_containers.specs.SortedMap.{kept_entries, without_key};
+
+/// Keys in ascending order, each with a value, are a map: what is found after one was put, removed
+/// or changed, that they still ascend, how many there are, and which comes next. It does nothing.
+#[inline(always)]
+#[tactic(auto, using(crate::proofs::SortedMapLaws::is_map))]
+pub fn sorted_map_laws<T>()
+    ensures { IsSortedMap T }
+{}
+
+/// What is found under any key: once one is removed, or some are kept, what was found before or
+/// nothing; where one changes and shows the same by a view, what shows the same; and where all
+/// change, what was found, changed. It does nothing.
+#[inline(always)]
+#[tactic(auto, using(crate::proofs::FoundKeys::removed_or_same, crate::proofs::FoundKeys::kept_or_gone, crate::proofs::FoundKeys::changed_shows, crate::proofs::FoundKeys::all_changed_found))]
+pub fn found_laws<T, V>()
+    ensures removed { (es : Entries T) (key other : ℕ) → Ascends es
+        → (at_key (without_key es key) other ≡ at_key es other)
+        ⊎ (at_key (without_key es key) other ≡ None) }
+    ensures kept { (stays : T → Bool) (es : Entries T) (key : ℕ) → Ascends es
+        → (at_key (kept_entries stays es) key ≡ at_key es key)
+        ⊎ (at_key (kept_entries stays es) key ≡ None) }
+    ensures changed { (shown : T → V) (es : Entries T) (key : ℕ) (old new : T)
+        → at_key es key ≡ Some old → shown new ≡ shown old → (other : ℕ)
+        → option_map shown (at_key (changed_key es key new) other)
+        ≡ option_map shown (at_key es other) }
+    ensures all { (change : T → T) (es : Entries T) (key : ℕ)
+        → at_key (map (λ e. (e.0, change e.1)) es) key ≡ option_map change (at_key es key) }
+{}

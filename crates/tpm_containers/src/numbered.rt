@@ -1,0 +1,122 @@
+//! Values in slots, found by numbers that name a kind and a place, as a TPM's handles do; with the
+//! laws that make this a map.
+
+ghost use Rattle.std.specs.Prelude.{◌≡◌, ◌<◌, ◌⊎◌, ℕ, List, None, Option, is_some, length, option_copied};
+ghost use Rattle.std.specs.Borrow.{LendsIf, sem};
+ghost use Rattle.std.specs.Option.{option_copied_mut};
+ghost use Rattle.tpm_containers.specs.Numbered.{MapLaws, at_number, number_of, place_of, without_number};
+ghost use Rattle.tpm_containers.specs.Slots.{AreAll, free};
+
+use crate::slots::Slots;
+
+/// A value that stands under numbers of one kind: that is their highest byte.
+pub trait Kinded: Drop {
+    ghost kind: { Self → ℕ };
+
+    fn kind(&self) -> u32
+        ensures { result ≡ kind self.now };
+}
+
+/// A value of which something holds by the types of its parts.
+pub trait Sizes: Drop {
+    /// What holds of it.
+    ghost IsOne: { Self → Type 0 };
+
+    /// Says it. It only reads.
+    fn read_sizes(&self)
+        ensures { IsOne self.now };
+}
+
+/// How many numbers there are of a kind.
+const PLACE_NUMBERS: u32 = 0x0100_0000;
+
+/// The place that a number names.
+pub fn place_of(number: u32) -> usize
+    ensures { result ≡ place_of number }
+{
+    (number % PLACE_NUMBERS) as usize
+}
+
+/// The number of a value of this kind in a place.
+pub fn number_of(kind: u32, place: usize) -> u32
+    requires kind { kind < 256 }
+    requires place { place < 0x0100_0000 }
+    ensures { result ≡ number_of kind place }
+{
+    kind * PLACE_NUMBERS + place as u32
+}
+
+/// What is found under a number.
+#[tactic(auto, unfolding(crate::specs::Numbered::at_number))]
+pub fn get<T: Kinded, const N: usize, P: Slots<T, N>>(places: &P, number: u32) -> Option<&T>
+    ensures value { option_copied result ≡ at_number T.kind (P.places places.now) number }
+    // There are always `N` places.
+    ensures all { length (P.places places.now) ≡ N }
+{
+    let value = places.get(place_of(number))?;
+    if number / PLACE_NUMBERS == value.kind() {
+        Some(value)
+    } else {
+        None
+    }
+}
+
+/// What is found under a number, to be changed.
+#[tactic(auto, unfolding(crate::specs::Numbered::at_number))]
+pub fn get_mut<T: Kinded, const N: usize, P: Slots<T, N>>(
+    places: &mut P,
+    number: u32,
+) -> Option<&mut T>
+    ensures* writes_back { sem 𝓛 (LendsIf P.row T.row places.entry result
+        (P.with_place places.entry.now (place_of number)) places.entry.now) }
+    ensures value { option_copied_mut result ≡ at_number T.kind (P.places places.old) number }
+{
+    if get(places, number).is_none() {
+        return None;
+    }
+    places.get_mut(place_of(number))
+}
+
+/// Removes what is found under a number, and tells whether there was anything.
+#[tactic(auto, unfolding(crate::specs::Numbered::without_number))]
+pub fn remove<T: Kinded, const N: usize, P: Slots<T, N>>(places: &mut P, number: u32) -> bool
+    ensures there { result ≡ is_some (at_number T.kind (P.places places.old) number) }
+    ensures after { P.places places.new ≡ without_number T.kind (P.places places.old) number }
+{
+    if get(places, number).is_none() {
+        return false;
+    }
+    places.remove(place_of(number));
+    true
+}
+
+/// Says of each value what holds of it by the types of its parts. It only reads.
+pub fn read_sizes<T: Sizes, const N: usize, P: Slots<T, N>>(places: &P)
+    ensures { AreAll T.IsOne (P.places places.now) }
+{
+    let _ = places.get(N);
+    for place in 0..N {
+        if let Some(value) = places.get(place) {
+            value.read_sizes();
+        }
+    }
+}
+
+/// Slots are a map from numbers, whatever is in them. It does nothing.
+#[inline(always)]
+#[tactic(auto, using(crate::proofs::NumberedLaws::is_map))]
+pub fn numbered_laws<T: Kinded>()
+    ensures { MapLaws T.kind }
+{}
+
+/// What is found under any number: once one is removed, what was found before or nothing; and
+/// nothing where all places are free. It does nothing.
+#[inline(always)]
+#[tactic(auto, using(crate::proofs::FoundNumbers::removed_or_same, crate::proofs::FoundNumbers::free_found))]
+pub fn found_laws<T: Kinded>()
+    ensures removed { (places : List (Option T)) (number other : ℕ)
+        → (at_number T.kind (without_number T.kind places number) other
+        ≡ at_number T.kind places other)
+        ⊎ (at_number T.kind (without_number T.kind places number) other ≡ None) }
+    ensures free { (count number : ℕ) → at_number T.kind (free count) number ≡ None }
+{}

@@ -1,0 +1,83 @@
+//! The trait of a map by numbers in ascending order, and why it refuses a value.
+
+ghost use Rattle.std.specs.Prelude.{◌≡◌, ◌≤◌, ℕ, [], Bool, List, is_some, length, option_copied};
+ghost use Rattle.std.specs.Borrow.{LendsIf, sem};
+ghost use Rattle.std.specs.Option.{option_copied_mut};
+ghost use Rattle.tpm_containers.specs.SortedMap.{Ascends, PutsKey, at_key, changed_key, kept_entries, key_from, without_key};
+
+use crate::Choice;
+use std::alloc::Global;
+
+/// Why nothing was put under a key.
+#[derive(Clone, Copy, Debug, PartialEq, Eq)]
+pub enum KeyFault {
+    /// There is a value under the key.
+    Taken,
+    /// There are as many values as there may be.
+    Full,
+    /// Memory was refused.
+    NoMemory,
+}
+
+/// At most `N` values, each under a key of its own. Contracts see them with their keys, in
+/// ascending order of these.
+pub trait SortedMap<T: Drop, const N: usize>: Drop + Sized {
+    /// The keys in ascending order, each with its value.
+    ghost entries: { Self → List (ℕ × T) };
+
+    /// The same map with another value under a key that is there.
+    ghost with_value: { Self → ℕ → T → Self };
+
+    /// Whether memory can be refused.
+    ghost can_refuse: { Bool };
+
+    /// A map without entries; no memory is taken.
+    fn new(alloc: Global) -> Self
+        ensures { entries result ≡ [] };
+
+    /// How many values there are.
+    fn len(&self) -> usize
+        ensures { result ≡ length (entries self.now) };
+
+    /// The keys in ascending order, each with its value.
+    fn as_slice(&self) -> &[(u32, T)]
+        ensures { result.now ≡ entries self.now };
+
+    /// What is under a key.
+    fn get(&self, key: u32) -> Option<&T>
+        ensures value { option_copied result ≡ at_key (entries self.now) key }
+        // The keys always ascend, and there are never more than `N`.
+        ensures ascends { Ascends (entries self.now) }
+        ensures few { length (entries self.now) ≤ N };
+
+    /// What is under a key, to be changed.
+    fn get_mut(&mut self, key: u32) -> Option<&mut T>
+        ensures* writes_back { sem 𝓛 (LendsIf Self.row T.row self.entry result
+            (with_value self.entry.now key) self.entry.now) }
+        ensures value { option_copied_mut result ≡ at_key (entries self.old) key };
+
+    /// The lowest key that is there, from this one on.
+    fn next(&self, key: u32) -> Option<u32>
+        ensures { result ≡ key_from (entries self.now) key };
+
+    /// Puts a value under a key that is free.
+    fn insert(&mut self, key: u32, value: T) -> Result<(), KeyFault>
+        ensures { PutsKey N can_refuse (entries self.old) key value result (entries self.new) };
+
+    /// Removes what is under a key, and tells whether there was anything.
+    fn remove(&mut self, key: u32) -> bool
+        ensures there { result ≡ is_some (at_key (entries self.old) key) }
+        ensures after { entries self.new ≡ without_key (entries self.old) key };
+
+    /// Removes each value that does not stay by this choice, in one pass.
+    fn retain<C: Choice<T>>(&mut self)
+        ensures { entries self.new ≡ kept_entries C.stays (entries self.old) };
+
+    /// Removes all values.
+    fn clear(&mut self)
+        ensures { entries self.new ≡ [] };
+
+    /// What is written through a loan is then under its key.
+    ghost written: { (map : Self) (key : ℕ) (value : T)
+        → entries (with_value map key value) ≡ changed_key (entries map) key value };
+}

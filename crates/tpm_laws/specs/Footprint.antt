@@ -1,0 +1,97 @@
+-- What of a record is touched by a success that changes one part of the device's state.
+use Rattle.std.specs.Prelude.{◌≡◌, ◌⊎◌, ◌+◌, []}
+use Rattle.tpm_types.specs.declared.handle.HierarchyHandle.{HierarchyHandle}
+use Rattle.tpm_actions_device.specs.Clear.{cleared_lockout}
+use Rattle.tpm_nv.specs.Clear.{cleared}
+use Rattle.tpm_nv.specs.Index.{NvContents}
+use Rattle.tpm_nv.specs.Startup.{started}
+use Rattle.tpm_record.specs.Clear.{cleared_objects, cleared_persistent}
+use Rattle.tpm_record.specs.declared.fixed.Fixed.{Fixed}
+use Rattle.tpm_record.specs.declared.hierarchy.Hierarchies.{Hierarchies}
+use Rattle.tpm_record.specs.Hierarchy.{secrets_of}
+use Rattle.tpm_record.specs.Record.{Record}
+use Rattle.tpm_types_command.specs.Part.{Part, Nothing, Sessions, Objects, SessionsAndObjects, Persistent, NvData}
+use Rattle.tpm_types_command.specs.Part.{NvCounter, NvAuthValue, NvDefined, NvUndefined, AuthValues, Lockout, Banks}
+use Rattle.tpm_types_command.specs.Part.{Beginning, Saved, DisableClear, Cleared}
+
+-- Every hierarchy has the seed and the proof that it had.
+abbrev pub KeepsSecrets : Hierarchies → Hierarchies → Type 0
+KeepsSecrets old new = (h : HierarchyHandle) → secrets_of new h ≡ secrets_of old h
+
+-- f with the fields that a startup sets, as they are after it: whether it is started, the counts,
+-- platformAuth and the null hierarchy, whether lockoutAuth is closed, and the PCRs, of which no
+-- changes are counted yet
+abbrev pub begun : Fixed → Fixed → Fixed
+begun f after = record f {
+  started = after.started;
+  hierarchies = record f.hierarchies {
+    platform = record f.hierarchies.platform {
+      auth_value = after.hierarchies.platform.auth_value;
+    };
+    null = after.hierarchies.null;
+  };
+  lockout = record f.lockout {
+    fields = record f.lockout.fields { closed = after.lockout.fields.closed };
+  };
+  banks = record after.banks { update_count = 0 };
+  reset_count = after.reset_count;
+  restart_count = after.restart_count;
+}
+
+-- A startup has its effects on all NV indices, or none.
+abbrev pub StartsNv : NvContents → NvContents → Type 0
+StartsNv old new = (new ≡ old) ⊎ (new ≡ started old)
+
+-- f as TPM2_Clear leaves it: the owner's new seed and proof and the endorsement hierarchy's new
+-- proof are as they are after it; no authorization value is set but platformAuth; lockout is
+-- cleared, the PCRs count an update, and Clock and the counts begin at 0
+abbrev pub emptied : Fixed → Fixed → Fixed
+emptied f after = record f {
+  hierarchies = record f.hierarchies {
+    owner = record { auth_value = []; secrets = after.hierarchies.owner.secrets };
+    endorsement = record {
+      auth_value = [];
+      secrets = record f.hierarchies.endorsement.secrets {
+        proof = after.hierarchies.endorsement.secrets.proof;
+      };
+    };
+    lockout_auth = [];
+  };
+  lockout = cleared_lockout f.lockout;
+  banks = record f.banks { update_count = f.banks.update_count + 1 };
+  clock = 0;
+  reset_count = 0;
+  restart_count = 0;
+}
+
+-- A record differs from an older one in this part alone.
+abbrev pub Touches : Part → Record → Record → Type 0
+Touches Nothing old new = new ≡ old
+Touches Sessions old new = new ≡ record old { sessions = new.sessions }
+Touches Objects old new = new ≡ record old { objects = new.objects }
+Touches SessionsAndObjects old new =
+    new ≡ record old { sessions = new.sessions; objects = new.objects }
+Touches Persistent old new = new ≡ record old { persistent = new.persistent }
+Touches NvData old new = new ≡ record old { nv = new.nv }
+Touches NvCounter old new = new ≡ record old { nv = new.nv }
+Touches NvAuthValue old new = new ≡ record old { nv = new.nv }
+Touches NvDefined old new = new ≡ record old { nv = new.nv }
+Touches NvUndefined old new = new ≡ record old { nv = new.nv }
+Touches AuthValues old new =
+    (new ≡ record old { fixed = record old.fixed { hierarchies = new.fixed.hierarchies } })
+    × KeepsSecrets old.fixed.hierarchies new.fixed.hierarchies
+Touches Lockout old new =
+    new ≡ record old { fixed = record old.fixed { lockout = new.fixed.lockout } }
+Touches Banks old new = new ≡ record old { fixed = record old.fixed { banks = new.fixed.banks } }
+Touches Beginning old new =
+    (new ≡ record old { fixed = begun old.fixed new.fixed; nv = new.nv }) × StartsNv old.nv new.nv
+Touches Saved old new = new ≡ record old { fixed = record old.fixed { saved = new.fixed.saved } }
+Touches DisableClear old new =
+    new ≡ record old { fixed = record old.fixed { disable_clear = new.fixed.disable_clear } }
+Touches Cleared old new =
+    new ≡ record old {
+      fixed = emptied old.fixed new.fixed;
+      objects = cleared_objects old.objects;
+      persistent = cleared_persistent old.persistent;
+      nv = cleared old.nv;
+    }

@@ -1,0 +1,35 @@
+-- All that holds of the row of a command, as one record.
+use Rattle.std.specs.Prelude.{◌≡◌, ◌≤◌, false, length, Result, IfOk}
+use Rattle.tpm_types.specs.declared.refused.Refused.{Refused}
+use Rattle.tpm_types_command.specs.CommandCode.{part_of, shape_of}
+use Rattle.tpm_types_command.specs.declared.command_code.CommandCode.{CommandCode}
+use Rattle.tpm_record.specs.Record.{Record}
+use Rattle.tpm_actions_base.specs.Request.{Request}
+use Rattle.tpm_actions_base.specs.Rows.{Success}
+use Rattle.tpm_laws.specs.Draws.{DrawsAsSaid}
+use Rattle.tpm_laws.specs.Footprint.{Touches}
+use Rattle.tpm_laws.specs.IndexChanges.{ChangesIndices}
+use Rattle.tpm_laws.specs.Order.{Orders, Plain}
+use Rattle.tpm_laws.specs.Sessions.{SessionsStay}
+use Rattle.tpm_laws.specs.Shapes.{AnswersItsShape, GrowsAsShaped}
+use Rattle.tpm_laws.specs.Sizes.{AreSized}
+
+-- A success touches the part of its command alone, and makes of the NV indices what is said of that;
+-- it takes as many places, and answers what, its shape says, and draws as many random bytes as are
+-- said of it; where the command may have sessions they all stay, and they keep their sizes.
+pub record SuccessLaws (c : CommandCode) (r : Record) (q : Request) (s : Success) : Type 0 where
+  pub touches : Touches (part_of c) r s.after
+  pub changes : ChangesIndices (part_of c) q r.nv s.after.nv
+  pub grows : GrowsAsShaped c r s.after
+  pub answers : AnswersItsShape c s
+  pub draws : DrawsAsSaid c q s
+  pub stays : (shape_of c).forbids_sessions ≡ false → SessionsStay r s.after
+  pub sized : 32 ≤ length q.random → AreSized r → AreSized s.after
+
+-- This holds of each success of a row; and its refusals come in order, and count nothing.
+pub record RowLaws (c : CommandCode) (row : Record → Request → Result Success Refused)
+    : Type 0 where
+  pub success : (r : Record) (q : Request) → IfOk (row r q) (SuccessLaws c r q)
+  pub order : (r : Record) (q : Request)
+      → Orders r (shape_of c).handles q.handles (shape_of c).parameters q.parameters (row r q)
+  pub plain : (r : Record) (q : Request) → Plain (row r q)

@@ -1,4 +1,0 @@
-pub mod Padding
-pub mod SlotLaws
-pub mod NumberedLaws
-pub mod FoundNumbers

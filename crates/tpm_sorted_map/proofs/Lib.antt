@@ -1,3 +1,0 @@
-pub mod SortedMapLaws
-pub mod FoundKeys
-pub mod KeyIndex

@@ -1,2 +1,0 @@
-pub mod SortedMap
-pub mod IsSortedMap

@@ -1,0 +1,46 @@
+-- What a refusal leaves, and what a success may take, said of a step and apart from it.
+use Rattle.std.specs.Prelude.{◌≡◌, ◌≢◌, ℕ, ◌≤◌, List, length, Ok, IfOk}
+use Rattle.tpm_record.specs.Record.{Record}
+use Rattle.tpm_record.specs.Tick.{ticked}
+use Rattle.tpm_types.specs.Limits.{answer_limit}
+use Rattle.tpm_types.specs.Check.{check_number}
+use Rattle.tpm_types.specs.declared.refused.Refused.{Refused}
+use Rattle.tpm_actions_base.specs.Answer.{answer_body_text}
+use Rattle.tpm_actions_base.specs.Draws.{draw_limit}
+use Rattle.tpm_step.specs.Answer.{refusal_text}
+use Rattle.tpm_step.specs.Entries.{DrawsFew}
+use Rattle.tpm_step.specs.Events.{PlainEvent, Given, Cycled}
+use Rattle.tpm_step.specs.Step.{Accepted, Stepped, accepted, counted_in}
+
+-- the record after a command's elapsed time, and nothing else
+abbrev pub only_ticked : Record → PlainEvent → Record
+only_ticked r (Given buffer locality elapsed random) = ticked r elapsed
+only_ticked r Cycled = r
+
+-- A refusal is the ten bytes of its text, reports its check, and changes nothing but what time
+-- changes and what it counts; which command the row names is not said here.
+abbrev pub IsHarmless : Record → PlainEvent → Stepped → Type 0
+IsHarmless r event x = x.row.check ≢ 0
+    → (length x.response ≡ 10)
+    × (refused : Refused) × (x.response ≡ refusal_text refused)
+    × (x.row.check ≡ check_number refused.check)
+    × (x.after ≡ counted_in refused.counted (only_ticked r event))
+
+-- A row draws no more of the event's 256 random bytes than the limit, 96, and with three nonces of 32
+-- bytes after them at most 192 are drawn. Its parameters have no more bytes than the limit.
+abbrev pub IsModest : List ℕ → Accepted → Type 0
+IsModest random a =
+    (a.success.answer.drawn ≤ draw_limit) × (length (answer_body_text a.success.answer.body) ≤ answer_limit)
+    × DrawsFew random a.success.after a.command.entries a.success.answer.drawn
+
+-- Where a command is accepted, its success is modest.
+abbrev pub IsModestIfAccepted : Record → PlainEvent → Type 0
+IsModestIfAccepted r (Given buffer locality elapsed random) =
+    IfOk (accepted (ticked r elapsed) buffer locality random) (IsModest random)
+IsModestIfAccepted r Cycled = Unit {0}
+
+-- A command is accepted, and its success is modest.
+abbrev pub AcceptsModestly : Record → PlainEvent → Type 0
+AcceptsModestly r (Given buffer locality elapsed random) =
+    (a : Accepted) × (accepted (ticked r elapsed) buffer locality random ≡ Ok a) × IsModest random a
+AcceptsModestly r Cycled = Unit {0}

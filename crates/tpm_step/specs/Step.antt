@@ -1,0 +1,177 @@
+-- One event: time passes, the general checks, the authorization, the command's row, the answer. TPM
+-- 2.0 Library, Part 1, section 18 (command and response structures), and Part 3, sections 5 and 6.
+use Rattle.std.specs.Prelude.{◌≡◌, ℕ, Bool, true, false, List, [], Option, Result, Ok, Err, if◌then◌else◌}
+use Rattle.tpm_bytes.specs.Reading.{◌>>=◌}
+use Rattle.tpm_types_command.specs.Command.{Whole}
+use Rattle.tpm_types_command.specs.CommandCode.{code_number}
+use Rattle.tpm_types_command.specs.CommandCode.{shape_of}
+use Rattle.tpm_record.specs.Cycle.{cycled}
+use Rattle.tpm_record.specs.Record.{Record, with_lockout, with_saved}
+use Rattle.tpm_record.specs.Tick.{ticked}
+use Rattle.tpm_types.specs.Check.{check_number}
+use Rattle.tpm_auth.specs.Grant.{authorize}
+use Rattle.tpm_auth.specs.declared.session_grant.Grant.{Grant}
+use Rattle.tpm_lockout.specs.Lockout.{LockoutState}
+use Rattle.tpm_lockout.specs.Recovery.{closed_by_failure}
+use Rattle.tpm_lockout.specs.Tries.{after_failure}
+use Rattle.tpm_types.specs.declared.refused.Counted.{Counted}
+use Rattle.tpm_types.specs.declared.refused.Counted.TheVariants as counted
+use Rattle.tpm_types.specs.declared.refused.Refused.{Refused}
+use Rattle.tpm_actions_base.specs.Answer.{IsAnswer}
+use Rattle.tpm_actions_base.specs.Request.{Request}
+use Rattle.tpm_actions_base.specs.declared.answer.Answer.{Answer}
+use Rattle.tpm_actions_base.specs.Refusals.{memory_refusal}
+use Rattle.tpm_actions_base.specs.Rows.{Success}
+use Rattle.tpm_record.specs.Saved.{Nothing}
+use Rattle.tpm_types_command.specs.declared.command_code.CommandCode.{CommandCode}
+use Rattle.tpm_step.specs.Answer.{Answered, answer_to, refusal_text, written_of}
+use Rattle.tpm_step.specs.Events.{PlainEvent, Given, Cycled}
+use Rattle.tpm_step.specs.General.{general, in_command}
+use Rattle.tpm_step.specs.Granted.{granted_entries}
+use Rattle.tpm_step.specs.Parameters.{plain_parameters}
+use Rattle.tpm_step.specs.Table.{row_of}
+use Rattle.tpm_step.specs.declared.event.Outcome.{Outcome}
+use Rattle.tpm_step.specs.declared.event.Row.{Row}
+use Rattle.tpm_step.specs.declared.refused_command.RefusedCommand.{RefusedCommand}
+
+-- what an event answers, the row that is reported, and the record after it
+pub record Stepped : Type 0 where
+  pub response : List ℕ
+  pub row : Row
+  pub after : Record
+
+-- a command that is accepted: as it was sent, what each of its entries authorizes, what it asks of
+-- its row, and the success of that
+pub record Accepted : Type 0 where
+  pub command : Whole
+  pub grants : List (Option Grant)
+  pub request : Request
+  pub success : Success
+
+-- what a command asks of its row: its parameters are those that its sessions decrypt
+abbrev pub request_in : Record → Whole → List (Option Grant) → ℕ → List ℕ → Request
+request_in r c grants locality random = record {
+  handles = c.handles;
+  locality = locality;
+  parameters = plain_parameters r (granted_entries c grants) c.parameters;
+  random = random;
+}
+
+-- the authorization of a command, and then its row
+unfoldable pub acceptance : Record → Whole → ℕ → List ℕ → Result Accepted Refused
+acceptance r c locality random = do
+  grants ← authorize r c locality
+  let q : Request = request_in r c grants locality random
+  success ← row_of r c.code q
+  Ok (record { command = c; grants = grants; request = q; success = success })
+
+-- The refusal is that of the acceptance; or memory was refused, where it can be, in place of a
+-- success of a command that grows something.
+abbrev pub RefusesOrWantsMemory : Bool → Whole → Result Accepted Refused → Refused → Type 0
+RefusesOrWantsMemory can c (Err refused) e = e ≡ refused
+RefusesOrWantsMemory can c (Ok a) e =
+    (can ≡ true) × (a.command ≡ c) × ((shape_of c.code).grows ≡ true) × (e ≡ memory_refusal)
+
+-- A success of a command with these grants has this answer, and leaves this record.
+abbrev pub Succeeds : Result Accepted Refused → Whole → List (Option Grant)
+    → Answer → Record → Type 0
+Succeeds (Ok a) c grants answer new =
+    (a.command ≡ c) × (a.grants ≡ grants) × IsAnswer a.success.answer answer
+    × (new ≡ a.success.after)
+Succeeds (Err refused) c grants answer new = ⊥
+
+-- The code's acceptance of a command with these grants stands for the definition's; a refusal
+-- leaves the record.
+abbrev pub Accepts : Bool → Result Accepted Refused → Whole → List (Option Grant)
+    → Record → Result (Unit {0}) Refused → Answer → Record → Type 0
+Accepts can a c grants old (Ok done) answer new = Succeeds a c grants answer new
+Accepts can a c grants old (Err e) answer new = (new ≡ old) × RefusesOrWantsMemory can c a e
+
+-- a command's buffer, accepted by a record whose time has passed, or its first refusal
+unfoldable pub accepted : Record → List ℕ → ℕ → List ℕ → Result Accepted RefusedCommand
+accepted r buffer locality random = do
+  command ← general r buffer
+  in_command command.code (acceptance r command locality random)
+
+-- what a refusal counts against dictionary attacks: a failed try at what is protected, or at
+-- lockoutAuth, which closes it
+abbrev pub lockout_counted : Counted → LockoutState → LockoutState
+lockout_counted counted.None s = s
+lockout_counted counted.Try s = after_failure s
+lockout_counted counted.Lockout s = closed_by_failure s
+
+abbrev pub counted_in : Counted → Record → Record
+counted_in counted r = with_lockout r (lockout_counted counted r.fixed.lockout)
+
+-- a refusal leaves the record, but for what it counts
+abbrev pub refusal_step : Record → RefusedCommand → Stepped
+refusal_step r e = record {
+  response = refusal_text e.refused;
+  row = record { code = e.code; check = check_number e.refused.check };
+  after = counted_in e.refused.counted r;
+}
+
+-- what a TPM2_Shutdown saved is cancelled by the next success, unless that keeps it (Part 3,
+-- section 9.4)
+abbrev pub settled : CommandCode → Record → Record
+settled code r = if (shape_of code).keeps_shutdown then r else with_saved r Nothing
+
+abbrev pub success_step : Accepted → List ℕ → Stepped
+success_step a random =
+    let x : Answered =
+    answer_to a.command a.grants (written_of a.success.answer) a.success.after random in
+    record {
+      response = x.response;
+      row = record { code = code_number a.command.code; check = 0 };
+      after = settled a.command.code x.after;
+    }
+
+abbrev pub stepped_of : Record → List ℕ → Result Accepted RefusedCommand → Stepped
+stepped_of r random (Ok a) = success_step a random
+stepped_of r random (Err e) = refusal_step r e
+
+-- the step of which an outcome tells that left this record
+abbrev pub outcome_step : Record → Outcome → Stepped
+outcome_step r o = record { response = o.response.items; row = o.row; after = r }
+
+-- the answer where memory was refused: MEMORY, check M, and the record as it was
+abbrev pub refusal_without_memory : Record → Whole → Stepped
+refusal_without_memory r c =
+    refusal_step r (record { code = code_number c.code; refused = memory_refusal })
+
+-- a success where memory is refused: MEMORY in its place, if the command grows something
+abbrev pub success_without_memory : Record → List ℕ → Accepted → Stepped
+success_without_memory r random a =
+    if (shape_of a.command.code).grows then refusal_without_memory r a.command
+    else success_step a random
+
+-- the answer where memory is refused; a command that is refused anyway wants none
+abbrev pub answer_without_memory : Record → List ℕ → Result Accepted RefusedCommand → Stepped
+answer_without_memory r random (Ok a) = success_without_memory r random a
+answer_without_memory r random (Err e) = refusal_step r e
+
+-- the answer to a command, to which memory is refused (true) or is not (false)
+abbrev pub answer_where : Bool → Record → List ℕ → Result Accepted RefusedCommand → Stepped
+answer_where false r random a = stepped_of r random a
+answer_where true r random a = answer_without_memory r random a
+
+-- the step of an event, to which memory is refused or is not: for a command first its time passes
+abbrev pub step_where : Bool → Record → PlainEvent → Stepped
+step_where refused r (Given buffer locality elapsed random) =
+    let t = ticked r elapsed in answer_where refused t random (accepted t buffer locality random)
+step_where refused r Cycled =
+    record { response = []; row = record { code = 0; check = 0 }; after = cycled r }
+
+-- the step of an event, to which no memory is refused
+abbrev pub step : Record → PlainEvent → Stepped
+step r event = step_where false r event
+
+-- An answer to which memory is refused only where the keep can be refused it.
+abbrev pub Answers : Bool → Record → List ℕ → Result Accepted RefusedCommand → Stepped → Type 0
+Answers can r random a x =
+    (refused : Bool) × (refused ≡ true → can ≡ true) × (x ≡ answer_where refused r random a)
+
+-- A step in which memory is refused only where the keep can be refused it.
+abbrev pub Steps : Bool → Record → PlainEvent → Stepped → Type 0
+Steps can r event x =
+    (refused : Bool) × (refused ≡ true → can ≡ true) × (x ≡ step_where refused r event)

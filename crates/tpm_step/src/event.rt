@@ -1,0 +1,80 @@
+//! An event, a command or a power cycle, and its outcome: the response, and the row that is
+//! reported.
+
+ghost use Rattle.std.specs.Prelude.{◌≡◌};
+
+use arrayvec::ArrayVec;
+use tpm_types::{BUFFER_LIMIT, Locality};
+
+/// The whole bytes of a response.
+pub type Response = ArrayVec<u8, BUFFER_LIMIT>;
+
+/// One atomic step of the device.
+#[derive(Drop)]
+pub enum Event<'a> {
+    /// A command buffer, whatever its bytes are: where it comes from, the milliseconds since the
+    /// command before it (its elapsed time), and the random bytes that it may draw.
+    Command {
+        buffer: &'a [u8],
+        locality: Locality,
+        elapsed_ms: u32,
+        random: [u8; 256],
+    },
+    /// Power goes off and on again.
+    PowerCycle,
+}
+
+impl<'a> Event<'a> {
+    ghost use Rattle.tpm_step.specs.Events.{IsEvent, plain_event};
+    ghost use Rattle.tpm_step.specs.declared.event.Event.TheVariants.{Command};
+
+    /// The event of a command.
+    pub fn of_command(
+        buffer: &'a [u8],
+        locality: Locality,
+        elapsed_ms: u32,
+        random: [u8; 256],
+    ) -> Event<'a>
+        ensures value { result ≡ Command buffer.entry locality elapsed_ms random }
+
+        // What happens comes from locality 0 to 4, with a time of 32 bits and 256 random bytes.
+        ensures event { IsEvent (plain_event result) }
+    {
+        Event::Command {
+            buffer,
+            locality,
+            elapsed_ms,
+            random,
+        }
+    }
+}
+
+/// What was decided about an event: the command's code, 0 where none was found or power was cycled,
+/// and the number of the check that refused it, 0 where none did.
+#[derive(Clone, Copy, Debug, PartialEq, Eq)]
+pub struct Row {
+    pub code: u32,
+    pub check: u8,
+}
+
+/// What an event gave: the response, empty for a power cycle, and the row.
+#[derive(Drop)]
+pub struct Outcome {
+    pub response: Response,
+    pub row: Row,
+}
+
+impl Outcome {
+    ghost use Rattle.std.specs.Prelude.{[]};
+
+    /// That of an event that answers nothing, to be written over.
+    pub fn empty() -> Outcome
+        ensures response { result.response.items ≡ [] }
+        ensures row { result.row ≡ record { code = 0; check = 0 } }
+    {
+        Outcome {
+            response: ArrayVec::new(),
+            row: Row { code: 0, check: 0 },
+        }
+    }
+}

@@ -1,0 +1,275 @@
+-- The facts of the commands that are served: of each its number (TPM 2.0 Library, Part 2, section
+-- 6.5.2: TPM_CC), its name, the part of the device's state that its success may change, and its
+-- shape (Part 3, its own section).
+use Rattle.tpm_types.specs.Limits.{data_limit}
+use Rattle.std.specs.Prelude.{ℕ, true, List, [], ◌∷◌, codes}
+use Prim.Native.String.{String}
+use Rattle.tpm_types_command.specs.declared.command_code.CommandCode.{CommandCode}
+use Rattle.tpm_types_command.specs.declared.command_code.CommandCode.TheVariants as code
+use Rattle.tpm_types_command.specs.declared.shape.HandleKind.TheVariants as kind
+use Rattle.tpm_types_command.specs.declared.shape.HandleRule.{HandleRule}
+use Rattle.tpm_types_command.specs.declared.shape.ParameterKind.{ParameterKind}
+use Rattle.tpm_types_command.specs.declared.shape.ParameterKind.TheVariants as parameter
+use Rattle.tpm_types_command.specs.Part.{Part, Nothing, Sessions, Objects, SessionsAndObjects, Persistent, NvData}
+use Rattle.tpm_types_command.specs.Part.{NvCounter, NvAuthValue, NvDefined, NvUndefined, AuthValues, Lockout, Banks}
+use Rattle.tpm_types_command.specs.Part.{Beginning, Saved, DisableClear, Cleared}
+use Rattle.tpm_types_command.specs.Shape.{Facts, admin, shape_with, unauthorized, user}
+
+pub record CommandFacts : Type 0 where
+  pub number : ℕ
+  pub name : List ℕ
+  pub part : Part
+  pub shape : Facts
+
+-- a line of the table: the name is what stands after "TPM2_" at the head of the command's section
+abbrev pub facts : (number : ℕ) → (name : String) → Part → Facts → CommandFacts
+facts number name part shape = record {
+  number = number;
+  name = codes name;
+  part = part;
+  shape = shape;
+}
+
+-- words of the table
+
+-- the shape of a command that answers a sized buffer first
+abbrev pub answering : Facts → Facts
+answering shape = record shape { sized_answer = true }
+
+-- and of one whose success leaves what a TPM2_Shutdown saved
+abbrev pub keeping : Facts → Facts
+keeping shape = record shape { keeps_shutdown = true }
+
+-- and of one that may want memory
+abbrev pub growing : Facts → Facts
+growing shape = record shape { grows = true }
+
+-- and of one that reads the NV index that authorizes it
+abbrev pub reading : Facts → Facts
+reading shape = record shape { reads_nv = true }
+
+-- and of one that may have no sessions
+abbrev pub without_sessions : Facts → Facts
+without_sessions shape = record shape { forbids_sessions = true }
+
+-- and of one that may want memory for what it makes, and answers the handle of that and then a
+-- sized buffer
+abbrev pub making : Facts → Facts
+making shape = record shape { sized_answer = true; answers_handle = true; grows = true }
+
+-- the shape of a command whose only handle is an object, authorized in the role of the user
+abbrev pub on_object : List ParameterKind → Facts
+on_object parameters = answering (shape_with (user kind.Object ∷ []) parameters)
+
+-- the shape of a command that names a policy session alone
+abbrev pub on_policy : List ParameterKind → Facts
+on_policy parameters = shape_with (unauthorized kind.PolicySession ∷ []) parameters
+
+-- the shape of a command that lockoutAuth authorizes: lockHandle
+abbrev pub on_lockout : List ParameterKind → Facts
+on_lockout parameters = shape_with (user kind.Lockout ∷ []) parameters
+
+-- the shape of a command that lockoutAuth or the platform authorizes: authHandle
+abbrev pub on_clear : List ParameterKind → Facts
+on_clear parameters = shape_with (user kind.Clear ∷ []) parameters
+
+-- the shape of a command on an NV index that its authHandle may use: authHandle, nvIndex
+abbrev pub on_nv : List ParameterKind → Facts
+on_nv parameters = shape_with (user kind.NvAuth ∷ unauthorized kind.NvIndex ∷ []) parameters
+
+-- and of one that reads the index
+abbrev pub on_read_nv : List ParameterKind → Facts
+on_read_nv parameters = reading (on_nv parameters)
+
+-- tpmKey, of which only TPM_RH_NULL is served, and bind
+abbrev pub start_handles : List HandleRule
+start_handles = unauthorized kind.Null ∷ unauthorized kind.Entity ∷ []
+
+-- nonceCaller, encryptedSalt (of at most 32 bytes, as no key can decrypt one), sessionType,
+-- symmetric, authHash
+abbrev pub start_parameters : List ParameterKind
+start_parameters =
+    parameter.Buffer 32 ∷ parameter.Buffer 32 ∷ parameter.SessionType
+    ∷ parameter.Symmetric ∷ parameter.Hash ∷ []
+
+-- inSensitive, inPublic, outsideInfo, creationPCR
+abbrev pub create_parameters : List ParameterKind
+create_parameters =
+    parameter.SensitiveCreate ∷ parameter.Public ∷ parameter.Buffer 34 ∷ parameter.Selection ∷ []
+
+-- auth, publicInfo
+abbrev pub define_parameters : List ParameterKind
+define_parameters = parameter.Buffer 32 ∷ parameter.NvPublic ∷ []
+
+-- authHandle, policySession; nonceTPM, cpHashA, policyRef, expiration
+abbrev pub secret_handles : List HandleRule
+secret_handles = user kind.EntityNotNull ∷ unauthorized kind.PolicySession ∷ []
+
+abbrev pub secret_parameters : List ParameterKind
+secret_parameters =
+    parameter.Buffer 32 ∷ parameter.Buffer 32 ∷ parameter.Buffer 32 ∷ parameter.U32 ∷ []
+
+-- auth, objectHandle
+abbrev pub evict_handles : List HandleRule
+evict_handles = user kind.Provision ∷ unauthorized kind.Object ∷ []
+
+-- authHandle, nvIndex, policySession; operandB, offset, operation
+abbrev pub compared_handles : List HandleRule
+compared_handles =
+    user kind.NvAuth ∷ unauthorized kind.NvIndex ∷ unauthorized kind.PolicySession ∷ []
+
+abbrev pub compared_parameters : List ParameterKind
+compared_parameters = parameter.Buffer 32 ∷ parameter.U16 ∷ parameter.Operation ∷ []
+
+-- the table
+abbrev pub command_facts : CommandCode → CommandFacts
+command_facts code.EvictControl =
+    facts 0x120 "EvictControl" Persistent
+    (growing (shape_with evict_handles (parameter.PersistentHandle ∷ [])))
+command_facts code.NvUndefineSpace =
+    facts 0x122 "NV_UndefineSpace" NvUndefined
+    (shape_with (user kind.Provision ∷ unauthorized kind.NvIndex ∷ []) [])
+command_facts code.Clear = facts 0x126 "Clear" Cleared (on_clear [])
+command_facts code.ClearControl =
+    facts 0x127 "ClearControl" DisableClear (on_clear (parameter.YesNo ∷ []))
+command_facts code.HierarchyChangeAuth =
+    facts 0x129 "HierarchyChangeAuth" AuthValues
+    (shape_with (user kind.HierarchyAuth ∷ []) (parameter.Buffer 32 ∷ []))
+command_facts code.NvDefineSpace =
+    facts 0x12a "NV_DefineSpace" NvDefined
+    (growing (shape_with (user kind.Provision ∷ []) define_parameters))
+command_facts code.CreatePrimary =
+    facts 0x131 "CreatePrimary" Objects
+    (making (shape_with (user kind.Hierarchy ∷ []) create_parameters))
+command_facts code.NvIncrement = facts 0x134 "NV_Increment" NvCounter (on_nv [])
+command_facts code.NvSetBits = facts 0x135 "NV_SetBits" NvData (on_nv (parameter.U64 ∷ []))
+command_facts code.NvExtend =
+    facts 0x136 "NV_Extend" NvData (on_nv (parameter.Buffer data_limit ∷ []))
+command_facts code.NvWrite =
+    facts 0x137 "NV_Write" NvData (on_nv (parameter.Buffer data_limit ∷ parameter.U16 ∷ []))
+command_facts code.NvWriteLock = facts 0x138 "NV_WriteLock" NvData (on_nv [])
+command_facts code.DictionaryAttackLockReset =
+    facts 0x139 "DictionaryAttackLockReset" Lockout (on_lockout [])
+command_facts code.DictionaryAttackParameters =
+    facts 0x13a "DictionaryAttackParameters" Lockout
+    (on_lockout (parameter.U32 ∷ parameter.U32 ∷ parameter.U32 ∷ []))
+command_facts code.NvChangeAuth =
+    facts 0x13b "NV_ChangeAuth" NvAuthValue
+    (shape_with (admin kind.NvIndex ∷ []) (parameter.Buffer 32 ∷ []))
+command_facts code.PcrEvent =
+    facts 0x13c "PCR_Event" Banks
+    (shape_with (user kind.PcrOrNull ∷ []) (parameter.Buffer data_limit ∷ []))
+command_facts code.PcrReset = facts 0x13d "PCR_Reset" Banks (shape_with (user kind.Pcr ∷ []) [])
+command_facts code.SelfTest =
+    facts 0x143 "SelfTest" Nothing (keeping (shape_with [] (parameter.YesNo ∷ [])))
+command_facts code.Startup =
+    facts 0x144 "Startup" Beginning (without_sessions (shape_with [] (parameter.StartupType ∷ [])))
+command_facts code.Shutdown =
+    facts 0x145 "Shutdown" Saved (keeping (shape_with [] (parameter.StartupType ∷ [])))
+command_facts code.PolicyNv =
+    facts 0x149 "PolicyNV" Sessions (reading (shape_with compared_handles compared_parameters))
+command_facts code.NvRead =
+    facts 0x14e "NV_Read" Nothing
+    (keeping (answering (on_read_nv (parameter.U16 ∷ parameter.U16 ∷ []))))
+command_facts code.NvReadLock = facts 0x14f "NV_ReadLock" NvData (on_read_nv [])
+command_facts code.PolicySecret =
+    facts 0x151 "PolicySecret" Sessions
+    (reading (answering (shape_with secret_handles secret_parameters)))
+command_facts code.Create = facts 0x153 "Create" Nothing (keeping (on_object create_parameters))
+command_facts code.Hmac =
+    facts 0x155 "HMAC" Nothing
+    (keeping (on_object (parameter.Buffer data_limit ∷ parameter.HashOrNull ∷ [])))
+command_facts code.Load =
+    facts 0x157 "Load" Objects (making (on_object (parameter.Buffer 256 ∷ parameter.Public ∷ [])))
+command_facts code.Unseal = facts 0x15e "Unseal" Nothing (keeping (on_object []))
+command_facts code.FlushContext =
+    facts 0x165 "FlushContext" SessionsAndObjects
+    (without_sessions (shape_with [] (parameter.U32 ∷ [])))
+command_facts code.NvReadPublic =
+    facts 0x169 "NV_ReadPublic" Nothing
+    (keeping (answering (shape_with (unauthorized kind.NvIndex ∷ []) [])))
+command_facts code.PolicyAuthValue = facts 0x16b "PolicyAuthValue" Sessions (on_policy [])
+command_facts code.PolicyCommandCode =
+    facts 0x16c "PolicyCommandCode" Sessions (on_policy (parameter.U32 ∷ []))
+command_facts code.PolicyCpHash =
+    facts 0x16e "PolicyCpHash" Sessions (on_policy (parameter.Buffer 32 ∷ []))
+command_facts code.PolicyLocality =
+    facts 0x16f "PolicyLocality" Sessions (on_policy (parameter.U8 ∷ []))
+command_facts code.PolicyOr =
+    facts 0x171 "PolicyOR" Sessions (on_policy (parameter.DigestList ∷ []))
+command_facts code.ReadPublic =
+    facts 0x173 "ReadPublic" Nothing
+    (keeping (answering (shape_with (unauthorized kind.Object ∷ []) [])))
+command_facts code.StartAuthSession =
+    facts 0x176 "StartAuthSession" Sessions (making (shape_with start_handles start_parameters))
+command_facts code.GetCapability =
+    facts 0x17a "GetCapability" Nothing
+    (keeping (shape_with [] (parameter.U32 ∷ parameter.U32 ∷ parameter.U32 ∷ [])))
+command_facts code.GetRandom =
+    facts 0x17b "GetRandom" Nothing (keeping (answering (shape_with [] (parameter.U16 ∷ []))))
+command_facts code.PcrRead =
+    facts 0x17e "PCR_Read" Nothing (keeping (shape_with [] (parameter.Selection ∷ [])))
+command_facts code.PolicyPcr =
+    facts 0x17f "PolicyPCR" Sessions (on_policy (parameter.Buffer 32 ∷ parameter.Selection ∷ []))
+command_facts code.PolicyRestart = facts 0x180 "PolicyRestart" Sessions (on_policy [])
+command_facts code.ReadClock =
+    facts 0x181 "ReadClock" Nothing (without_sessions (keeping (shape_with [] [])))
+command_facts code.PcrExtend =
+    facts 0x182 "PCR_Extend" Banks (shape_with (user kind.PcrOrNull ∷ []) (parameter.Digests ∷ []))
+command_facts code.PolicyGetDigest =
+    facts 0x189 "PolicyGetDigest" Nothing (keeping (answering (on_policy [])))
+command_facts code.PolicyPassword = facts 0x18c "PolicyPassword" Sessions (on_policy [])
+command_facts code.PolicyNvWritten =
+    facts 0x18f "PolicyNvWritten" Sessions (on_policy (parameter.YesNo ∷ []))
+
+-- all of them, ascending by number
+abbrev pub all_codes : List CommandCode
+all_codes =
+    code.EvictControl
+    ∷ code.NvUndefineSpace
+    ∷ code.Clear
+    ∷ code.ClearControl
+    ∷ code.HierarchyChangeAuth
+    ∷ code.NvDefineSpace
+    ∷ code.CreatePrimary
+    ∷ code.NvIncrement
+    ∷ code.NvSetBits
+    ∷ code.NvExtend
+    ∷ code.NvWrite
+    ∷ code.NvWriteLock
+    ∷ code.DictionaryAttackLockReset
+    ∷ code.DictionaryAttackParameters
+    ∷ code.NvChangeAuth
+    ∷ code.PcrEvent
+    ∷ code.PcrReset
+    ∷ code.SelfTest
+    ∷ code.Startup
+    ∷ code.Shutdown
+    ∷ code.PolicyNv
+    ∷ code.NvRead
+    ∷ code.NvReadLock
+    ∷ code.PolicySecret
+    ∷ code.Create
+    ∷ code.Hmac
+    ∷ code.Load
+    ∷ code.Unseal
+    ∷ code.FlushContext
+    ∷ code.NvReadPublic
+    ∷ code.PolicyAuthValue
+    ∷ code.PolicyCommandCode
+    ∷ code.PolicyCpHash
+    ∷ code.PolicyLocality
+    ∷ code.PolicyOr
+    ∷ code.ReadPublic
+    ∷ code.StartAuthSession
+    ∷ code.GetCapability
+    ∷ code.GetRandom
+    ∷ code.PcrRead
+    ∷ code.PolicyPcr
+    ∷ code.PolicyRestart
+    ∷ code.ReadClock
+    ∷ code.PcrExtend
+    ∷ code.PolicyGetDigest
+    ∷ code.PolicyPassword
+    ∷ code.PolicyNvWritten
+    ∷ []
