@@ -46,7 +46,7 @@ pub fn save<K: Keep, D: Write>(machine: &Machine<K>, tap: &mut Tap<D>) -> Result
     write_body(machine.keep(), &mut text);
     let head = head(text.len());
     let digest = digest_parts(HashAlg::Sha256, &[head.as_slice(), text.as_slice()]);
-    let _ = text.put(digest.as_slice());
+    text.append(digest.as_slice());
     send(tap, head.as_slice(), text.as_slice())
 }
 

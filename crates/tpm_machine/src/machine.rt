@@ -25,8 +25,9 @@ use crate::response::{write_refusal, write_success};
 use crate::table::accept;
 use std::alloc::Global;
 use tpm_actions_base::answer::Answer;
-use tpm_auth::{Grants, authorize};
+use tpm_auth::{Grants, authorize_keyed};
 use tpm_bytes::NoMemory;
+use tpm_mac::KeyedMac;
 use tpm_record::tick::tick;
 use tpm_record::{Fixed, Keep, power_cycle, read_widths};
 use tpm_step::{Event, Outcome, RefusedCommand, Response, Row};
@@ -39,6 +40,8 @@ pub struct Machine<K: Keep> {
     keep: K,
     /// What a command answers is written here. It is cleared for each, and no part of the state.
     answer: Answer,
+    /// The key of the latest HMAC, which is no part of the state either.
+    keyed: KeyedMac,
 }
 
 impl<K: Keep> Machine<K> {
@@ -67,6 +70,7 @@ impl<K: Keep> Machine<K> {
         Machine {
             keep,
             answer: Answer::empty(),
+            keyed: KeyedMac::new(),
         }
     }
 
@@ -237,7 +241,7 @@ impl<K: Keep> Machine<K> {
             Ok(command) => command,
             Err(refusal) => return refuse(&mut self.keep, refusal, text),
         };
-        match authorize(&self.keep, &command, locality) {
+        match authorize_keyed(&self.keep, &command, locality, &mut self.keyed) {
             Ok(grants) => self.perform(&command, &grants, locality, random, text),
             Err(refused) => refuse(
                 &mut self.keep,
@@ -282,9 +286,10 @@ impl<K: Keep> Machine<K> {
     {
         self.answer.clear();
         let (keep, answer) = (&mut self.keep, &mut self.answer);
+        let keyed = &mut self.keyed;
         match accept(keep, command, grants, locality, random, answer) {
             Ok(()) => {
-                write_success(keep, command, grants, answer, random, text);
+                write_success(keep, command, grants, answer, random, keyed, text);
                 settle(keep, command.code);
                 Row {
                     code: command.code.number(),

@@ -88,6 +88,7 @@ impl Sensitive {
     }
 
     /// The text of the sensitive area, in the room for the longest.
+    #[inline(never)]
     #[tactic(auto, unfolding(crate::specs::Sensitive::sensitive_text))]
     pub fn text(&self) -> Sink<200>
         ensures { result ≡ sensitive_text self.now }
