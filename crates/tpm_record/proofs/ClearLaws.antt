@@ -1,11 +1,11 @@
 -- Objects cleared, place by place, and what is found then.
-use Rattle.std.proofs.Common.{◌≡◌, ℕ, zero, suc, ◌<◌, ◌≤◌, Bool, true, false, cond, eqb, List, [], ◌∷◌, ◌++◌, length, take, drop, Option, Some, None, refl, sym, ap, subst, ◌∙◌, arith}
+use Rattle.std.proofs.Common.{◌≡◌, ℕ, zero, suc, ◌<◌, ◌≤◌, Bool, true, false, cond, eqb, List, [], ◌∷◌, ◌++◌, length, take, drop, Option, Some, None, refl, sym, ap, ◌∙◌, arith}
 use Rattle.std.specs.Prelude.{IfSome, map, option_and_then, slice_set}
 use Rattle.std.proofs.lemmas.List.Sums.{sum_by-cons}
 use Rattle.tpm_object.specs.Object.{transient_byte}
 use Rattle.tpm_object.specs.declared.object.Object.{Object}
 use Rattle.tpm_containers.specs.Numbered.{at_number, if_of_kind, kind_of, place_of}
-use Rattle.tpm_containers.specs.Slots.{AreAll, at_place, taken_count}
+use Rattle.tpm_containers.specs.Slots.{at_place, taken_count}
 use Rattle.tpm_containers.proofs.SlotLaws.{counted}
 use Rattle.tpm_record.specs.Clear.{ClearingLaws, cleared_objects, cleared_place, is_cleared, is_place_cleared}
 
@@ -107,10 +107,6 @@ kept_in Is (Some x) is = by (is_cleared x.hierarchy)
     by : (b : Bool) → IfSome (cond b None (Some x)) Is
     by true = tt
     by false = is
-
-pub cleared_all : (Is : Object → Type 0) (places : List (Option Object)) → AreAll Is places → AreAll Is (cleared_objects places)
-cleared_all Is places are place =
-    subst (λ (cell : Option Object). IfSome cell Is) (sym (at_cleared places place)) (kept_in Is (at_place places place) (are place))
 
 pub are_cleared : ClearingLaws
 unfolding at_number
