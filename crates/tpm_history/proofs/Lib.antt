@@ -37,3 +37,9 @@ pub mod Replays
 pub mod RunReplays
 pub mod QuietValues
 pub mod PolicyLaws
+pub mod AcceptedAssertions
+pub mod AcceptedSessions
+pub mod AssertedBy
+pub mod RecordedAssertions
+pub mod Selections
+pub mod PolicyUses

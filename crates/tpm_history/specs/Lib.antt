@@ -15,6 +15,8 @@ pub mod DeviceSessions
 pub mod EntryHmacs
 pub mod QuietPcrs
 pub mod Grounds
+pub mod AssertedBy
+pub mod PolicyUses
 pub mod Replays
 pub mod RunReplays
 pub mod Potential

@@ -41,6 +41,7 @@ ghost use Rattle.tpm_history.specs.History.{recorded};
 ghost use Rattle.tpm_history.specs.Pcrs.{before_shutdown, pcr_of, pcrs_after};
 ghost use Rattle.tpm_history.specs.PolicyLaws.{KeepsQuietValues, UsesItsCommand};
 ghost use Rattle.tpm_history.specs.PolicyLaws.{UsesAsWritten, UsesPcrsAsTheyAre};
+ghost use Rattle.tpm_history.specs.PolicyUses.{AllMeetPolicies};
 ghost use Rattle.tpm_history.specs.Potential.{IsForgiving};
 ghost use Rattle.tpm_history.specs.RunReplays.{IsRecorded, RunReplaysRepeat};
 ghost use Rattle.tpm_history.specs.Sessions.{IsNewSession, LiveSession, started};
@@ -250,4 +251,14 @@ pub fn few_tries_laws()
         → IsForgiving old.fixed.lockout → FailsFew can old executions new }
     ensures one_more { (old : Record) (executions : List Execution)
         → tries_at_most old executions ≡ tries_within old executions + 1 }
+{}
+
+/// In every history of a device each use has a ground, and each use by a policy session meets every
+/// policy whose digest is the authPolicy of what is used, along one branch at each TPM2_PolicyOR; or
+/// the hash is broken, by texts that the policy and the session spell.
+#[inline(always)]
+pub fn auth_policy_laws()
+    ensures { (can : Bool) (random : List ℕ) (executions : List Execution) (new : Record)
+        → Leads can (manufactured random) executions new
+        → AllMeetPolicies (history_after [] executions) }
 {}
