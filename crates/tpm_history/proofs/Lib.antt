@@ -37,6 +37,8 @@ pub mod Replays
 pub mod RunReplays
 pub mod QuietValues
 pub mod PolicyLaws
+pub mod AuthorizeAlike
+pub mod Alike
 pub mod AcceptedAssertions
 pub mod AcceptedSessions
 pub mod AssertedBy

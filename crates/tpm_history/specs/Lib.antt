@@ -24,3 +24,4 @@ pub mod Tries
 pub mod Follows
 pub mod PolicyLaws
 pub mod FailedRun
+pub mod Alike

@@ -25,6 +25,7 @@ ghost use Rattle.tpm_step.specs.Events.{Given, PlainEvent};
 ghost use Rattle.tpm_step.specs.Execution.{Executes};
 ghost use Rattle.tpm_step.specs.Run.{Runs};
 ghost use Rattle.tpm_step.specs.Step.{Stepped};
+ghost use Rattle.tpm_history.specs.Alike.{AuthorizeAlike};
 ghost use Rattle.tpm_history.specs.AuthValues.{auth_of};
 ghost use Rattle.tpm_history.specs.Counters.{CountLaws};
 ghost use Rattle.tpm_history.specs.DeviceAuthValues.{HasAuthValues};
@@ -251,6 +252,13 @@ pub fn few_tries_laws()
         → IsForgiving old.fixed.lockout → FailsFew can old executions new }
     ensures one_more { (old : Record) (executions : List Execution)
         → tries_at_most old executions ≡ tries_within old executions + 1 }
+{}
+
+/// Two devices that follow one history, and of which everybody may read the same, with the same failed
+/// tries, authorize each command alike: with the same grants, or with the same refusal.
+#[inline(always)]
+pub fn alike_laws()
+    ensures { AuthorizeAlike }
 {}
 
 /// In every history of a device each use has a ground, and each use by a policy session meets every
