@@ -45,3 +45,4 @@ pub mod AssertedBy
 pub mod RecordedAssertions
 pub mod Selections
 pub mod PolicyUses
+pub mod PolicyReviews

@@ -10,8 +10,8 @@ use Rattle.tpm_history.specs.History.{History}
 use Rattle.tpm_history.specs.View.{view_of}
 
 -- Two devices follow one history. Everybody may read the same of each handle of both, and both have
--- the same failed tries and parameters of the protection against dictionary attacks, which no history
--- tells. Their seeds, private areas, data of indices and clocks may differ.
+-- the same failed tries and parameters of the protection against dictionary attacks, which no
+-- history tells. Their seeds, private areas, data of indices and clocks may differ.
 pub record AreAlike (one other : Record) (history : History) : Type 0 where
   pub first : Follows one history
   pub second : Follows other history

@@ -56,17 +56,18 @@ pub record IsFirstAuthorized (history : History) (c : AcceptedCommand) : Type 0 
 
 -- TPM2_PolicySecret was accepted for a policyRef and the entity of this Name, which was authorized,
 -- and it stands on the session of a handle since then.
-pub record ShowsSecret (history : History) (handle : Handle) (name reference : List ℕ) : Type 0 where
-  pub parts : SecretParts
-  pub asserted : IsAssertedBy history handle (assertion.Secret parts)
-  pub is_secret : asserted.command.command.code ≡ command.PolicySecret
-  pub entity : name_in asserted.command.views 0 ≡ name
-  pub authorized : IsFirstAuthorized asserted.before asserted.command
-  pub for_reference : parts.reference ≡ reference
+pub record ShowsSecret (history : History) (handle : Handle) (name reference : List ℕ) : Type 0
+  where
+    pub parts : SecretParts
+    pub asserted : IsAssertedBy history handle (assertion.Secret parts)
+    pub is_secret : asserted.command.command.code ≡ command.PolicySecret
+    pub entity : name_in asserted.command.views 0 ≡ name
+    pub authorized : IsFirstAuthorized asserted.before asserted.command
+    pub for_reference : parts.reference ≡ reference
 
--- TPM2_PolicyNV was accepted for the NV index of this Name, an operand, an offset and an operation,
--- which is to say that the bytes of the index there stood so to the operand; what was to let it read
--- the index was authorized; and it stands on the session of a handle since then.
+-- TPM2_PolicyNV was accepted for the NV index of this Name, an operand, an offset and an operation:
+-- it is refused unless the bytes of the index from the offset on stand so to the operand. What lets
+-- it read the index was authorized, and it stands on the session of a handle since then.
 pub record ComparesIndex (history : History) (handle : Handle) (name operand : List ℕ) (offset : ℕ)
     (operation : Operation) : Type 0
   where

@@ -23,5 +23,6 @@ pub mod Potential
 pub mod Tries
 pub mod Follows
 pub mod PolicyLaws
+pub mod PolicyReviews
 pub mod FailedRun
 pub mod Alike

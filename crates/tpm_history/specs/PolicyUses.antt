@@ -1,6 +1,6 @@
 -- What an authPolicy says of each use that a policy session authorizes. TPM 2.0 Library, Part 1,
--- section 19.7 (enhanced authorization), and Part 3, section 23, where the section of each assertion
--- says what a use must meet.
+-- section 19.7 (enhanced authorization), and Part 3, section 23, where the section of each
+-- assertion says what a use must meet.
 use Rattle.std.specs.Prelude.{◌≡◌, ◌⊎◌, ℕ, List, [], ◌∷◌, Option, Some, None, slice_get}
 use Rattle.std.specs.Int.{bit_at}
 use Rattle.tpm_mac.specs.declared.algorithm.HashAlg.{HashAlg}
@@ -36,8 +36,8 @@ pub record PolicyUse : Type 0 where
 
 -- ---- what is met at a use
 
--- The selected PCRs have this digest now, and no PCR was written since the first TPM2_PolicyPCR that
--- stands on the session (Part 3, section 23.7).
+-- The selected PCRs have this digest now, and no PCR was written since the first TPM2_PolicyPCR
+-- that stands on the session (Part 3, section 23.7).
 pub record HasPcrsNow (u : PolicyUse) (selection : List BankSelection) (digest : List ℕ) : Type 0
   where
     pub quiet : AreQuietSince u.entry.session u.history
@@ -52,9 +52,9 @@ ShowsAuthValue u =
     × (value_in_key u.history u.command u.place u.session (Some u.handle)
     ≡ auth_of u.history u.handle)
 
--- An assertion of a policy is met at a use. The command code, the cpHash, the locality and whether an
--- NV index is written are those of the use itself (Part 3, sections 23.11, 23.13, 23.8 and 23.20);
--- TPM2_PolicySecret and TPM2_PolicyNV were accepted before it, and stand on its session.
+-- An assertion of a policy is met at a use. The command code, the cpHash, the locality and whether
+-- an NV index is written are those of the use itself (Part 3, sections 23.11, 23.13, 23.8 and
+-- 23.20); TPM2_PolicySecret and TPM2_PolicyNV were accepted before it, and stand on its session.
 abbrev pub IsMetBy : PolicyUse → PolicyAssertion → Type 0
 IsMetBy u (PolicyPcr selection digest) = HasPcrsNow u selection digest
 IsMetBy u PolicyAuthValue = ShowsAuthValue u
