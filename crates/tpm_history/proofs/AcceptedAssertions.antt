@@ -1,5 +1,5 @@
 -- What an assertion found that a policy session accepted, as a history tells of the assertion.
-use Rattle.std.proofs.Common.{◌≡◌, ◌≤◌, ◌<◌, ◌^◌, ◌+◌, ℕ, arith, Bool, true, false, cond, List, [], ◌∷◌, length, Option, Some, None, option_map, Result, Ok, Err, IfOk, IfSome, refl, ap, sym, subst, ◌∙◌}
+use Rattle.std.proofs.Common.{◌≡◌, ◌<◌, ◌^◌, ◌+◌, ℕ, arith, Bool, true, false, cond, List, [], ◌∷◌, length, Option, Some, None, Result, Ok, Err, IfOk, IfSome, refl, ap, sym, subst, ◌∙◌}
 use Rattle.std.specs.Prelude.{not, nat_lt, is_some, ◌==◌, ◌&&◌}
 use Rattle.std.specs.Int.{w8, w32}
 use Rattle.std.specs.List.{list_any}
@@ -7,7 +7,7 @@ use Rattle.std.specs.Str.{bytes_eq}
 use Rattle.std.proofs.lemmas.Bool.{ltb-false}
 use Rattle.std.proofs.lemmas.Option.{same_Some}
 use Rattle.tpm_bytes.specs.Reading.{◌>>=◌, number_at, or_fault, refused_if}
-use Rattle.tpm_bytes.proofs.Fields.{ok_is, or_fault_ok, passed}
+use Rattle.tpm_bytes.proofs.Fields.{ok_is, passed}
 use Rattle.tpm_containers.specs.SortedMap.{Entries, at_key}
 use Rattle.tpm_mac.proofs.DigestSize.{length-hash_of}
 use Rattle.tpm_mac.specs.Digest.{digest_size}

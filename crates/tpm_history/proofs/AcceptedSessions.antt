@@ -30,7 +30,7 @@ use Rattle.tpm_history.specs.Executions.{Execution, Leads, history_after}
 use Rattle.tpm_history.specs.Follows.{Follows}
 use Rattle.tpm_history.specs.History.{AcceptedCommand, Done, History, PowerCycled, command_of, recorded, with_command}
 use Rattle.tpm_history.specs.Policies.{assertion_by, evaluated, with_assertion}
-use Rattle.tpm_history.specs.Sessions.{LiveSession, asserted_by, policy_in, rolled_by, sessions_of}
+use Rattle.tpm_history.specs.Sessions.{LiveSession, policy_in, rolled_by, sessions_of}
 use Rattle.tpm_history.proofs.AcceptedAssertions.{Finds, FindsItsOwn, row_finds}
 use Rattle.tpm_history.proofs.Following.{execution_follows, manufactured_follows}
 use Rattle.tpm_history.proofs.Leading.{leads_keep}

@@ -1,5 +1,5 @@
 -- Two devices that follow one history, and of which everybody may read the same, authorize alike.
-use Rattle.std.proofs.Common.{◌≡◌, Bool, true, false, cond, [], Option, Some, None, option_map, refl, ap, sym, subst, ◌∙◌}
+use Rattle.std.proofs.Common.{◌≡◌, Bool, true, false, [], Option, Some, None, option_map, refl, ap, sym, subst, ◌∙◌}
 use Rattle.std.specs.Option.{option_map_or}
 use Rattle.tpm_session.specs.Sessions.{session_at}
 use Rattle.tpm_session.specs.declared.session.Binding.{Binding}

@@ -1,6 +1,5 @@
 -- What is asserted on a session was asserted by an accepted command, and stands since then.
-use Rattle.std.proofs.Common.{◌≡◌, ◌⊎◌, ◌≤◌, ℕ, arith, Bool, true, false, List, [], ◌∷◌, ◌++◌, append_assoc, length, take, Option, Some, None, Result, Ok, Err, slice_get, refl, ap, sym, subst, ◌∙◌, inl, inr}
-use Rattle.tpm_policy.specs.Assertion as assertion
+use Rattle.std.proofs.Common.{◌≡◌, ◌⊎◌, ◌≤◌, ℕ, arith, List, [], ◌∷◌, append_assoc, length, take, Some, Result, Ok, Err, slice_get, refl, ap, sym, subst, ◌∙◌, inl, inr}
 use Rattle.tpm_policy.specs.Assertion.{Assertion}
 use Rattle.tpm_policy_meaning.specs.Asserted.{IsAmong}
 use Rattle.tpm_types.specs.declared.handle.Handle.{Handle}
@@ -9,14 +8,14 @@ use Rattle.tpm_types_command.specs.CommandCode.{authorized_handles, shape_of}
 use Rattle.tpm_types_command.specs.declared.command_code.CommandCode.{CommandCode as Code}
 use Rattle.tpm_types_command.specs.declared.command_code.CommandCode.TheVariants as command
 use Rattle.tpm_actions_policy.specs.Assertions.{session_handle}
-use Rattle.tpm_history.specs.AssertedBy.{IsAssertedBy, IsFirstAuthorized, Stands, StandsThrough}
+use Rattle.tpm_history.specs.AssertedBy.{IsAssertedBy, IsFirstAuthorized, Stands}
 use Rattle.tpm_history.specs.EntryHmacs.{AllShowHmacs, used_in}
 use Rattle.tpm_history.specs.Grounds.{AllHaveGrounds, UsesHaveGrounds}
 use Rattle.tpm_history.specs.History.{AcceptedCommand, Done, History, PastEvent, PowerCycled}
 use Rattle.tpm_history.specs.Policies.{assertion_by, with_assertion}
 use Rattle.tpm_history.specs.Sessions.{LiveSession, rolled_by, sessions_of}
 use Rattle.tpm_history.proofs.AcceptedSessions.{AllSessionsFind, AsksForItsHandles}
-use Rattle.tpm_history.proofs.LivingOn.{Asserted, Begun, Came, Keeps, Stayed, entries_kept, row_came}
+use Rattle.tpm_history.proofs.LivingOn.{Asserted, Begun, Came, Stayed, entries_kept, row_came}
 
 -- ---- what the first handle of such a command names was authorized
 

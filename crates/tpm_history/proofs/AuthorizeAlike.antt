@@ -1,14 +1,12 @@
 -- What a device authorizes depends on what it has of handles, sessions, tries and updates alone.
-use Rattle.std.proofs.Common.{◌≡◌, ℕ, ◌+◌, ◌-◌, Bool, true, false, cond, List, [], ◌∷◌, ◌++◌, length, map, Option, Some, None, option_map, slice_get, Result, Ok, Err, refl, ap, sym, ◌∙◌}
-use Rattle.std.specs.Prelude.{◌&&◌, ◌||◌, not, is_none}
+use Rattle.std.proofs.Common.{◌≡◌, ℕ, ◌+◌, ◌-◌, Bool, false, cond, List, [], ◌∷◌, ◌++◌, length, map, Option, Some, None, option_map, slice_get, Result, Ok, Err, refl, ap, ◌∙◌}
+use Rattle.std.specs.Prelude.{◌&&◌, not, is_none}
 use Rattle.std.specs.List.{find}
 use Rattle.std.specs.Option.{option_map_or}
 use Rattle.std.specs.Str.{bytes_eq}
 use Rattle.tpm_bytes.specs.Reading.{◌>>=◌, refused_if}
 use Rattle.tpm_policy.specs.Use.{EntityParts, UseParts, use_passes}
-use Rattle.tpm_policy.specs.declared.state.Demand.{Demand}
 use Rattle.tpm_session.specs.ParameterHash.{OfCommand, parameter_hash_of}
-use Rattle.tpm_session.specs.EntryText.{EntryParts}
 use Rattle.tpm_session.specs.Sessions.{session_at}
 use Rattle.tpm_session.specs.declared.session.Binding.{Binding}
 use Rattle.tpm_session.specs.declared.session.Protection.{Protection}
@@ -26,7 +24,6 @@ use Rattle.tpm_types.specs.declared.handle.Handle.{Handle}
 use Rattle.tpm_types.specs.declared.handle.SessionKind.{SessionKind}
 use Rattle.tpm_types.specs.declared.handle.SessionKind.TheVariants as kind
 use Rattle.tpm_types.specs.declared.nv_use.NvUse.{NvUse}
-use Rattle.tpm_types.specs.declared.rc.Rc.{Rc}
 use Rattle.tpm_types.specs.declared.refused.Refused.{Refused}
 use Rattle.tpm_types.specs.declared.session_type.SessionType.{SessionType}
 use Rattle.tpm_types.specs.declared.session_type.SessionType.TheVariants as type
@@ -39,7 +36,7 @@ use Rattle.tpm_record.specs.declared.entity.Means.{Means}
 use Rattle.tpm_record.specs.declared.entity.Means.TheVariants as means
 use Rattle.tpm_auth.specs.Entries.{entries_pass, entry_passes, kind_passes, lacks_cipher, reference_of}
 use Rattle.tpm_auth.specs.Grant.{authorize, authorized, grant, grant_by, grants_pass, is_unavailable, password_grant, session_grant_if, undemanding, used_protection}
-use Rattle.tpm_auth.specs.SessionGrant.{comparison, comparison_holds, demand_by, demanded, entry_nonce, entry_parts, entry_protection, granted_value, has_value_in_key, hashed_command, is_authentic, is_bound_to, is_password_demand, nonce_where, session_grant, takes_value, use_of, used_auth_value}
+use Rattle.tpm_auth.specs.SessionGrant.{comparison, comparison_holds, demand_by, demanded, entry_nonce, entry_parts, entry_protection, granted_value, has_value_in_key, hashed_command, is_authentic, is_bound_to, nonce_where, session_grant, takes_value, use_of, used_auth_value}
 use Rattle.tpm_auth.specs.declared.session_grant.Grant.{Grant}
 
 -- Two devices have the same of each handle, each session, tries and updates.

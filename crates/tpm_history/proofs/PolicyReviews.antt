@@ -1,8 +1,7 @@
 -- Policies that are often reviewed.
-use Rattle.std.proofs.Common.{◌≡◌, ◌≢◌, ◌⊎◌, ℕ, arith, Bool, true, false, List, [], ◌∷◌, ◌++◌, Option, Some, None, option_and_then, slice_get, refl, ap, sym, subst, ◌∙◌, inl, inr}
+use Rattle.std.proofs.Common.{◌≡◌, ◌≢◌, ◌⊎◌, ℕ, arith, true, false, List, [], ◌∷◌, ◌++◌, Option, Some, None, option_and_then, slice_get, refl, ap, sym, subst, ◌∙◌, inl, inr}
 use Rattle.std.specs.List.{concat, flat_map}
 use Rattle.std.specs.Option.{option_map_or}
-use Rattle.std.specs.Prelude.{◌&&◌}
 use Rattle.std.proofs.lemmas.Bool.{false≢true}
 use Rattle.std.proofs.lemmas.Option.{same_Some}
 use Rattle.tpm_mac.proofs.DigestSize.{length-hash_of}
@@ -10,7 +9,7 @@ use Rattle.tpm_mac.specs.Digest.{hash_of}
 use Rattle.tpm_mac.specs.declared.algorithm.HashAlg.{HashAlg}
 use Rattle.tpm_policy.specs.Use.{EntityParts}
 use Rattle.tpm_policy_meaning.proofs.Chains.{is_same_or_not}
-use Rattle.tpm_policy_meaning.specs.Expression.{PolicyExpression, Nothing, Then, PolicyAuthValue, PolicyNvWritten, PolicySecret, PolicyNv}
+use Rattle.tpm_policy_meaning.specs.Expression.{PolicyExpression, Nothing, Then, PolicyAuthValue, PolicyNvWritten, PolicyNv}
 use Rattle.tpm_policy_meaning.specs.Meaning.{BreaksHash, IsMet, IsPolicyExpression}
 use Rattle.tpm_policy_meaning.specs.PolicyDigest.{policy_digest}
 use Rattle.tpm_types.specs.declared.handle.Handle.{Handle}
@@ -33,7 +32,7 @@ use Rattle.tpm_history.specs.Pcrs.{digest_in, values_in}
 use Rattle.tpm_history.specs.PolicyReviews.{HavePcrValues, IsUsedBySession, IsWrittenOnce, NeedsCount, NeedsItsPolicy, NeedsPcrs, NeedsPcrsAndPin, NeedsPinOrSecret, OfEachAccepted, UsesObject, WritesIndex, by_pcrs, by_pin_or_secret}
 use Rattle.tpm_history.specs.PolicyUses.{AllMeetPolicies, HasAuthPolicy, HasPcrsNow, IsMetBy, MeetsPolicies, PolicyUse, ShowsAuthValue, UsesMeetPolicies}
 use Rattle.tpm_history.specs.Sessions.{LiveSession}
-use Rattle.tpm_history.specs.View.{OfIndex, OfObject, View}
+use Rattle.tpm_history.specs.View.{OfIndex, View}
 use Rattle.tpm_history.specs.Views.{view_policy, view_written}
 use Rattle.tpm_history.proofs.AcceptedSessions.{leads_find}
 use Rattle.tpm_history.proofs.PolicyUses.{all_meet}

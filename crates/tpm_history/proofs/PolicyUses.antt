@@ -1,5 +1,5 @@
 -- Each use by a policy session meets every policy that has the authPolicy, or the hash is broken.
-use Rattle.std.proofs.Common.{◌≡◌, ◌⊎◌, ℕ, Bool, true, false, cond, List, [], ◌∷◌, Option, Some, None, IfSome, Result, Ok, IfOk, refl, ap, sym, subst, ◌∙◌, inl, inr}
+use Rattle.std.proofs.Common.{◌≡◌, ◌⊎◌, ℕ, Bool, true, false, cond, List, [], ◌∷◌, Option, Some, None, IfSome, IfOk, refl, ap, sym, subst, ◌∙◌, inl, inr}
 use Rattle.std.proofs.lemmas.Option.{same_Some}
 use Rattle.std.specs.Int.{bit_at, w8, w32}
 use Rattle.std.specs.List.{AllByRecursion, list_any}
@@ -39,17 +39,17 @@ use Rattle.tpm_actions_policy.specs.PolicyNv.{nv_parameters}
 use Rattle.tpm_actions_policy.specs.PolicyPcr.{pcr_parameters}
 use Rattle.tpm_actions_policy.specs.PolicySecret.{secret_parameters}
 use Rattle.tpm_laws.proofs.Binding.{ok_at, ok_bind}
-use Rattle.tpm_history.specs.AssertedBy.{ComparesIndex, IsAssertedBy, ShowsSecret}
+use Rattle.tpm_history.specs.AssertedBy.{IsAssertedBy, ShowsSecret}
 use Rattle.tpm_history.specs.AuthValues.{auth_of}
 use Rattle.tpm_history.specs.EntryHmacs.{AllShowHmacs, cp_hash_in, is_bound_to, used_in}
 use Rattle.tpm_history.specs.Grounds.{AllHaveGrounds, ByHmac, ByPassword, ByPolicy, Ground, HasDemanded, IsPolicyOf, MeetsPolicy, UsesHaveGrounds, policy_at, written_at}
 use Rattle.tpm_history.specs.History.{AcceptedCommand, Done, History, PowerCycled}
 use Rattle.tpm_history.specs.Policies.{assertion_by, evaluated}
-use Rattle.tpm_history.specs.PolicyUses.{AllMeetPolicies, HasAuthPolicy, HasPcrsNow, IsMetBy, MeetsPolicies, PolicyUse, ShowsAuthValue, UsesMeetPolicies}
+use Rattle.tpm_history.specs.PolicyUses.{AllMeetPolicies, HasAuthPolicy, IsMetBy, MeetsPolicies, PolicyUse, ShowsAuthValue, UsesMeetPolicies}
 use Rattle.tpm_history.specs.QuietPcrs.{HoldsOf, is_pcr}
-use Rattle.tpm_history.specs.Sessions.{LiveSession, policy_in}
+use Rattle.tpm_history.specs.Sessions.{policy_in}
 use Rattle.tpm_history.specs.View.{name_in}
-use Rattle.tpm_history.proofs.AcceptedSessions.{AllFind, AllSessionsFind, SessionsFind, last_finds}
+use Rattle.tpm_history.proofs.AcceptedSessions.{AllFind, AllSessionsFind, last_finds}
 use Rattle.tpm_history.proofs.AssertedBy.{HasOrigin, first_authorized, have_origins}
 use Rattle.tpm_history.proofs.RecordedAssertions.{command_recorded, cp_hash_recorded, locality_allowed, written_recorded}
 use Rattle.tpm_history.proofs.Selections.{digest_by_text}

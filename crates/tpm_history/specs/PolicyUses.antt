@@ -1,7 +1,7 @@
 -- What an authPolicy says of each use that a policy session authorizes. TPM 2.0 Library, Part 1,
 -- section 19.7 (enhanced authorization), and Part 3, section 23, where the section of each
 -- assertion says what a use must meet.
-use Rattle.std.specs.Prelude.{◌≡◌, ◌⊎◌, ℕ, List, [], ◌∷◌, Option, Some, None, slice_get}
+use Rattle.std.specs.Prelude.{◌≡◌, ◌⊎◌, ℕ, List, [], ◌∷◌, Some, slice_get}
 use Rattle.std.specs.Int.{bit_at}
 use Rattle.tpm_mac.specs.declared.algorithm.HashAlg.{HashAlg}
 use Rattle.tpm_types.specs.declared.handle.Handle.{Handle}
