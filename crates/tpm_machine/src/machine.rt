@@ -18,6 +18,7 @@ ghost use Rattle.tpm_history.specs.DeviceSessions.{HasSessions};
 ghost use Rattle.tpm_history.specs.Follows.{After, Follows, RunFollows};
 ghost use Rattle.tpm_history.specs.Grounds.{AllHaveGrounds};
 ghost use Rattle.tpm_history.specs.History.{History};
+ghost use Rattle.tpm_history.specs.PolicyUses.{AllMeetPolicies};
 ghost use Rattle.tpm_history.specs.Replays.{ReplaysRepeat};
 
 use crate::decoding::decode;
@@ -92,7 +93,8 @@ impl<K: Keep> Machine<K> {
 
         // Where the device followed a history, it follows the history with this event, if that was
         // accepted: counters, PCRs, authorization values and sessions are what that tells. Every
-        // replay in it repeats a nonce or an HMAC, and each use had its grounds.
+        // replay in it repeats a nonce or an HMAC, each use had its grounds, and each by a policy
+        // session met every policy that has the authPolicy of what was used, or the hash is broken.
         ensures history { After Follows (state_of K.record_of self.old) (plain_event event.now)
             (outcome_step (state_of K.record_of self.new) result) }
         ensures counters { After HasCounters (state_of K.record_of self.old)
@@ -106,6 +108,8 @@ impl<K: Keep> Machine<K> {
         ensures replays { After (λ r. ReplaysRepeat) (state_of K.record_of self.old)
             (plain_event event.now) (outcome_step (state_of K.record_of self.new) result) }
         ensures grounds { After (λ r. AllHaveGrounds) (state_of K.record_of self.old)
+            (plain_event event.now) (outcome_step (state_of K.record_of self.new) result) }
+        ensures policies { After (λ r. AllMeetPolicies) (state_of K.record_of self.old)
             (plain_event event.now) (outcome_step (state_of K.record_of self.new) result) }
     {
         let mut outcome = Outcome::empty();
@@ -121,7 +125,8 @@ impl<K: Keep> Machine<K> {
 
         // Where the device followed a history, it follows the history with this event, if that was
         // accepted: counters, PCRs, authorization values and sessions are what that tells. Every
-        // replay in it repeats a nonce or an HMAC, and each use had its grounds.
+        // replay in it repeats a nonce or an HMAC, each use had its grounds, and each by a policy
+        // session met every policy that has the authPolicy of what was used, or the hash is broken.
         ensures history { After Follows (state_of K.record_of self.old) (plain_event event.now)
             (outcome_step (state_of K.record_of self.new) outcome.new) }
         ensures counters { After HasCounters (state_of K.record_of self.old)
@@ -135,6 +140,8 @@ impl<K: Keep> Machine<K> {
         ensures replays { After (λ r. ReplaysRepeat) (state_of K.record_of self.old)
             (plain_event event.now) (outcome_step (state_of K.record_of self.new) outcome.new) }
         ensures grounds { After (λ r. AllHaveGrounds) (state_of K.record_of self.old)
+            (plain_event event.now) (outcome_step (state_of K.record_of self.new) outcome.new) }
+        ensures policies { After (λ r. AllMeetPolicies) (state_of K.record_of self.old)
             (plain_event event.now) (outcome_step (state_of K.record_of self.new) outcome.new) }
     {
         outcome.response.clear();
