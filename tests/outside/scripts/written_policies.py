@@ -1,6 +1,6 @@
 #!/usr/bin/env python3
-"""Writes tests/written_policies.tpm: uses of entities by policies that have branches, and by others,
-and what is refused of them. tests/policy_audit.sh has the policies in words.
+"""Writes tests/written_policies.tpm: uses of entities by policies that have branches, and by other
+ones, and what is refused of them. tests/policy_audit.sh has these policies in words.
 """
 
 import paths
@@ -89,19 +89,23 @@ def lost_ways_of_disk(session, disk):
     script.chapter("The value is another.")
     asserts("By the system", caller.restart(session), *system(session), *ends(session))
     with caller.breaking(key=lambda *_: b"other"):
-        other = unsealing(demand=AUTH_VALUE)
-    lost("TPM2_Unseal", "BAD_AUTH/s1", other)
-    script.chapter("The session has counted for one command, and is told the rest alone.")
+        shown = unsealing(demand=AUTH_VALUE)
+    lost("TPM2_Unseal", "BAD_AUTH/s1", shown)
+    script.chapter("The session has counted for one command.")
     asserts("The recovery secret", caller.restart(session), recovery(session), *ends(session))
     caller.unseal("TPM2_Unseal", disk, SECRET, session)
+    lost("TPM2_Unseal once more", "POLICY_FAIL/s1", unsealing())
+    script.chapter("It is told all but the secret.")
     caller.says("TPM2_PolicyOR", "VALUE/p1", ends(session)[0])
     asserts("TPM2_PolicyCommandCode", ends(session)[1])
     lost("TPM2_Unseal", "POLICY_FAIL/s1", unsealing())
     script.chapter("The secret was shown before TPM2_PolicyRestart.")
-    asserts("The recovery secret, TPM2_PolicyRestart", recovery(session), caller.restart(session))
-    caller.says("TPM2_PolicyOR", "VALUE/p1", ends(session)[0])
-    asserts("TPM2_PolicyCommandCode", ends(session)[1])
-    lost("TPM2_Unseal", "POLICY_FAIL/s1", unsealing())
+    other = caller.policy("Another policy session")
+    asserts("The recovery secret, TPM2_PolicyRestart", recovery(other), caller.restart(other))
+    caller.says("TPM2_PolicyOR", "VALUE/p1", ends(other)[0])
+    asserts("TPM2_PolicyCommandCode", ends(other)[1])
+    lost("TPM2_Unseal", "POLICY_FAIL/s1", caller.unsealing(disk, other))
+    caller.flushed(other)
     for words, shown in (
         ("of the owner", recovery(session, of=RH_OWNER)),
         ("for another policyRef", recovery(session, ref=b"tape")),
@@ -129,16 +133,20 @@ def moved_pcr(session, disk):
 # value of that index.
 
 
+def after_version(index, old=ZEROS):
+    """The index has at least the version that is asked for."""
+    arguments = LEAST + number(0, 2) + number(AT_LEAST, 2)
+    return policy.after_nv(SHA256, old, arguments, caller.name(index))
+
+
 class Update:
     def __init__(self, index):
         self.localities = [
             policy.after_locality(SHA256, ZEROS, it) for it in (LOCALITY_0, LOCALITIES_3_AND_4)
         ]
-        arguments = LEAST + number(0, 2) + number(AT_LEAST, 2)
-        name, from_somewhere = caller.name(index), policy.after_or(SHA256, self.localities)
         self.branches = [
-            policy.after_nv(SHA256, from_somewhere, arguments, name),
-            policy.after_secret(SHA256, ZEROS, name, b""),
+            after_version(index, policy.after_or(SHA256, self.localities)),
+            policy.after_secret(SHA256, ZEROS, caller.name(index), b""),
         ]
         self.digest = policy.after_or(SHA256, self.branches)
 
@@ -167,16 +175,20 @@ def ways_of_update(session, update, index, key):
     caller.unseal("TPM2_Unseal", key, SECRET, session)
 
 
+def other_comparisons(session, index, other):
+    return (
+        ("another index with the same data", compares(session, other)),
+        ("another operand", compares(session, index, operand=number(4, 8))),
+        ("another comparison", compares(session, index, operand=VERSION, operation=EQUAL)),
+    )
+
+
 def lost_ways_of_update(session, update, index, other, key):
     script.chapter("What is refused. The locality is another.")
     asserts("TPM2_PolicyLocality, PolicyOR", *update.from_locality(session, LOCALITIES_3_AND_4))
     asserts("TPM2_PolicyNV, PolicyOR", compares(session, index), update.end(session))
     lost("TPM2_Unseal from locality 0", "LOCALITY", caller.unsealing(key, session))
-    for words, compared in (
-        ("another index with the same data", compares(session, other)),
-        ("another operand", compares(session, index, operand=number(4, 8))),
-        ("another comparison", compares(session, index, operand=VERSION, operation=EQUAL)),
-    ):
+    for words, compared in other_comparisons(session, index, other):
         script.chapter(f"TPM2_PolicyNV with {words}.")
         asserts("TPM2_PolicyRestart", caller.restart(session), *update.from_locality(session))
         asserts("TPM2_PolicyNV", compared)
@@ -191,8 +203,20 @@ def lost_ways_of_update(session, update, index, other, key):
 # Other policies.
 
 
+def version_alone(session, index, other):
+    script.chapter("OTHER POLICIES. A version alone.")
+    handle = caller.sealed_object("An object with this policy", after_version(index))
+    for words, compared in other_comparisons(session, index, other):
+        asserts(f"TPM2_PolicyNV with {words}", compared)
+        lost("TPM2_Unseal", "POLICY_FAIL/s1", caller.unsealing(handle, session))
+        asserts("TPM2_PolicyRestart", caller.restart(session))
+    asserts("TPM2_PolicyNV", compares(session, index))
+    caller.unseal("TPM2_Unseal", handle, SECRET, session)
+    caller.flushed(handle)
+
+
 def other_policies(session):
-    script.chapter("Other policies. A cpHash, which is that of no command.")
+    script.chapter("A cpHash, which is that of no command.")
     auth_policy = policy.after_cp_hash(SHA256, ZEROS, OF_NO_COMMAND)
     handle = caller.sealed_object("An object with this policy", auth_policy)
     asserts("TPM2_PolicyCpHash", caller.cp_hash_told(session, OF_NO_COMMAND))
@@ -243,5 +267,6 @@ moved_pcr(session, disk)
 ways_of_update(session, update, index, key)
 lost_ways_of_update(session, update, index, other, key)
 caller.flushed(openly, key)
+version_alone(session, index, other)
 other_policies(session)
 script.write()
