@@ -201,8 +201,8 @@ audit_by written_policies disk update version hash once unseal
 # docs/USING.md shows that policy, and lines of that report.
 using=$tests/../docs/USING.md
 echo 'WHAT docs/USING.md SHOWS:'
-sed -n '/^# The key of a disk/,/^```/p' "$using" | sed '$d' | cmp - policies/written_policies/disk &&
-    echo 'the same policy'
+sed -n '/^# The key of a disk/,/^```/p' "$using" | sed '$d' >shown
+cmp shown policies/written_policies/disk && echo 'the same policy'
 sed -n '/^  80000000, sealed/,/^```/p' "$using" | sed '$d' >shown
 echo "$(wc -l <shown) lines, $(grep -vcxFf report shown) of them not in the report"
 echo 'A POLICY THAT NOTHING HAS, by one digit:'
@@ -237,6 +237,14 @@ audit_by lost_grounds nothing pcr either Unseal NV_Read NV_ChangeAuth owner not_
 awk '/^Policy/ { name = $2 } /meets it$/ { met[name]++ } /not meet/ { print }
     END { for (name in met) print name ": " met[name] }' told | sort
 sed -n '/^Each entity/,$p' told
+
+# One of tests/grounds.tpm, of which an object has the empty value: nothing is shown then.
+trace grounds
+mkdir policies/grounds
+echo PolicyAuthValue >policies/grounds/value
+echo 'AN EMPTY VALUE:'
+audit_by grounds value | grep 'empty'
+rm -r policies/grounds
 
 # A device that has an index with a policy already, which is used after a start.
 cat >before.tpm <<END

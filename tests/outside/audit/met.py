@@ -58,8 +58,12 @@ def steps_at_or(algorithm, policy, told):
     if not told or not isinstance(told[-1].said, PolicyOr):
         raise NotMet(f"{head}: TPM2_PolicyOR was not asserted")
     *earlier, latest = told
+    fault = NotMet(f"{head}: before line {latest.line} (PolicyOR) the digest is that of no branch")
     for place, branch in enumerate(policy.branches, 1):
         if policy_digest(algorithm, branch) == latest.before:
             choice = Choice(policy.line, place, len(policy.branches), latest)
-            return [*steps_of(algorithm, branch, earlier), choice]
-    raise NotMet(f"{head}: before line {latest.line} (PolicyOR) the digest is that of no branch")
+            try:
+                return [*steps_of(algorithm, branch, earlier), choice]
+            except NotMet as of_branch:
+                fault = of_branch
+    raise fault

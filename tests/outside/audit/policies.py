@@ -65,7 +65,6 @@ class Judged:
         return entity.public is not None and self.file.is_of(entity.public)
 
 
-
 def held(steps, use, grounds):
     """The first condition that does not hold at a use, if any, and all of them in words."""
     lacks, told = None, []

@@ -1,10 +1,11 @@
 """Hashes of policies that are broken in one text each: a session comes to the digest of a policy
-that it does not meet, and the device and its history take it. The audit has to say so.
+that it does not meet, and the device and its history take it. The audit has to say so. By the last
+hash it meets the policy all the same.
 
     weak_hashes.py FOLDER
 
 It prints what is told by each policy, and how tools/audit.py ends, of files in a folder. The status
-is 1 where a use is taken to meet its policy.
+is 1 where a use that does not meet its policy is taken to meet it, or the other way round.
 """
 
 import hashlib
@@ -66,12 +67,14 @@ WEAK = (
             hashlib.sha256(hashlib.sha256(OWNER).digest()).digest(),
             "PolicySecret PLATFORM 03000000 pw:- - - - 0",
         ),
+        False,
     ),
     (
         "a text has a hash of zeros",
         {bytes(32) + LOCALITY_0: bytes(32)},
         "PolicyLocality 0\nPolicyCommandCode NV_Write",
         script(SHA256, WRITE, "PolicyCommandCode 03000000 0x137"),
+        False,
     ),
     (
         "a text has a hash that is astride two branches",
@@ -83,6 +86,19 @@ WEAK = (
             "PolicyLocality 03000000 0x1",
             f"PolicyOR 03000000 {UNSEAL[:10].hex()}+{MIDDLE.hex()}+{VALUE[10:].hex()}",
         ),
+        False,
+    ),
+    (
+        "two branches have one hash, and the second one is met",
+        {bytes(20) + LOCALITY_0: UNSEAL},
+        "either\n    PolicyCommandCode Unseal\nor\n    PolicyLocality 0",
+        script(
+            SHA1,
+            hashlib.sha1(bytes(20) + bytes.fromhex("00000171") + UNSEAL + UNSEAL).digest(),
+            "PolicyLocality 03000000 0x1",
+            f"PolicyOR 03000000 {UNSEAL.hex()}+{UNSEAL.hex()}",
+        ),
+        True,
     ),
 )
 
@@ -117,13 +133,13 @@ def ended(folder, lines, output, text):
 
 def main(folder):
     missed = 0
-    for words, other, text, lines in WEAK:
+    for words, other, text, lines, is_met in WEAK:
         honest, _ = judged(lines, text)
         assert honest.counts.refused or honest.policies.faults(), words
         with weakly(other):
             auditor, output = judged(lines, text)
             told = list(ended(pathlib.Path(folder), lines, output, text))
-        missed += auditor.counts.refused + (not auditor.policies.unmet())
+        missed += auditor.counts.refused + (is_met == bool(auditor.policies.unmet()))
         print(f"{words}:", *auditor.policies.report(), *told, sep="\n")
     return 1 if missed else 0
 
