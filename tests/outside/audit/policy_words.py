@@ -102,7 +102,7 @@ class Word:
 SELECTION = Word("a selection of PCRs", spelled_selection)
 DIGEST = Word("a digest of 20 or 32 bytes in hex", read_digest)
 CODE = Word("a command", read_code)
-FROM = Word("a list of localities from 0 to 4", read_localities)
+LOCALITY_LIST = Word("a list of localities from 0 to 4", read_localities)
 IS_WRITTEN = Word("0 or 1", lambda word: bool(number_up_to(1, word)))
 NAME = Word("a Name", read_name)
 INDEX_NAME = Word("the Name of an NV index", read_index_name)
@@ -117,7 +117,7 @@ FORMS = {
     b"PolicyAuthValue": (PolicyAuthValue, ()),
     b"PolicyPassword": (PolicyPassword, ()),
     b"PolicyCommandCode": (PolicyCommandCode, (CODE,)),
-    b"PolicyLocality": (PolicyLocality, (FROM,)),
+    b"PolicyLocality": (PolicyLocality, (LOCALITY_LIST,)),
     b"PolicyCpHash": (PolicyCpHash, (DIGEST,)),
     b"PolicyNvWritten": (PolicyNvWritten, (IS_WRITTEN,)),
     b"PolicySecret": (PolicySecret, (NAME, REFERENCE)),
