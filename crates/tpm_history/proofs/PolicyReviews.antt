@@ -35,8 +35,7 @@ use Rattle.tpm_history.specs.PolicyUses.{AllMeetPolicies, HasAuthPolicy, HasPcrs
 use Rattle.tpm_history.specs.Sessions.{LiveSession}
 use Rattle.tpm_history.specs.View.{OfIndex, OfObject, View}
 use Rattle.tpm_history.specs.Views.{view_policy, view_written}
-use Rattle.tpm_history.proofs.AcceptedSessions.{leads_find}
-use Rattle.tpm_history.proofs.PolicyUses.{all_meet}
+use Rattle.tpm_history.proofs.Following.{policies_manufactured}
 
 -- ---- each accepted command
 
@@ -48,9 +47,7 @@ at_past (PowerCycled ∷ after) c before meet = at_past after c before meet
 -- what follows from what its uses meet holds of each
 pub of_each : (Holds : History → AcceptedCommand → Type 0) → ((history : History) (c : AcceptedCommand) → UsesMeetPolicies history c → Holds history c) → OfEachAccepted Holds
 of_each Holds so can random executions new leads after c before is =
-    let find = leads_find can random executions new leads in
-    let all : AllMeetPolicies (history_after [] executions) = all_meet (history_after [] executions) find.find find.follows.hmacs find.follows.grounds in
-    so before c (at_past after c before (subst AllMeetPolicies is all))
+    so before c (at_past after c before (subst AllMeetPolicies is (policies_manufactured can random executions new leads)))
 
 -- ---- what only a policy session authorizes
 
