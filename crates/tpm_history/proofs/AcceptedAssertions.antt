@@ -21,7 +21,7 @@ use Rattle.tpm_policy.specs.Assertion as assertion
 use Rattle.tpm_policy.specs.Assertion.{Assertion, asserted, command_code_asserted, cp_hash_asserted, is_other, is_other_hash, is_other_written, nv_asserted, nv_written_asserted, or_asserted, secret_asserted}
 use Rattle.tpm_policy.specs.State.{Policy}
 use Rattle.tpm_policy_meaning.proofs.Sessions.{any_among}
-use Rattle.tpm_policy_meaning.specs.Asserted.{HasWidths, IsAmong}
+use Rattle.tpm_policy_meaning.specs.Asserted.{HasWidths}
 use Rattle.tpm_session.specs.Sessions.{session_at}
 use Rattle.tpm_session.specs.declared.session.Session.{Session}
 use Rattle.tpm_types.specs.ActionFault.{plain_fault}
@@ -51,6 +51,7 @@ use Rattle.tpm_actions_policy.specs.PolicyPcr.{pcr_parameters}
 use Rattle.tpm_actions_policy.specs.PolicySecret.{Parameters as SecretParameters, secret_of, secret_parameters}
 use Rattle.tpm_step.specs.Table.{row_of}
 use Rattle.tpm_laws.proofs.Binding.{asked, ok_at, ok_bind, ok_bind_is, ok_then, some_is}
+use Rattle.tpm_history.specs.AcceptedAssertions.{Finds}
 use Rattle.tpm_history.specs.History.{AcceptedCommand, History}
 use Rattle.tpm_history.specs.Policies.{assertion_by}
 use Rattle.tpm_history.specs.View.{name_in}
@@ -58,17 +59,6 @@ use Rattle.tpm_history.proofs.Asserted.{policy_passed}
 use Rattle.tpm_history.proofs.UseGrounds.{recorded_hash, recorded_is, recorded_written}
 
 -- ---- what is found of a policy
-
--- what an accepted assertion found: what was recorded is the same, or nothing was; and the bytes that
--- TPM2_PolicyNV compares
-abbrev pub Finds : Assertion → Policy → Type 0
-Finds (assertion.Or digests) p = IsAmong p.digest digests
-Finds (assertion.CommandCode number) p = IfSome p.command (λ n. n ≡ number) × (number < 2 ^ 32)
-Finds (assertion.CpHash cp_hash) p = IfSome p.cp_hash (λ h. h ≡ cp_hash)
-Finds (assertion.NvWritten is_written) p = IfSome p.nv_written (λ w. Some is_written ≡ Some w)
-Finds (assertion.Secret parts) p = is_given parts.cp_hash ≡ true → IfSome p.cp_hash (λ h. h ≡ parts.cp_hash)
-Finds (assertion.Nv parts) p = (bytes : List ℕ) × (parts.compared ≡ Ok bytes)
-Finds _ p = Unit {0}
 
 both_hold : (b c : Bool) → (b && c) ≡ false → b ≡ true → c ≡ false
 both_hold true c none holds = none

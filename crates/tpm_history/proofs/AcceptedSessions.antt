@@ -1,5 +1,5 @@
 -- On every live policy session each assertion found what it asserts.
-use Rattle.std.proofs.Common.{◌≡◌, ◌⊎◌, ◌≤◌, ℕ, zero, suc, arith, Bool, true, false, List, [], ◌∷◌, length, Option, Some, None, option_map, Result, Ok, Err, IfOk, refl, ap, sym, subst, ◌∙◌, inl, inr}
+use Rattle.std.proofs.Common.{◌≡◌, ◌⊎◌, ◌≤◌, ℕ, true, false, List, [], ◌∷◌, length, Option, Some, None, option_map, Result, Ok, Err, refl, ap, sym, subst, ◌∙◌, inl, inr}
 use Rattle.std.proofs.lemmas.Option.{same_Some}
 use Rattle.tpm_mac.specs.declared.algorithm.HashAlg.{HashAlg}
 use Rattle.tpm_nv.specs.IsContents.{AreIndices}
@@ -12,43 +12,19 @@ use Rattle.tpm_types.specs.declared.handle.Handle.{Handle}
 use Rattle.tpm_types.specs.declared.refused.Refused.{Refused}
 use Rattle.tpm_types.specs.declared.session_type.SessionType.{SessionType}
 use Rattle.tpm_types.specs.declared.session_type.SessionType.TheVariants as type
-use Rattle.tpm_record.specs.Record.{Record, manufactured}
-use Rattle.tpm_record.specs.Tick.{ticked}
-use Rattle.tpm_actions_base.specs.Request.{Request}
+use Rattle.tpm_record.specs.Record.{Record}
 use Rattle.tpm_actions_policy.specs.Assertions.{asserts, session_handle}
-use Rattle.tpm_step.specs.Events.{PlainEvent, Given, Cycled}
-use Rattle.tpm_step.specs.Execution.{Executes}
-use Rattle.tpm_step.specs.Step.{Accepted, Stepped, accepted}
+use Rattle.tpm_step.specs.Step.{Accepted, accepted}
 use Rattle.tpm_step.specs.Table.{row_of}
-use Rattle.tpm_step.specs.declared.refused_command.RefusedCommand.{RefusedCommand}
 use Rattle.tpm_laws.specs.Acceptance.{IsAcceptance}
-use Rattle.tpm_laws.proofs.Acceptance.{accepted_is}
 use Rattle.tpm_laws.proofs.Binding.{ok_at}
+use Rattle.tpm_history.specs.AcceptedAssertions.{AllFind, Finds, SessionsFind}
 use Rattle.tpm_history.specs.DeviceSessions.{HasSessions, SessionFacts, facts_of, session_facts}
-use Rattle.tpm_history.specs.EntryHmacs.{AllShowHmacs}
-use Rattle.tpm_history.specs.Executions.{Execution, Leads, history_after}
-use Rattle.tpm_history.specs.Follows.{Follows}
-use Rattle.tpm_history.specs.History.{AcceptedCommand, Done, History, PowerCycled, command_of, recorded, with_command}
+use Rattle.tpm_history.specs.History.{AcceptedCommand, Done, History, command_of}
 use Rattle.tpm_history.specs.Policies.{assertion_by, evaluated, with_assertion}
 use Rattle.tpm_history.specs.Sessions.{LiveSession, policy_in, rolled_by, sessions_of}
-use Rattle.tpm_history.proofs.AcceptedAssertions.{Finds, FindsItsOwn, row_finds}
-use Rattle.tpm_history.proofs.Following.{execution_follows, manufactured_follows}
-use Rattle.tpm_history.proofs.Leading.{leads_keep}
+use Rattle.tpm_history.proofs.AcceptedAssertions.{FindsItsOwn, row_finds}
 use Rattle.tpm_history.proofs.LivingOn.{Asserted, Begun, Came, Keeps, Stayed, entries_kept, row_came}
-
--- Each of these, the latest first, found what it asserts.
-abbrev pub AllFind : HashAlg → List Assertion → Type 0
-AllFind hash [] = Unit {0}
-AllFind hash (latest ∷ earlier) = (Finds latest (evaluated hash false earlier) × HasWidths hash latest) × AllFind hash earlier
-
--- And so it is with each policy session, and no trial one.
-abbrev pub SessionsFind : History → Type 0
-SessionsFind history =
-    (handle : Handle) (s : LiveSession) → sessions_of history handle ≡ Some s → s.kind ≡ type.Policy → AllFind s.hash s.assertions
-
--- a command asks for what it names
-abbrev pub AsksForItsHandles : AcceptedCommand → Type 0
-AsksForItsHandles c = c.request.handles ≡ c.command.handles
 
 -- ---- an accepted command
 
@@ -93,7 +69,7 @@ module _ (r : Record) (a : Accepted) (locality : ℕ) (random : List ℕ) (histo
       subst (λ (s : LiveSession). s.kind ≡ type.Policy → AllFind s.hash s.assertions) made
       (λ kind. asserted_find handle old (assertion_by c.command.code c history old.hash old.nonce_tpm) it_does names lived kind refl) policy
 
-  command_finds : 1 ≤ length (rolled_by c history (sessions_of history)).left → SessionsFind (Done c ∷ history)
+  pub command_finds : 1 ≤ length (rolled_by c history (sessions_of history)).left → SessionsFind (Done c ∷ history)
   command_finds some handle new lives policy =
       let (mid, was, keeps) = entries_kept c history some handle new lives in
       by mid keeps (came_find handle mid (sym keeps.continues.kind ∙ policy) (row_came c history (sessions_of history) handle mid c.command.code was)) keeps.asserted
@@ -102,59 +78,7 @@ module _ (r : Record) (a : Accepted) (locality : ℕ) (random : List ℕ) (histo
       by mid keeps found (inr none) = subst (AllFind new.hash) (sym none) tt
       by mid keeps found (inl same) = subst (AllFind new.hash) (sym same) (subst (λ (h : HashAlg). AllFind h mid.assertions) (sym keeps.continues.hash) found)
 
--- ---- every event
+-- ---- no session lives
 
--- so it was before each event; and each command asked for the handles that it names
-abbrev pub AllSessionsFind : History → Type 0
-AllSessionsFind [] = SessionsFind []
-AllSessionsFind (Done c ∷ history) = SessionsFind (Done c ∷ history) × AsksForItsHandles c × AllSessionsFind history
-AllSessionsFind (PowerCycled ∷ history) = SessionsFind (PowerCycled ∷ history) × AllSessionsFind history
-
-pub last_finds : (history : History) → AllSessionsFind history → SessionsFind history
-last_finds [] find = find
-last_finds (Done c ∷ history) find = find.0
-last_finds (PowerCycled ∷ history) find = find.0
-
-done_finds : (r : Record) (a : Accepted) (locality : ℕ) (random : List ℕ) (history : History) → IsAcceptance r locality random a → AreIndices r.nv.indices → HasSessions r history → AllSessionsFind history → AllShowHmacs (Done (command_of r a) ∷ history) → AllSessionsFind (Done (command_of r a) ∷ history)
-done_finds r a locality random history is are has before shows = (
-  command_finds r a locality random history is are has (last_finds history before) (omega (arith, shows.0.left)),
-  ap (λ (q : Request). q.handles) is.requested,
-  before,
-)
-
-given_finds : (r : Record) (locality : ℕ) (random : List ℕ) (x : Result Accepted RefusedCommand) (check : ℕ) (history : History) → IfOk x (IsAcceptance r locality random) → AreIndices r.nv.indices → HasSessions r history → AllSessionsFind history → AllShowHmacs (with_command r x check history) → AllSessionsFind (with_command r x check history)
-given_finds r locality random (Ok a) zero history is are has before shows = done_finds r a locality random history is are has before shows
-given_finds r locality random (Ok a) (suc check) history is are has before shows = before
-given_finds r locality random (Err e) check history is are has before shows = before
-
-none_find : (history : History) → ((handle : Handle) → sessions_of history handle ≡ None) → SessionsFind history
+pub none_find : (history : History) → ((handle : Handle) → sessions_of history handle ≡ None) → SessionsFind history
 none_find history none handle s lives policy = absurd (let gone = none handle in let never : ⊥ = cc in never)
-
-event_finds : (r : Record) (event : PlainEvent) (check : ℕ) (history : History) → AreIndices r.nv.indices → HasSessions r history → AllSessionsFind history → AllShowHmacs (recorded r event check history) → AllSessionsFind (recorded r event check history)
-event_finds r (Given buffer locality elapsed random) check history are has before shows =
-    let t = ticked r elapsed in
-    given_finds t locality random (accepted t buffer locality random) check history (accepted_is t buffer locality random) are (record { live = has.live; asleep = has.asleep }) before shows
-event_finds r Cycled check history are has before shows = (none_find (PowerCycled ∷ history) (λ handle. refl), before)
-
--- A device follows a history in which each assertion found what it asserts.
-pub record FollowsFinding (r : Record) (history : History) : Type 0 where
-  pub follows : Follows r history
-  pub indices : AreIndices r.nv.indices
-  pub find : AllSessionsFind history
-
-execution_finds : (can : Bool) (old : Record) (event : PlainEvent) (x : Stepped) (history : History) → Executes can old event x → FollowsFinding old history → FollowsFinding x.after (recorded old event x.row.check history)
-execution_finds can old event x history executes before =
-    let follows : Follows x.after (recorded old event x.row.check history) = execution_follows can old event x history executes before.follows in
-    record {
-      follows = follows;
-      indices = executes.is_record.nv.indices;
-      find = event_finds old event x.row.check history before.indices before.follows.sessions before.find follows.hmacs;
-    }
-
-pub leads_find : (can : Bool) (random : List ℕ) (executions : List Execution) (new : Record) → Leads can (manufactured random) executions new → FollowsFinding new (history_after [] executions)
-leads_find can random executions new leads =
-    leads_keep FollowsFinding execution_finds can (manufactured random) executions new [] leads (record {
-      follows = manufactured_follows random;
-      indices = tt;
-      find = none_find [] (λ handle. refl);
-    })

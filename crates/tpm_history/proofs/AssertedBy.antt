@@ -8,16 +8,19 @@ use Rattle.tpm_types_command.specs.CommandCode.{authorized_handles, shape_of}
 use Rattle.tpm_types_command.specs.declared.command_code.CommandCode.{CommandCode as Code}
 use Rattle.tpm_types_command.specs.declared.command_code.CommandCode.TheVariants as command
 use Rattle.tpm_actions_policy.specs.Assertions.{session_handle}
+use Rattle.tpm_history.specs.AcceptedAssertions.{AllAskForTheirHandles}
 use Rattle.tpm_history.specs.AssertedBy.{IsAssertedBy, IsFirstAuthorized, Stands}
 use Rattle.tpm_history.specs.EntryHmacs.{AllShowHmacs, used_in}
 use Rattle.tpm_history.specs.Grounds.{AllHaveGrounds, UsesHaveGrounds}
 use Rattle.tpm_history.specs.History.{AcceptedCommand, Done, History, PastEvent, PowerCycled}
 use Rattle.tpm_history.specs.Policies.{assertion_by, with_assertion}
 use Rattle.tpm_history.specs.Sessions.{LiveSession, rolled_by, sessions_of}
-use Rattle.tpm_history.proofs.AcceptedSessions.{AllSessionsFind, AsksForItsHandles}
 use Rattle.tpm_history.proofs.LivingOn.{Asserted, Begun, Came, Stayed, entries_kept, row_came}
 
 -- ---- what the first handle of such a command names was authorized
+
+abbrev AsksForItsHandles : AcceptedCommand → Type 0
+AsksForItsHandles c = c.request.handles ≡ c.command.handles
 
 abbrev IsFirst : List Handle → Type 0
 IsFirst handles = (handle : Handle) × (slice_get (take 1 handles) 0 ≡ Some handle)
@@ -121,8 +124,8 @@ module _ (c : AcceptedCommand) (history : History) (handle : Handle) (new : Live
       by mid came (inr none) = absurd (subst (IsAmong one) none among)
       by mid came (inl same) = came_origin mid came one among (subst (IsAmong one) same among)
 
-pub have_origins : (history : History) → AllShowHmacs history → AllHaveGrounds history → AllSessionsFind history → (handle : Handle) (s : LiveSession) → sessions_of history handle ≡ Some s → HaveOrigins history handle s
-have_origins [] shows grounds find handle s lives = absurd cc
-have_origins (PowerCycled ∷ history) shows grounds find handle s lives = absurd cc
-have_origins (Done c ∷ history) shows grounds find handle s lives =
-    done_origins c history handle s lives grounds.0 find.1 (have_origins history shows.1 grounds.1 find.2 handle) (omega (arith, shows.0.left))
+pub have_origins : (history : History) → AllShowHmacs history → AllHaveGrounds history → AllAskForTheirHandles history → (handle : Handle) (s : LiveSession) → sessions_of history handle ≡ Some s → HaveOrigins history handle s
+have_origins [] shows grounds asked handle s lives = absurd cc
+have_origins (PowerCycled ∷ history) shows grounds asked handle s lives = absurd cc
+have_origins (Done c ∷ history) shows grounds asked handle s lives =
+    done_origins c history handle s lives grounds.0 asked.0 (have_origins history shows.1 grounds.1 asked.1 handle) (omega (arith, shows.0.left))

@@ -1,5 +1,5 @@
 -- Policies that are often reviewed.
-use Rattle.std.proofs.Common.{◌≡◌, ◌≢◌, ◌⊎◌, ℕ, arith, true, false, List, [], ◌∷◌, ◌++◌, Option, Some, None, option_and_then, slice_get, refl, ap, sym, subst, ◌∙◌, inl, inr}
+use Rattle.std.proofs.Common.{◌≡◌, ◌≢◌, ◌⊎◌, ℕ, arith, false, List, [], ◌∷◌, ◌++◌, Option, Some, None, option_and_then, slice_get, refl, ap, sym, subst, ◌∙◌, inl, inr}
 use Rattle.std.specs.List.{concat, flat_map}
 use Rattle.std.specs.Option.{option_map_or}
 use Rattle.std.proofs.lemmas.Bool.{false≢true}
@@ -25,7 +25,6 @@ use Rattle.tpm_types_object.specs.declared.public.Public.{Public}
 use Rattle.tpm_record.specs.declared.entity.Means.TheVariants as means
 use Rattle.tpm_history.specs.AssertedBy.{ComparesIndex, ShowsSecret}
 use Rattle.tpm_history.specs.EntryHmacs.{used_in}
-use Rattle.tpm_history.specs.Executions.{history_after}
 use Rattle.tpm_history.specs.Grounds.{ByHmac, ByPassword, ByPolicy, Ground, IsPolicyOf, allows, allows_in, policy_at, written_at}
 use Rattle.tpm_history.specs.History.{AcceptedCommand, Done, History, PowerCycled}
 use Rattle.tpm_history.specs.Pcrs.{digest_in, values_in}
@@ -34,8 +33,7 @@ use Rattle.tpm_history.specs.PolicyUses.{AllMeetPolicies, HasAuthPolicy, HasPcrs
 use Rattle.tpm_history.specs.Sessions.{LiveSession}
 use Rattle.tpm_history.specs.View.{OfIndex, View}
 use Rattle.tpm_history.specs.Views.{view_policy, view_written}
-use Rattle.tpm_history.proofs.AcceptedSessions.{leads_find}
-use Rattle.tpm_history.proofs.PolicyUses.{all_meet}
+use Rattle.tpm_history.proofs.Following.{policies_manufactured}
 
 -- ---- each accepted command
 
@@ -47,9 +45,7 @@ at_past (PowerCycled ∷ after) c before meet = at_past after c before meet
 -- what follows from what its uses meet holds of each
 pub of_each : (Holds : History → AcceptedCommand → Type 0) → ((history : History) (c : AcceptedCommand) → UsesMeetPolicies history c → Holds history c) → OfEachAccepted Holds
 of_each Holds so can random executions new leads after c before is =
-    let find = leads_find can random executions new leads in
-    let all : AllMeetPolicies (history_after [] executions) = all_meet (history_after [] executions) find.find find.follows.hmacs find.follows.grounds in
-    so before c (at_past after c before (subst AllMeetPolicies is all))
+    so before c (at_past after c before (subst AllMeetPolicies is (policies_manufactured can random executions new leads)))
 
 -- ---- what only a policy session authorizes
 

@@ -39,17 +39,17 @@ use Rattle.tpm_actions_policy.specs.PolicyNv.{nv_parameters}
 use Rattle.tpm_actions_policy.specs.PolicyPcr.{pcr_parameters}
 use Rattle.tpm_actions_policy.specs.PolicySecret.{secret_parameters}
 use Rattle.tpm_laws.proofs.Binding.{ok_at, ok_bind}
+use Rattle.tpm_history.specs.AcceptedAssertions.{AllAskForTheirHandles, AllFind, SessionsFind}
 use Rattle.tpm_history.specs.AssertedBy.{IsAssertedBy, ShowsSecret}
 use Rattle.tpm_history.specs.AuthValues.{auth_of}
 use Rattle.tpm_history.specs.EntryHmacs.{AllShowHmacs, cp_hash_in, is_bound_to, used_in}
 use Rattle.tpm_history.specs.Grounds.{AllHaveGrounds, ByHmac, ByPassword, ByPolicy, Ground, HasDemanded, IsPolicyOf, MeetsPolicy, UsesHaveGrounds, policy_at, written_at}
-use Rattle.tpm_history.specs.History.{AcceptedCommand, Done, History, PowerCycled}
+use Rattle.tpm_history.specs.History.{AcceptedCommand, History}
 use Rattle.tpm_history.specs.Policies.{assertion_by, evaluated}
-use Rattle.tpm_history.specs.PolicyUses.{AllMeetPolicies, HasAuthPolicy, IsMetBy, MeetsPolicies, PolicyUse, ShowsAuthValue, UsesMeetPolicies}
+use Rattle.tpm_history.specs.PolicyUses.{HasAuthPolicy, IsMetBy, MeetsPolicies, PolicyUse, ShowsAuthValue, UsesMeetPolicies}
 use Rattle.tpm_history.specs.QuietPcrs.{HoldsOf, is_pcr}
 use Rattle.tpm_history.specs.Sessions.{policy_in}
 use Rattle.tpm_history.specs.View.{name_in}
-use Rattle.tpm_history.proofs.AcceptedSessions.{AllFind, AllSessionsFind, last_finds}
 use Rattle.tpm_history.proofs.AssertedBy.{HasOrigin, first_authorized, have_origins}
 use Rattle.tpm_history.proofs.RecordedAssertions.{command_recorded, cp_hash_recorded, locality_allowed, written_recorded}
 use Rattle.tpm_history.proofs.Selections.{digest_by_text}
@@ -220,19 +220,13 @@ module _ (u : PolicyUse) (used : used_in u.command.command u.place ≡ Some u.ha
 
 -- ---- every use
 
-ground_meets : (history : History) (c : AcceptedCommand) (place : ℕ) (handle : Handle) (e : Entry) → AllSessionsFind history → AllShowHmacs history → AllHaveGrounds history → used_in c.command place ≡ Some handle → (ground : Ground history c place e) → MeetsPolicies history c place handle e ground
-ground_meets history c place handle e find shows grounds used (ByPassword names takes has) = tt
-ground_meets history c place handle e find shows grounds used (ByHmac s lives kind takes has) = tt
-ground_meets history c place handle e find shows grounds used (ByPolicy s lives kind meets has) =
-    λ name_alg policy is. use_meets (record { history = history; command = c; place = place; handle = handle; entry = e; session = s }) used kind meets has (last_finds history find e.session s lives kind) (have_origins history shows grounds find e.session s lives) name_alg policy is
+ground_meets : (history : History) (c : AcceptedCommand) (place : ℕ) (handle : Handle) (e : Entry) → SessionsFind history → AllAskForTheirHandles history → AllShowHmacs history → AllHaveGrounds history → used_in c.command place ≡ Some handle → (ground : Ground history c place e) → MeetsPolicies history c place handle e ground
+ground_meets history c place handle e find asked shows grounds used (ByPassword names takes has) = tt
+ground_meets history c place handle e find asked shows grounds used (ByHmac s lives kind takes has) = tt
+ground_meets history c place handle e find asked shows grounds used (ByPolicy s lives kind meets has) =
+    λ name_alg policy is. use_meets (record { history = history; command = c; place = place; handle = handle; entry = e; session = s }) used kind meets has (find e.session s lives kind) (have_origins history shows grounds asked e.session s lives) name_alg policy is
 
-uses_meet : (history : History) (c : AcceptedCommand) → AllSessionsFind history → AllShowHmacs history → AllHaveGrounds history → UsesHaveGrounds history c → UsesMeetPolicies history c
-uses_meet history c find shows grounds uses place handle used =
+pub uses_meet : (history : History) (c : AcceptedCommand) → SessionsFind history → AllAskForTheirHandles history → AllShowHmacs history → AllHaveGrounds history → UsesHaveGrounds history c → UsesMeetPolicies history c
+uses_meet history c find asked shows grounds uses place handle used =
     let (e, given, ground) = uses place handle used in
-    (e, given, ground, ground_meets history c place handle e find shows grounds used ground)
-
-pub all_meet : (history : History) → AllSessionsFind history → AllShowHmacs history → AllHaveGrounds history → AllMeetPolicies history
-all_meet [] find shows grounds = tt
-all_meet (PowerCycled ∷ history) find shows grounds = all_meet history find.1 shows grounds
-all_meet (Done c ∷ history) find shows grounds =
-    (uses_meet history c find.2 shows.1 grounds.1 grounds.0, all_meet history find.2 shows.1 grounds.1)
+    (e, given, ground, ground_meets history c place handle e find asked shows grounds used ground)

@@ -10,9 +10,8 @@ use Rattle.tpm_policy.specs.Made.{policy_with}
 use Rattle.tpm_policy.specs.State.{Policy}
 use Rattle.tpm_policy_meaning.specs.Asserted.{IsAmong}
 use Rattle.tpm_types.specs.Buffer.{is_given}
+use Rattle.tpm_history.specs.AcceptedAssertions.{AllFind, Finds}
 use Rattle.tpm_history.specs.Policies.{evaluated}
-use Rattle.tpm_history.proofs.AcceptedAssertions.{Finds}
-use Rattle.tpm_history.proofs.AcceptedSessions.{AllFind}
 
 -- what is recorded, and found the same again
 same_again : {X : Type 0} (recorded : Option X) (x y : X) → recorded ≡ Some x → IfSome recorded (λ z. z ≡ y) → Some y ≡ Some x

@@ -15,6 +15,7 @@ pub mod DeviceSessions
 pub mod EntryHmacs
 pub mod QuietPcrs
 pub mod Grounds
+pub mod AcceptedAssertions
 pub mod AssertedBy
 pub mod PolicyUses
 pub mod Replays
