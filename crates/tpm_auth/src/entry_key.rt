@@ -13,6 +13,7 @@ use crate::entries::{decrypts, encrypts};
 use crate::session_grant::Grant;
 use crate::used::{Granted, Used};
 use tpm_bytes::is_equal;
+use tpm_mac::KeyedMac;
 use tpm_policy::Demand;
 use tpm_record::{Keep, resolve};
 use tpm_session::{CommandText, ParameterHashes, Session};
@@ -162,6 +163,7 @@ pub fn is_authentic<K: Keep>(
     keep: &K,
     command: &Command,
     hashes: &mut ParameterHashes,
+    keyed: &mut KeyedMac,
     number: u8,
     granted: Option<Granted>,
     entry: &AuthEntry,
@@ -186,5 +188,6 @@ pub fn is_authentic<K: Keep>(
         encrypt_nonce: encrypting_nonce(keep, others),
         attributes: entry.attributes,
     };
-    is_equal(entry.hmac, session.command_mac(value, &text).as_slice())
+    let mac = session.command_mac(value, &text, keyed);
+    is_equal(entry.hmac, mac.as_slice())
 }

@@ -22,6 +22,7 @@ use crate::entries::{any_decrypts, check_entries, reference_of};
 use crate::session_grant::{Grant, check_session};
 use crate::used::{Sent, Used, used_at};
 use arrayvec::ArrayVec;
+use tpm_mac::KeyedMac;
 use tpm_policy::Demand;
 use tpm_record::{Keep, Means, Resolved, resolve};
 use tpm_session::{HashedParameters, ParameterHashes, Protection, first_size};
@@ -98,6 +99,7 @@ fn check_grant<K: Keep>(
     keep: &K,
     sent: Sent,
     hashes: &mut ParameterHashes,
+    keyed: &mut KeyedMac,
     number: u8,
     used: Option<Used>,
     entry: &AuthEntry,
@@ -114,7 +116,7 @@ fn check_grant<K: Keep>(
     match entry.session.session_kind() {
         SessionKind::Password => check_password(keep, sent.command.code, number, used, entry),
         SessionKind::Session => match keep.sessions().get(entry.session) {
-            Some(session) => check_session(keep, sent, hashes, number, used, entry, session),
+            Some(session) => check_session(keep, sent, hashes, keyed, number, used, entry, session),
             None => Err(Refused::by(Check::Entries, reference_of(number))),
         },
         SessionKind::Other => {
@@ -130,6 +132,7 @@ fn check_grants<K: Keep>(
     keep: &K,
     sent: Sent,
     hashes: &mut ParameterHashes,
+    keyed: &mut KeyedMac,
     entries: &[AuthEntry],
     grants: &mut ArrayVec<Option<Grant>, 3>,
 ) -> Result<(), Refused>
@@ -146,9 +149,9 @@ fn check_grants<K: Keep>(
     };
     let before = grants.len();
     let used = used_at(sent, before);
-    let grant = check_grant(keep, sent, hashes, before as u8 + 1, used, entry)?;
+    let grant = check_grant(keep, sent, hashes, keyed, before as u8 + 1, used, entry)?;
     grants.push(grant);
-    check_grants(keep, sent, hashes, entries, grants)
+    check_grants(keep, sent, hashes, keyed, entries, grants)
 }
 
 /// Whether the first parameter, a sized buffer, is not all there.
@@ -185,30 +188,30 @@ fn next_name<K: Keep>(keep: &K, sent: Sent, names: &[Name]) -> Name
     }
 }
 
-/// The Names of a command's handles.
+/// Makes the Names of a command's handles.
 #[tactic(auto, using(crate::proofs::Resolving::one_more_named, crate::proofs::Resolving::as_many))]
-fn names_of<K: Keep>(keep: &K, sent: Sent) -> ArrayVec<Name, 3>
-    requires { IsResolved (K.record_of keep.now) sent }
-    ensures { result.items
+fn make_names<K: Keep>(keep: &K, sent: Sent, names: &mut ArrayVec<Name, 3>)
+    requires resolved { IsResolved (K.record_of keep.now) sent }
+    requires empty { names.old.items ≡ [] }
+    ensures { names.new.items
         ≡ map (name_of (K.record_of keep.now)) (whole_of sent.entry.command.now).handles }
 {
-    let mut names = ArrayVec::new();
     for _ in sent.command.handles.as_slice() {
         let name = next_name(keep, sent, names.as_slice());
         names.push(name);
     }
-    names
 }
 
 /// Checks each handle by the entry of its place, and the other entries, and tells what each
 /// authorizes.
-fn check_resolved<K: Keep>(keep: &K, sent: Sent) -> Result<Grants, Refused>
+fn check_resolved<K: Keep>(keep: &K, sent: Sent, keyed: &mut KeyedMac) -> Result<Grants, Refused>
     requires { IsResolved (K.record_of keep.now) sent }
     ensures { Gives granted_by (grants_pass (K.record_of keep.now) (whole_of sent.entry.command.now)
         (locality_number sent.entry.locality) [] (whole_of sent.entry.command.now).entries) result }
 {
     let command = sent.command;
-    let names = names_of(keep, sent);
+    let mut names = ArrayVec::new();
+    make_names(keep, sent, &mut names);
     let code = command.code.number();
     let hashed = HashedParameters::Command(code, names.as_slice(), command.parameters);
     let mut hashes = ParameterHashes::new(hashed);
@@ -221,22 +224,22 @@ fn check_resolved<K: Keep>(keep: &K, sent: Sent) -> Result<Grants, Refused>
         keep,
         named,
         &mut hashes,
+        keyed,
         command.entries.as_slice(),
         &mut entries,
     )?;
     Ok(Grants { grants: entries })
 }
 
-/// What the handles of a command name.
-fn resolve_all<'a, K: Keep>(keep: &'a K, handles: &[Handle]) -> ArrayVec<Resolved<'a>, 3>
-    requires { length handles.now ≤ 3 }
-    ensures { AreFound (K.record_of keep.now) result.items handles.now }
+/// Looks up what the handles of a command name.
+fn resolve_all<'a, K: Keep>(keep: &'a K, handles: &[Handle], all: &mut ArrayVec<Resolved<'a>, 3>)
+    requires few { length handles.now ≤ 3 }
+    requires empty { all.old.items ≡ [] }
+    ensures { AreFound (K.record_of keep.now) all.new.items handles.now }
 {
-    let mut all = ArrayVec::new();
     for handle in handles {
         all.push(resolve(keep, *handle));
     }
-    all
 }
 
 /// Looks up what each handle of a command names, and checks its entries.
@@ -245,18 +248,20 @@ fn check_sessions<K: Keep>(
     keep: &K,
     command: &Command,
     locality: Locality,
+    keyed: &mut KeyedMac,
 ) -> Result<Grants, Refused>
     ensures { Gives granted_by (grants_pass (K.record_of keep.now) (whole_of command.now)
         (locality_number locality) [] (whole_of command.now).entries) result }
 {
-    let resolved = resolve_all(keep, command.handles.as_slice());
+    let mut resolved = ArrayVec::new();
+    resolve_all(keep, command.handles.as_slice(), &mut resolved);
     let sent = Sent {
         command,
         resolved: resolved.as_slice(),
         names: &[],
         locality,
     };
-    check_resolved(keep, sent)
+    check_resolved(keep, sent, keyed)
 }
 
 /// What the first entry of a command is to authorize, or nothing.
@@ -295,7 +300,12 @@ fn check_one_password<K: Keep>(
 
 /// Checks all entries in order. Nothing is hashed where there are none, or where there is a
 /// password alone.
-fn check_all<K: Keep>(keep: &K, command: &Command, locality: Locality) -> Result<Grants, Refused>
+fn check_all<K: Keep>(
+    keep: &K,
+    command: &Command,
+    locality: Locality,
+    keyed: &mut KeyedMac,
+) -> Result<Grants, Refused>
     ensures { Gives granted_by (grants_pass (K.record_of keep.now) (whole_of command.now)
         (locality_number locality) [] (whole_of command.now).entries) result }
 {
@@ -306,18 +316,31 @@ fn check_all<K: Keep>(keep: &K, command: &Command, locality: Locality) -> Result
         [entry] if entry.session.session_kind() == SessionKind::Password => {
             check_one_password(keep, command, entry)
         }
-        _ => check_sessions(keep, command, locality),
+        _ => check_sessions(keep, command, locality, keyed),
     }
 }
 
 /// Checks the entries of a command, and by them the handles that need authorization: first each
 /// entry for itself, then that there are enough, then each handle and each other entry, and last
 /// that what a session decrypts is there.
-#[tactic(auto, unfolding(crate::specs::Grant::authorize))]
 pub fn authorize<K: Keep>(
     keep: &K,
     command: &Command,
     locality: Locality,
+) -> Result<Grants, Refused>
+    ensures { Gives granted_by (authorize (K.record_of keep.now) (whole_of command.now)
+        (locality_number locality)) result }
+{
+    authorize_keyed(keep, command, locality, &mut KeyedMac::new())
+}
+
+/// As [`authorize`], where the key of the latest HMAC is kept for the next one.
+#[tactic(auto, unfolding(crate::specs::Grant::authorize))]
+pub fn authorize_keyed<K: Keep>(
+    keep: &K,
+    command: &Command,
+    locality: Locality,
+    keyed: &mut KeyedMac,
 ) -> Result<Grants, Refused>
     ensures { Gives granted_by (authorize (K.record_of keep.now) (whole_of command.now)
         (locality_number locality)) result }
@@ -328,7 +351,7 @@ pub fn authorize<K: Keep>(
         let rc = ResponseCode::AuthMissing.anywhere();
         return Err(Refused::by(Check::Entries, rc));
     }
-    let grants = check_all(keep, command, locality)?;
+    let grants = check_all(keep, command, locality, keyed)?;
     if any_decrypts(entries) && is_cut(command.parameters) {
         let rc = ResponseCode::Insufficient.anywhere().at_parameter(1);
         return Err(Refused::by(Check::Others, rc));

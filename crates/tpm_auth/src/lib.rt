@@ -17,5 +17,5 @@ mod used;
 
 pub use entries::{any_decrypts, decrypts, encrypts};
 pub use entry_key::used_auth_value;
-pub use grant::{Grants, authorize};
+pub use grant::{Grants, authorize, authorize_keyed};
 pub use session_grant::{Grant, empty_hmac_laws, granted_value};

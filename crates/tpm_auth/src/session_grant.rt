@@ -18,6 +18,7 @@ ghost use Rattle.tpm_auth.specs.Used.{IsToGrant, IsUsed, grant_by, used_handle};
 use crate::comparison::{check_of, failure, is_locked_out, is_password_of, lockout_refusal};
 use crate::entry_key::{is_authentic, takes_value};
 use crate::used::{Granted, Sent, Used};
+use tpm_mac::KeyedMac;
 use tpm_policy::{Demand, EntityPolicy, Use};
 use tpm_record::{Keep, Means, Resolved, auth_value_of};
 use tpm_session::{ParameterHashes, Protection, Session};
@@ -210,6 +211,7 @@ fn comparison_holds<K: Keep>(
     keep: &K,
     command: &Command,
     hashes: &mut ParameterHashes,
+    keyed: &mut KeyedMac,
     number: u8,
     granted: Option<Granted>,
     entry: &AuthEntry,
@@ -225,7 +227,9 @@ fn comparison_holds<K: Keep>(
         Some(granted) if granted.demand == Demand::Password => {
             is_password_of(granted.used.resolved.auth_value(keep), entry.hmac)
         }
-        _ => is_authentic(keep, command, hashes, number, granted, entry, session),
+        _ => is_authentic(
+            keep, command, hashes, keyed, number, granted, entry, session,
+        ),
     }
 }
 
@@ -240,10 +244,12 @@ fn grant_of(granted: Option<Granted>) -> Option<Grant>
 }
 
 /// What is accepted of a session that is about to authorize so, or nothing, if its comparison holds.
+#[inline(always)]
 fn compare<K: Keep>(
     keep: &K,
     command: &Command,
     hashes: &mut ParameterHashes,
+    keyed: &mut KeyedMac,
     number: u8,
     granted: Option<Granted>,
     entry: &AuthEntry,
@@ -259,7 +265,9 @@ fn compare<K: Keep>(
     if comes_up_against_lockout(keep, session, granted) {
         return Err(lockout_refusal(grant));
     }
-    if comparison_holds(keep, command, hashes, number, granted, entry, session) {
+    if comparison_holds(
+        keep, command, hashes, keyed, number, granted, entry, session,
+    ) {
         return Ok(grant);
     }
     let protection = entry_protection(keep, session, granted);
@@ -273,6 +281,7 @@ pub fn check_session<K: Keep>(
     keep: &K,
     sent: Sent,
     hashes: &mut ParameterHashes,
+    keyed: &mut KeyedMac,
     number: u8,
     used: Option<Used>,
     entry: &AuthEntry,
@@ -288,11 +297,29 @@ pub fn check_session<K: Keep>(
     ensures same { hashes.new ≡ hashes.old }
 {
     let Some(used) = used else {
-        return compare(keep, sent.command, hashes, number, None, entry, session);
+        return compare(
+            keep,
+            sent.command,
+            hashes,
+            keyed,
+            number,
+            None,
+            entry,
+            session,
+        );
     };
     let demand = demand_of(keep, sent, hashes, number, &used.resolved, session)?;
     let granted = Some(Granted { used, demand });
-    compare(keep, sent.command, hashes, number, granted, entry, session)
+    compare(
+        keep,
+        sent.command,
+        hashes,
+        keyed,
+        number,
+        granted,
+        entry,
+        session,
+    )
 }
 
 /// What is accepted of a session with an empty HMAC had an empty key, or a policy demanded a

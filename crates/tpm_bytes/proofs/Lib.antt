@@ -1,4 +1,4 @@
-pub mod Putting
+pub mod WrittenTexts
 pub mod Fields
 pub mod Joining
 pub mod Spelling

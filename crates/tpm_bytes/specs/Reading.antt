@@ -1,8 +1,8 @@
 -- What stands at the front of a text: some bytes, a number, a sized buffer. TPM 2.0 Library, Part 1
 -- (numbers on the wire are big-endian), and Part 2, section 10.4 (TPM2B: a size of two bytes, and
 -- that many bytes). A reading gives the value and what is after it.
-use Rattle.std.specs.Prelude.{◌≡◌, ℕ, nat_lt, Bool, true, false, if◌then◌else◌}
-use Rattle.std.specs.Prelude.{List, length, take, drop, Result, Ok, Err}
+use Rattle.std.specs.Prelude.{◌≡◌, ℕ, ◌<◌, nat_lt, Bool, true, false, if◌then◌else◌}
+use Rattle.std.specs.Prelude.{List, length, get_or, take, drop, Result, Ok, Err}
 use Rattle.std.specs.Int.{Width, w16, byte_len, from_be_bytes}
 use Rattle.tpm_bytes.specs.declared.cursor.Short.{Short}
 use Rattle.tpm_bytes.specs.declared.cursor.SizedFault.{SizedFault}
@@ -22,6 +22,10 @@ or_fault (Err e) fault = Err fault
 abbrev pub refused_if : {E : Type 0} → Bool → E → Result (Unit {0}) E
 refused_if true fault = Err fault
 refused_if false fault = Ok tt
+
+-- each is below 256
+abbrev pub AreBytes : List ℕ → Type 0
+AreBytes bytes = (i : ℕ) → get_or bytes i 0 < 256
 
 abbrev pub too_short : Short
 too_short = record {}

@@ -3,7 +3,7 @@
 
 ghost use Rattle.std.specs.Prelude.{◌≡◌, ℕ, ◌==◌, List, length};
 ghost use Rattle.std.specs.Int.{w8, w16, w32, w64};
-ghost use Rattle.tpm_bytes.specs.Reading.{Reads, bytes_at, number_at, sized_at};
+ghost use Rattle.tpm_bytes.specs.Reading.{AreBytes, Reads, bytes_at, number_at, sized_at};
 
 use std::marker::Model;
 
@@ -34,7 +34,8 @@ impl<'a> Model for Cursor<'a> {
 
 impl<'a> Cursor<'a> {
     pub fn new(text: &'a [u8]) -> Cursor<'a>
-        ensures { result ≡ text.now }
+        ensures value { result ≡ text.now }
+        ensures bytes { AreBytes text.now }
     {
         Cursor { left: text }
     }

@@ -90,9 +90,12 @@ pub fn remove<T: Kinded, const N: usize, P: Slots<T, N>>(places: &mut P, number:
     true
 }
 
-/// Says of each value what holds of it by the types of its parts. It only reads.
+/// Says of each value what holds of it by the types of its parts, and how many places there are. It
+/// only reads.
 pub fn read_sizes<T: Sizes, const N: usize, P: Slots<T, N>>(places: &P)
-    ensures { AreAll T.IsOne (P.places places.now) }
+    ensures each { AreAll T.IsOne (P.places places.now) }
+    // There are always `N` places.
+    ensures all { length (P.places places.now) ≡ N }
 {
     let _ = places.get(N);
     for place in 0..N {

@@ -123,6 +123,11 @@ module _ (r : Record) (h : Handle) where
   seen_by false false true is kept = object_there (object_at r.objects h) (kept refl)
   seen_by false false false is kept = ap (λ (found : Option Object). Some (entity_auth_value r h (option_map_or AnObject found Permanent))) (sym (none_transient is))
 
+  -- what is kept under a number has the value that is seen there
+  pub kept_seen : is_kept (entity_at r h) ≡ true → auth_seen r h ≡ Some (auth_value_of r h)
+  unfolding auth_value_of entity_at object_of
+  kept_seen kept = seen_by (is_nv_index h) (is_persistent h) (is_transient h) refl (λ there. kept)
+
   present_seen : is_present r h ≡ true → auth_seen r h ≡ Some (auth_value_of r h)
   unfolding auth_value_of entity_at object_of
   present_seen present = seen_by (is_nv_index h) (is_persistent h) (is_transient h) refl (kept_there present)

@@ -4,6 +4,7 @@ use Rattle.std.specs.Fn.{Mut}
 use Rattle.tpm_lockout.specs.Lockout.{LockoutState}
 use Rattle.tpm_lockout.specs.Recovery.{lockout_ticked}
 use Rattle.tpm_mac.specs.declared.algorithm.HashAlg.TheVariants as alg
+use Rattle.tpm_nv.specs.IsContents.{AreIndices}
 use Rattle.tpm_pcr.specs.Banks.{HaveAll}
 use Rattle.tpm_pcr.specs.Values.{BankValues, IsBanks}
 use Rattle.tpm_types.specs.declared.refused.Counted.{Counted}
@@ -46,7 +47,10 @@ use Rattle.tpm_history.proofs.FewTries.{fails_few, fails_within}
 use Rattle.tpm_history.proofs.EntryGrounds.{hmacs_shown, uses_have_grounds}
 use Rattle.tpm_history.proofs.RecordedUpdates.{no_updates, updates_done}
 use Rattle.tpm_history.specs.EntryHmacs.{ShowsHmacs}
-use Rattle.tpm_history.specs.Grounds.{AllHaveGrounds}
+use Rattle.tpm_history.specs.Grounds.{AllHaveGrounds, UsesHaveGrounds}
+use Rattle.tpm_history.specs.PolicyUses.{AllMeetPolicies}
+use Rattle.tpm_history.proofs.AcceptedSessions.{command_finds, none_find}
+use Rattle.tpm_history.proofs.PolicyUses.{uses_meet}
 use Rattle.tpm_history.specs.Potential.{IsForgiving}
 use Rattle.tpm_history.specs.RunReplays.{RunReplaysRepeat}
 use Rattle.tpm_history.proofs.Replays.{replays_repeat}
@@ -59,6 +63,7 @@ HasShape r = Shape r.sessions r.objects r.persistent r.nv.indices
 record IsSound (r : Record) : Type 0 where
   shape : HasShape r
   sized : AreSized r
+  indices : AreIndices r.nv.indices
   all : HaveAll r.fixed.banks
 
 all_values : (banks : BankValues) → IsBanks banks → HaveAll banks
@@ -83,6 +88,7 @@ command_follows r a locality random history is some sound follows =
     let present = handles_present r (shape_of a.command.code).handles a.command.handles is.fits in
     let granted : IsGranting r a.command locality a.grants = ok_at (IsGranting r a.command locality) (authorize r a.command locality) a.grants (granting r a.command locality) is.granted in
     let left : 64 ≤ length (rolled_by c history (sessions_of history)).left = left_enough r a locality random history is follows.shape.sessions_many values follows.pcrs follows.sessions some in
+    let uses : UsesHaveGrounds history c = uses_have_grounds r c history locality from refl values follows.pcrs follows.sessions.live follows.updates present a.grants granted in
     let shows : ShowsHmacs history c = record { hmacs = hmacs_shown r c history locality from refl values follows.pcrs follows.sessions.live follows.updates present a.grants granted; left = left } in
     record {
       counters = counters_done r a locality random history is follows.shape.indices_ascend follows.counters;
@@ -93,9 +99,13 @@ command_follows r a locality random history is some sound follows =
       hmacs = (shows, follows.hmacs);
       replays = replays_repeat (Done c ∷ history) (shows, follows.hmacs);
       updates = updates_done r a locality random history is follows.pcrs follows.sessions follows.updates (omega (arith, left));
-      grounds = (uses_have_grounds r c history locality from refl values follows.pcrs follows.sessions.live follows.updates present a.grants granted, follows.grounds);
+      grounds = (uses, follows.grounds);
+      found = command_finds r a locality random history is follows.indices follows.sessions follows.found (omega (arith, left));
+      asked = (ap (λ (q : Request). q.handles) is.requested, follows.asked);
+      policies = (uses_meet history c follows.found follows.asked follows.hmacs follows.grounds uses, follows.policies);
       shape = sound.shape;
       sized = sound.sized;
+      indices = sound.indices;
     }
 
 -- ---- time, and what a refusal counts
@@ -111,8 +121,12 @@ timed_follows r lockout time clock history forgives follows = record {
   replays = follows.replays;
   updates = follows.updates;
   grounds = follows.grounds;
+  found = follows.found;
+  asked = follows.asked;
+  policies = follows.policies;
   shape = follows.shape;
   sized = follows.sized;
+  indices = follows.indices;
 }
 
 ticked_follows : (r : Record) (elapsed : ℕ) (history : History) → Follows r history → Follows (ticked r elapsed) history
@@ -136,8 +150,12 @@ cycled_follows r history follows = record {
   replays = replays_repeat (PowerCycled ∷ history) follows.hmacs;
   updates = no_updates (PowerCycled ∷ history) (λ handle. refl);
   grounds = follows.grounds;
+  found = none_find (PowerCycled ∷ history) (λ handle. refl);
+  asked = follows.asked;
+  policies = follows.policies;
   shape = record { sessions_many = refl; objects_many = refl; persistent_ascend = follows.shape.persistent_ascend; indices_ascend = follows.shape.indices_ascend };
   sized = cycled_sized r;
+  indices = follows.indices;
 }
 
 pub manufactured_follows : (random : List ℕ) → Follows (manufactured random) []
@@ -151,8 +169,12 @@ manufactured_follows random = record {
   replays = replays_repeat [] tt;
   updates = no_updates [] (λ handle. refl);
   grounds = tt;
+  found = none_find [] (λ handle. refl);
+  asked = tt;
+  policies = tt;
   shape = record { sessions_many = refl; objects_many = refl; persistent_ascend = tt; indices_ascend = tt };
   sized = manufactured_sized random;
+  indices = tt;
 }
 
 -- ---- an event
@@ -196,6 +218,7 @@ execution_follows can old event x history executes follows =
     by executes.steps (record {
       shape = record_shape x.after executes.is_record;
       sized = execution_sized can old event x executes follows.sized;
+      indices = executes.is_record.nv.indices;
       all = all_values x.after.fixed.banks executes.is_record.banks;
     })
   where
@@ -260,6 +283,9 @@ follows_manufactured can random executions new leads = leads_keep Follows execut
 
 pub grounds_manufactured : (can : Bool) (random : List ℕ) (executions : List Execution) (new : Record) → Leads can (manufactured random) executions new → AllHaveGrounds (history_after [] executions)
 grounds_manufactured can random executions new leads = (follows_manufactured can random executions new leads).grounds
+
+pub policies_manufactured : (can : Bool) (random : List ℕ) (executions : List Execution) (new : Record) → Leads can (manufactured random) executions new → AllMeetPolicies (history_after [] executions)
+policies_manufactured can random executions new leads = (follows_manufactured can random executions new leads).policies
 
 pub replays_manufactured : (can : Bool) (random : List ℕ) (executions : List Execution) (new : Record) → Leads can (manufactured random) executions new → RunReplaysRepeat [] executions
 replays_manufactured can random executions new leads = run_replays_repeat can (manufactured random) executions new [] leads (follows_manufactured can random executions new leads).hmacs

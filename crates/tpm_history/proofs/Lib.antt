@@ -37,3 +37,12 @@ pub mod Replays
 pub mod RunReplays
 pub mod QuietValues
 pub mod PolicyLaws
+pub mod AuthorizeAlike
+pub mod Alike
+pub mod AcceptedAssertions
+pub mod AcceptedSessions
+pub mod AssertedBy
+pub mod RecordedAssertions
+pub mod Selections
+pub mod PolicyUses
+pub mod PolicyReviews

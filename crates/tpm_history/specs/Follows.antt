@@ -6,6 +6,7 @@ use Rattle.tpm_nv.specs.Index.{NvIndex}
 use Rattle.tpm_object.specs.declared.object.Object.{Object}
 use Rattle.tpm_session.specs.declared.session.Session.{Session}
 use Rattle.tpm_containers.specs.SortedMap.{Ascends, Entries}
+use Rattle.tpm_nv.specs.IsContents.{AreIndices}
 use Rattle.tpm_types.specs.Limits.{object_limit, session_limit}
 use Rattle.tpm_types.specs.declared.handle.Handle.{Handle}
 use Rattle.tpm_record.specs.Record.{Record}
@@ -13,12 +14,14 @@ use Rattle.tpm_step.specs.Events.{PlainEvent}
 use Rattle.tpm_step.specs.Step.{Stepped, outcome_step}
 use Rattle.tpm_step.specs.declared.event.Outcome.{Outcome}
 use Rattle.tpm_laws.specs.Sizes.{AreSized}
+use Rattle.tpm_history.specs.AcceptedAssertions.{AllAskForTheirHandles, SessionsFind}
 use Rattle.tpm_history.specs.DeviceAuthValues.{HasAuthValues}
 use Rattle.tpm_history.specs.DeviceCounters.{BeginsAbove, ExceedsEarlier, HasCounters, KeepsCounter}
 use Rattle.tpm_history.specs.DevicePcrs.{HasPcrs}
 use Rattle.tpm_history.specs.DeviceSessions.{HasSessions}
 use Rattle.tpm_history.specs.EntryHmacs.{AllShowHmacs}
 use Rattle.tpm_history.specs.Grounds.{AllHaveGrounds}
+use Rattle.tpm_history.specs.PolicyUses.{AllMeetPolicies}
 use Rattle.tpm_history.specs.QuietPcrs.{AllRecordUpdates}
 use Rattle.tpm_history.specs.Replays.{ReplaysRepeat}
 use Rattle.tpm_history.specs.RunReplays.{RunReplaysRepeat}
@@ -38,8 +41,10 @@ pub record Shape (sessions : List (Option Session)) (objects : List (Option Obje
 
 -- A device follows a history: its counters, its PCRs, its authorization values and its sessions are
 -- those of the history. In the history each entry of an HMAC session had its HMAC, and so every
--- replay repeats; the update counters that policies record hold, and each use had its grounds. No
--- forgiving of a try is overdue; and the record has the shape and the sizes of every record.
+-- replay repeats; the update counters that policies record hold, and each use had its grounds. What
+-- stands on policy sessions was accepted, and so each use by one met every policy that has the
+-- authPolicy of what it used, or the hash is broken. No forgiving of a try is overdue; and the
+-- record has the shape and the sizes of every record, and NV indices of their sizes.
 pub record Follows (r : Record) (history : History) : Type 0 where
   pub counters : HasCounters r history
   pub forgiving : IsForgiving r.fixed.lockout
@@ -50,8 +55,12 @@ pub record Follows (r : Record) (history : History) : Type 0 where
   pub replays : ReplaysRepeat history
   pub updates : AllRecordUpdates history
   pub grounds : AllHaveGrounds history
+  pub found : SessionsFind history
+  pub asked : AllAskForTheirHandles history
+  pub policies : AllMeetPolicies history
   pub shape : Shape r.sessions r.objects r.persistent r.nv.indices
   pub sized : AreSized r
+  pub indices : AreIndices r.nv.indices
 
 -- ---- one event
 

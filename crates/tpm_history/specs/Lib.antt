@@ -15,10 +15,15 @@ pub mod DeviceSessions
 pub mod EntryHmacs
 pub mod QuietPcrs
 pub mod Grounds
+pub mod AcceptedAssertions
+pub mod AssertedBy
+pub mod PolicyUses
 pub mod Replays
 pub mod RunReplays
 pub mod Potential
 pub mod Tries
 pub mod Follows
 pub mod PolicyLaws
+pub mod PolicyReviews
 pub mod FailedRun
+pub mod Alike

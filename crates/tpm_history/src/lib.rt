@@ -25,6 +25,7 @@ ghost use Rattle.tpm_step.specs.Events.{Given, PlainEvent};
 ghost use Rattle.tpm_step.specs.Execution.{Executes};
 ghost use Rattle.tpm_step.specs.Run.{Runs};
 ghost use Rattle.tpm_step.specs.Step.{Stepped};
+ghost use Rattle.tpm_history.specs.Alike.{AuthorizeAlike};
 ghost use Rattle.tpm_history.specs.AuthValues.{auth_of};
 ghost use Rattle.tpm_history.specs.Counters.{CountLaws};
 ghost use Rattle.tpm_history.specs.DeviceAuthValues.{HasAuthValues};
@@ -41,6 +42,10 @@ ghost use Rattle.tpm_history.specs.History.{recorded};
 ghost use Rattle.tpm_history.specs.Pcrs.{before_shutdown, pcr_of, pcrs_after};
 ghost use Rattle.tpm_history.specs.PolicyLaws.{KeepsQuietValues, UsesItsCommand};
 ghost use Rattle.tpm_history.specs.PolicyLaws.{UsesAsWritten, UsesPcrsAsTheyAre};
+ghost use Rattle.tpm_history.specs.PolicyReviews.{IsWrittenOnce, NeedsCount, NeedsItsPolicy};
+ghost use Rattle.tpm_history.specs.PolicyReviews.{NeedsPcrs, NeedsPcrsAndPin, NeedsPinOrSecret};
+ghost use Rattle.tpm_history.specs.PolicyReviews.{OfEachAccepted};
+ghost use Rattle.tpm_history.specs.PolicyUses.{AllMeetPolicies};
 ghost use Rattle.tpm_history.specs.Potential.{IsForgiving};
 ghost use Rattle.tpm_history.specs.RunReplays.{IsRecorded, RunReplaysRepeat};
 ghost use Rattle.tpm_history.specs.Sessions.{IsNewSession, LiveSession, started};
@@ -250,4 +255,37 @@ pub fn few_tries_laws()
         → IsForgiving old.fixed.lockout → FailsFew can old executions new }
     ensures one_more { (old : Record) (executions : List Execution)
         → tries_at_most old executions ≡ tries_within old executions + 1 }
+{}
+
+/// Two devices that follow one history, and of which everybody may read the same, with the same
+/// failed tries, authorize each command alike: with the same grants, or with the same refusal.
+#[inline(always)]
+pub fn alike_laws()
+    ensures { AuthorizeAlike }
+{}
+
+/// In every history of a device each use has a ground, and each use by a policy session meets every
+/// policy whose digest is the authPolicy of what is used, along one branch at each TPM2_PolicyOR;
+/// or the hash is broken, by texts that the policy and the session spell.
+#[inline(always)]
+pub fn auth_policy_laws()
+    ensures { (can : Bool) (random : List ℕ) (executions : List Execution) (new : Record)
+        → Leads can (manufactured random) executions new
+        → AllMeetPolicies (history_after [] executions) }
+{}
+
+/// Since a device was manufactured, an object without userWithAuth was used by policy sessions alone,
+/// and each use met its policy. With a policy of PCRs it was used only while they had the values of
+/// the policy, and with one that asks for a PIN too only by who had it; with a policy of a PIN or a
+/// recovery secret only by who had one of them; with one that compares a counter only where
+/// TPM2_PolicyNV was accepted. And an NV index without AUTHWRITE, whose policy is that it is not
+/// written, was written only while it was not. Or else the hash is broken.
+#[inline(always)]
+pub fn policy_review_laws()
+    ensures every { OfEachAccepted NeedsItsPolicy }
+    ensures pcrs { OfEachAccepted NeedsPcrs }
+    ensures pcrs_and_pin { OfEachAccepted NeedsPcrsAndPin }
+    ensures pin_or_secret { OfEachAccepted NeedsPinOrSecret }
+    ensures written_once { OfEachAccepted IsWrittenOnce }
+    ensures count { OfEachAccepted NeedsCount }
 {}

@@ -2,7 +2,7 @@
 -- it is at most.
 use Rattle.tpm_image.specs.Sizes.{body_size}
 use Rattle.std.proofs.Common.{◌≡◌, ℕ, ◌≤◌, true, List, [], ◌∷◌, ◌++◌, length, Result, Ok, refl, ap, subst, ◌∙◌, append-nil, arith, length-append}
-use Rattle.std.specs.Prelude.{◌==◌, ◌↔◌, not}
+use Rattle.std.specs.Prelude.{◌==◌, not}
 use Rattle.std.proofs.lemmas.Bool.{eqb-true}
 use Rattle.tpm_containers.specs.SortedMap.{Entries}
 use Rattle.tpm_bytes.specs.Reading.{◌>>=◌, refused_if}
@@ -77,10 +77,6 @@ body_again version kept is within =
     let second = objects_spelled.again kept.persistent (indices ++ []) is.persistent in
     let third = (indices_spelled version).again kept.indices [] (stored version kept is within) in
     ap (body_of version) (four_texts limits state objects indices) ∙ rw (front, first, second, third) refl
-
--- a text is the body of what is kept exactly where it is the text of that
-pub body_is : (version : Version) (text : List ℕ) (kept : NonVolatile) → AreBytes text → (body_of version text ≡ Ok kept) ↔ ((text ≡ image_body_text version kept) × IsNonVolatile kept × IsWithin version kept)
-body_is version text kept fits = (body_taken version text kept fits, λ is. ap (body_of version) is.0 ∙ body_again version kept is.1 is.2)
 
 -- ---- the text's length
 

@@ -1,8 +1,7 @@
 -- Images: what is read was spelled so, what is spelled so is read, and no shorter front of an image
 -- is one.
-use Rattle.std.proofs.Common.{◌≡◌, ℕ, ◌+◌, ◌<◌, ◌≤◌, cond, List, length, take, Result, Ok, Err, refl, ap, ◌∙◌, arith, inl, inr}
-use Rattle.std.specs.Prelude.{◌↔◌, nat_lt}
-use Rattle.std.proofs.lemmas.Bool.{cases_lt, le-ltb, lt-ltb}
+use Rattle.std.proofs.Common.{◌≡◌, ℕ, ◌+◌, ◌<◌, ◌≤◌, List, length, take, Result, Ok, Err, refl, ap, ◌∙◌, arith}
+use Rattle.std.specs.Prelude.{◌↔◌}
 use Rattle.std.proofs.lemmas.List.{length-take}
 use Rattle.tpm_bytes.specs.Reading.{◌>>=◌, or_fault}
 use Rattle.tpm_bytes.proofs.Fields.{AreBytes, bind_ok, or_fault_ok}
@@ -64,14 +63,6 @@ unfolding image_text
 front_cut version kept n is long less =
     let size = length-framed_text version (image_body_text version kept) in
     ap kept_by (cut_behind version (image_body_text version kept) n (omega (arith, body_small version kept is)) long (omega (arith, less, size)))
-
--- none is an image
-pub prefix_refused : (version : Version) (kept : NonVolatile) (n : ℕ) → IsNonVolatile kept → n < length (image_text version kept) → image_of (take n (image_text version kept)) ≡ Err (cond (nat_lt n (head_bytes + digest_bytes)) fault.Short fault.Length)
-prefix_refused version kept n is less =
-    elim (cases_lt n (head_bytes + digest_bytes)) [
-      | inl few ↦ rw (lt-ltb n (head_bytes + digest_bytes) few) (front_short (image_text version kept) n few)
-      | inr long ↦ rw (le-ltb n (head_bytes + digest_bytes) long) (front_cut version kept n is long less)
-    ]
 
 -- ---- records
 

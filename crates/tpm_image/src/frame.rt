@@ -1,7 +1,7 @@
 //! The frame of an image: the head before its body, and the digest after it.
 
 ghost use Rattle.tpm_image.specs.Sizes.{body_size};
-ghost use Rattle.tpm_bytes.specs.Reading.{Gives};
+ghost use Rattle.tpm_bytes.specs.Reading.{AreBytes, Gives};
 ghost use Rattle.std.specs.Prelude.{◌≡◌, ◌≤◌, ◌+◌, ◌++◌, List, ℕ, Result, Ok, Err, length};
 ghost use Rattle.tpm_image.specs.Frame.{framed_body, head_text};
 ghost use Rattle.tpm_image.specs.declared.version.Version.TheVariants.{Two};
@@ -34,7 +34,8 @@ pub(crate) fn head(body_bytes: usize) -> Sink<10>
 /// The version and the body of a text in its frame, or the first fault of the frame.
 #[tactic(auto, unfolding(crate::specs::Frame::framed_body))]
 pub(crate) fn framed_body(text: &[u8]) -> Result<(Version, &[u8]), ImageFault>
-    ensures { Gives (λ framed. (framed.0, framed.1.now)) (framed_body text.now) result }
+    ensures value { Gives (λ framed. (framed.0, framed.1.now)) (framed_body text.now) result }
+    ensures bytes { AreBytes text.now }
 {
     if text.len() < HEAD_BYTES + DIGEST_BYTES {
         return Err(ImageFault::Short);

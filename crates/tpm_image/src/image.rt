@@ -2,6 +2,7 @@
 
 ghost use Rattle.std.specs.Prelude.{◌≡◌, ◌||◌, ◌++◌, ◌∷◌, IfOk, OnErr, OnOk, is_ok, true};
 ghost use Rattle.std.specs.Io.KnownBytes.{Appends};
+ghost use Rattle.tpm_bytes.specs.Reading.{AreBytes};
 ghost use Rattle.tpm_bytes.specs.Tap.{AppendsFront, device_of, marks_of};
 ghost use Rattle.tpm_image.specs.Body.{body_of};
 ghost use Rattle.tpm_image.specs.Filling.{Filled};
@@ -27,7 +28,6 @@ use tpm_bytes::Tap;
 use tpm_mac::{HashAlg, digest_parts};
 use tpm_machine::Machine;
 use tpm_record::{Keep, SlotKeep};
-use tpm_types::bytes_fit;
 
 /// Writes the image of a device, which stays as it is, in version 2. Of a tap that had not failed,
 /// Write stands just where the writer failed; a part of the image from its front went out then.
@@ -46,7 +46,7 @@ pub fn save<K: Keep, D: Write>(machine: &Machine<K>, tap: &mut Tap<D>) -> Result
     write_body(machine.keep(), &mut text);
     let head = head(text.len());
     let digest = digest_parts(HashAlg::Sha256, &[head.as_slice(), text.as_slice()]);
-    let _ = text.put(digest.as_slice());
+    text.append(digest.as_slice());
     send(tap, head.as_slice(), text.as_slice())
 }
 
@@ -113,13 +113,14 @@ pub fn open<K: Keep>(alloc: Global, text: &[u8]) -> Result<Machine<K>, ImageFaul
         → Follows r history → IsImage version (kept_of r) text.now
         → IfOk result (λ machine. Follows (state_of K.record_of machine) (PowerCycled ∷ history)) }
 {
-    bytes_fit(text);
     open_device(alloc, text)
 }
 
 /// The same, without what is said of texts.
 fn open_device<K: Keep>(alloc: Global, text: &[u8]) -> Result<Machine<K>, ImageFault>
-    ensures { Opens (state_of K.record_of) (K.empty_can_refuse || K.can_refuse) text.now result }
+    ensures exact { Opens (state_of K.record_of) (K.empty_can_refuse || K.can_refuse) text.now
+        result }
+    ensures bytes { AreBytes text.now }
 {
     let (version, body) = framed_body(text)?;
     match fill(alloc, version, body) {

@@ -12,10 +12,12 @@ mod algorithm;
 mod derivation;
 mod digests;
 mod hasher;
+mod keyed;
 mod mac;
 
 pub use algorithm::HashAlg;
 pub use derivation::kdfa;
 pub use digests::{Digest, digest_parts};
 pub use hasher::Hasher;
+pub use keyed::KeyedMac;
 pub use mac::{Mac, hmac_parts};

@@ -84,6 +84,15 @@ impl Mac {
         self.inner.update(bytes);
     }
 
+    /// Takes the parts, one after another.
+    pub(crate) fn take_parts(&mut self, parts: &[&[u8]])
+        ensures { MacTakes self.old (joined_text parts.now) self.new }
+    {
+        for part in parts {
+            self.update(part);
+        }
+    }
+
     /// The HMAC of the text.
     #[inline(always)]
     #[tactic(auto, unfolding(crate::specs::Mac::MacHolds, crate::specs::Hmac::hmac_of))]
@@ -106,9 +115,7 @@ pub fn hmac_parts(alg: HashAlg, key: &[u8], parts: &[&[u8]]) -> Digest
 {
     let mut mac = Mac::unkeyed(alg);
     mac.take_key(alg, key);
-    for part in parts {
-        mac.update(part);
-    }
+    mac.take_parts(parts);
     mac.finish()
 }
 

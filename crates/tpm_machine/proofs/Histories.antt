@@ -14,6 +14,7 @@ use Rattle.tpm_history.specs.DeviceSessions.{HasSessions}
 use Rattle.tpm_history.specs.Follows.{After, Follows, RunFollows}
 use Rattle.tpm_history.specs.Grounds.{AllHaveGrounds}
 use Rattle.tpm_history.specs.History.{History}
+use Rattle.tpm_history.specs.PolicyUses.{AllMeetPolicies}
 use Rattle.tpm_history.specs.Replays.{ReplaysRepeat}
 use Rattle.tpm_history.proofs.Following.{execution_follows, manufactured_follows, run_follows}
 
@@ -29,6 +30,7 @@ pub record TellsHistory (old : Record) (event : PlainEvent) (x : Stepped) : Type
   pub sessions : After HasSessions old event x
   pub replays : After (λ r. ReplaysRepeat) old event x
   pub grounds : After (λ r. AllHaveGrounds) old event x
+  pub policies : After (λ r. AllMeetPolicies) old event x
 
 pub execution_tells : (can : Bool) (old : Record) (event : PlainEvent) (x : Stepped) → Executes can old event x → TellsHistory old event x
 execution_tells can old event x executes =
@@ -41,6 +43,7 @@ execution_tells can old event x executes =
       sessions = λ history follows. (next history follows).sessions;
       replays = λ history follows. (next history follows).replays;
       grounds = λ history follows. (next history follows).grounds;
+      policies = λ history follows. (next history follows).policies;
     }
 
 pub runs_follow : {F : Type 0} (g : Mut F (Bor Outcome × Unit {0}) (Unit {0})) (can : Bool) (old : Record) (p : F) (events : List PlainEvent) (new : Record) (q : F) → Runs g can old p events new q → (history : History) → Follows old history → RunFollows g can old p events new q history

@@ -2,7 +2,7 @@
 //! authorization; the first that fails refuses it.
 
 ghost use Rattle.tpm_types.specs.Limits.{buffer_limit};
-ghost use Rattle.tpm_bytes.specs.Reading.{Gives};
+ghost use Rattle.tpm_bytes.specs.Reading.{AreBytes, Gives};
 ghost use Rattle.std.specs.Prelude.{◌≡◌, ◌≤◌, [], Ok, IfOk, length};
 ghost use Rattle.tpm_bytes.specs.Reading.{Reads};
 ghost use Rattle.tpm_types_command.specs.CommandCode.{code_number, handle_count};
@@ -13,7 +13,7 @@ use arrayvec::ArrayVec;
 use tpm_bytes::{Cursor, ReadableBy};
 use tpm_record::{Keep, absence_rc, is_present};
 use tpm_step::RefusedCommand;
-use tpm_types::{Check, Handle, Rc, Refused, ResponseCode, bytes_fit};
+use tpm_types::{Check, Handle, Rc, Refused, ResponseCode};
 use tpm_types_command::{
     Command, CommandCode, HandleRule, Header, HeaderFault, Tag, read_sessions,
 };
@@ -132,7 +132,8 @@ fn decode_body<'a, K: Keep>(
 #[inline(always)]
 #[tactic(auto, unfolding(tpm_step::specs::General::general))]
 fn decode_whole<'a, K: Keep>(keep: &K, buffer: &'a [u8]) -> Result<Command<'a>, RefusedCommand>
-    ensures { Gives whole_of (general (K.record_of keep.now) buffer.now) result }
+    ensures decoded { Gives whole_of (general (K.record_of keep.now) buffer.now) result }
+    ensures bytes { AreBytes buffer.now }
 {
     let mut text = Cursor::new(buffer);
     let header = Header::read(&mut text).map_err(header_refusal)?;
@@ -148,6 +149,5 @@ pub fn decode<'a, K: Keep>(keep: &K, buffer: &'a [u8]) -> Result<Command<'a>, Re
     ensures read { IfOk result (λ command. command_at buffer.now ≡ Ok (whole_of command, [])) }
     ensures short { IfOk result (λ command. length command.parameters.now ≤ buffer_limit) }
 {
-    bytes_fit(buffer);
     decode_whole(keep, buffer)
 }

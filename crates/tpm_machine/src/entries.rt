@@ -10,7 +10,7 @@ ghost use Rattle.tpm_step.specs.Entries.{answer_mac, draw_of, entries_answer, en
 use crate::draws::Draws;
 use tpm_auth::{Grant, used_auth_value};
 use tpm_bytes::Sink;
-use tpm_mac::Digest;
+use tpm_mac::{Digest, KeyedMac};
 use tpm_policy::{Demand, PolicyState};
 use tpm_record::Keep;
 use tpm_session::{ParameterHashes, Session};
@@ -74,6 +74,7 @@ fn demands_password(grant: Option<Grant>) -> bool
 fn answer_mac<K: Keep>(
     keep: &K,
     hashes: &mut ParameterHashes,
+    keyed: &mut KeyedMac,
     grant: Option<Grant>,
     entry: &AuthEntry,
     session: &Session,
@@ -87,13 +88,15 @@ fn answer_mac<K: Keep>(
     }
     let value = used_auth_value(keep, session, grant);
     let hash = hashes.by(session.hash);
-    session.response_mac(value, hash.as_slice(), entry.nonce, entry.attributes)
+    let nonce = entry.nonce;
+    session.response_mac(value, hash.as_slice(), nonce, entry.attributes, keyed)
 }
 
 #[tactic(auto, unfolding(tpm_step::specs::Entries::session_answer))]
 fn answer_session<K: Keep>(
     keep: &K,
     hashes: &mut ParameterHashes,
+    keyed: &mut KeyedMac,
     grant: Option<Grant>,
     entry: &AuthEntry,
     session: &Session,
@@ -105,7 +108,7 @@ fn answer_session<K: Keep>(
     ensures grown { length area.new ≤ length area.old + 69 }
     ensures same { hashes.new ≡ hashes.old }
 {
-    let mac = answer_mac(keep, hashes, grant, entry, session);
+    let mac = answer_mac(keep, hashes, keyed, grant, entry, session);
     area.append_sized(session.nonce_tpm.as_slice());
     area.append_u8(entry.attributes.octet);
     area.append_sized(mac.as_slice());
@@ -115,6 +118,7 @@ fn answer_session<K: Keep>(
 fn answer_entry<K: Keep>(
     keep: &K,
     hashes: &mut ParameterHashes,
+    keyed: &mut KeyedMac,
     grant: Option<Grant>,
     entry: &AuthEntry,
     area: &mut Sink<ENTRY_ANSWERS_LIMIT>,
@@ -126,7 +130,7 @@ fn answer_entry<K: Keep>(
     ensures same { hashes.new ≡ hashes.old }
 {
     match keep.sessions().get(entry.session) {
-        Some(session) => answer_session(keep, hashes, grant, entry, session, area),
+        Some(session) => answer_session(keep, hashes, keyed, grant, entry, session, area),
         None => area.append(&PASSWORD_ANSWER),
     }
 }
@@ -135,6 +139,7 @@ fn answer_entry<K: Keep>(
 pub fn answer_entries<K: Keep>(
     keep: &K,
     hashes: &mut ParameterHashes,
+    keyed: &mut KeyedMac,
     entries: &[AuthEntry],
     grants: &[Option<Grant>],
     area: &mut Sink<ENTRY_ANSWERS_LIMIT>,
@@ -149,8 +154,8 @@ pub fn answer_entries<K: Keep>(
     let [grant, grants @ ..] = grants else {
         return;
     };
-    answer_entry(keep, hashes, *grant, entry, area);
-    answer_entries(keep, hashes, entries, grants, area);
+    answer_entry(keep, hashes, keyed, *grant, entry, area);
+    answer_entries(keep, hashes, keyed, entries, grants, area);
 }
 
 /// Returns the policy of an entry's session to its start, if it is a policy session.

@@ -18,6 +18,7 @@ ghost use Rattle.tpm_history.specs.DeviceSessions.{HasSessions};
 ghost use Rattle.tpm_history.specs.Follows.{After, Follows, RunFollows};
 ghost use Rattle.tpm_history.specs.Grounds.{AllHaveGrounds};
 ghost use Rattle.tpm_history.specs.History.{History};
+ghost use Rattle.tpm_history.specs.PolicyUses.{AllMeetPolicies};
 ghost use Rattle.tpm_history.specs.Replays.{ReplaysRepeat};
 
 use crate::decoding::decode;
@@ -25,8 +26,9 @@ use crate::response::{write_refusal, write_success};
 use crate::table::accept;
 use std::alloc::Global;
 use tpm_actions_base::answer::Answer;
-use tpm_auth::{Grants, authorize};
+use tpm_auth::{Grants, authorize_keyed};
 use tpm_bytes::NoMemory;
+use tpm_mac::KeyedMac;
 use tpm_record::tick::tick;
 use tpm_record::{Fixed, Keep, power_cycle, read_widths};
 use tpm_step::{Event, Outcome, RefusedCommand, Response, Row};
@@ -39,6 +41,8 @@ pub struct Machine<K: Keep> {
     keep: K,
     /// What a command answers is written here. It is cleared for each, and no part of the state.
     answer: Answer,
+    /// The key of the latest HMAC, which is no part of the state either.
+    keyed: KeyedMac,
 }
 
 impl<K: Keep> Machine<K> {
@@ -67,6 +71,7 @@ impl<K: Keep> Machine<K> {
         Machine {
             keep,
             answer: Answer::empty(),
+            keyed: KeyedMac::new(),
         }
     }
 
@@ -88,7 +93,8 @@ impl<K: Keep> Machine<K> {
 
         // Where the device followed a history, it follows the history with this event, if that was
         // accepted: counters, PCRs, authorization values and sessions are what that tells. Every
-        // replay in it repeats a nonce or an HMAC, and each use had its grounds.
+        // replay in it repeats a nonce or an HMAC, each use had its grounds, and each by a policy
+        // session met every policy that has the authPolicy of what was used, or the hash is broken.
         ensures history { After Follows (state_of K.record_of self.old) (plain_event event.now)
             (outcome_step (state_of K.record_of self.new) result) }
         ensures counters { After HasCounters (state_of K.record_of self.old)
@@ -102,6 +108,8 @@ impl<K: Keep> Machine<K> {
         ensures replays { After (λ r. ReplaysRepeat) (state_of K.record_of self.old)
             (plain_event event.now) (outcome_step (state_of K.record_of self.new) result) }
         ensures grounds { After (λ r. AllHaveGrounds) (state_of K.record_of self.old)
+            (plain_event event.now) (outcome_step (state_of K.record_of self.new) result) }
+        ensures policies { After (λ r. AllMeetPolicies) (state_of K.record_of self.old)
             (plain_event event.now) (outcome_step (state_of K.record_of self.new) result) }
     {
         let mut outcome = Outcome::empty();
@@ -117,7 +125,8 @@ impl<K: Keep> Machine<K> {
 
         // Where the device followed a history, it follows the history with this event, if that was
         // accepted: counters, PCRs, authorization values and sessions are what that tells. Every
-        // replay in it repeats a nonce or an HMAC, and each use had its grounds.
+        // replay in it repeats a nonce or an HMAC, each use had its grounds, and each by a policy
+        // session met every policy that has the authPolicy of what was used, or the hash is broken.
         ensures history { After Follows (state_of K.record_of self.old) (plain_event event.now)
             (outcome_step (state_of K.record_of self.new) outcome.new) }
         ensures counters { After HasCounters (state_of K.record_of self.old)
@@ -131,6 +140,8 @@ impl<K: Keep> Machine<K> {
         ensures replays { After (λ r. ReplaysRepeat) (state_of K.record_of self.old)
             (plain_event event.now) (outcome_step (state_of K.record_of self.new) outcome.new) }
         ensures grounds { After (λ r. AllHaveGrounds) (state_of K.record_of self.old)
+            (plain_event event.now) (outcome_step (state_of K.record_of self.new) outcome.new) }
+        ensures policies { After (λ r. AllMeetPolicies) (state_of K.record_of self.old)
             (plain_event event.now) (outcome_step (state_of K.record_of self.new) outcome.new) }
     {
         outcome.response.clear();
@@ -237,7 +248,7 @@ impl<K: Keep> Machine<K> {
             Ok(command) => command,
             Err(refusal) => return refuse(&mut self.keep, refusal, text),
         };
-        match authorize(&self.keep, &command, locality) {
+        match authorize_keyed(&self.keep, &command, locality, &mut self.keyed) {
             Ok(grants) => self.perform(&command, &grants, locality, random, text),
             Err(refused) => refuse(
                 &mut self.keep,
@@ -282,9 +293,10 @@ impl<K: Keep> Machine<K> {
     {
         self.answer.clear();
         let (keep, answer) = (&mut self.keep, &mut self.answer);
+        let keyed = &mut self.keyed;
         match accept(keep, command, grants, locality, random, answer) {
             Ok(()) => {
-                write_success(keep, command, grants, answer, random, text);
+                write_success(keep, command, grants, answer, random, keyed, text);
                 settle(keep, command.code);
                 Row {
                     code: command.code.number(),

@@ -16,6 +16,7 @@ use crate::parameters::pass_parameters;
 use tpm_actions_base::answer::{Answer, Parameters};
 use tpm_auth::{Grant, Grants};
 use tpm_bytes::{Sink, append};
+use tpm_mac::KeyedMac;
 use tpm_record::Keep;
 use tpm_session::{HashedParameters, ParameterHashes};
 use tpm_step::{Direction, Response};
@@ -134,6 +135,7 @@ fn write_with_sessions<K: Keep>(
     grants: &Grants,
     answer: &mut Answer,
     random: &[u8; 256],
+    keyed: &mut KeyedMac,
     text: &mut Response,
 )
     requires empty { text.old.items ≡ [] }
@@ -154,7 +156,7 @@ fn write_with_sessions<K: Keep>(
     let hashed = HashedParameters::Response(command.code.number(), parameters);
     let mut hashes = ParameterHashes::new(hashed);
     let mut area = Sink::new();
-    answer_entries(keep, &mut hashes, entries, grants, &mut area);
+    answer_entries(keep, &mut hashes, keyed, entries, grants, &mut area);
     write_with_area(answer.handle, parameters, area.as_slice(), text);
     end_entries(keep, entries, grants);
 }
@@ -167,6 +169,7 @@ pub fn write_success<K: Keep>(
     grants: &Grants,
     answer: &mut Answer,
     random: &[u8; 256],
+    keyed: &mut KeyedMac,
     text: &mut Response,
 )
     requires empty { text.old.items ≡ [] }
@@ -183,6 +186,6 @@ pub fn write_success<K: Keep>(
     if command.entries.is_empty() {
         write_plain(answer.handle, answer.parameters.as_slice(), text);
     } else {
-        write_with_sessions(keep, command, grants, answer, random, text);
+        write_with_sessions(keep, command, grants, answer, random, keyed, text);
     }
 }

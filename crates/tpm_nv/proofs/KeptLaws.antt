@@ -28,10 +28,8 @@ use Rattle.tpm_nv.specs.Definition.{has_type_size, is_type_size}
 use Rattle.tpm_nv.specs.Head.{AreHeads, AreKept, IsHead, IsIndexOf, head_of, index_with, indices_of, size_of, start_in, start_of, total, with_attributes}
 use Rattle.tpm_nv.specs.Index.{NvContents, NvIndex, changed_index, has_room, index_at}
 use Rattle.tpm_nv.specs.IsContents.{AreIndices, IsContents}
-use Rattle.tpm_nv.specs.Place.{IsPlaceOf, place_of}
 use Rattle.tpm_nv.specs.declared.head.Head.{Head}
 use Rattle.tpm_nv.specs.declared.place.Found.{Found}
-use Rattle.tpm_nv.specs.declared.place.DataPlace.{DataPlace}
 use Rattle.tpm_nv.proofs.Cuts.{ascends_among, bytes_among, changed_among, found_among, head_at, heads_among, heads_changed, heads_put, heads_removed, length_among, length_put, none_among, piece_fits, put_anew, put_back, put_within, start_fits, total_changed, total_put, total_removed}
 
 -- ---- what a lookup of a head says of the index
@@ -247,13 +245,6 @@ module _ (es : Entries Head) (area : List ℕ) (count : ℕ) (handle : Handle) (
   found_some (Some f) kept some =
       let t = subst (λ (s : NvContents). (old : List ℕ) × IsIndexOf s handle f.head.now old) view (there_is es area count handle (Some f.head) kept (sym some.0)) in
       (t.0, t.1, some.1 ∙ sym (start_is es area count handle shown view))
-
--- the place of an index that was found
-pub is_place : (contents : NvContents) (handle : Handle) (h : Head) (old : List ℕ) (start : ℕ) (place : DataPlace) → place ≡ place_of h start → IsIndexOf contents handle h old → start ≡ start_in contents handle → IsPlaceOf contents handle place
-is_place contents handle h old start place same is from = (
-  known_some (λ (i : NvIndex). (place.attributes ≡ i.public.attributes) × (place.size ≡ i.public.data_size)) (index_at contents handle) (index_with h old) is.found (ap (λ (p : DataPlace). p.attributes) same, ap (λ (p : DataPlace). p.size) same),
-  ap (λ (p : DataPlace). p.start) same ∙ from,
-)
 
 -- the data of an index that is written are its bytes
 pub bytes_of : (h : Head) (bytes : List ℕ) (index : NvIndex) → index_with h bytes ≡ index → has index.public.attributes attribute.Written ≡ true → bytes ≡ index.bytes

@@ -26,7 +26,7 @@ use crate::item_area::{ListArea, SlotArea};
 use crate::pieces::{piece_at, put_between, put_bytes};
 use crate::place::{DataPlace, Found};
 use crate::startup::start_heads;
-use crate::values::{count_fits, digest_of, is_part, is_room, is_write_lockable, number_of};
+use crate::values::{digest_of, is_part, is_room, is_write_lockable, number_of};
 use std::alloc::Global;
 use std::marker::Model;
 use tpm_bytes::NoMemory;
@@ -434,6 +434,6 @@ impl<H: SortedMap<Head, NV_INDEX_LIMIT>, R: Area> Indices for StoredIndices<H, R
     }
 
     fn read_sizes(&self) {
-        count_fits(self.max_count);
+        let _count = self.max_count;
     }
 }

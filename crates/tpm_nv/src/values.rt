@@ -1,7 +1,7 @@
 //! What is computed and asked of an index's attributes, sizes and data.
 
 ghost use Rattle.tpm_types.specs.Limits.{nv_index_limit, nv_space_limit};
-ghost use Rattle.std.specs.Prelude.{◌≡◌, ◌==◌, ◌<◌, ◌≤◌, ◌+◌, ◌^◌, ◌||◌, ◌&&◌, not, nat_lt, nat_le};
+ghost use Rattle.std.specs.Prelude.{◌≡◌, ◌==◌, ◌<◌, ◌≤◌, ◌+◌, ◌||◌, ◌&&◌, not, nat_lt, nat_le};
 ghost use Rattle.std.specs.Prelude.{◌++◌, length};
 ghost use Rattle.std.specs.Int.{from_be_bytes, w64};
 ghost use Rattle.tpm_mac.specs.Digest.{digest_size, hash_of};
@@ -34,13 +34,6 @@ pub(crate) fn is_room(count: usize, bytes: usize, size: usize) -> bool
     ensures { result ≡ (nat_lt count nv_index_limit && nat_le (bytes + size) nv_space_limit) }
 {
     count < NV_INDEX_LIMIT && bytes + size <= NV_SPACE_LIMIT
-}
-
-/// Says of a count what its type says.
-pub(crate) fn count_fits(count: u64)
-    ensures { count < 2 ^ 64 }
-{
-    let _ = count;
 }
 
 /// The number that eight bytes are.

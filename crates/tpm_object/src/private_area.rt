@@ -1,7 +1,7 @@
 //! Private areas: a parent encrypts and authenticates the sensitive area of its child, and accepts
 //! nothing else back (TPM 2.0 Library, Part 1, section 22).
 
-ghost use Rattle.tpm_bytes.specs.Reading.{Gives};
+ghost use Rattle.tpm_bytes.specs.Reading.{AreBytes, Gives};
 ghost use Rattle.std.specs.Prelude.{◌≡◌, ◌≢◌, ◌≤◌, length, Ok, Err, IfOk};
 ghost use Rattle.tpm_aes.specs.Cfb.{cfb_decrypt_of, cfb_encrypt_of};
 ghost use Rattle.tpm_bytes.specs.Writing.{sized_text};
@@ -17,7 +17,6 @@ use tpm_aes::Aes128;
 use tpm_bytes::{Cursor, Sink, append};
 use tpm_mac::{Digest, hmac_parts, kdfa};
 use tpm_name::Name;
-use tpm_types::bytes_fit;
 use tpm_types_object::{Public, Sensitive};
 
 /// The private area is not one that the parent wrapped for this public area.
@@ -90,7 +89,8 @@ fn encrypted_area(
     sensitive: &Sensitive,
     iv: &[u8; 16],
 ) -> ArrayVec<u8, AREA_LIMIT>
-    ensures { result.items ≡ encrypted_area parent.now name.now iv.now sensitive.now }
+    ensures value { result.items ≡ encrypted_area parent.now name.now iv.now sensitive.now }
+    ensures fits { IsSensitive sensitive.now }
 {
     let mut text: Sink<AREA_LIMIT> = Sink::new();
     text.append_sized(sensitive.text().as_slice());
@@ -101,20 +101,14 @@ fn encrypted_area(
 
 /// The IV in a sized buffer, and the encrypted area.
 fn protected_text(parent: &Object, name: &Name, sensitive: &Sensitive, iv: &[u8; 16]) -> Sink<220>
-    ensures { result ≡ protected_text parent.now name.now iv.now sensitive.now }
+    ensures value { result ≡ protected_text parent.now name.now iv.now sensitive.now }
+    ensures fits { IsSensitive sensitive.now }
 {
     let encrypted = encrypted_area(parent, name, sensitive, iv);
     let mut text = Sink::new();
     text.append_sized(iv);
     text.append(encrypted.as_slice());
     text
-}
-
-/// Says of a sensitive area what the types of its buffers say: none is longer than it may be.
-fn buffers_fit(sensitive: &Sensitive)
-    ensures { IsSensitive sensitive.now }
-{
-    let _ = sensitive.auth_value.len() + sensitive.seed_value.len() + sensitive.sensitive.len();
 }
 
 /// The private area of the object with this public area: its sensitive area, encrypted and
@@ -147,7 +141,6 @@ pub fn wrap_named(parent: &Object, name: &Name, sensitive: &Sensitive, iv: &[u8;
         → object_type public ≢ sensitive.now.object_type
         → unwrapped parent.now public result ≡ Err integrity_fault }
 {
-    buffers_fit(sensitive);
     let protected = protected_text(parent, name, sensitive, iv);
     let integrity = integrity(parent, name, protected.as_slice());
     let mut text = Sink::new();
@@ -163,7 +156,9 @@ fn protected_in<'a>(
     name: &Name,
     private: &'a [u8],
 ) -> Result<&'a [u8], IntegrityFault>
-    ensures { Gives (λ bytes. bytes.now) (protected_in parent.now name.now private.now) result }
+    ensures value { Gives (λ bytes. bytes.now) (protected_in parent.now name.now private.now)
+        result }
+    ensures bytes { AreBytes private.now }
 {
     let mut text = Cursor::new(private);
     let found = text.sized(0xffff).map_err(|_| IntegrityFault)?;
@@ -214,7 +209,6 @@ fn decrypted_area(
     ensures found { IfOk result (λ area. IsSensitive area
         × IsProtected parent.now name.now protected.now area) }
 {
-    bytes_fit(protected);
     let mut text = Cursor::new(protected);
     let found = text.sized(16).map_err(|_| IntegrityFault)?;
     if found.len() != 16 {
@@ -255,7 +249,6 @@ pub fn unwrap_named(
     ensures value { result ≡ unwrapped parent.now public.now private.now }
     ensures found { IfOk result (λ area. IsWrapped parent.now public.now private.now area) }
 {
-    bytes_fit(private);
     let protected = protected_in(parent, name, private)?;
     let area = decrypted_area(parent, name, protected)?;
     if area.object_type.number() != public.object_type().number() {

@@ -1,8 +1,8 @@
 mod Asserting
 mod Astride
-mod Chains
+pub mod Chains
 mod Examples
-mod Meaning
-mod Sessions
+pub mod Meaning
+pub mod Sessions
 mod Spelled
 mod Trial

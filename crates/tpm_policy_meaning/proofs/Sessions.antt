@@ -19,7 +19,7 @@ use Rattle.tpm_policy_meaning.specs.Expression.{PolicyAuthValue, PolicyPassword}
 
 -- ---- TPM2_PolicyOR
 
-any_among : (digest : List ℕ) (digests : List (List ℕ)) → list_any (λ (one : List ℕ). bytes_eq one digest) digests ≡ true → IsAmong digest digests
+pub any_among : (digest : List ℕ) (digests : List (List ℕ)) → list_any (λ (one : List ℕ). bytes_eq one digest) digests ≡ true → IsAmong digest digests
 any_among digest [] is = absurd (false≢true is)
 any_among digest (one ∷ digests) is = by (bytes_eq one digest) refl is (any_among digest digests)
   where

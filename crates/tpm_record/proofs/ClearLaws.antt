@@ -1,11 +1,11 @@
 -- Objects cleared, place by place, and what is found then.
-use Rattle.std.proofs.Common.{◌≡◌, ℕ, zero, suc, ◌<◌, ◌≤◌, Bool, true, false, cond, eqb, List, [], ◌∷◌, ◌++◌, length, take, drop, Option, Some, None, refl, sym, ap, subst, ◌∙◌, arith}
+use Rattle.std.proofs.Common.{◌≡◌, ℕ, zero, suc, ◌≤◌, Bool, true, false, cond, eqb, List, [], ◌∷◌, ◌++◌, length, take, drop, Option, Some, None, refl, sym, ap, ◌∙◌, arith}
 use Rattle.std.specs.Prelude.{IfSome, map, option_and_then, slice_set}
 use Rattle.std.proofs.lemmas.List.Sums.{sum_by-cons}
 use Rattle.tpm_object.specs.Object.{transient_byte}
 use Rattle.tpm_object.specs.declared.object.Object.{Object}
 use Rattle.tpm_containers.specs.Numbered.{at_number, if_of_kind, kind_of, place_of}
-use Rattle.tpm_containers.specs.Slots.{AreAll, at_place, taken_count}
+use Rattle.tpm_containers.specs.Slots.{at_place, taken_count}
 use Rattle.tpm_containers.proofs.SlotLaws.{counted}
 use Rattle.tpm_record.specs.Clear.{ClearingLaws, cleared_objects, cleared_place, is_cleared, is_place_cleared}
 
@@ -22,12 +22,20 @@ rest_cleared true p ps qs = refl
 rest_cleared false p ps qs = refl
 
 -- where the next is cleared, one more is
-pub cleared_in_turn : (places : List (Option Object)) (i : ℕ) → i < length places → cond (is_place_cleared (at_place (cleared_up_to i places) i)) (slice_set (cleared_up_to i places) i None) (cleared_up_to i places) ≡ cleared_up_to (suc i) places
-cleared_in_turn [] i inside = absurd (omega arith)
-cleared_in_turn (p ∷ ps) zero inside = first_cleared (is_place_cleared p) p ps
-cleared_in_turn (p ∷ ps) (suc i) inside =
+pub cleared_in_turn : (places : List (Option Object)) (i : ℕ) → cond (is_place_cleared (at_place (cleared_up_to i places) i)) (slice_set (cleared_up_to i places) i None) (cleared_up_to i places) ≡ cleared_up_to (suc i) places
+cleared_in_turn [] zero = refl
+cleared_in_turn [] (suc i) = refl
+cleared_in_turn (p ∷ ps) zero = first_cleared (is_place_cleared p) p ps
+cleared_in_turn (p ∷ ps) (suc i) =
     rest_cleared (is_place_cleared (at_place (cleared_up_to i ps) i)) (cleared_place p) (slice_set (cleared_up_to i ps) i None) (cleared_up_to i ps)
-    ∙ ap (λ (l : List (Option Object)). cleared_place p ∷ l) (cleared_in_turn ps i (omega arith))
+    ∙ ap (λ (l : List (Option Object)). cleared_place p ∷ l) (cleared_in_turn ps i)
+
+-- and there are as many as before
+pub cleared_length : (i : ℕ) (places : List (Option Object)) → length (cleared_up_to i places) ≡ length places
+cleared_length zero [] = refl
+cleared_length (suc i) [] = refl
+cleared_length zero (p ∷ ps) = refl
+cleared_length (suc i) (p ∷ ps) = ap suc (cleared_length i ps)
 
 pub all_cleared : (places : List (Option Object)) (i : ℕ) → length places ≤ i → cleared_up_to i places ≡ map cleared_place places
 all_cleared [] zero many = refl
@@ -107,10 +115,6 @@ kept_in Is (Some x) is = by (is_cleared x.hierarchy)
     by : (b : Bool) → IfSome (cond b None (Some x)) Is
     by true = tt
     by false = is
-
-pub cleared_all : (Is : Object → Type 0) (places : List (Option Object)) → AreAll Is places → AreAll Is (cleared_objects places)
-cleared_all Is places are place =
-    subst (λ (cell : Option Object). IfSome cell Is) (sym (at_cleared places place)) (kept_in Is (at_place places place) (are place))
 
 pub are_cleared : ClearingLaws
 unfolding at_number

@@ -1,7 +1,8 @@
 //! What TPM2_Clear does to objects, transient and persistent.
 
-ghost use Rattle.std.specs.Prelude.{◌≡◌, None, if◌then◌else◌, option_copied, slice_set};
+ghost use Rattle.std.specs.Prelude.{◌≡◌, None, if◌then◌else◌, length, option_copied, slice_set};
 ghost use Rattle.tpm_containers.specs.Slots.{at_place};
+ghost use Rattle.tpm_types.specs.Limits.{object_limit};
 ghost use Rattle.tpm_record.specs.Clear.{cleared_objects, is_cleared, is_place_cleared};
 
 use tpm_containers::{Choice, Slots};
@@ -30,10 +31,12 @@ fn is_place_cleared(object: Option<&Object>) -> bool
 
 /// Frees a place with such an object.
 fn clear_place<O: Slots<Object, OBJECT_LIMIT>>(places: &mut O, place: usize)
-    ensures { O.places places.new
+    ensures cleared { O.places places.new
         ≡ (if is_place_cleared (at_place (O.places places.old) place)
         then slice_set (O.places places.old) place None
         else O.places places.old) }
+    // There are always as many places as there may be objects.
+    ensures all { length (O.places places.old) ≡ object_limit }
 {
     if is_place_cleared(places.get(place)) {
         places.remove(place);
@@ -58,7 +61,6 @@ impl Choice<Object> for Outlasting {
 pub(crate) fn clear_places<O: Slots<Object, OBJECT_LIMIT>>(places: &mut O)
     ensures { O.places places.new ≡ cleared_objects (O.places places.old) }
 {
-    let _ = places.get(OBJECT_LIMIT);
     for place in 0..OBJECT_LIMIT {
         clear_place(places, place);
     }

@@ -60,10 +60,13 @@ impl<O: Slots<Object, OBJECT_LIMIT>> Objects<O> {
         Some(handle_of(self.places.free()?))
     }
 
-    /// Says of each object what the types of its fields say. It only reads.
+    /// Says of each object what the types of its fields say, and how many places there are. It only
+    /// reads.
     #[inline(always)]
     pub fn read_sizes(&self)
-        ensures { AreAll IsObject (objects_of O.places self.now) }
+        ensures each { AreAll IsObject (objects_of O.places self.now) }
+        // There are always as many places as there may be transient objects.
+        ensures all { length (objects_of O.places self.now) ≡ object_limit }
     {
         numbered::read_sizes(&self.places);
     }

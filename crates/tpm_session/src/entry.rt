@@ -11,7 +11,7 @@ use crate::session::Session;
 use arrayvec::ArrayVec;
 use std::marker::Model;
 use tpm_bytes::{Full, Sink, append};
-use tpm_mac::{Digest, HashAlg, hmac_parts};
+use tpm_mac::{Digest, HashAlg, KeyedMac};
 use tpm_types::SessionAttributes;
 
 /// What the HMAC of a command's entry is about besides its session (TPM 2.0 Library, Part 1,
@@ -102,14 +102,14 @@ impl<'a> EntryText<'a> {
     }
 
     /// Its HMAC under a key.
-    fn mac(&self, alg: HashAlg, key: &[u8]) -> Digest
-        ensures value { result.items ≡ hmac_of alg key.now self.now }
+    fn mac(&self, alg: HashAlg, key: ArrayVec<u8, 64>, keyed: &mut KeyedMac) -> Digest
+        ensures value { result.items ≡ hmac_of alg key.items self.now }
         ensures size { length result.items ≡ digest_size alg }
     {
         let (newer, older) = (self.newer, self.older);
         let (decrypt, encrypt) = (self.decrypt, self.encrypt);
         let attributes = [self.attributes.octet];
-        hmac_parts(
+        keyed.hmac_parts(
             alg,
             key,
             &[self.hash, newer, older, decrypt, encrypt, &attributes],
@@ -160,13 +160,13 @@ impl Session {
 
     /// The HMAC of a command's entry by this session.
     #[tactic(auto, unfolding(crate::specs::EntryText::command_mac_of))]
-    pub fn command_mac(&self, auth_value: &[u8], text: &CommandText) -> Digest
+    pub fn command_mac(&self, auth_value: &[u8], text: &CommandText, keyed: &mut KeyedMac) -> Digest
         requires { length auth_value.now ≤ 32 }
         ensures value { result.items ≡ command_mac_of self.now auth_value.now (parts_of text.now) }
         ensures size { length result.items ≡ digest_size self.now.hash }
     {
         let key = self.entry_key(auth_value);
-        self.command_text(text).mac(self.hash, key.as_slice())
+        self.command_text(text).mac(self.hash, key, keyed)
     }
 
     /// The HMAC of a response's entry by this session, over the hash of the response.
@@ -177,6 +177,7 @@ impl Session {
         hash: &[u8],
         nonce_caller: &[u8],
         attributes: SessionAttributes,
+        keyed: &mut KeyedMac,
     ) -> Digest
         requires { length auth_value.now ≤ 32 }
         ensures value { result.items
@@ -185,6 +186,6 @@ impl Session {
     {
         let key = self.entry_key(auth_value);
         let text = self.response_text(hash, nonce_caller, attributes);
-        text.mac(self.hash, key.as_slice())
+        text.mac(self.hash, key, keyed)
     }
 }

@@ -70,18 +70,18 @@ impl SessionKey {
         }
     }
 
-    /// The key of these bytes, which are as many as a digest by this hash algorithm has.
-    fn of(hash: HashAlg, bytes: &[u8]) -> SessionKey
-        requires size { length bytes.now ≡ digest_size hash }
+    /// The key of these bytes, which are as many as a key has.
+    fn of(bytes: &[u8]) -> SessionKey
+        requires size { is_key_size (length bytes.now) ≡ true }
         requires fits { length bytes.now ≤ 32 }
         ensures { result ≡ bytes.now }
     {
-        let _ = hash;
         SessionKey {
             bytes: copied(bytes),
         }
     }
 
+    #[tactic(auto, using(crate::proofs::KeySizes::digest_sized))]
     fn bound(hash: HashAlg, auth_value: &[u8], nonce_tpm: &[u8], nonce_caller: &[u8]) -> SessionKey
         ensures { result ≡ kdfa_of hash auth_value.now key_label nonce_tpm.now nonce_caller.now
             (digest_size hash) }
@@ -89,7 +89,7 @@ impl SessionKey {
         let mut key = [0; 32];
         let out = &mut key[..hash.size()];
         kdfa(hash, auth_value, KEY_LABEL, nonce_tpm, nonce_caller, out);
-        SessionKey::of(hash, &key[..hash.size()])
+        SessionKey::of(&key[..hash.size()])
     }
 
     /// Its bytes.

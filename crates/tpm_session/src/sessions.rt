@@ -166,10 +166,13 @@ impl<S: Slots<Session, SESSION_LIMIT>> Sessions<S> {
             None => false,
         }
     }
-    /// Says of each session what the types of its fields say. It only reads.
+    /// Says of each session what the types of its fields say, and how many places there are. It only
+    /// reads.
     #[inline(always)]
     pub fn read_sizes(&self)
-        ensures { AreAll IsSession (places_of S.places self.now) }
+        ensures each { AreAll IsSession (places_of S.places self.now) }
+        // There are always as many places as there may be sessions.
+        ensures all { length (places_of S.places self.now) ≡ session_limit }
     {
         numbered::read_sizes(&self.slots);
     }

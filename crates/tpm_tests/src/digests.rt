@@ -2,7 +2,8 @@
 //! were computed by Python's `hmac`.
 
 use super::comparison::check;
-use tpm_mac::{Digest, HashAlg, Hasher, Mac, digest_parts, hmac_parts, kdfa};
+use tpm_bytes::copied;
+use tpm_mac::{Digest, HashAlg, Hasher, KeyedMac, Mac, digest_parts, hmac_parts, kdfa};
 
 const TWO_BLOCKS: &[u8] = b"abcdbcdecdefdefgefghfghighijhijkijkljklmklmnlmnomnopnopq";
 
@@ -189,6 +190,19 @@ fn macs_of_published_texts_piece_by_piece(rt: HostRuntime) {
             mac.update(piece);
         }
         check(&rt, mac.finish().as_slice(), case.mac);
+    }
+}
+
+#[test]
+fn macs_of_published_texts_by_a_kept_key(rt: HostRuntime) {
+    let mut keyed = KeyedMac::new();
+    for case in &MACS {
+        if case.key.len() <= 64 {
+            let first = keyed.hmac_parts(case.alg, copied(case.key), &[case.text]);
+            check(&rt, first.as_slice(), case.mac);
+            let again = keyed.hmac_parts(case.alg, copied(case.key), &[case.text]);
+            check(&rt, again.as_slice(), case.mac);
+        }
     }
 }
 

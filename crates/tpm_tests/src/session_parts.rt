@@ -8,7 +8,7 @@ use std::alloc::Global;
 use std::process::Abort;
 use tpm_bytes::Sink;
 use tpm_containers::{FixedSlots, ListSlots, Slots};
-use tpm_mac::HashAlg;
+use tpm_mac::{HashAlg, KeyedMac};
 use tpm_policy::PolicyState;
 use tpm_session::{
     Binding, CommandText, Nonce, Protection, Session, SessionKey, Sessions, Start, StartFault,
@@ -230,9 +230,15 @@ fn command_text() -> CommandText<'static> {
 #[test]
 fn an_entry_has_an_hmac(rt: HostRuntime) {
     let session = bound_session(SymmetricDefinition::Null);
-    let command = session.command_mac(b"entity", &command_text());
+    let command = session.command_mac(b"entity", &command_text(), &mut KeyedMac::new());
     check(&rt, command.as_slice(), COMMAND_MAC);
-    let response = session.response_mac(b"entity", RESPONSE_HASH, NONCE_CALLER, ATTRIBUTES);
+    let response = session.response_mac(
+        b"entity",
+        RESPONSE_HASH,
+        NONCE_CALLER,
+        ATTRIBUTES,
+        &mut KeyedMac::new(),
+    );
     check(&rt, response.as_slice(), RESPONSE_MAC);
 }
 

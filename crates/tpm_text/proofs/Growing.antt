@@ -78,7 +78,3 @@ drafts_err (Ok text) old new (Ok done) fault e h = absurd cc
 drafts_err (Ok text) old new (Err found) fault e h = absurd h
 drafts_err (Err other) old new (Ok done) fault e h = absurd h
 drafts_err (Err other) old new (Err found) fault e h = ap Err (sym h ∙ cc)
-
--- a fault leaves nothing to be said
-pub drafts_fault : {E : Type 0} (read : Result (List ℕ) E) (old new : Option (List ℕ)) (result : Result (Unit {0}) E) (fault : E) → read ≡ Err fault → result ≡ Err fault → Drafts read old result new
-drafts_fault read old new result fault e f = rw (e, f) refl

@@ -2,7 +2,6 @@ pub mod Cutting
 pub mod Numerals
 pub mod HexDigits
 pub mod Growing
-pub mod WordSizes
 pub mod Lists
 pub mod Counting
 pub mod EntryTexts

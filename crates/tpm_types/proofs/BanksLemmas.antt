@@ -1,7 +1,7 @@
 -- How long the text of a PCR selection is, and that a loop over its banks writes that text.
 use Rattle.std.proofs.Common.{◌≡◌, ℕ, ◌+◌, ◌*◌, ◌<◌, List, [], ◌∷◌, ◌++◌, length, take, get_or, refl, append_assoc, arith, length-append, take_all}
 use Rattle.std.specs.Int.{w32, to_be_bytes}
-use Rattle.tpm_bytes.proofs.Putting.{written_more}
+use Rattle.tpm_bytes.proofs.WrittenTexts.{written_more}
 use Rattle.tpm_types.specs.declared.pcr_selection.BankSelection.{BankSelection}
 use Rattle.tpm_types.specs.PcrSelection.{bank_text, banks_text, selection_text}
 

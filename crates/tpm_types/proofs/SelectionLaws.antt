@@ -46,9 +46,6 @@ fourth_octet select small = ap (λ n. select % 256 ∷ select / 256 % 256 ∷ se
 pub select_again : (select : ℕ) → select < 2 ^ 24 → select_of (select_text select) ≡ select
 select_again select small = ap (from_le_bytes w32) (fourth_octet select small) ∙ from_le_bytes-to_le_bytes_4 select (omega arith)
 
-length-select_text : (select : ℕ) → length (select_text select) ≡ 3
-length-select_text select = refl
-
 -- ---- a bank
 
 abbrev bank_of : HashAlg → List ℕ × List ℕ → BankSelection × List ℕ

@@ -2,12 +2,11 @@
 //! 10.9.5).
 
 ghost use Rattle.std.specs.Prelude.{◌≡◌, ◌+◌, ◌≤◌, ℕ, List, ◌++◌, length, Ok, IfOk};
-ghost use Rattle.tpm_bytes.specs.Reading.{Reads};
+ghost use Rattle.tpm_bytes.specs.Reading.{AreBytes, Reads};
 ghost use Rattle.tpm_bytes.specs.Writing.{Puts};
 ghost use Rattle.tpm_types.specs.DigestList.{digest_at};
 
 use crate::buffer::read_buffer;
-use crate::grammar::bytes_fit;
 use crate::rc::{Rc, ResponseCode};
 use arrayvec::ArrayVec;
 use tpm_bytes::{Cursor, Full, Readable, Sink, append, read_many};
@@ -71,14 +70,14 @@ impl DigestList {
             → Reads (λ list. digests_of list.digests.items) (Ok (digests, rest))
             text.old result text.new }
     {
-        bytes_fit(text.rest());
         DigestList::read_fields(text)
     }
 
     #[tactic(auto, unfolding(crate::specs::DigestList::digest_list_at))]
     fn read_fields(text: &mut Cursor) -> Result<DigestList, Rc>
-        ensures { Reads (λ list. digests_of list.digests.items) (digest_list_at text.old)
+        ensures exact { Reads (λ list. digests_of list.digests.items) (digest_list_at text.old)
             text.old result text.new }
+        ensures bytes { AreBytes text.old }
     {
         let mut ahead = Cursor::new(text.rest());
         let Ok(count) = ahead.u32() else {

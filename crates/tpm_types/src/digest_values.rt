@@ -2,14 +2,13 @@
 //! written (TPM 2.0 Library, Part 2, sections 10.3.2 and 10.9.6).
 
 ghost use Rattle.std.specs.Prelude.{◌≡◌, ◌+◌, ◌*◌, ◌≤◌, ℕ, List, ◌++◌, length, replicate, Ok, IfOk};
-ghost use Rattle.tpm_bytes.specs.Reading.{Reads};
+ghost use Rattle.tpm_bytes.specs.Reading.{AreBytes, Reads};
 ghost use Rattle.tpm_bytes.specs.Writing.{Puts};
 ghost use Rattle.tpm_types.specs.declared.digest_values.DigestValue.{DigestValue};
 ghost use Rattle.tpm_types.specs.DigestValues.{IsDigestValues, digest_value_at, digest_value_text};
 ghost use Rattle.tpm_types.specs.DigestValues.{digest_values_at, digest_values_text, values_text};
 
 use crate::algorithm::{hash_number, read_hash};
-use crate::grammar::bytes_fit;
 use crate::rc::{Rc, ResponseCode};
 use arrayvec::ArrayVec;
 use tpm_bytes::{Cursor, Full, Readable, Sink, read_many};
@@ -141,14 +140,14 @@ impl DigestValues {
             → text.old ≡ digest_values_text values ++ rest
             → Reads (λ digests. digests.values.items) (Ok (values, rest)) text.old result text.new }
     {
-        bytes_fit(text.rest());
         DigestValues::read_fields(text)
     }
 
     #[tactic(auto, unfolding(crate::specs::DigestValues::digest_values_at))]
     fn read_fields(text: &mut Cursor) -> Result<DigestValues, Rc>
-        ensures { Reads (λ digests. digests.values.items) (digest_values_at text.old)
+        ensures exact { Reads (λ digests. digests.values.items) (digest_values_at text.old)
             text.old result text.new }
+        ensures bytes { AreBytes text.old }
     {
         let mut ahead = Cursor::new(text.rest());
         let Ok(count) = ahead.u32() else {

@@ -2,7 +2,7 @@
 //! section 10.4.1).
 
 ghost use Rattle.std.specs.Prelude.{◌≡◌};
-ghost use Rattle.tpm_bytes.specs.Reading.{Reads};
+ghost use Rattle.tpm_bytes.specs.Reading.{AreBytes, Reads};
 ghost use Rattle.tpm_types.specs.Filled.{filled_by, within_buffer};
 
 use crate::buffer::read_buffer;
@@ -27,7 +27,9 @@ fn within_buffer(fault: Rc) -> Rc
 /// many, and the first fault of the structure before the latter.
 #[tactic(auto, unfolding(crate::specs::Filled::filled_by))]
 pub fn read_filled<'a, T: Readable<'a, Fault = Rc> + Drop>(text: &mut Cursor<'a>) -> Result<T, Rc>
-    ensures { Reads T.seen (filled_by T.at text.old) text.old result text.new }
+    ensures exact { Reads T.seen (filled_by T.at text.old) text.old result text.new }
+    // It is of bytes.
+    ensures bytes { AreBytes text.old }
 {
     let mut ahead = Cursor::new(text.rest());
     let mut buffer = Cursor::new(read_buffer(&mut ahead, 0xffff)?);

@@ -24,7 +24,6 @@ pub mod check;
 pub mod digest_list;
 pub mod digest_values;
 pub mod filled;
-pub mod grammar;
 pub mod handle;
 pub mod limits;
 pub mod locality;
@@ -55,7 +54,6 @@ pub use check::Check;
 pub use digest_list::DigestList;
 pub use digest_values::{DigestValue, DigestValues};
 pub use filled::read_filled;
-pub use grammar::bytes_fit;
 pub use handle::{Handle, HierarchyAuth, HierarchyHandle, SessionKind};
 pub use limits::{
     ANSWER_LIMIT, BUFFER_LIMIT, DATA_LIMIT, NV_DATA_LIMIT, NV_INDEX_LIMIT, NV_SPACE_LIMIT,

@@ -2,12 +2,11 @@
 //! Library, Part 2, section 10.9.7).
 
 ghost use Rattle.std.specs.Prelude.{◌≡◌, ◌+◌, ◌*◌, ◌≤◌, ◌<◌, ℕ, List, ◌++◌, length, IfOk};
-ghost use Rattle.tpm_bytes.specs.Reading.{Reads};
+ghost use Rattle.tpm_bytes.specs.Reading.{AreBytes, Reads};
 ghost use Rattle.tpm_bytes.specs.Writing.{Puts};
 ghost use Rattle.tpm_types.specs.declared.pcr_selection.BankSelection.{BankSelection};
 
 use crate::algorithm::{hash_number, read_hash};
-use crate::grammar::bytes_fit;
 use crate::pcr::{PcrSelect, SELECT_SIZE};
 use crate::rc::{Rc, ResponseCode};
 use arrayvec::ArrayVec;
@@ -126,14 +125,14 @@ impl PcrSelection {
             → Reads (λ selection. selection.banks.items) (Ok (banks, rest))
             text.old result text.new }
     {
-        bytes_fit(text.rest());
         PcrSelection::read_fields(text)
     }
 
     #[tactic(auto, unfolding(crate::specs::PcrSelection::selection_at))]
     fn read_fields(text: &mut Cursor) -> Result<PcrSelection, Rc>
-        ensures { Reads (λ selection. selection.banks.items) (selection_at text.old)
+        ensures exact { Reads (λ selection. selection.banks.items) (selection_at text.old)
             text.old result text.new }
+        ensures bytes { AreBytes text.old }
     {
         let mut ahead = Cursor::new(text.rest());
         let Ok(count) = ahead.u32() else {

@@ -2,11 +2,10 @@
 //! masks (TPMT_SYM_DEF; TPM 2.0 Library, Part 2, section 11.1.6).
 
 ghost use Rattle.std.specs.Prelude.{◌≡◌, ◌+◌, ◌≤◌, ℕ, List, ◌++◌, length, Ok, IfOk};
-ghost use Rattle.tpm_bytes.specs.Reading.{Reads};
+ghost use Rattle.tpm_bytes.specs.Reading.{AreBytes, Reads};
 ghost use Rattle.tpm_bytes.specs.Writing.{Puts};
 
 use crate::algorithm::read_hash;
-use crate::grammar::bytes_fit;
 use crate::rc::{Rc, ResponseCode};
 use tpm_bytes::{Cursor, Full, Sink};
 use tpm_mac::HashAlg;
@@ -41,14 +40,14 @@ impl SymmetricDefinition {
             → text.old ≡ symmetric_text definition ++ rest
             → Reads (λ definition. definition) (Ok (definition, rest)) text.old result text.new }
     {
-        bytes_fit(text.rest());
         SymmetricDefinition::read_fields(text)
     }
 
     #[tactic(auto, unfolding(crate::specs::Symmetric::symmetric_at))]
     fn read_fields(text: &mut Cursor) -> Result<SymmetricDefinition, Rc>
-        ensures { Reads (λ definition. definition) (symmetric_at text.old) text.old
+        ensures exact { Reads (λ definition. definition) (symmetric_at text.old) text.old
             result text.new }
+        ensures bytes { AreBytes text.old }
     {
         let mut ahead = Cursor::new(text.rest());
         let Ok(number) = ahead.u16() else {

@@ -3,10 +3,10 @@
 
 ghost use Rattle.std.specs.Prelude.{◌≡◌, ℕ, ◌+◌, ◌≤◌, ◌<◌, List, ◌++◌, length, Ok, IfOk};
 ghost use Rattle.std.specs.Option.{SomeIff};
-ghost use Rattle.tpm_bytes.specs.Reading.{Reads};
+ghost use Rattle.tpm_bytes.specs.Reading.{AreBytes, Reads};
 
 use tpm_bytes::{Cursor, Full, Sink};
-use tpm_types::{Handle, Rc, ResponseCode, SessionAttributes, bytes_fit};
+use tpm_types::{Handle, Rc, ResponseCode, SessionAttributes};
 
 /// One entry of a command's authorization area: TPMS_AUTH_COMMAND (Part 2, section 10.13.2). The
 /// nonce and the HMAC (or password) have any length that their sizes can say.
@@ -34,13 +34,13 @@ impl<'a> AuthEntry<'a> {
             → text.old ≡ auth_entry_text entry ++ rest
             → Reads entry_of (Ok (entry, rest)) text.old result text.new }
     {
-        bytes_fit(text.rest());
         AuthEntry::read_fields(text)
     }
 
     #[tactic(auto, unfolding(crate::specs::AuthEntry::entry_at))]
     fn read_fields(text: &mut Cursor<'a>) -> Result<AuthEntry<'a>, Rc>
-        ensures { Reads entry_of (entry_at text.old) text.old result text.new }
+        ensures exact { Reads entry_of (entry_at text.old) text.old result text.new }
+        ensures bytes { AreBytes text.old }
     {
         let mut ahead = Cursor::new(text.rest());
         let Ok(number) = ahead.u32() else {

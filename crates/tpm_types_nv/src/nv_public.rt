@@ -1,13 +1,13 @@
 //! The public area of an NV index (TPMS_NV_PUBLIC; TPM 2.0 Library, Part 2, section 13.5).
 
 ghost use Rattle.std.specs.Prelude.{◌≡◌, ℕ, ◌≤◌, List, ◌++◌, length, Ok, IfOk};
-ghost use Rattle.tpm_bytes.specs.Reading.{Reads};
+ghost use Rattle.tpm_bytes.specs.Reading.{AreBytes, Reads};
 ghost use Rattle.tpm_bytes.specs.Writing.{Puts, sized_text};
 
 use crate::nv_attributes::NvAttributes;
 use tpm_bytes::{Cursor, Full, Readable, Sink};
 use tpm_mac::HashAlg;
-use tpm_types::{Handle, Octets, Rc, ResponseCode, bytes_fit, hash_number, read_filled, read_hash};
+use tpm_types::{Handle, Octets, Rc, ResponseCode, hash_number, read_filled, read_hash};
 
 /// The public area of an NV index: TPMS_NV_PUBLIC of TPM 2.0 Library, Part 2, section 13.5.
 #[derive(Drop)]
@@ -39,7 +39,6 @@ impl NvPublic {
             → text.old ≡ nv_public_text public ++ rest
             → Reads (λ public. public) (Ok (public, rest)) text.old result text.new }
     {
-        bytes_fit(text.rest());
         NvPublic::read_fields(text)
     }
 
@@ -54,7 +53,6 @@ impl NvPublic {
             → text.old ≡ sized_text (nv_public_text public) ++ rest
             → Reads (λ public. public) (Ok (public, rest)) text.old result text.new }
     {
-        bytes_fit(text.rest());
         read_filled(text)
     }
 
@@ -78,7 +76,8 @@ impl NvPublic {
 
     #[tactic(auto, unfolding(crate::specs::NvPublic::nv_public_at))]
     fn read_fields(text: &mut Cursor) -> Result<NvPublic, Rc>
-        ensures { Reads (λ public. public) (nv_public_at text.old) text.old result text.new }
+        ensures exact { Reads (λ public. public) (nv_public_at text.old) text.old result text.new }
+        ensures bytes { AreBytes text.old }
     {
         let mut ahead = Cursor::new(text.rest());
         let nv_index = NvPublic::read_index(&mut ahead)?;

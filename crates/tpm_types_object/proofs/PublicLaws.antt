@@ -33,11 +33,6 @@ use Rattle.tpm_types.proofs.SymmetricLaws.{chosen, cipher_again, cipher_takes}
 
 -- ---- schemes
 
--- what stands after the number of a scheme
-behind_number : KeyedHashScheme → List ℕ
-behind_number Null = []
-behind_number (Hmac hash) = to_be_bytes w16 (hash_number hash)
-
 hmac_takes : (bytes : List ℕ) (x : KeyedHashScheme × List ℕ) → AreBytes bytes → hmac_at bytes ≡ Ok x → Takes (to_be_bytes w16 0x0005 ++ bytes) (scheme_text x.0) x.1
 unfolding scheme_text
 hmac_takes bytes x fits e =

@@ -2,14 +2,13 @@
 //! (TPMS_CREATION_DATA; TPM 2.0 Library, Part 2, section 15.1).
 
 ghost use Rattle.std.specs.Prelude.{◌≡◌, ℕ, ◌≤◌, List, ◌++◌, length, Ok, IfOk};
-ghost use Rattle.tpm_bytes.specs.Reading.{Reads};
+ghost use Rattle.tpm_bytes.specs.Reading.{AreBytes, Reads};
 ghost use Rattle.tpm_bytes.specs.Writing.{Puts, sized_text};
 
 use tpm_bytes::{Cursor, Full, Readable, Sink};
 use tpm_mac::HashAlg;
 use tpm_types::{
-    Octets, PcrSelection, Rc, ResponseCode, bytes_fit, hash_or_null_number, read_filled,
-    read_hash_or_null,
+    Octets, PcrSelection, Rc, ResponseCode, hash_or_null_number, read_filled, read_hash_or_null,
 };
 
 /// What a new object was made with: TPMS_CREATION_DATA of TPM 2.0 Library, Part 2, section 15.1.
@@ -46,7 +45,6 @@ impl CreationData {
             → text.old ≡ creation_data_text creation ++ rest
             → Reads (λ creation. creation) (Ok (creation, rest)) text.old result text.new }
     {
-        bytes_fit(text.rest());
         CreationData::read_fields(text)
     }
 
@@ -60,14 +58,14 @@ impl CreationData {
             → text.old ≡ sized_text (creation_data_text creation) ++ rest
             → Reads (λ creation. creation) (Ok (creation, rest)) text.old result text.new }
     {
-        bytes_fit(text.rest());
         read_filled(text)
     }
 
     #[tactic(auto, unfolding(crate::specs::CreationData::creation_data_at))]
     fn read_fields(text: &mut Cursor) -> Result<CreationData, Rc>
-        ensures { Reads (λ creation. creation) (creation_data_at text.old) text.old
+        ensures exact { Reads (λ creation. creation) (creation_data_at text.old) text.old
             result text.new }
+        ensures bytes { AreBytes text.old }
     {
         let mut ahead = Cursor::new(text.rest());
         let pcr_select = PcrSelection::read(&mut ahead)?;

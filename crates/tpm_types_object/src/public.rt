@@ -2,14 +2,14 @@
 //! Part 2, section 12.2).
 
 ghost use Rattle.std.specs.Prelude.{◌≡◌, ℕ, ◌+◌, ◌≤◌, List, ◌++◌, length, Ok, IfOk};
-ghost use Rattle.tpm_bytes.specs.Reading.{Reads};
+ghost use Rattle.tpm_bytes.specs.Reading.{AreBytes, Reads};
 ghost use Rattle.tpm_bytes.specs.Writing.{Puts, sized_text};
 
 use crate::object_attributes::ObjectAttributes;
 use tpm_bytes::{Cursor, Full, Readable, Sink};
 use tpm_mac::HashAlg;
 use tpm_types::{
-    Octets, Rc, ResponseCode, SymmetricDefinition, bytes_fit, hash_number, read_filled, read_hash,
+    Octets, Rc, ResponseCode, SymmetricDefinition, hash_number, read_filled, read_hash,
 };
 
 /// The type of an object: TPMI_ALG_PUBLIC of TPM 2.0 Library, Part 2, section 12.2.2.
@@ -217,7 +217,6 @@ impl Public {
             → text.old ≡ public_text public ++ rest
             → Reads (λ public. public) (Ok (public, rest)) text.old result text.new }
     {
-        bytes_fit(text.rest());
         Public::read_fields(text)
     }
 
@@ -231,13 +230,13 @@ impl Public {
             → text.old ≡ sized_text (public_text public) ++ rest
             → Reads (λ public. public) (Ok (public, rest)) text.old result text.new }
     {
-        bytes_fit(text.rest());
         read_filled(text)
     }
 
     #[tactic(auto, unfolding(crate::specs::Public::public_at))]
     fn read_fields(text: &mut Cursor) -> Result<Public, Rc>
-        ensures { Reads (λ public. public) (public_at text.old) text.old result text.new }
+        ensures exact { Reads (λ public. public) (public_at text.old) text.old result text.new }
+        ensures bytes { AreBytes text.old }
     {
         let mut ahead = Cursor::new(text.rest());
         let kind = ObjectType::read(&mut ahead)?;

@@ -2,12 +2,12 @@
 //! (TPMT_SENSITIVE; TPM 2.0 Library, Part 2, section 12.3.2.4).
 
 ghost use Rattle.std.specs.Prelude.{◌≡◌, ℕ, ◌≤◌, List, ◌++◌, length, Ok, IfOk};
-ghost use Rattle.tpm_bytes.specs.Reading.{Reads};
+ghost use Rattle.tpm_bytes.specs.Reading.{AreBytes, Reads};
 ghost use Rattle.tpm_bytes.specs.Writing.{Puts, sized_text};
 
 use crate::public::ObjectType;
 use tpm_bytes::{Cursor, Full, Readable, Sink};
-use tpm_types::{Octets, Rc, SENSITIVE_LIMIT, bytes_fit, read_filled};
+use tpm_types::{Octets, Rc, SENSITIVE_LIMIT, read_filled};
 
 /// The sensitive area of an object: TPMT_SENSITIVE of TPM 2.0 Library, Part 2, section 12.3.2.4.
 #[derive(Drop)]
@@ -39,7 +39,6 @@ impl Sensitive {
             → text.old ≡ sensitive_text area ++ rest
             → Reads (λ area. area) (Ok (area, rest)) text.old result text.new }
     {
-        bytes_fit(text.rest());
         Sensitive::read_fields(text)
     }
 
@@ -53,13 +52,13 @@ impl Sensitive {
             → text.old ≡ sized_text (sensitive_text area) ++ rest
             → Reads (λ area. area) (Ok (area, rest)) text.old result text.new }
     {
-        bytes_fit(text.rest());
         read_filled(text)
     }
 
     #[tactic(auto, unfolding(crate::specs::Sensitive::sensitive_at))]
     fn read_fields(text: &mut Cursor) -> Result<Sensitive, Rc>
-        ensures { Reads (λ area. area) (sensitive_at text.old) text.old result text.new }
+        ensures exact { Reads (λ area. area) (sensitive_at text.old) text.old result text.new }
+        ensures bytes { AreBytes text.old }
     {
         let mut ahead = Cursor::new(text.rest());
         let object_type = ObjectType::read(&mut ahead)?;
@@ -88,9 +87,12 @@ impl Sensitive {
     }
 
     /// The text of the sensitive area, in the room for the longest.
+    #[inline(never)]
     #[tactic(auto, unfolding(crate::specs::Sensitive::sensitive_text))]
     pub fn text(&self) -> Sink<200>
-        ensures { result ≡ sensitive_text self.now }
+        ensures value { result ≡ sensitive_text self.now }
+        // None of its buffers is longer than it may be.
+        ensures fits { IsSensitive self.now }
     {
         let mut text = Sink::new();
         text.append_u16(self.object_type.number());

@@ -2,13 +2,13 @@
 //! Library, Part 2, section 11.1.15).
 
 ghost use Rattle.std.specs.Prelude.{◌≡◌, ◌≤◌, ℕ, List, ◌++◌, length, Ok, IfOk};
-ghost use Rattle.tpm_bytes.specs.Reading.{Reads};
+ghost use Rattle.tpm_bytes.specs.Reading.{AreBytes, Reads};
 ghost use Rattle.tpm_bytes.specs.Writing.{sized_text};
 ghost use Rattle.tpm_types.specs.Limits.{sensitive_limit};
 ghost use Rattle.tpm_types.specs.Filled.{filled_by};
 
 use tpm_bytes::{Cursor, Readable, Sink};
-use tpm_types::{Rc, SENSITIVE_LIMIT, bytes_fit, read_buffer, read_filled};
+use tpm_types::{Rc, SENSITIVE_LIMIT, read_buffer, read_filled};
 
 /// What the caller gives to a new object's sensitive area: TPMS_SENSITIVE_CREATE of TPM 2.0
 /// Library, Part 2, section 11.1.15.
@@ -38,7 +38,6 @@ impl<'a> SensitiveCreate<'a> {
             → text.old ≡ sensitive_create_text given ++ rest
             → Reads sensitive_values_of (Ok (given, rest)) text.old result text.new }
     {
-        bytes_fit(text.rest());
         SensitiveCreate::read_fields(text)
     }
 
@@ -53,14 +52,14 @@ impl<'a> SensitiveCreate<'a> {
             → text.old ≡ sized_text (sensitive_create_text given) ++ rest
             → Reads sensitive_values_of (Ok (given, rest)) text.old result text.new }
     {
-        bytes_fit(text.rest());
         read_filled(text)
     }
 
     #[tactic(auto, unfolding(crate::specs::SensitiveCreate::sensitive_create_at))]
     fn read_fields(text: &mut Cursor<'a>) -> Result<SensitiveCreate<'a>, Rc>
-        ensures { Reads sensitive_values_of (sensitive_create_at text.old) text.old
+        ensures exact { Reads sensitive_values_of (sensitive_create_at text.old) text.old
             result text.new }
+        ensures bytes { AreBytes text.old }
     {
         let mut ahead = Cursor::new(text.rest());
         let user_auth = read_buffer(&mut ahead, 32)?;

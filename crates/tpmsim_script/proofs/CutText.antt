@@ -1,5 +1,5 @@
 -- Text that was printed and then cut off.
-use Rattle.std.proofs.Common.{◌≡◌, ℕ, List, [], ◌++◌, Option, Some, None, refl, sym, ap, ◌∙◌, append_assoc, append-nil}
+use Rattle.std.proofs.Common.{◌≡◌, ℕ, List, [], ◌++◌, Option, Some, None, sym, ap, ◌∙◌, append_assoc, append-nil}
 use Rattle.std.specs.Prelude.{Result, Ok, Err, OnErr}
 use Rattle.std.specs.Io.KnownBytes.{Appends, Keeps, append_known}
 use Rattle.tpm_bytes.specs.Tap.{AppendsFront}
@@ -17,19 +17,6 @@ cut_writing (Some old) (Some new) held h =
 pub on_err : {X E : Type 0} (result : Result X E) (fact : Type 0) → fact → OnErr result fact
 on_err (Ok x) fact h = tt
 on_err (Err e) fact h = h
-
--- nothing was cut off
-pub cut_nothing : (a b : Option (List ℕ)) → Keeps a b → CutOff a b
-cut_nothing None b k = tt
-cut_nothing (Some a) None k = absurd k
-cut_nothing (Some a) (Some b) k = ([], sym k ∙ sym (append-nil b))
-
--- what was kept is cut off, and what was cut off is kept
-pub kept_then_cut : (a b c : Option (List ℕ)) → Keeps a b → CutOff b c → CutOff a c
-kept_then_cut None b c k h = tt
-kept_then_cut (Some a) None c k h = absurd k
-kept_then_cut (Some a) (Some b) None k h = absurd h
-kept_then_cut (Some a) (Some b) (Some c) k h = (h.0, sym k ∙ h.1)
 
 pub cut_then_kept : (a b c : Option (List ℕ)) → CutOff a b → Keeps b c → CutOff a c
 cut_then_kept None b c h k = tt

@@ -9,19 +9,6 @@ written None new held h = tt
 written (Some old) None held h = absurd h
 written (Some old) (Some new) held h = append-nil new ∙ h
 
--- in two turns
-pub keeps_on : (a b c : Option (List ℕ)) → Keeps a b → Keeps b c → Keeps a c
-keeps_on None b c h k = tt
-keeps_on (Some a) None c h k = absurd h
-keeps_on (Some a) (Some b) None h k = absurd k
-keeps_on (Some a) (Some b) (Some c) h k = k ∙ h
-
-pub appends_on : (a b c : Option (List ℕ)) (more : List ℕ) → Keeps a b → Appends b c more → Appends a c more
-appends_on None b c more h k = tt
-appends_on (Some a) None c more h k = absurd h
-appends_on (Some a) (Some b) None more h k = absurd k
-appends_on (Some a) (Some b) (Some c) more h k = k ∙ ap (λ (l : List ℕ). l ++ more) h
-
 -- more is held
 pub held : (known : Option (List ℕ)) (old more : List ℕ) → Appends (append_known known old) (append_known known (old ++ more)) more
 held None old more = tt

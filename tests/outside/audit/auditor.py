@@ -12,6 +12,7 @@ from guesses import Guesses
 from log import Disagreement
 from pcr_lines import PcrLines
 from player import LINES, BadLine, Player
+from policies import Policies
 from repeats import Repeats
 from session_lines import SessionLines
 from uses import Uses
@@ -31,9 +32,11 @@ class Counts:
 
 
 class Auditor:
-    """A log that is judged, with what is told of it; `last` is the line of its latest event."""
+    """A log that is judged, by the policies that are given too, with what is told of it; `last` is
+    the line of its latest event.
+    """
 
-    def __init__(self, start, log):
+    def __init__(self, start, log, policy_files=()):
         device, history = start.device, start.history
         self.start, self.log, self.history = start, log, history
         self.player, self.watch = Player(), Watch(device)
@@ -46,7 +49,10 @@ class Auditor:
         self.guesses = Guesses(device, self.sessions)
         self.repeats = Repeats(self.sessions)
         self.grounds = Grounds(history, self.sessions, self.pcrs, self.values)
-        self.uses = Uses(self.grounds, self.entities, self.guesses, self.repeats)
+        self.policies = Policies(policy_files, self.entities, self.grounds)
+        self.uses = Uses(
+            *(self.grounds, self.entities, self.guesses, self.repeats, self.policies)
+        )
 
     def read(self, script):
         """Judges all lines of a script; the first Disagreement ends it."""

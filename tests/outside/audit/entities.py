@@ -13,11 +13,14 @@ from words import entity_words, index_words, means_words, object_words
 
 @dataclass
 class Entity:
-    """What a handle names while it stays the same; its uses, a text a line."""
+    """What a handle names while it stays the same, with its public area, if it has one; its uses, a
+    text a line.
+    """
 
     handle: int
     title: str
     first: int = 0
+    public: object = None
     used: list = field(default_factory=list)
 
 
@@ -34,7 +37,7 @@ class Entities:
         is_index = isinstance(public, nv.Public)
         kind = index_words(public) if is_index else object_words(public)
         title = f"{handle_word(handle)}, {kind} {since}; {means_words(public)}"
-        self.keep(Entity(handle, title, line))
+        self.keep(Entity(handle, title, line, public))
 
     def keep(self, entity):
         self.now[entity.handle] = entity

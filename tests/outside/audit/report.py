@@ -7,10 +7,12 @@ def report(auditor):
     """That of the events so far."""
     yield f"Start: {auditor.start.words}."
     yield events_words(auditor.counts)
+    given = [auditor.policies.report()] if auditor.policies.all else []
     for part in (
         auditor.pcrs.report(),
         auditor.sessions.report(),
         auditor.uses.report(),
+        *given,
         auditor.repeats.report(),
         auditor.counters.report(),
         auditor.guesses.report(auditor.last),

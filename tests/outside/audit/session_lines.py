@@ -4,6 +4,7 @@ from dataclasses import dataclass, field
 
 import frames
 import history
+from asserted import asserted_by
 from commands import CC
 from lines import handle_word
 from words import HASHES, KINDS, asserted_words, command_name
@@ -12,13 +13,14 @@ from words import HASHES, KINDS, asserted_words, command_name
 @dataclass
 class Begun:
     """A session: the line that started it, how its bind entity is protected, the line of its first
-    TPM2_PolicyPCR since its policy began, what happened to it, a text a line, and which commands
-    were accepted with an hmac of it.
+    TPM2_PolicyPCR and what was asserted since its policy began, what happened to it, a text a line,
+    and which commands were accepted with an hmac of it.
     """
 
     line: int
     protection: str = None
     first_pcr: int = None
+    asserted: list = field(default_factory=list)
     title: str = ""
     told: list = field(default_factory=list)
     accepted: dict = field(default_factory=dict)
@@ -39,6 +41,10 @@ class SessionLines:
     def first_pcr(self, handle):
         return self.live[handle].first_pcr
 
+    def assertions(self, handle):
+        """What was asserted on a policy session since its policy began."""
+        return self.live[handle].asserted
+
     def protection(self, handle):
         """What wrong entries of a session count at by its binding, if at anything."""
         return self.live[handle].protection if handle in self.live else None
@@ -53,6 +59,7 @@ class SessionLines:
         made = history.asserted(event, session, self.history.pcrs)
         if event.code == CC.PolicyPCR and begun.first_pcr is None:
             begun.first_pcr = seen.line
+        begun.asserted.append(asserted_by(seen, session, made, self.history.pcrs))
         begun.tell(seen.line, f"{asserted_words(event)}: {made.policy.digest.hex()}")
 
     def use_for(self, use):
@@ -99,6 +106,7 @@ class SessionLines:
 
     def restart(self, handle):
         self.live[handle].first_pcr = None
+        self.live[handle].asserted = []
 
     def end(self, seen, handle, words):
         if handle in self.live:

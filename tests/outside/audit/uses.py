@@ -22,9 +22,9 @@ def is_of_entry(seen):
 class Uses:
     """How many uses had a ground, how many were refused, and how many entries authorize nothing."""
 
-    def __init__(self, grounds, entities, guesses, repeats):
+    def __init__(self, grounds, entities, guesses, repeats, policies):
         self.grounds, self.entities, self.guesses = grounds, entities, guesses
-        self.repeats = repeats
+        self.repeats, self.policies = repeats, policies
         self.history, self.sessions = grounds.history, grounds.sessions
         self.allowed = self.refused = self.others = 0
 
@@ -44,6 +44,7 @@ class Uses:
             else:
                 self.allowed += 1
                 self.tell(use, findings)
+                self.policies.note(use)
 
     def tell(self, use, findings):
         """A use with its ground: of a policy session each condition, of all else what was shown."""

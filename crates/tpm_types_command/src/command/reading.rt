@@ -1,7 +1,7 @@
 //! The reader of a whole command, from its header to its parameters.
 
 ghost use Rattle.std.specs.Prelude.{◌≡◌, ◌≤◌, [], length, map, Ok, IfOk};
-ghost use Rattle.tpm_bytes.specs.Reading.{Reads};
+ghost use Rattle.tpm_bytes.specs.Reading.{AreBytes, Reads};
 ghost use Rattle.tpm_types_command.specs.AuthEntry.{entry_of};
 ghost use Rattle.tpm_types_command.specs.Command.{IsCommand, Whole, command_at, command_text};
 ghost use Rattle.tpm_types_command.specs.Command.{handles_at, sessions_at, whole_of};
@@ -13,7 +13,7 @@ use crate::header::Header;
 use crate::tag::Tag;
 use arrayvec::ArrayVec;
 use tpm_bytes::Cursor;
-use tpm_types::{Handle, Rc, ResponseCode, bytes_fit};
+use tpm_types::{Handle, Rc, ResponseCode};
 
 impl<'a> Command<'a> {
     /// Reads a command that is the whole rest of the text, within the limit of a buffer: its
@@ -28,13 +28,13 @@ impl<'a> Command<'a> {
         ensures only { (command : Whole) → IsCommand command → text.old ≡ command_text command
             → Reads whole_of (Ok (command, [])) text.old result text.new }
     {
-        bytes_fit(text.rest());
         Command::read_fields(text)
     }
 
     #[tactic(auto, unfolding(crate::specs::Command::command_at))]
     fn read_fields(text: &mut Cursor<'a>) -> Result<Command<'a>, Rc>
-        ensures { Reads whole_of (command_at text.old) text.old result text.new }
+        ensures exact { Reads whole_of (command_at text.old) text.old result text.new }
+        ensures bytes { AreBytes text.old }
     {
         let mut ahead = Cursor::new(text.rest());
         let header = match Header::read(&mut ahead) {

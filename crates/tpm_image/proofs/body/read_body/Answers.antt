@@ -12,6 +12,6 @@ returns g c =
     let r = g.K.Keep.record_of c.args.keep.now in
     let written : g.K.Keep.record_of (g.K.Keep.with_nv (g.K.Keep.with_persistent (g.K.Keep.with_nv (g.K.Keep.with_fixed c.args.keep.now c.read_state.new.fixed) c.set_max_count.new.self) c.read_objects.new.objects) c.read_indices.new.indices) ≡ record r { fixed = c.read_state.new.fixed; persistent = persistent; nv = nv } = search rules in (
       kept,
-      body_read c.args.version c.args.body.now c.new-text.result _ _ _ _ state.0 persistent nv.indices c.new-text.ensures c.in-Ok.ensures state.1 c.in_ok-read_objects.ensures c.in_ok-read_indices.ensures.filled (search rules),
+      body_read c.args.version c.args.body.now c.new-text.result _ _ _ _ state.0 persistent nv.indices c.new-text.ensures.value c.in-Ok.ensures state.1 c.in_ok-read_objects.ensures c.in_ok-read_indices.ensures.filled (search rules),
       written ∙ powered r c.fixed_mut.result.now c.read_state.new.fixed state.0 persistent nv c.requires c.fixed_mut.ensures.value state.2 (search rules),
     )

@@ -1,6 +1,11 @@
-use Rattle.std.proofs.Common.{◌≡◌}
+use Rattle.std.proofs.Common.{◌≡◌, ◌≤◌, length}
+use Rattle.tpm_types.specs.Limits.{object_limit}
 use Rattle.tpm_record.proofs.ClearLaws.{cleared_up_to}
 use Rattle.tpm_record.proofs.clear.clear_places.Given as goal
 
 abbrev pub invariant-loop-place : goal.invariant-loop-place
-invariant-loop-place g l = g.O.Slots.places l.places ≡ cleared_up_to l.place (g.O.Slots.places l.initial.places)
+invariant-loop-place g l = record {
+  cleared : g.O.Slots.places l.places ≡ cleared_up_to l.place (g.O.Slots.places l.initial.places);
+  -- once one place was looked at
+  all : 1 ≤ l.place → length (g.O.Slots.places l.initial.places) ≡ object_limit;
+}

@@ -36,4 +36,5 @@ returns g c =
       sessions = tells.sessions;
       replays = tells.replays;
       grounds = tells.grounds;
+      policies = tells.policies;
     }

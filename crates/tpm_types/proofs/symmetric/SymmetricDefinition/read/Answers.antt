@@ -1,4 +1,3 @@
-use Rattle.tpm_bytes.proofs.Fields.{AreBytes}
 use Rattle.tpm_types.specs.declared.symmetric.SymmetricDefinition.{SymmetricDefinition}
 use Rattle.tpm_types.specs.Symmetric.{symmetric_at, symmetric_text}
 use Rattle.tpm_types.proofs.Laws.{read_only, read_spelled}
@@ -7,8 +6,7 @@ use Rattle.tpm_types.proofs.symmetric.SymmetricDefinition.read.Goals as goal
 
 pub returns-clause-found : goal.returns-clause-found
 returns-clause-found c =
-    let fits : AreBytes c.args.text.now = λ i. rw (← c.rest.ensures) (c.bytes_fit.ensures i) in
-    read_spelled symmetric_at symmetric_text symmetric_takes c.args.text.now c.read_fields.result c.read_fields.new.text fits c.read_fields.ensures
+    read_spelled symmetric_at symmetric_text symmetric_takes c.args.text.now c.read_fields.result c.read_fields.new.text c.read_fields.ensures.bytes c.read_fields.ensures.exact
 
 pub returns-clause-only : goal.returns-clause-only
-returns-clause-only c = λ definition rest spelled. read_only (λ (d : SymmetricDefinition). d) symmetric_at c.args.text.now _ definition rest c.read_fields.result c.read_fields.new.text (symmetric_again definition rest) spelled c.read_fields.ensures
+returns-clause-only c = λ definition rest spelled. read_only (λ (d : SymmetricDefinition). d) symmetric_at c.args.text.now _ definition rest c.read_fields.result c.read_fields.new.text (symmetric_again definition rest) spelled c.read_fields.ensures.exact

@@ -1,4 +1,3 @@
-use Rattle.tpm_bytes.proofs.Fields.{AreBytes}
 use Rattle.tpm_types_object.specs.declared.creation_data.CreationData.{CreationData}
 use Rattle.tpm_types.proofs.Laws.{spelled_found, spelled_only}
 use Rattle.tpm_types_object.proofs.CreationLaws.{sized_creation_data_spelled}
@@ -6,8 +5,7 @@ use Rattle.tpm_types_object.proofs.creation_data.CreationData.read_sized.Goals a
 
 pub returns-clause-found : goal.returns-clause-found
 returns-clause-found c =
-    let fits : AreBytes c.args.text.now = λ i. rw (← c.rest.ensures) (c.bytes_fit.ensures i) in
-    spelled_found sized_creation_data_spelled (λ (x : CreationData). x) c.args.text.now c.read_filled.result c.read_filled.new.text fits c.read_filled.ensures
+    spelled_found sized_creation_data_spelled (λ (x : CreationData). x) c.args.text.now c.read_filled.result c.read_filled.new.text c.read_filled.ensures.bytes c.read_filled.ensures.exact
 
 pub returns-clause-only : goal.returns-clause-only
-returns-clause-only c = λ x rest is spelled. spelled_only sized_creation_data_spelled (λ (x : CreationData). x) c.args.text.now x rest c.read_filled.result c.read_filled.new.text is spelled c.read_filled.ensures
+returns-clause-only c = λ x rest is spelled. spelled_only sized_creation_data_spelled (λ (x : CreationData). x) c.args.text.now x rest c.read_filled.result c.read_filled.new.text is spelled c.read_filled.ensures.exact

@@ -1,4 +1,3 @@
-use Rattle.tpm_bytes.proofs.Fields.{AreBytes}
 use Rattle.tpm_types_object.specs.declared.sensitive.Sensitive.{Sensitive}
 use Rattle.tpm_types.proofs.Laws.{spelled_found, spelled_only}
 use Rattle.tpm_types_object.proofs.SensitiveLaws.{sensitive_spelled}
@@ -6,8 +5,7 @@ use Rattle.tpm_types_object.proofs.sensitive.Sensitive.read.Goals as goal
 
 pub returns-clause-found : goal.returns-clause-found
 returns-clause-found c =
-    let fits : AreBytes c.args.text.now = λ i. rw (← c.rest.ensures) (c.bytes_fit.ensures i) in
-    spelled_found sensitive_spelled (λ (x : Sensitive). x) c.args.text.now c.read_fields.result c.read_fields.new.text fits c.read_fields.ensures
+    spelled_found sensitive_spelled (λ (x : Sensitive). x) c.args.text.now c.read_fields.result c.read_fields.new.text c.read_fields.ensures.bytes c.read_fields.ensures.exact
 
 pub returns-clause-only : goal.returns-clause-only
-returns-clause-only c = λ x rest is spelled. spelled_only sensitive_spelled (λ (x : Sensitive). x) c.args.text.now x rest c.read_fields.result c.read_fields.new.text is spelled c.read_fields.ensures
+returns-clause-only c = λ x rest is spelled. spelled_only sensitive_spelled (λ (x : Sensitive). x) c.args.text.now x rest c.read_fields.result c.read_fields.new.text is spelled c.read_fields.ensures.exact

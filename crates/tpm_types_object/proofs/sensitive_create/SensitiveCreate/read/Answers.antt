@@ -1,4 +1,3 @@
-use Rattle.tpm_bytes.proofs.Fields.{AreBytes}
 use Rattle.tpm_types_object.specs.SensitiveCreate.{sensitive_values_of}
 use Rattle.tpm_types.proofs.Laws.{spelled_is, spelled_only, spelled_text}
 use Rattle.tpm_types_object.proofs.SensitiveLaws.{sensitive_create_spelled}
@@ -6,13 +5,11 @@ use Rattle.tpm_types_object.proofs.sensitive_create.SensitiveCreate.read.Goals a
 
 pub returns-clause-fits : goal.returns-clause-fits
 returns-clause-fits c =
-    let fits : AreBytes c.args.text.now = λ i. rw (← c.rest.ensures) (c.bytes_fit.ensures i) in
-    spelled_is sensitive_create_spelled sensitive_values_of c.args.text.now c.read_fields.result c.read_fields.new.text fits c.read_fields.ensures
+    spelled_is sensitive_create_spelled sensitive_values_of c.args.text.now c.read_fields.result c.read_fields.new.text c.read_fields.ensures.bytes c.read_fields.ensures.exact
 
 pub returns-clause-found : goal.returns-clause-found
 returns-clause-found c =
-    let fits : AreBytes c.args.text.now = λ i. rw (← c.rest.ensures) (c.bytes_fit.ensures i) in
-    spelled_text sensitive_create_spelled sensitive_values_of c.args.text.now c.read_fields.result c.read_fields.new.text fits c.read_fields.ensures
+    spelled_text sensitive_create_spelled sensitive_values_of c.args.text.now c.read_fields.result c.read_fields.new.text c.read_fields.ensures.bytes c.read_fields.ensures.exact
 
 pub returns-clause-only : goal.returns-clause-only
-returns-clause-only c = λ given rest is spelled. spelled_only sensitive_create_spelled sensitive_values_of c.args.text.now given rest c.read_fields.result c.read_fields.new.text is spelled c.read_fields.ensures
+returns-clause-only c = λ given rest is spelled. spelled_only sensitive_create_spelled sensitive_values_of c.args.text.now given rest c.read_fields.result c.read_fields.new.text is spelled c.read_fields.ensures.exact

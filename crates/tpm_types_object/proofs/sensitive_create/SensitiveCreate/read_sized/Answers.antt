@@ -1,4 +1,3 @@
-use Rattle.tpm_bytes.proofs.Fields.{AreBytes}
 use Rattle.tpm_types_object.specs.SensitiveCreate.{sensitive_values_of}
 use Rattle.tpm_types.proofs.Laws.{spelled_is, spelled_only, spelled_text}
 use Rattle.tpm_types_object.proofs.SensitiveLaws.{sized_sensitive_create_spelled}
@@ -6,13 +5,11 @@ use Rattle.tpm_types_object.proofs.sensitive_create.SensitiveCreate.read_sized.G
 
 pub returns-clause-fits : goal.returns-clause-fits
 returns-clause-fits c =
-    let fits : AreBytes c.args.text.now = λ i. rw (← c.rest.ensures) (c.bytes_fit.ensures i) in
-    spelled_is sized_sensitive_create_spelled sensitive_values_of c.args.text.now c.read_filled.result c.read_filled.new.text fits c.read_filled.ensures
+    spelled_is sized_sensitive_create_spelled sensitive_values_of c.args.text.now c.read_filled.result c.read_filled.new.text c.read_filled.ensures.bytes c.read_filled.ensures.exact
 
 pub returns-clause-found : goal.returns-clause-found
 returns-clause-found c =
-    let fits : AreBytes c.args.text.now = λ i. rw (← c.rest.ensures) (c.bytes_fit.ensures i) in
-    spelled_text sized_sensitive_create_spelled sensitive_values_of c.args.text.now c.read_filled.result c.read_filled.new.text fits c.read_filled.ensures
+    spelled_text sized_sensitive_create_spelled sensitive_values_of c.args.text.now c.read_filled.result c.read_filled.new.text c.read_filled.ensures.bytes c.read_filled.ensures.exact
 
 pub returns-clause-only : goal.returns-clause-only
-returns-clause-only c = λ given rest is spelled. spelled_only sized_sensitive_create_spelled sensitive_values_of c.args.text.now given rest c.read_filled.result c.read_filled.new.text is spelled c.read_filled.ensures
+returns-clause-only c = λ given rest is spelled. spelled_only sized_sensitive_create_spelled sensitive_values_of c.args.text.now given rest c.read_filled.result c.read_filled.new.text is spelled c.read_filled.ensures.exact

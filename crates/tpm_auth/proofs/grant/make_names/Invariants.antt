@@ -1,7 +1,7 @@
 use Rattle.std.proofs.Common.{◌≡◌, length, map, take}
 use Rattle.tpm_types_command.specs.Command.{whole_of}
 use Rattle.tpm_record.specs.Entity.{name_of}
-use Rattle.tpm_auth.proofs.grant.names_of.Given as goal
+use Rattle.tpm_auth.proofs.grant.make_names.Given as goal
 
 -- the Names so far are those of the handles so far
 abbrev pub invariant-loop : goal.invariant-loop

@@ -1,0 +1,59 @@
+//! HMACs under one key after another: a key that comes again is not masked and hashed again.
+
+ghost use Rattle.std.specs.Prelude.{◌≡◌, length};
+ghost use Rattle.tpm_mac.specs.Digest.{digest_size, joined_text};
+ghost use Rattle.tpm_mac.specs.Hmac.{hmac_of};
+
+use crate::algorithm::HashAlg;
+use crate::digests::Digest;
+use crate::mac::Mac;
+use arrayvec::ArrayVec;
+use std::marker::Model;
+
+/// An HMAC of no text yet, and the key that it has taken. What it makes under that key again, it
+/// makes of a copy, which spares both blocks of the key. Contracts see nothing of it, since its key
+/// decides no HMAC.
+#[derive(Drop)]
+pub struct KeyedMac {
+    alg: HashAlg,
+    key: ArrayVec<u8, 64>,
+    mac: Mac,
+}
+
+impl Model for KeyedMac {
+    ghost use Rattle.std.specs.Prelude.{[]};
+    ghost use Rattle.tpm_mac.specs.Mac.{MacHolds};
+
+    ghost Value = { Unit {0} };
+
+    ghost view = { λ keyed. tt };
+
+    ghost invariant = { λ keyed. MacHolds keyed.mac keyed.alg keyed.key.items [] };
+}
+
+impl KeyedMac {
+    /// Under the empty key.
+    pub fn new() -> KeyedMac {
+        KeyedMac {
+            alg: HashAlg::Sha256,
+            key: ArrayVec::new(),
+            mac: Mac::new(HashAlg::Sha256, &[]),
+        }
+    }
+
+    /// The HMAC of the parts joined, as [`hmac_parts`](crate::hmac_parts) makes it, under a key
+    /// that is kept for the next one.
+    pub fn hmac_parts(&mut self, alg: HashAlg, key: ArrayVec<u8, 64>, parts: &[&[u8]]) -> Digest
+        ensures value { result.items ≡ hmac_of alg key.items (joined_text parts.now) }
+        ensures size { length result.items ≡ digest_size alg }
+    {
+        if self.alg != alg || self.key.as_slice() != key.as_slice() {
+            self.mac = Mac::new(alg, key.as_slice());
+            self.alg = alg;
+            self.key = key;
+        }
+        let mut mac = self.mac.copy();
+        mac.take_parts(parts);
+        mac.finish()
+    }
+}
