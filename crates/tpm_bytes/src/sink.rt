@@ -56,6 +56,7 @@ impl<const N: usize> Sink<N> {
     pub fn as_mut_slice(&mut self) -> &mut [u8]
         ensures* writes_back { sem 𝓛 (lends_bytes N.row self.entry result) }
         ensures value { result.now ≡ self.old }
+        ensures fits { length self.old ≤ N }
     {
         self.bytes.as_mut_slice()
     }
@@ -117,6 +118,7 @@ impl<const N: usize> Sink<N> {
         self.put_u16(bytes.len() as u16)?;
         self.put(bytes)
     }
+
     /// These bytes at the end, where there is room for them.
     pub fn append(&mut self, bytes: &[u8])
         requires { length self.old + length bytes.now ≤ N }

@@ -4,7 +4,7 @@ use Rattle.std.proofs.lemmas.Option.{same_Some}
 use Rattle.tpm_mac.specs.declared.algorithm.HashAlg.{HashAlg}
 use Rattle.tpm_nv.specs.IsContents.{AreIndices}
 use Rattle.tpm_policy.specs.Assertion.{Assertion}
-use Rattle.tpm_policy_meaning.specs.Asserted.{HasWidths}
+use Rattle.tpm_policy_meaning.specs.Asserted.{HasWidths, evaluated}
 use Rattle.tpm_session.specs.Sessions.{session_at}
 use Rattle.tpm_session.specs.declared.session.Session.{Session}
 use Rattle.tpm_types.specs.SessionType.{is_trial}
@@ -21,7 +21,7 @@ use Rattle.tpm_laws.proofs.Binding.{ok_at}
 use Rattle.tpm_history.specs.AcceptedAssertions.{AllFind, Finds, SessionsFind}
 use Rattle.tpm_history.specs.DeviceSessions.{HasSessions, SessionFacts, facts_of, session_facts}
 use Rattle.tpm_history.specs.History.{AcceptedCommand, Done, History, command_of}
-use Rattle.tpm_history.specs.Policies.{assertion_by, evaluated, with_assertion}
+use Rattle.tpm_history.specs.Policies.{assertion_by, with_assertion}
 use Rattle.tpm_history.specs.Sessions.{LiveSession, policy_in, rolled_by, sessions_of}
 use Rattle.tpm_history.proofs.AcceptedAssertions.{FindsItsOwn, row_finds}
 use Rattle.tpm_history.proofs.LivingOn.{Asserted, Begun, Came, Keeps, Stayed, entries_kept, row_came}

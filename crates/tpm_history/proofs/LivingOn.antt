@@ -19,10 +19,11 @@ use Rattle.tpm_actions_device.specs.FlushContext.{flushed_handle}
 use Rattle.tpm_actions_device.specs.StartAuthSession.{Parameters, parameters_in}
 use Rattle.tpm_actions_policy.specs.Assertions.{asserts, session_handle}
 use Rattle.tpm_laws.specs.Draws.{draws_of}
+use Rattle.tpm_policy_meaning.specs.Asserted.{IsAmong}
 use Rattle.tpm_history.specs.AuthValues.{auth_of}
 use Rattle.tpm_history.specs.HandleMap.{by_handle, with_at}
 use Rattle.tpm_history.specs.History.{AcceptedCommand, Done, History}
-use Rattle.tpm_history.specs.Replays.{IsAmong, starts_under}
+use Rattle.tpm_history.specs.Replays.{starts_under}
 use Rattle.tpm_history.specs.Sessions.{Bound, LiveSession, LiveSessions, asserted_by, bound_in, changed_session, entries_ended, entries_rolled, entry_ended, entry_rolled, nonce_size, restarted, rolled_by, sessions_by, sessions_of, started, started_by, started_with, used, used_by, with_asserted, with_nonce, with_started, without_session}
 use Rattle.tpm_history.proofs.HandleMap.{at_other, at_same, same_handle}
 

@@ -9,9 +9,9 @@ use Rattle.tpm_types.specs.SessionType.{is_trial}
 use Rattle.tpm_types.specs.declared.session_type.SessionType.{SessionType}
 use Rattle.tpm_types.specs.declared.session_type.SessionType.TheVariants as type
 use Rattle.tpm_types_command.specs.CommandCode.{code_number}
+use Rattle.tpm_policy_meaning.specs.Asserted.{evaluated}
 use Rattle.tpm_history.specs.Grounds.{IsPolicyOf, policy_at, written_at}
 use Rattle.tpm_history.specs.PolicyLaws.{HasPolicyOf, KeepsQuietValues, UsesItsCommand, UsesPcrsAsTheyAre, pcrs_as_in, UsesAsWritten}
-use Rattle.tpm_history.specs.Policies.{evaluated}
 use Rattle.tpm_history.specs.QuietPcrs.{HoldsOf, is_pcr}
 use Rattle.tpm_history.specs.Sessions.{LiveSession, policy_in}
 use Rattle.tpm_history.proofs.QuietValues.{quiet_since}

@@ -8,7 +8,6 @@ use Rattle.tpm_bytes.specs.Reading.{number_at, or_fault}
 use Rattle.tpm_mac.specs.declared.algorithm.HashAlg.{HashAlg}
 use Rattle.tpm_policy.specs.Assertion as assertion
 use Rattle.tpm_policy.specs.Assertion.{Assertion, PcrParts}
-use Rattle.tpm_policy.specs.Made.{policy_with}
 use Rattle.tpm_policy.specs.State.{Policy}
 use Rattle.tpm_policy.specs.Use.{EntityParts}
 use Rattle.tpm_policy.specs.declared.state.Demand.{Demand}
@@ -26,7 +25,7 @@ use Rattle.tpm_types_command.specs.AuthEntry.{Entry}
 use Rattle.tpm_types_command.specs.CommandCode.{code_number}
 use Rattle.tpm_types_command.specs.declared.command_code.CommandCode.{CommandCode as Code}
 use Rattle.tpm_types_command.specs.declared.command_code.CommandCode.TheVariants as command
-use Rattle.tpm_policy_meaning.specs.Asserted.{AreAccepted, IsAmong, IsAsserted, Says, evaluated as session_policy, session_digest}
+use Rattle.tpm_policy_meaning.specs.Asserted.{AreAccepted, IsAmong, IsAsserted, Says, evaluated, session_digest}
 use Rattle.tpm_policy_meaning.specs.Expression.{PolicyAssertion, PolicyPcr, PolicyAuthValue, PolicyPassword, PolicyCommandCode, PolicyLocality, PolicyCpHash, PolicyNvWritten, PolicySecret, PolicyNv}
 use Rattle.tpm_policy_meaning.specs.Expression.{PolicyExpression, Nothing, Then, PolicyOr, PolicyBranches, NoBranch, Branch}
 use Rattle.tpm_policy_meaning.specs.Meaning.{BreaksHash, IsMet, IsOneMet, IsPolicyExpression}
@@ -45,7 +44,7 @@ use Rattle.tpm_history.specs.AuthValues.{auth_of}
 use Rattle.tpm_history.specs.EntryHmacs.{AllShowHmacs, cp_hash_in, is_bound_to, used_in}
 use Rattle.tpm_history.specs.Grounds.{AllHaveGrounds, ByHmac, ByPassword, ByPolicy, Ground, HasDemanded, IsPolicyOf, MeetsPolicy, UsesHaveGrounds, policy_at, written_at}
 use Rattle.tpm_history.specs.History.{AcceptedCommand, History}
-use Rattle.tpm_history.specs.Policies.{assertion_by, evaluated}
+use Rattle.tpm_history.specs.Policies.{assertion_by}
 use Rattle.tpm_history.specs.PolicyUses.{HasAuthPolicy, IsMetBy, MeetsPolicies, PolicyUse, ShowsAuthValue, UsesMeetPolicies}
 use Rattle.tpm_history.specs.QuietPcrs.{HoldsOf, is_pcr}
 use Rattle.tpm_history.specs.Sessions.{policy_in}
@@ -69,14 +68,10 @@ mutual
 
 -- ---- what the assertions of a session found
 
-evaluated_same : (hash : HashAlg) (trial : Bool) (assertions : List Assertion) → session_policy hash trial assertions ≡ evaluated hash trial assertions
-evaluated_same hash trial [] = refl
-evaluated_same hash trial (one ∷ assertions) = ap (policy_with hash trial one) (evaluated_same hash trial assertions)
-
 are_accepted : (hash : HashAlg) (assertions : List Assertion) → AllFind hash assertions → AreAccepted hash assertions
 are_accepted hash [] find = tt
 are_accepted hash (assertion.Or digests ∷ assertions) find =
-    (find.0.1, subst (λ (p : Policy). IsAmong p.digest digests) (sym (evaluated_same hash false assertions)) find.0.0, are_accepted hash assertions find.1)
+    (find.0.1, find.0.0, are_accepted hash assertions find.1)
 are_accepted hash (assertion.Pcr parts ∷ assertions) find = (find.0.1, tt, are_accepted hash assertions find.1)
 are_accepted hash (one ∷ assertions) find = (find.0.1, tt, are_accepted hash assertions find.1)
 
@@ -146,7 +141,7 @@ module _ (u : PolicyUse) (used : used_in u.command.command u.place ≡ Some u.ha
   shows : IsAsserted assertions PolicyAuthValue ⊎ IsAsserted assertions PolicyPassword → ShowsAuthValue u
   shows either =
       shows_by (policy_in u.session).demand refl
-      (subst (λ (p : Policy). (p.demand ≡ demand.AuthValue) ⊎ (p.demand ≡ demand.Password)) (evaluated_same hash false assertions ∙ sym policy_is) (demands_value hash false assertions either))
+      (subst (λ (p : Policy). (p.demand ≡ demand.AuthValue) ⊎ (p.demand ≡ demand.Password)) (sym policy_is) (demands_value hash false assertions either))
       demanded
 
   secret_shown : (name reference : List ℕ) (one : Assertion) → Says one (PolicySecret name reference) → HasOrigin u.history u.entry.session one → ShowsSecret u.history u.entry.session name reference
@@ -205,7 +200,7 @@ module _ (u : PolicyUse) (used : used_in u.command.command u.place ≡ Some u.ha
   its_policy None entity its is = absurd cc
   its_policy (Some other) entity its is =
       let same = same_Some other entity is in
-      (sym its.0 ∙ ap (λ (x : EntityParts). x.hash) same, ap (λ (p : Policy). p.digest) (evaluated_same hash false assertions ∙ sym policy_is) ∙ its.1 ∙ ap (λ (x : EntityParts). x.digest) same)
+      (sym its.0 ∙ ap (λ (x : EntityParts). x.hash) same, ap (λ (p : Policy). p.digest) (sym policy_is) ∙ its.1 ∙ ap (λ (x : EntityParts). x.digest) same)
 
   use_meets : (name_alg : HashAlg) (policy : PolicyExpression) → HasAuthPolicy u.command u.place name_alg policy → IsMet (IsMetBy u) policy ⊎ BreaksHash name_alg policy assertions
   use_meets name_alg policy has =

@@ -8,10 +8,9 @@ use Rattle.tpm_policy.specs.Assertion as assertion
 use Rattle.tpm_policy.specs.Assertion.{Assertion, auth_value_asserted, password_asserted}
 use Rattle.tpm_policy.specs.Made.{policy_with}
 use Rattle.tpm_policy.specs.State.{Policy}
-use Rattle.tpm_policy_meaning.specs.Asserted.{IsAmong}
+use Rattle.tpm_policy_meaning.specs.Asserted.{IsAmong, evaluated}
 use Rattle.tpm_types.specs.Buffer.{is_given}
 use Rattle.tpm_history.specs.AcceptedAssertions.{AllFind, Finds}
-use Rattle.tpm_history.specs.Policies.{evaluated}
 
 -- what is recorded, and found the same again
 same_again : {X : Type 0} (recorded : Option X) (x y : X) → recorded ≡ Some x → IfSome recorded (λ z. z ≡ y) → Some y ≡ Some x

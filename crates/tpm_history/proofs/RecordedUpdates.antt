@@ -40,11 +40,12 @@ use Rattle.tpm_step.specs.Step.{Accepted}
 use Rattle.tpm_step.specs.Table.{row_of}
 use Rattle.tpm_laws.specs.Acceptance.{IsAcceptance, IsDue}
 use Rattle.tpm_laws.proofs.Binding.{ok_at, ok_bind, ok_bind_is, ok_then, some_is}
+use Rattle.tpm_policy_meaning.specs.Asserted.{evaluated}
 use Rattle.tpm_history.specs.DevicePcrs.{HasPcrs}
 use Rattle.tpm_history.specs.DeviceSessions.{HasSessions, SessionFacts, facts_of, session_facts}
 use Rattle.tpm_history.specs.History.{AcceptedCommand, Done, History, PastEvent, command_of}
 use Rattle.tpm_history.specs.Pcrs.{updates_by, updates_of, writes}
-use Rattle.tpm_history.specs.Policies.{assertion_by, evaluated, pcr_parts_in, with_assertion}
+use Rattle.tpm_history.specs.Policies.{assertion_by, pcr_parts_in, with_assertion}
 use Rattle.tpm_history.specs.QuietPcrs.{AllRecordUpdates, AreQuietSince, HoldsOf, HoldsPcrs, IsQuiet, RecordsUpdates, asserts_pcrs, has_pcrs, is_pcr}
 use Rattle.tpm_history.specs.Sessions.{LiveSession, asserted_by, policy_in, rolled_by, sessions_by, sessions_of}
 use Rattle.tpm_history.proofs.Asserted.{policy_passed}

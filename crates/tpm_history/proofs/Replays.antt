@@ -16,9 +16,10 @@ use Rattle.tpm_types_command.specs.AuthEntry.{Entry}
 use Rattle.tpm_types_command.specs.Command.{Whole}
 use Rattle.tpm_auth.specs.Entries.{decrypts}
 use Rattle.tpm_auth.specs.SessionGrant.{only_encrypts, other_entries}
+use Rattle.tpm_policy_meaning.specs.Asserted.{IsAmong}
 use Rattle.tpm_history.specs.EntryHmacs.{AllShowHmacs, HasHmac, ShowsHmacs, cp_hash_in, hmac_in, nonce_where, text_in}
 use Rattle.tpm_history.specs.History.{AcceptedCommand, Done, History, PastEvent, PowerCycled}
-use Rattle.tpm_history.specs.Replays.{HasNonceAgain, HaveOneHmac, IsAmong, IsReplay, LivesThrough, Repeats, ReplaysRepeat, starts}
+use Rattle.tpm_history.specs.Replays.{HasNonceAgain, HaveOneHmac, IsReplay, LivesThrough, Repeats, ReplaysRepeat, starts}
 use Rattle.tpm_history.specs.Sessions.{LiveSession, rolled_by, sessions_of}
 use Rattle.tpm_history.proofs.LivingOn.{Asserted, Begun, Came, Continues, Stayed, Was, continues_self, continues_then, entries_kept, entries_renewed, row_came}
 

@@ -5,12 +5,11 @@ use Rattle.tpm_mac.specs.declared.algorithm.HashAlg.{HashAlg}
 use Rattle.tpm_policy.specs.Assertion as assertion
 use Rattle.tpm_policy.specs.Assertion.{Assertion}
 use Rattle.tpm_policy.specs.State.{Policy}
-use Rattle.tpm_policy_meaning.specs.Asserted.{HasWidths, IsAmong}
+use Rattle.tpm_policy_meaning.specs.Asserted.{HasWidths, IsAmong, evaluated}
 use Rattle.tpm_types.specs.Buffer.{is_given}
 use Rattle.tpm_types.specs.declared.handle.Handle.{Handle}
 use Rattle.tpm_types.specs.declared.session_type.SessionType.TheVariants as type
 use Rattle.tpm_history.specs.History.{AcceptedCommand, Done, History, PowerCycled}
-use Rattle.tpm_history.specs.Policies.{evaluated}
 use Rattle.tpm_history.specs.Sessions.{LiveSession, sessions_of}
 
 -- What an accepted assertion found of the policy before it. TPM2_PolicyOR found the digest among its

@@ -5,8 +5,6 @@ use Rattle.std.specs.Int.{w8, w32}
 use Rattle.tpm_bytes.specs.Reading.{◌>>=◌, number_at, or_fault}
 use Rattle.tpm_mac.specs.declared.algorithm.HashAlg.{HashAlg}
 use Rattle.tpm_policy.specs.Assertion.{Assertion, Pcr, Or, AuthValue, Password, CommandCode, CpHash, NvWritten, Locality, Secret, Nv, PcrParts}
-use Rattle.tpm_policy.specs.Made.{policy_with}
-use Rattle.tpm_policy.specs.State.{Policy, starting}
 use Rattle.tpm_types.specs.Buffer.{buffer_at}
 use Rattle.tpm_types.specs.DigestList.{digest_list_at}
 use Rattle.tpm_types.specs.PcrSelection.{selection_text}
@@ -24,14 +22,6 @@ use Rattle.tpm_actions_policy.specs.PolicySecret.{secret_parameters}
 use Rattle.tpm_history.specs.History.{AcceptedCommand, History}
 use Rattle.tpm_history.specs.Pcrs.{digest_in, updates_of}
 use Rattle.tpm_history.specs.View.{name_in}
-
--- ---- what assertions make
-
--- the policy that these make, the latest first, from the one with which a session starts
-abbrev pub evaluated : HashAlg → (trial : Bool) → List Assertion → Policy
-evaluated hash trial [] = starting hash
-evaluated hash trial (assertion ∷ assertions) =
-    policy_with hash trial assertion (evaluated hash trial assertions)
 
 -- ---- what a command asserts
 

@@ -10,10 +10,10 @@ use Rattle.tpm_types.specs.declared.pcr_selection.BankSelection.{BankSelection}
 use Rattle.tpm_types.specs.declared.session_type.SessionType.TheVariants as type
 use Rattle.tpm_types_command.specs.AuthEntry.{Entry}
 use Rattle.tpm_types_command.specs.CommandCode.{code_number}
+use Rattle.tpm_policy_meaning.specs.Asserted.{evaluated}
 use Rattle.tpm_history.specs.Grounds.{MeetsPolicy, policy_at, written_at}
 use Rattle.tpm_history.specs.History.{AcceptedCommand, History}
 use Rattle.tpm_history.specs.Pcrs.{digest_in, pcr_of}
-use Rattle.tpm_history.specs.Policies.{evaluated}
 use Rattle.tpm_history.specs.QuietPcrs.{AreQuietSince}
 use Rattle.tpm_history.specs.Sessions.{LiveSession}
 

@@ -8,6 +8,7 @@ use Rattle.tpm_types_command.specs.AuthEntry.{Entry}
 use Rattle.tpm_types_command.specs.Command.{command_at}
 use Rattle.tpm_types_command.specs.declared.command_code.CommandCode.{CommandCode}
 use Rattle.tpm_types_command.specs.declared.command_code.CommandCode.TheVariants as command
+use Rattle.tpm_policy_meaning.specs.Asserted.{IsAmong}
 use Rattle.tpm_history.specs.EntryHmacs.{hmac_in, text_in}
 use Rattle.tpm_history.specs.History.{AcceptedCommand, Done, History, PastEvent, PowerCycled}
 use Rattle.tpm_history.specs.Sessions.{LiveSession, sessions_of}
@@ -48,11 +49,6 @@ pub record IsReplay (buffer : List ℕ) (before : History) (first : AcceptedComm
     pub lives : sessions_of before e.session ≡ Some s
     pub is_hmac : s.kind ≡ type.Hmac
     pub lives_on : LivesThrough e.session (between ++ Done first ∷ []) before
-
--- It is one of these.
-abbrev pub IsAmong : {X : Type 0} → X → List X → Type 0
-IsAmong x [] = ⊥
-IsAmong x (y ∷ ys) = (x ≡ y) ⊎ IsAmong x ys
 
 -- The nonceTPM that a session has now is the one that it had at an earlier time, and stands among those
 -- that it had before.

@@ -28,10 +28,11 @@ use Rattle.tpm_actions_device.specs.FlushContext.{flushed_handle}
 use Rattle.tpm_actions_device.specs.StartAuthSession.{Parameters, parameters_in}
 use Rattle.tpm_actions_policy.specs.Assertions.{session_handle}
 use Rattle.tpm_laws.specs.Draws.{draws_of}
+use Rattle.tpm_policy_meaning.specs.Asserted.{evaluated}
 use Rattle.tpm_history.specs.AuthValues.{auth_of}
 use Rattle.tpm_history.specs.HandleMap.{by_handle, changed_at, with_at}
 use Rattle.tpm_history.specs.History.{AcceptedCommand, Done, History, PowerCycled}
-use Rattle.tpm_history.specs.Policies.{assertion_by, evaluated, with_assertion}
+use Rattle.tpm_history.specs.Policies.{assertion_by, with_assertion}
 use Rattle.tpm_history.specs.View.{View, view_name}
 use Rattle.tpm_history.specs.Views.{view_protection}
 

@@ -117,11 +117,11 @@ fn encrypt_answer<K: Keep>(
     grants: &[Option<Grant>],
     parameters: &mut Parameters,
 )
-    ensures { parameters.new ≡ encrypted_answer (K.record_of keep.now)
+    ensures encrypted { parameters.new ≡ encrypted_answer (K.record_of keep.now)
         (zip (map entry_of entries.now) grants.now) parameters.old }
-{
     // They have no room for more than an answer has.
-    let _length = parameters.len();
+    ensures room { length parameters.old ≤ ANSWER_LIMIT }
+{
     let text = parameters.as_mut_slice();
     pass_parameters(Direction::Encrypt, keep, entries, grants, text);
 }
@@ -145,6 +145,7 @@ fn write_with_sessions<K: Keep>(
         (text_of answer.old) (K.record_of keep.old) random.now }
     ensures drawn { DrawsFew random.now (K.record_of keep.old) (whole_of command.now).entries
         answer.old.drawn }
+    ensures room { length answer.old.parameters ≤ ANSWER_LIMIT }
     ensures fits { length text.new.items ≤ response_limit }
 {
     let entries = command.entries.as_slice();
@@ -182,7 +183,6 @@ pub fn write_success<K: Keep>(
     ensures room { length answer.old.parameters ≤ ANSWER_LIMIT }
     ensures fits { length text.new.items ≤ response_limit }
 {
-    let _length = answer.parameters.len();
     if command.entries.is_empty() {
         write_plain(answer.handle, answer.parameters.as_slice(), text);
     } else {

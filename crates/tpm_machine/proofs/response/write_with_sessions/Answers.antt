@@ -14,7 +14,7 @@ returns-clause-answer g c =
     answered_with command c.args.grants.now.grants.items (text_of c.args.answer.now) (record_of c.args.keep.now) c.args.random.now (record_of c.roll_entries.new.keep) _
     (map entry_of c.as_slice-entries.result.now) (zip (map entry_of c.as_slice-entries.result.now) c.as_slice-grants.result.now) c.new-draws.result c.roll_entries.new.draws c.encrypt_answer.new.parameters c.as_slice-parameters.result.now c.answer_entries.new.area c.write_with_area.new.text.items
     c.requires.some (search rules) (search rules) (grind (arith, common_steps)) (search rules)
-    c.roll_entries.ensures.rolled c.encrypt_answer.ensures (search rules) (search rules) c.end_entries.ensures
+    c.roll_entries.ensures.rolled c.encrypt_answer.ensures.encrypted (search rules) (search rules) c.end_entries.ensures
 
 pub returns-clause-drawn : goal.returns-clause-drawn
 returns-clause-drawn g c =
