@@ -25,7 +25,7 @@ use Rattle.tpm_history.specs.View.{name_in}
 
 -- ---- what a command asserts
 
--- the PCRs of a selection, as they were before the command
+-- the assertion of TPM2_PolicyPCR: the selected PCRs, as they were before the command
 abbrev pub pcr_parts_in : History → HashAlg → Parameters → PcrParts
 pcr_parts_in history hash p = record {
   given = p.given;
@@ -80,7 +80,7 @@ assertion_by command.PolicyNv c history hash nonce_tpm = do
   }))
 assertion_by _ c history hash nonce_tpm = Err handle_refusal
 
--- with it, before those that were asserted earlier
+-- the assertions with one more, before those that were asserted earlier
 abbrev pub with_assertion : Result Assertion Refused → List Assertion → List Assertion
 with_assertion (Ok assertion) assertions = assertion ∷ assertions
 with_assertion (Err e) assertions = assertions
