@@ -24,8 +24,8 @@ impl Aes128 {
         }
     }
 
-    /// Decrypts the text in place: undoes `cfb_encrypt` under the same key and IV, and is undone by
-    /// it.
+    /// Decrypts the text in place: under the same key and IV, `cfb_encrypt` and this undo each
+    /// other.
     pub fn cfb_decrypt(&self, iv: &[u8; 16], text: &mut [u8])
         ensures value { text.new ≡ cfb_decrypt_of self.now iv.now text.old }
         ensures undone { cfb_encrypt_of self.now iv.now text.new ≡ text.old }
