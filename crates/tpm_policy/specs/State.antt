@@ -8,7 +8,7 @@ use Rattle.tpm_policy.specs.declared.state.Demand.{Demand}
 use Rattle.tpm_policy.specs.declared.state.Demand.TheVariants as demand
 
 -- the state of a policy: its digest; the update counter of PCRs at the last TPM2_PolicyPCR, the
--- number of the one command that is allowed, its cpHash, and whether the index is to be written
+-- number of the one command that is allowed, its cpHash, and whether the index has to be written
 -- already, each where an assertion recorded it; the localities that are allowed, bit n for locality
 -- n; and what is demanded in addition to the digest. Timeouts, name hashes and physical presence
 -- are not served
