@@ -28,7 +28,7 @@ fn empty_platform_auth(hierarchies: &mut Hierarchies)
     hierarchies.set_auth_value(HierarchyAuth::Platform, AuthValue::empty());
 }
 
-/// Does so, and gives the null hierarchy a new seed and a new proof.
+/// Empties platformAuth, and gives the null hierarchy a new seed and a new proof.
 fn reset_hierarchies(hierarchies: &mut Hierarchies, random: &[u8; 256])
     ensures { hierarchies.new ≡ reset_hierarchies hierarchies.old random.now }
 {
@@ -39,7 +39,7 @@ fn reset_hierarchies(hierarchies: &mut Hierarchies, random: &[u8; 256])
     hierarchies.null = Secrets { seed, proof };
 }
 
-/// Opens lockoutAuth where no time opens it.
+/// Opens lockoutAuth where a lockoutRecovery of 0 lets no time open it.
 fn reset_lockout(lockout: &mut Lockout)
     ensures { lockout.new ≡ reset_lockout lockout.old }
 {
@@ -51,11 +51,11 @@ fn reset_lockout(lockout: &mut Lockout)
 /// What a startup is (TPM 2.0 Library, Part 1, section 12.2.3).
 #[derive(Clone, Copy, Debug, PartialEq, Eq)]
 pub enum Start {
-    /// TPM Reset: with CLEAR, where no state was saved.
+    /// TPM Reset: a startup with CLEAR, where no state was saved.
     Reset,
-    /// TPM Restart: with CLEAR, where a state was saved.
+    /// TPM Restart: a startup with CLEAR, where a state was saved.
     Restart,
-    /// TPM Resume: with STATE, where a state was saved.
+    /// TPM Resume: a startup with STATE, where a state was saved.
     Resume,
 }
 

@@ -30,7 +30,7 @@ use tpm_types::{Check, Handle, Locality, Refused, ResponseCode, SessionKind};
 use tpm_types_command::{AuthEntry, Command, CommandCode};
 use tpm_types_name::Name;
 
-/// What the entries of a command authorize, each a handle or nothing.
+/// The grants of a command's entries: each authorizes a handle or nothing.
 #[derive(Drop)]
 pub struct Grants {
     pub grants: ArrayVec<Option<Grant>, 3>,
@@ -71,7 +71,7 @@ fn check_value<K: Keep>(
 }
 
 /// Checks that the entry of this number is a password for what it is to authorize; where that is
-/// nothing, an empty one.
+/// nothing, an empty password.
 #[tactic(auto, unfolding(crate::specs::Grant::password_grant))]
 fn check_password<K: Keep>(
     keep: &K,
@@ -126,8 +126,8 @@ fn check_grant<K: Keep>(
     }
 }
 
-/// Checks these entries after those so far, and adds what each authorizes; the first that fails is
-/// answered.
+/// Checks these entries, after those that were granted so far, and adds what each authorizes; the
+/// fault is that of the first that fails.
 fn check_grants<K: Keep>(
     keep: &K,
     sent: Sent,
@@ -154,14 +154,14 @@ fn check_grants<K: Keep>(
     check_grants(keep, sent, hashes, keyed, entries, grants)
 }
 
-/// Whether the first parameter, a sized buffer, is not all there.
+/// Whether the sized buffer that is the first parameter is not all there.
 fn is_cut(parameters: &[u8]) -> bool
     ensures { result ≡ not (has_first_buffer parameters.now) }
 {
     first_size(parameters).is_none()
 }
 
-/// What is resolved in a place.
+/// The handle in a place, with what it names.
 #[tactic(auto, using(std::proofs::lemmas::Option::slice_get_read))]
 fn resolved_at<'a>(resolved: &[Resolved<'a>], place: usize) -> Resolved<'a>
     requires { place < length resolved.now }
@@ -170,8 +170,8 @@ fn resolved_at<'a>(resolved: &[Resolved<'a>], place: usize) -> Resolved<'a>
     resolved[place]
 }
 
-/// The Name of the handle after those with these Names: where a handle stands there for the second
-/// time, that is copied.
+/// The Name of the handle after those with these Names: where the command has the handle a second
+/// time, its Name is copied.
 fn next_name<K: Keep>(keep: &K, sent: Sent, names: &[Name]) -> Name
     requires resolved { IsResolved (K.record_of keep.now) sent }
     requires named { names.now ≡ map (name_of (K.record_of keep.now))
@@ -202,7 +202,7 @@ fn make_names<K: Keep>(keep: &K, sent: Sent, names: &mut ArrayVec<Name, 3>)
     }
 }
 
-/// Checks each handle by the entry of its place, and the other entries, and tells what each
+/// Checks each handle by the entry in its place, and the other entries, and tells what each
 /// authorizes.
 fn check_resolved<K: Keep>(keep: &K, sent: Sent, keyed: &mut KeyedMac) -> Result<Grants, Refused>
     requires { IsResolved (K.record_of keep.now) sent }
@@ -280,7 +280,7 @@ fn first_used<'a, K: Keep>(keep: &'a K, command: &Command) -> Option<Used<'a>>
     }
 }
 
-/// Checks a handle by the only entry, which is a password.
+/// Checks a handle by the only entry of its command, which is a password.
 #[tactic(auto, unfolding(crate::specs::Grant::grant))]
 fn check_one_password<K: Keep>(
     keep: &K,
@@ -321,8 +321,8 @@ fn check_all<K: Keep>(
 }
 
 /// Checks the entries of a command, and by them the handles that need authorization: first each
-/// entry for itself, then that there are enough, then each handle and each other entry, and last
-/// that what a session decrypts is there.
+/// entry for itself, then that there are enough entries, then each handle and each other entry, and
+/// last that the parameter is there that a session decrypts.
 pub fn authorize<K: Keep>(
     keep: &K,
     command: &Command,
@@ -334,7 +334,8 @@ pub fn authorize<K: Keep>(
     authorize_keyed(keep, command, locality, &mut KeyedMac::new())
 }
 
-/// As [`authorize`], where the key of the latest HMAC is kept for the next one.
+/// Checks the entries of a command as [`authorize`] does, where the key of the latest HMAC is kept
+/// for the next one.
 #[tactic(auto, unfolding(crate::specs::Grant::authorize))]
 pub fn authorize_keyed<K: Keep>(
     keep: &K,

@@ -1,5 +1,5 @@
-//! The decoding of a command's buffer, as far as the general checks go that come before
-//! authorization; the first that fails refuses it.
+//! The decoding of a command's buffer, by the general checks that come before authorization; the
+//! first that fails refuses it.
 
 ghost use Rattle.tpm_types.specs.Limits.{buffer_limit};
 ghost use Rattle.tpm_bytes.specs.Reading.{AreBytes, Gives};
@@ -47,7 +47,8 @@ fn refusal_by(code: CommandCode, check: Check, rc: Rc) -> RefusedCommand
     RefusedCommand::of(code, Refused::by(check, rc))
 }
 
-/// Refuses sessions where the command may have none, and none where it must have some.
+/// Refuses a command with sessions that may have none, and one without sessions that must have
+/// some.
 #[tactic(auto, unfolding(tpm_step::specs::General::sessions_pass))]
 fn check_tag(code: CommandCode, tag: Tag) -> Result<(), Refused>
     ensures { result ≡ sessions_pass code tag }
@@ -64,7 +65,8 @@ fn check_tag(code: CommandCode, tag: Tag) -> Result<(), Refused>
     Ok(())
 }
 
-/// Reads the handle of this number as its rule wants it, if there is what it names.
+/// Reads handle n of a command, which its rule has to accept, and which has to name something that
+/// is there.
 #[tactic(auto, unfolding(tpm_step::specs::General::present_handle_at))]
 fn read_handle<K: Keep>(
     keep: &K,
@@ -158,7 +160,7 @@ fn decode_whole<'a, K: Keep>(keep: &K, buffer: &'a [u8]) -> Result<Command<'a>, 
 pub fn decode<'a, K: Keep>(keep: &K, buffer: &'a [u8]) -> Result<Command<'a>, RefusedCommand>
     ensures decoded { Gives whole_of (general (K.record_of keep.now) buffer.now) result }
 
-    // It is the command that the whole buffer spells.
+    // The command that was decoded is the one that the whole buffer spells.
     ensures read { IfOk result (λ command. command_at buffer.now ≡ Ok (whole_of command, [])) }
     ensures short { IfOk result (λ command. length command.parameters.now ≤ buffer_limit) }
 {

@@ -24,7 +24,7 @@ impl<'a> Draws<'a> {
         Draws { left }
     }
 
-    /// A nonce of this many bytes, from the front.
+    /// Draws a nonce of this many bytes, from the front.
     pub fn nonce(&mut self, size: usize) -> Nonce
         requires small { size ≤ 32 }
         requires enough { size ≤ length self.old }

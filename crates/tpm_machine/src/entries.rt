@@ -1,5 +1,5 @@
 //! What a success does to the sessions of its entries: new nonces, an answer to each entry, and the
-//! end of those that do not continue.
+//! end of the sessions that do not continue.
 
 ghost use Rattle.std.specs.Prelude.{◌≡◌, ◌+◌, ◌*◌, ◌≤◌, ◌++◌, length, map};
 ghost use Rattle.std.specs.List.{zip};

@@ -35,13 +35,14 @@ use tpm_step::{Event, Outcome, RefusedCommand, Response, Row};
 use tpm_types::{Counted, Locality};
 use tpm_types_command::{Command, CommandCode};
 
-/// The device, by a way of keeping its state.
+/// The device, generic in the type that keeps its state.
 #[derive(Drop)]
 pub struct Machine<K: Keep> {
     keep: K,
-    /// What a command answers is written here. It is cleared for each, and no part of the state.
+    /// The answer of a command is written here. It is cleared for each command, and is no part of
+    /// the state.
     answer: Answer,
-    /// The key of the latest HMAC, which is no part of the state either.
+    /// The key of the latest HMAC, which is no part of the state.
     keyed: KeyedMac,
 }
 
@@ -49,13 +50,13 @@ impl<K: Keep> Machine<K> {
     /// A new device. Its memory comes from `alloc`, and its hierarchies' secrets are the random
     /// bytes.
     pub fn manufacture(alloc: Global, random: &[u8; 256]) -> Result<Machine<K>, NoMemory>
-        // Memory is refused only where it can be.
+        // Memory is refused only where the type of the state can be refused it.
         ensures refused { OnErr result (K.empty_can_refuse ≡ true) }
         ensures state { IfOk result (λ machine. state_of K.record_of machine
             ≡ manufactured random.now) }
         ensures is_record { IfOk result (λ machine. IsRecord (state_of K.record_of machine)) }
 
-        // It has accepted nothing yet.
+        // A new device has accepted nothing yet.
         ensures history { IfOk result (λ machine. Follows (state_of K.record_of machine) []) }
     {
         let mut keep = K::empty(alloc)?;
@@ -64,7 +65,7 @@ impl<K: Keep> Machine<K> {
         Ok(Machine::from_keep(keep))
     }
 
-    /// The device whose state is kept so.
+    /// The device with this state.
     pub fn from_keep(keep: K) -> Machine<K>
         ensures { state_of K.record_of result ≡ K.record_of keep }
     {
@@ -75,7 +76,7 @@ impl<K: Keep> Machine<K> {
         }
     }
 
-    /// What keeps the device's state.
+    /// The state of the device.
     pub fn keep(&self) -> &K
         ensures state { K.record_of result.now ≡ state_of K.record_of self.now }
         ensures is_record { IsRecord (state_of K.record_of self.now) }
@@ -85,16 +86,17 @@ impl<K: Keep> Machine<K> {
     }
 
     /// Executes one event: its response, its row and the state after it are those of the table, or
-    /// of refused memory in place of a success of a command that grows something. `Executes` says
-    /// in addition what holds of every outcome and of every record.
+    /// of refused memory in place of a success of a command that grows something. `Executes` also
+    /// says what holds of every outcome and of every record.
     pub fn execute(&mut self, event: &Event) -> Outcome
         ensures executes { Executes K.can_refuse (state_of K.record_of self.old)
             (plain_event event.now) (outcome_step (state_of K.record_of self.new) result) }
 
         // Where the device followed a history, it follows the history with this event, if that was
-        // accepted: counters, PCRs, authorization values and sessions are what that tells. Every
-        // replay in it repeats a nonce or an HMAC, each use had its grounds, and each by a policy
-        // session met every policy that has the authPolicy of what was used, or the hash is broken.
+        // accepted: counters, PCRs, authorization values and sessions are those of the history.
+        // Every replay in it repeats a nonce or an HMAC, each use had its grounds, and each use by
+        // a policy session met every policy that has the authPolicy of the entity that was used, or
+        // the hash is broken.
         ensures history { After Follows (state_of K.record_of self.old) (plain_event event.now)
             (outcome_step (state_of K.record_of self.new) result) }
         ensures counters { After HasCounters (state_of K.record_of self.old)
@@ -124,9 +126,10 @@ impl<K: Keep> Machine<K> {
             (plain_event event.now) (outcome_step (state_of K.record_of self.new) outcome.new) }
 
         // Where the device followed a history, it follows the history with this event, if that was
-        // accepted: counters, PCRs, authorization values and sessions are what that tells. Every
-        // replay in it repeats a nonce or an HMAC, each use had its grounds, and each by a policy
-        // session met every policy that has the authPolicy of what was used, or the hash is broken.
+        // accepted: counters, PCRs, authorization values and sessions are those of the history.
+        // Every replay in it repeats a nonce or an HMAC, each use had its grounds, and each use by
+        // a policy session met every policy that has the authPolicy of the entity that was used, or
+        // the hash is broken.
         ensures history { After Follows (state_of K.record_of self.old) (plain_event event.now)
             (outcome_step (state_of K.record_of self.new) outcome.new) }
         ensures counters { After HasCounters (state_of K.record_of self.old)
@@ -189,7 +192,8 @@ impl<K: Keep> Machine<K> {
         ensures runs { Runs F.FnMut K.can_refuse (state_of K.record_of self.old) tell.old
             (map plain_event events.now) (state_of K.record_of self.new) tell.new }
 
-        // Where no memory can be refused, the events lead where their steps lead.
+        // Where no memory can be refused, the record after the events is that to which their steps
+        // lead.
         ensures after { K.can_refuse ≡ false → state_of K.record_of self.new
             ≡ after_all (state_of K.record_of self.old) (map plain_event events.now) }
 
@@ -264,7 +268,7 @@ impl<K: Keep> Machine<K> {
     ghost use Rattle.tpm_step.specs.General.{in_command};
     ghost use Rattle.tpm_step.specs.Step.{acceptance};
 
-    /// Does what a command asks for that its entries authorize so.
+    /// Does what a command asks for whose entries authorize these handles.
     #[inline(always)]
     #[tactic(auto, using(crate::proofs::Accepting::acting))]
     fn perform(
@@ -313,7 +317,8 @@ ghost use Rattle.tpm_step.specs.Step.{counted_in, settled};
 ghost use Rattle.tpm_step.specs.Answer.{refusal_text};
 ghost use Rattle.tpm_types.specs.Locality.{locality_number};
 
-/// Does nothing. What holds of every command's event is what the types of its parts say of them.
+/// Tells what the types of an event's parts say, and so what holds of every command's event. The
+/// function does nothing.
 #[inline(always)]
 fn read_command(locality: Locality, elapsed_ms: u32, random: &[u8; 256])
     ensures locality { locality_number locality ≤ 4 }

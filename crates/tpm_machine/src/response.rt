@@ -80,7 +80,7 @@ fn write_handle(handle: Option<Handle>, text: &mut Response)
     }
 }
 
-/// Writes a success that has no entries.
+/// Writes the response to a success that has no entries.
 fn write_plain(handle: Option<Handle>, parameters: &[u8], text: &mut Response)
     requires empty { text.old.items ≡ [] }
     requires parameters { length parameters.now ≤ ANSWER_LIMIT }
@@ -93,7 +93,7 @@ fn write_plain(handle: Option<Handle>, parameters: &[u8], text: &mut Response)
     append(text, parameters);
 }
 
-/// Writes a success whose entries are answered so.
+/// Writes the response to a success whose entries have these answers.
 fn write_with_area(handle: Option<Handle>, parameters: &[u8], area: &[u8], text: &mut Response)
     requires empty { text.old.items ≡ [] }
     requires parameters { length parameters.now ≤ ANSWER_LIMIT }
@@ -119,15 +119,14 @@ fn encrypt_answer<K: Keep>(
 )
     ensures encrypted { parameters.new ≡ encrypted_answer (K.record_of keep.now)
         (zip (map entry_of entries.now) grants.now) parameters.old }
-    // They have no room for more than an answer has.
+    // The parameters have no room for more than an answer has.
     ensures room { length parameters.old ≤ ANSWER_LIMIT }
 {
     let text = parameters.as_mut_slice();
     pass_parameters(Direction::Encrypt, keep, entries, grants, text);
 }
 
-/// Writes the response to a command with entries that succeeded, and does what is to be done with
-/// their sessions.
+/// Writes the response to a command with entries that succeeded, rolls and ends their sessions.
 #[inline(never)]
 fn write_with_sessions<K: Keep>(
     keep: &mut K,
@@ -179,7 +178,7 @@ pub fn write_success<K: Keep>(
         (text_of answer.old) (K.record_of keep.old) random.now }
     ensures drawn { DrawsFew random.now (K.record_of keep.old) (whole_of command.now).entries
         answer.old.drawn }
-    // An answer has no room for more.
+    // The parameters of an answer have no room for more.
     ensures room { length answer.old.parameters ≤ ANSWER_LIMIT }
     ensures fits { length text.new.items ≤ response_limit }
 {

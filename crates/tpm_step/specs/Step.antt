@@ -167,12 +167,12 @@ step_where refused r Cycled =
 abbrev pub step : Record → PlainEvent → Stepped
 step r event = step_where false r event
 
--- The step of a command, where memory is refused only if the keep can be refused it.
+-- The step of a command, where memory is refused only if the device's state can be refused it.
 abbrev pub Answers : Bool → Record → List ℕ → Result Accepted RefusedCommand → Stepped → Type 0
 Answers can r random a x =
     (refused : Bool) × (refused ≡ true → can ≡ true) × (x ≡ answer_where refused r random a)
 
--- The step of an event, where memory is refused only if the keep can be refused it.
+-- The step of an event, where memory is refused only if the device's state can be refused it.
 abbrev pub Steps : Bool → Record → PlainEvent → Stepped → Type 0
 Steps can r event x =
     (refused : Bool) × (refused ≡ true → can ≡ true) × (x ≡ step_where refused r event)
