@@ -29,8 +29,9 @@ use tpm_mac::{HashAlg, digest_parts};
 use tpm_machine::Machine;
 use tpm_record::{Keep, SlotKeep};
 
-/// Writes the image of a device, which stays as it is, in version 2. Of a tap that had not failed,
-/// Write stands just where the writer failed; a part of the image from its front went out then.
+/// Writes the image of a device, which stays as it is, in version 2. If the tap had not failed
+/// before, Write is answered just where the writer failed; a part of the image from its front went
+/// out then.
 #[tactic(auto, unfolding(crate::specs::Image::image_text))]
 pub fn save<K: Keep, D: Write>(machine: &Machine<K>, tap: &mut Tap<D>) -> Result<(), SaveFault>
     ensures written { OnOk result (Appends (D.contents (device_of tap.old))
@@ -50,7 +51,7 @@ pub fn save<K: Keep, D: Write>(machine: &Machine<K>, tap: &mut Tap<D>) -> Result
     send(tap, head.as_slice(), text.as_slice())
 }
 
-/// Writes the head of an image, and what stands after it.
+/// Writes the head of an image, and the text after it.
 fn send<D: Write>(tap: &mut Tap<D>, head: &[u8], text: &[u8]) -> Result<(), SaveFault>
     ensures written { OnOk result (Appends (D.contents (device_of tap.old))
         (D.contents (device_of tap.new)) (head.now ++ text.now)) }
@@ -68,7 +69,7 @@ fn send<D: Write>(tap: &mut Tap<D>, head: &[u8], text: &[u8]) -> Result<(), Save
     Ok(())
 }
 
-/// The state that a body of a version spells, in a keep of its own.
+/// The state that a body of a version spells, in a new `Keep`.
 fn fill<K: Keep>(alloc: Global, version: Version, body: &[u8]) -> Result<K, FillFault>
     ensures { Filled K.record_of (K.empty_can_refuse || K.can_refuse) (body_of version body.now)
         result }
@@ -80,7 +81,7 @@ fn fill<K: Keep>(alloc: Global, version: Version, body: &[u8]) -> Result<K, Fill
     Ok(keep)
 }
 
-/// Whether a body of a version spells a state. It is read into places that are never refused
+/// Whether a body of a version spells a state. The body is read into places that are never refused
 /// memory.
 fn is_body(alloc: Global, version: Version, body: &[u8]) -> bool
     ensures { result ≡ is_ok (body_of version body.now) }
@@ -91,24 +92,25 @@ fn is_body(alloc: Global, version: Version, body: &[u8]) -> bool
     }
 }
 
-/// Opens a device from its image, of either version: it is the one that was saved, after a power
-/// cycle. Else the first fault, in the order of [`ImageFault`]; NoMemory stands only in place of a
-/// device.
+/// Opens a device from its image, of either version: the device is the one that was saved, after a
+/// power cycle. The fault is the first in the order of [`ImageFault`]; NoMemory is answered only in
+/// place of a device.
 pub fn open<K: Keep>(alloc: Global, text: &[u8]) -> Result<Machine<K>, ImageFault>
-    // Which device it is, or the first fault.
+    // Says which device was opened, or which fault is the first.
     ensures exact { Opens (state_of K.record_of) (K.empty_can_refuse || K.can_refuse) text.now
         result }
-    // What is opened was spelled so, in a version and within its limits.
+    // A text that is opened is an image of the device in a version, and within the limits of the
+    // version.
     ensures found { IfOk result (λ machine. (version : Version) × (kept : NonVolatile)
         × IsNonVolatile kept × IsImage version kept text.now
         × (state_of K.record_of machine ≡ powered_on kept)) }
-    // What is spelled so in a version is opened.
+    // The image of a device in a version is opened.
     ensures only { (version : Version) (r : Record) → IsRecord r
         → IsImage version (kept_of r) text.now
         → OpensAgain (state_of K.record_of) (K.empty_can_refuse || K.can_refuse) r result }
 
-    // What is opened from the image, of either version, of a device that followed a history follows
-    // that with one power cycle more.
+    // A device that is opened from the image, of either version, of one that followed a history
+    // follows that history with one power cycle more.
     ensures history { (version : Version) (r : Record) (history : History) → IsRecord r
         → Follows r history → IsImage version (kept_of r) text.now
         → IfOk result (λ machine. Follows (state_of K.record_of machine) (PowerCycled ∷ history)) }
@@ -116,7 +118,7 @@ pub fn open<K: Keep>(alloc: Global, text: &[u8]) -> Result<Machine<K>, ImageFaul
     open_device(alloc, text)
 }
 
-/// The same, without what is said of texts.
+/// Opens a device from its image; the contract says nothing of texts.
 fn open_device<K: Keep>(alloc: Global, text: &[u8]) -> Result<Machine<K>, ImageFault>
     ensures exact { Opens (state_of K.record_of) (K.empty_can_refuse || K.can_refuse) text.now
         result }

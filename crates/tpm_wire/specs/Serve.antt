@@ -177,8 +177,8 @@ Ends g held holds reader writer cut asked executions asking (Err fault.Full) = �
 -- A connection was served: pieces were read of the reader, each in one read and no more of them
 -- than one connection may have. The pieces, joined, are cut into buffers, and the first of these
 -- were executed. The executions lead from the machine before to the machine after. Where a history
--- leads to the machine before, they are a stretch of events after that history. Serving ended so.
--- ended.
+-- leads to the machine before, they are a stretch of events after that history. Ends says how
+-- serving ended.
 pub record Serves {F : Type 0} (g : Asking F) (can : Bool) (had has held holds : Option (List ℕ))
     (reader writer : Marks) (old : Record) (asked : F) (result : Result ℕ ServeFault)
     (new : Record) (asking : F) : Type 0
