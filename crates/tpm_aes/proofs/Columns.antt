@@ -49,7 +49,7 @@ columns_words g state a b c d v w x y size is_a is_b is_c is_d is_v is_w is_x is
     ∙ sym (ap (λ (words : List ℕ). columns_by g (shift_rows (sub_bytes (bytes_of words))))
     (four_words state size))
 
--- columns that are mixed
+-- the words of columns that are mixed
 pub mixed_words : (state a b c d : List ℕ) (v w x y : ℕ) → length state ≡ 4
     → a ≡ to_le_bytes w32 (slice_index_or state 0 0) → b ≡ to_le_bytes w32 (slice_index_or state 1 0)
     → c ≡ to_le_bytes w32 (slice_index_or state 2 0) → d ≡ to_le_bytes w32 (slice_index_or state 3 0)
@@ -66,7 +66,7 @@ words_shifted : (state : List ℕ) → columns_by (λ column. column) (shift_row
 unfolding shift_rows
 words_shifted state = refl
 
--- columns that are not mixed
+-- the words of columns that are not mixed
 pub shifted_words : (state a b c d : List ℕ) (v w x y : ℕ) → length state ≡ 4
     → a ≡ to_le_bytes w32 (slice_index_or state 0 0) → b ≡ to_le_bytes w32 (slice_index_or state 1 0)
     → c ≡ to_le_bytes w32 (slice_index_or state 2 0) → d ≡ to_le_bytes w32 (slice_index_or state 3 0)
@@ -90,7 +90,7 @@ constant_at n low high =
     ap (λ (t : List ℕ). slice_index_or t (n - 1) 0) constant_values
     ∙ get_or-map-range_with_len (times_power 1) 0 10 (n - 1) (n - 1) 0 (omega arith) (omega arith)
 
--- the bytes of a word turned and substituted
+-- the bytes of a word, turned and substituted
 abbrev turned : List ℕ → List ℕ
 turned bytes =
     sub_bytes (slice_index_or bytes 1 0 ∷ slice_index_or bytes 2 0 ∷ slice_index_or bytes 3 0

@@ -5,7 +5,7 @@ use Rattle.std.proofs.lemmas.List.FromFn.{fill_by_all, get_or-map-range_with_len
 use Rattle.tpm_aes.specs.Cipher.{expanded_key, mix_column, mix_columns, next_round_key, round_key, shift_rows, state_after, sub_bytes, word_of, xor_of}
 use Rattle.tpm_aes.specs.Words.{bytes_of}
 
--- the four columns
+-- the four columns of a mixed state
 pub words_mixed : (state : List ℕ) → mix_columns state
     ≡ mix_column (word_of state 0) ++ (mix_column (word_of state 1) ++ (mix_column (word_of state 2) ++ mix_column (word_of state 3)))
 unfolding mix_columns
@@ -49,7 +49,7 @@ expanded_key_from keys key size each =
     λ k low. get_or-map bytes_of keys k [] [] (omega arith) ∙ each k low in
     rw first (fill_by_all (round_key key) (map bytes_of keys) 11 [] (simp length-map size) all)
 
--- the keys of the rounds below n stand at their places
+-- The keys of the rounds below n are in their places.
 pub record HasKeysBelow (keys : List (List ℕ)) (key : List ℕ) (n : ℕ) : Type 0 where
   pub size : length keys ≡ 11
   pub each : (k : ℕ) → k < n → bytes_of (slice_index_or keys k []) ≡ round_key key k
