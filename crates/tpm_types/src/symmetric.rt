@@ -1,5 +1,5 @@
-//! How a session encrypts parameters: not at all, by AES-128 in CFB mode, or by the exclusive or with
-//! masks (TPMT_SYM_DEF; TPM 2.0 Library, Part 2, section 11.1.6).
+//! How a session encrypts parameters: not at all, by AES-128 in CFB mode, or by the exclusive or
+//! with masks (TPMT_SYM_DEF; TPM 2.0 Library, Part 2, section 11.1.6).
 
 ghost use Rattle.std.specs.Prelude.{◌≡◌, ◌+◌, ◌≤◌, ℕ, List, ◌++◌, length, Ok, IfOk};
 ghost use Rattle.tpm_bytes.specs.Reading.{AreBytes, Reads};

@@ -181,8 +181,8 @@ macro_rules! shape {
     }};
 }
 
-/// One column of the lines of `facts!`: all commands, the number, the name or the shape of a command,
-/// or the command of a number.
+/// One column of the lines of `facts!`: all commands, the number, the name or the shape of a
+/// command, or the command of a number.
 macro_rules! column {
     (all; $($number:literal $variant:ident $name:literal $shape:tt)*) => {
         [$(CommandCode::$variant),*]
