@@ -60,7 +60,7 @@ pub enum Start {
 }
 
 impl Start {
-    /// What a startup of this type is; VALUE where it wants a saved state and there is none.
+    /// The kind of a startup of this type; VALUE where it asks for a saved state and none is saved.
     fn of(kind: StartupType, saved: SavedKind) -> Result<Start, Refused>
         ensures { result ≡ start_of kind saved }
     {
@@ -130,8 +130,8 @@ fn begin<K: Keep>(keep: &mut K, start: Start, random: &[u8; 256]) -> usize
     }
 }
 
-/// TPM2_Startup: a TPM Reset, a TPM Restart or a TPM Resume; VALUE where it wants a saved state and
-/// there is none.
+/// TPM2_Startup: a TPM Reset, a TPM Restart or a TPM Resume; VALUE where it asks for a saved state
+/// and none is saved.
 #[tactic(auto, unfolding(crate::specs::Startup::startup_row))]
 pub fn startup<K: Keep>(keep: &mut K, call: &Call, answer: &mut Answer) -> Result<(), Refused>
     requires { IsEmpty answer.old }

@@ -1,5 +1,5 @@
-//! What an entry is to authorize: a handle of its command, with what that names, which was looked up
-//! once.
+//! What an entry is to authorize: a handle of its command, with what that names, which was looked
+//! up once.
 
 ghost use Rattle.std.specs.Prelude.{◌≡◌, ◌≤◌, length, map, slice_get, take};
 ghost use Rattle.std.specs.Str.{bytes_eq};

@@ -1,4 +1,4 @@
--- What the row of an authorized command does is the command's acceptance.
+-- The row of an authorized command does what the command's acceptance says.
 use Rattle.std.proofs.Common.{◌≡◌, ◌≤◌, ℕ, List, length, Bool, true, false, Option, Result, Ok, Err, IfOk, refl, ap, sym, subst, ◌∙◌}
 use Rattle.std.specs.Prelude.{◌&&◌}
 use Rattle.std.proofs.lemmas.Bool.{false≢true}
@@ -44,7 +44,7 @@ unfolding acceptance
 accepts can r c grants locality random q result answer new granted asked acts =
     rw (granted, ← asked) (row_accepts can c grants q (row_of r c.code q) r result answer new acts)
 
--- ---- what is answered to a command that succeeded
+-- ---- the answer to a command that succeeded
 
 pub accepted_answers : (can : Bool) (r : Record) (random : List ℕ) (c : Whole) (grants : List (Option Grant)) (a : Result Accepted Refused) (answer : Answer) (effect : Record) (response : List ℕ) (after : Record) → Succeeds a c grants answer effect → record { response = response; after = after } ≡ answer_to c grants (text_of answer) effect random → Answers can r random (in_command c.code a) (record { response = response; row = record { code = code_number c.code; check = 0 }; after = settled c.code after })
 accepted_answers can r random c grants (Err e) answer effect response after never is = absurd never
@@ -58,7 +58,7 @@ accepted_answers can r random c grants (Ok a) answer effect response after (same
     ∙ ap (λ (x : List (Option Grant)). answer_to a.command x (written_of a.success.answer) a.success.after random) (sym granted) in
     answers_exactly can r random (Ok a) _ (λ i. record { response = (whole i).response; row = record { code = code_number (back i).code; check = 0 }; after = settled (back i).code (whole i).after })
 
--- and that it is modest, as the answer has room for so much alone, and nonces are short
+-- an accepted command is modest, since the answer has room for no more, and nonces are short
 pub accepted_modest : (random : List ℕ) (c : Whole) (grants : List (Option Grant)) (a : Result Accepted Refused) (answer : Answer) (effect : Record) → answer.drawn ≤ 96 → length answer.parameters ≤ answer_limit → DrawsFew random effect c.entries answer.drawn → Succeeds a c grants answer effect → IfOk a (IsModest random)
 accepted_modest random c grants (Err e) answer effect few short drawn never = tt
 accepted_modest random c grants (Ok a) answer effect few short drawn (same, granted, written, left) = (
@@ -69,7 +69,7 @@ accepted_modest random c grants (Ok a) answer effect few short drawn (same, gran
       (subst (λ (x : Record). DrawsFew random x c.entries answer.drawn) left drawn)),
 )
 
--- what a command that is authorized does
+-- the rules for the command that is authorized
 pub ruleset acting = (accepted_answers, accepted_modest, refused_answers)
 
 -- a command that is not authorized is refused
@@ -77,12 +77,12 @@ pub not_authorized : (can : Bool) (r : Record) (c : Whole) (locality : ℕ) (ran
 unfolding acceptance
 not_authorized can r c locality random e refused = rw (refused) refl
 
--- a command that is decoded, and then refused or refused memory
+-- the answer to a command that is decoded, and then refused, or refused memory
 pub command_refused : (can : Bool) (r : Record) (buffer : List ℕ) (locality : ℕ) (random : List ℕ) (c : Whole) (e : Refused) (x : Stepped) → general r buffer ≡ Ok c → RefusesOrWantsMemory can c (acceptance r c locality random) e → x ≡ refusal_step r (record { code = code_number c.code; refused = e }) → Answers can r random (accepted r buffer locality random) x
 unfolding accepted
 command_refused can r buffer locality random c e x decoded is seen =
     rw (decoded, seen) (refused_answers can r random c (acceptance r c locality random) e is)
 
--- an authorized command whose row refuses, or is refused memory
+-- the answer to an authorized command whose row refuses, or is refused memory
 pub row_refused : (can : Bool) (r : Record) (random : List ℕ) (c : Whole) (a : Result Accepted Refused) (e : Refused) (x : Stepped) → RefusesOrWantsMemory can c a e → x ≡ refusal_step r (record { code = code_number c.code; refused = e }) → Answers can r random (in_command c.code a) x
 row_refused can r random c a e x is seen = rw seen (refused_answers can r random c a e is)

@@ -1,4 +1,5 @@
--- The header of a response that has nothing after it, and the response to a command that has entries.
+-- The header of a response that has nothing after it, and the response to a command that has
+-- entries.
 use Rattle.std.proofs.Common.{arith, length-drop, ◌+◌, ◌≡◌, ◌≤◌, ℕ, List, [], ◌∷◌, ◌++◌, drop, length, Option, ap, append-nil, refl, sym, ◌∙◌}
 use Rattle.std.specs.Int.{w16, w32, to_be_bytes}
 use Rattle.tpm_types.specs.declared.handle.Handle.{Handle}
@@ -22,7 +23,7 @@ unfolding success_text
 success_some [] handle answer area some = absurd (let none : ⊥ = omega arith in none)
 success_some (entry ∷ entries) handle answer area some = refl
 
--- its three passes, and then its text
+-- an answer of its three passes, and then its text
 answered_by : (c : Whole) (grants : List (Option Grant)) (a : Written) (effect : Record) (random : List ℕ) (mid after : Record) (left parameters area text : List ℕ) → 1 ≤ length c.entries
     → entries_rolled effect c.entries (drop a.drawn random) ≡ record { after = mid; left = left }
     → parameters ≡ encrypted_answer mid (granted_entries c grants) a.parameters
@@ -35,7 +36,7 @@ answered_by c grants a effect random mid after left parameters area text some ro
     let texts : text ≡ success_text c.entries a.handle parameters area = spelled ∙ sym (success_some c.entries a.handle parameters area some) in
     rw (rolled, ← encrypted, ← answered) (λ i. record { response = texts i; after = ended i })
 
--- the same of what stands in its variables
+-- an answer of three passes, by the variables of the code
 pub answered_with : (c : Whole) (grants : List (Option Grant)) (a : Written) (effect : Record) (random : List ℕ) (mid after : Record) (entries : List Entry) (granted : List Granted) (draws left parameters sent area text : List ℕ) → 1 ≤ length c.entries
     → entries ≡ c.entries → granted ≡ granted_entries c grants → draws ≡ drop a.drawn random → sent ≡ parameters
     → entries_rolled effect entries draws ≡ record { after = mid; left = left }
