@@ -1,4 +1,5 @@
--- Each use by a policy session meets every policy that has the authPolicy, or the hash is broken.
+-- Each use by a policy session meets every policy that has the authPolicy of the entity, or the
+-- hash is broken.
 use Rattle.std.proofs.Common.{◌≡◌, ◌⊎◌, ℕ, Bool, true, false, cond, List, [], ◌∷◌, Option, Some, None, IfSome, IfOk, refl, ap, sym, subst, ◌∙◌, inl, inr}
 use Rattle.std.proofs.lemmas.Option.{same_Some}
 use Rattle.std.specs.Int.{bit_at, w8, w32}
@@ -53,7 +54,7 @@ use Rattle.tpm_history.proofs.AssertedBy.{HasOrigin, first_authorized, have_orig
 use Rattle.tpm_history.proofs.RecordedAssertions.{command_recorded, cp_hash_recorded, locality_allowed, written_recorded}
 use Rattle.tpm_history.proofs.Selections.{digest_by_text}
 
--- ---- along a policy
+-- ---- the assertions along a policy
 
 mutual
   met_so : (P Q : PolicyAssertion → Type 0) → ((one : PolicyAssertion) → P one → Q one) → (policy : PolicyExpression) → IsMet P policy → IsMet Q policy
@@ -91,7 +92,8 @@ all_at P one (other ∷ assertions) all (inr among) = all_at P one assertions al
 
 -- ---- which command asserts what
 
--- of TPM2_PolicySecret and TPM2_PolicyNV the handle whose Name is asserted
+-- The command is TPM2_PolicySecret or TPM2_PolicyNV, and the assertion has the Name of the handle
+-- that it names.
 abbrev IsOf : Code → AcceptedCommand → Assertion → Type 0
 IsOf code c (assertion.Secret parts) = (code ≡ command.PolicySecret) × (name_in c.views 0 ≡ parts.name)
 IsOf code c (assertion.Nv parts) = (code ≡ command.PolicyNv) × (name_in c.views 1 ≡ parts.name)
@@ -115,7 +117,7 @@ of_command history handle one by =
     ok_at (IsOf by.command.command.code by.command) (assertion_by by.command.command.code by.command by.before by.session.hash by.session.nonce_tpm) one
     (asserted_of by.command.command.code by.command by.before by.session.hash by.session.nonce_tpm) by.asserts
 
--- ---- a use
+-- ---- one use of a policy session
 
 module _ (u : PolicyUse) (used : used_in u.command.command u.place ≡ Some u.handle) (kind : u.session.kind ≡ type.Policy) (meets : MeetsPolicy u.history u.command u.place u.entry u.session) (demanded : HasDemanded (is_password_demand (policy_in u.session).demand) u.history u.command u.place u.entry u.session) (find : AllFind u.session.hash u.session.assertions) (origins : (one : Assertion) → IsAmong one u.session.assertions → HasOrigin u.history u.entry.session one) where
   abbrev hash : HashAlg
@@ -127,7 +129,7 @@ module _ (u : PolicyUse) (used : used_in u.command.command u.place ≡ Some u.ha
   policy_is : policy_in u.session ≡ evaluated hash false assertions
   policy_is = ap (λ (k : SessionType). evaluated hash (is_trial k) assertions) kind
 
-  -- the value in the key, by what the policy demands
+  -- the authorization value in the HMAC key, by what the policy demands
   abbrev value_by : SessionType → Demand → List ℕ
   value_by k d = cond (has_value_in_key k (is_bound_to u.session (name_in u.command.views u.place) (auth_of u.history u.handle)) d) (auth_of u.history u.handle) []
 
@@ -158,7 +160,7 @@ module _ (u : PolicyUse) (used : used_in u.command.command u.place ≡ Some u.ha
       }
   secret_shown name reference one says origin = absurd says
 
-  -- what is asserted is met
+  -- an assertion of a policy that the session asserted is met
   met_by : (written : PolicyAssertion) (one : Assertion) → IsAmong one assertions → Says one written → IsMetBy u written
   met_by (PolicyPcr selection digest) (assertion.Pcr parts) among says =
       let holds = meets.pcrs (any_pcr parts assertions among) in

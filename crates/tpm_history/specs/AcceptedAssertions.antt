@@ -12,9 +12,9 @@ use Rattle.tpm_types.specs.declared.session_type.SessionType.TheVariants as type
 use Rattle.tpm_history.specs.History.{AcceptedCommand, Done, History, PowerCycled}
 use Rattle.tpm_history.specs.Sessions.{LiveSession, sessions_of}
 
--- What an accepted assertion found of the policy before it. TPM2_PolicyOR found the digest among its
--- digests; of a command code, a cpHash and a written value the same was recorded, or nothing was; a
--- command code has 32 bits; and TPM2_PolicyNV found bytes to compare.
+-- What an accepted assertion found of the policy before it. TPM2_PolicyOR found the digest among
+-- its digests; of a command code, a cpHash and a written value the same was recorded, or nothing
+-- was; a command code has 32 bits; and TPM2_PolicyNV found bytes to compare.
 abbrev pub Finds : Assertion → Policy → Type 0
 Finds (assertion.Or digests) p = IsAmong p.digest digests
 Finds (assertion.CommandCode number) p =

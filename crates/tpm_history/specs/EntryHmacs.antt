@@ -104,8 +104,8 @@ HasHmac history c place e s =
 -- ---- every command of a history
 
 -- Each entry of a command that names an HMAC session, whether it authorizes something or not, has
--- its HMAC. A command is given 256 random bytes, of which at most 192 are drawn: so 64 are left after
--- all new nonces, and none was cut short.
+-- its HMAC. A command is given 256 random bytes, of which at most 192 are drawn: so 64 are left
+-- after all new nonces, and none was cut short.
 pub record ShowsHmacs (history : History) (c : AcceptedCommand) : Type 0 where
   pub hmacs : (place : ℕ) (e : Entry) (s : LiveSession)
       → slice_get c.command.entries place ≡ Some e → session_kind e.session ≡ kind.Session

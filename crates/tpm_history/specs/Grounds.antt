@@ -1,5 +1,5 @@
--- The grounds on which a command uses what it uses, by the history before it. TPM 2.0 Library, Part 1,
--- section 19 (authorizations and policies), and Part 3, section 5.6 (authorization checks).
+-- The grounds on which a command uses what it uses, by the history before it. TPM 2.0 Library, Part
+-- 1, section 19 (authorizations and policies), and Part 3, section 5.6 (authorization checks).
 use Rattle.std.specs.Prelude.{◌≡◌, ◌≢◌, ℕ, ◌&&◌, Bool, true, false, IfSome, [], ◌∷◌, is_some, Option, Some, None, option_and_then, slice_get}
 use Rattle.std.specs.Int.{bit_at}
 use Rattle.std.specs.Option.{option_map_or}

@@ -35,8 +35,9 @@ pcr_parts_in history hash p = record {
 }
 
 -- what a command asserts after a history, on a session of this hash and with this nonceTPM. Of an
--- index that TPM2_PolicyNV compares a policy has the Name, and nothing of what was compared, which no
--- history tells: `compared` is left without bytes, and what is made of the assertion does not read it
+-- index that TPM2_PolicyNV compares a policy has the Name, and nothing of what was compared, which
+-- no history tells: `compared` is left without bytes, and what is made of the assertion does not
+-- read it
 abbrev pub assertion_by : Code → AcceptedCommand → History → HashAlg → (nonce_tpm : List ℕ)
     → Result Assertion Refused
 assertion_by command.PolicyPcr c history hash nonce_tpm = do

@@ -41,8 +41,8 @@ KeepsPcrs handle [] before = Unit {0}
 KeepsPcrs handle (event ∷ events) before =
     (has_pcrs (event ∷ events ++ before) handle ≡ true) × KeepsPcrs handle events before
 
--- A history ends in the first TPM2_PolicyPCR that is asserted on the session of a handle, and in quiet
--- events alone after it; since then some TPM2_PolicyPCR is asserted on that session.
+-- A history ends in the first TPM2_PolicyPCR that is asserted on the session of a handle, and in
+-- quiet events alone after it; since then some TPM2_PolicyPCR is asserted on that session.
 pub record AreQuietSince (handle : Handle) (history : History) : Type 0 where
   pub since : History
   pub first : AcceptedCommand

@@ -55,8 +55,8 @@ abbrev pub HasNonceAgain : (earlier now : LiveSession) → Type 0
 HasNonceAgain earlier now =
     (now.nonce_tpm ≡ earlier.nonce_tpm) × IsAmong now.nonce_tpm now.earlier_nonces
 
--- The texts of an entry at two events differ, and the entry's HMAC is that of each, under the key of
--- its event.
+-- The texts of an entry at two events differ, and the entry's HMAC is that of each, under the key
+-- of its event.
 abbrev pub HaveOneHmac : (before : History) (first : AcceptedCommand) (after : History)
     (second : AcceptedCommand) (place : ℕ) (e : Entry) (s t : LiveSession) → Type 0
 HaveOneHmac before first after second place e s t =

@@ -1,7 +1,7 @@
 -- What the view of a handle tells of what the handle names: its Name, its policy, whether it is
 -- written, how its authorization value is protected, and by what it can be authorized. TPM 2.0
--- Library, Part 1, sections 16 (Names), 19.2 (roles), 19.7 (policies) and 19.8 (dictionary attacks),
--- and Part 2, section 13.4 (TPMA_NV).
+-- Library, Part 1, sections 16 (Names), 19.2 (roles), 19.7 (policies) and 19.8 (dictionary
+-- attacks), and Part 2, section 13.4 (TPMA_NV).
 use Rattle.std.specs.Prelude.{◌≡◌, ℕ, ◌==◌, ◌&&◌, not, Bool, true, false, List, length, if◌then◌else◌, Option, Some, None}
 use Rattle.tpm_policy.specs.Use.{EntityParts}
 use Rattle.tpm_session.specs.declared.session.Protection.{Protection}
