@@ -33,7 +33,8 @@ pub fn serve_device(rt: &HostRuntime, service: &Service) -> Result<(), Fault> {
     serve_machine(rt, service, machine, &mut source, &mut saver)
 }
 
-/// Serves a machine on the socket. Removes the socket's file in the end, if it is still at its path.
+/// Serves a machine on the socket. Removes the socket's file in the end, if it is still at its
+/// path.
 fn serve_machine<K: Keep>(
     rt: &HostRuntime,
     service: &Service,

@@ -5,7 +5,8 @@ use Rattle.tpm_image.specs.NonVolatile.{kept_of}
 use Rattle.tpm_image.specs.declared.version.Version.TheVariants.{Two}
 use Rattle.tpm_image.proofs.image.save.Goals as goal
 
--- what went out is a front of the image, of which the head and the rest are the parts
+-- The part of the image that went out is its front: a part of the head, or the head and a part of
+-- the rest.
 pub returns-clause-cut_off : goal.returns-clause-cut_off
 unfolding image_text
 returns-clause-cut_off g c =
