@@ -122,7 +122,7 @@ next_of_four n p q r s added is_added =
     let w3 = bytes-xor s third ∙ ap (xor_of (to_le_bytes w32 s)) w2 in
     λ i. w0 i ++ (w1 i ++ (w2 i ++ w3 i))
 
--- the next round key
+-- the words of the next round key are those that the standard gives
 pub next_words : (n added : ℕ) (key : List ℕ) → length key ≡ 4
     → to_le_bytes w32 added ≡ scheduled_word n (to_le_bytes w32 (slice_index_or key 3 0))
     → let first = bit_xor (slice_index_or key 0 0) added in

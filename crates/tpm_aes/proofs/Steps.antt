@@ -16,17 +16,17 @@ pub round_key_first : (key : List ℕ) → round_key key 0 ≡ key
 unfolding round_key
 round_key_first key = refl
 
--- the key of one more round
+-- the key of the next round
 pub round_key_more : (key : List ℕ) (n : ℕ) → round_key key (n + 1) ≡ next_round_key (n + 1) (round_key key n)
 unfolding round_key
 round_key_more key n = rw (add-one n) refl
 
--- the state of no round
+-- the state before the first round has the first round key added
 pub state_after_none : (key block : List ℕ) → state_after key block 0 ≡ xor_of block (round_key key 0)
 unfolding state_after
 state_after_none key block = refl
 
--- the state after one more round
+-- the state after the next round
 pub state_after_more : (key block : List ℕ) (n : ℕ) → state_after key block (n + 1)
     ≡ xor_of (mix_columns (shift_rows (sub_bytes (state_after key block n)))) (round_key key (n + 1))
 unfolding state_after
@@ -54,7 +54,7 @@ pub record HasKeysBelow (keys : List (List ℕ)) (key : List ℕ) (n : ℕ) : Ty
   pub size : length keys ≡ 11
   pub each : (k : ℕ) → k < n → bytes_of (slice_index_or keys k []) ≡ round_key key k
 
--- one more round key
+-- the list of round keys with one more
 pub round_keys_more : (keys : List (List ℕ)) (key next : List ℕ) (n : ℕ) → 1 ≤ n → n < length keys
     → ((k : ℕ) → k < n → bytes_of (slice_index_or keys k []) ≡ round_key key k)
     → bytes_of next ≡ next_round_key n (bytes_of (slice_index_or keys (n - 1) []))

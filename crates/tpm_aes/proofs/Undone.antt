@@ -60,7 +60,7 @@ length-joined piece text like =
 
 -- ---- pieces and their blocks
 
--- bytes that are added twice are gone, where they cover the text
+-- bytes that are added twice, by exclusive or, leave the text as it was
 xor_of-twice : (xs ys : List ℕ) → length (xor_of xs ys) ≡ length xs → xor_of (xor_of xs ys) ys ≡ xs
 xor_of-twice [] ys whole = refl
 xor_of-twice (x ∷ xs) [] whole = absurd (omega arith)

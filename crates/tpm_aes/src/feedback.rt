@@ -11,7 +11,7 @@ const BLOCK_SIZE: usize = 16;
 
 impl Aes128 {
     /// Encrypts the text in place. The text may have any length; a last block that is short is
-    /// added to the first bytes of its key stream.
+    /// combined, by exclusive or, with the first bytes of its key stream.
     pub fn cfb_encrypt(&self, iv: &[u8; 16], text: &mut [u8])
         ensures value { text.new ≡ cfb_encrypt_of self.now iv.now text.old }
         ensures undone { cfb_decrypt_of self.now iv.now text.new ≡ text.old }

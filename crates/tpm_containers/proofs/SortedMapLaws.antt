@@ -317,7 +317,7 @@ module _ {X : Type 0} where
         | inr above ↦ above
       ]
 
-  -- the same is found among the rest of both maps
+  -- where two maps have the same first entry, the rest of both finds the same
   same_rest : (e f : ℕ × X) (es fs : Entries X) → e.0 ≡ f.0 → Ascends (e ∷ es) → Ascends (f ∷ fs) → SameFound (e ∷ es) (f ∷ fs) → SameFound es fs
   same_rest e f es fs one up vp found key =
       elim (cases_eq e.0 key) [

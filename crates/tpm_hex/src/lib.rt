@@ -71,7 +71,7 @@ fn digit_of(value: u8) -> u8
     }
 }
 
-/// The value of a hex digit of either case, or [`NO_DIGIT`].
+/// The value of a hex digit of either case; `NO_DIGIT` for any other byte.
 fn value_of(digit: u8) -> u8
     ensures { result ≡ unwrap_or (hex_digit_value digit) NO_DIGIT }
 {
