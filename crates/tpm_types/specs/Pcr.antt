@@ -6,7 +6,7 @@ use Rattle.std.specs.Prelude.{List, [], ◌∷◌, ◌++◌, take, Option, Some,
 use Rattle.std.specs.Int.{w32, bit_at, from_le_bytes, to_le_bytes}
 use Rattle.tpm_types.specs.declared.pcr.PcrIndex.{PcrIndex}
 
--- A PCR has this number, which is 0 to 23; or there is none of this number, which is above.
+-- There is a PCR of a number, and it has that number, exactly if the number is 0 to 23.
 abbrev pub SomePcr : ℕ → Option PcrIndex → Type 0
 SomePcr number (Some pcr) = (number < 24) × (pcr ≡ number)
 SomePcr number None = 24 ≤ number

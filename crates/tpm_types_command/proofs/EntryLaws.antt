@@ -56,7 +56,7 @@ length-auth_entry_text entry = omega (arith, length-append (to_be_bytes w32 entr
 
 pub ruleset entry_sizes = (length-auth_entry_text)
 
--- ---- the entries of an area
+-- ---- the entries of an authorization area
 
 -- where bytes are left, there is an entry, and others after it
 pub entries_in_some : (most : ℕ) (left : List ℕ) → 0 < length left → entries_in (suc most) left ≡ (entry_at left >>= λ first. entries_in most first.1 >>= λ others. Ok (first.0 ∷ others))
