@@ -94,7 +94,8 @@ written contents handle offset bytes = do
       write_fault.Partial
   Ok (changed_index contents handle (with_data index (put_over offset bytes (data_or 0xff index))))
 
--- the contents once a counter had this value, which the largest value of any counter is not below
+-- the contents after a counter took this value: the largest value that any counter ever had rises
+-- to it if it was less
 abbrev pub counted : NvContents → ℕ → NvContents
 counted contents count = record contents { max_count = max contents.max_count count }
 

@@ -21,8 +21,7 @@ new_sensitive template given seed key = record {
   sensitive = if is_given given.data then given.data else key;
 }
 
--- the public area of a new object: the template, whose unique becomes H(seedValue
--- sensitive)
+-- the public area of a new object: the template, whose unique becomes H(seedValue || sensitive)
 abbrev pub new_public : Public → Sensitive → Public
 new_public template area =
     record template { unique = hash_of template.name_alg (area.seed_value ++ area.sensitive) }

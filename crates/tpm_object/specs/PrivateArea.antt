@@ -40,8 +40,7 @@ integrity_key parent =
     kdfa_of parent.public.name_alg parent.seed_value integrity_label [] []
     (digest_size parent.public.name_alg)
 
--- the integrity value of a private area: HMAC(pNameAlg, HMACkey, what is protected
--- name)
+-- the integrity value of a private area: HMAC(pNameAlg, HMACkey, what is protected || name)
 unfoldable pub integrity_of : (parent : Object) → (name protected : List ℕ) → List ℕ
 integrity_of parent name protected =
     hmac_of parent.public.name_alg (integrity_key parent) (protected ++ name)

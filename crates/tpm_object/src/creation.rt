@@ -103,8 +103,7 @@ pub fn generated_size(template: &Public, given: &SensitiveCreate) -> usize
     }
 }
 
-/// How many random bytes [`create`](crate::areas::create) takes: those of the key and of the
-/// seedValue.
+/// How many random bytes `create` takes: those of the key and of the seedValue.
 pub fn drawn_by(template: &Public, given: &SensitiveCreate) -> usize
     ensures value { result ≡ drawn_by template.now (sensitive_values_of given.now) }
     ensures small { result ≤ 64 }

@@ -45,7 +45,7 @@ same_test a b c d false false e f h k = refl
 same_test a b c d true false e f h k = absurd (lt_false c d f (h (lt_true a b e)))
 same_test a b c d false true e f h k = absurd (lt_false a b e (k (lt_true c d f)))
 
--- room for one more among eight, after some and the first few of others
+-- whether there is room for one more of eight values, after some values and the first few of others
 pub room_left : (old k : ℕ) → nat_lt (old + min (8 - old) k) 8 ≡ nat_lt k (8 - old)
 room_left old k = same_test (old + min (8 - old) k) 8 k (8 - old) _ _ refl refl (λ h. omega arith) (λ h. omega arith)
 

@@ -121,9 +121,8 @@ is_other_written (Some recorded) None = true
 is_other_written (Some true) (Some found) = not found
 is_other_written (Some false) (Some found) = found
 
--- the policy after an assertion extends its digest: H(policyDigest
--- commandCode
--- what the assertion is about)
+-- the policy after an assertion extends its digest: H(policyDigest || commandCode || what the
+-- assertion is about)
 abbrev pub extended : HashAlg → ServedCommand → (about : List ℕ) → Policy → Policy
 extended hash command about policy =
     record policy {
@@ -249,9 +248,7 @@ nv_compared false nv = do
   bytes ← nv.compared
   refused_if (not (compares nv.operation bytes nv.operand)) (plain_fault action.Fifth code.Policy)
 
--- the arguments of TPM2_PolicyNV, hashed: H(operand
--- offset
--- operation)
+-- the arguments of TPM2_PolicyNV, hashed: H(operand || offset || operation)
 abbrev pub nv_arguments : HashAlg → NvParts → List ℕ
 nv_arguments hash nv =
     hash_of hash (nv.operand ++ to_be_bytes w16 nv.offset

@@ -20,8 +20,8 @@ pub enum Demand {
     Password,
 }
 
-/// The state of a policy session (TPM 2.0 Library, Part 1, section 19.7). Contracts see it as a
-/// `Policy`, a plain record.
+/// The state of a policy session (TPM 2.0 Library, Part 1, section 19.7). Contracts see the state
+/// as a `Policy`, a plain record.
 #[derive(Drop)]
 pub struct PolicyState {
     pub(crate) digest: Digest,

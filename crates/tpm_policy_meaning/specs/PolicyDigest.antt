@@ -40,9 +40,7 @@ abbrev pub secret_update : (name reference : List ℕ) → PolicyUpdate
 secret_update name reference =
     record (plain_update command.PolicySecret name) { reference = Some reference }
 
--- the arguments of TPM2_PolicyNV, whose hash its update has: operandB
--- offset
--- operation
+-- the arguments of TPM2_PolicyNV, whose hash its update has: operandB || offset || operation
 abbrev pub nv_arguments_text : (operand : List ℕ) → (offset : ℕ) → Operation → List ℕ
 nv_arguments_text operand offset operation =
     operand ++ to_be_bytes w16 offset ++ to_be_bytes w16 (operation_number operation)

@@ -32,13 +32,13 @@ kind_of Nothing = kind.Nothing
 kind_of Clear = kind.Clear
 kind_of (State values) = kind.State
 
--- the values that are saved, if there are such
+-- the values that are saved, if any are
 abbrev pub values_of : SavedState → Option SavedValues
 values_of Nothing = None
 values_of Clear = None
 values_of (State values) = Some values
 
--- the banks with the values that are saved, if there are such
+-- the banks with the values that are saved, if any are
 abbrev pub restored_from : SavedState → BankValues → BankValues
 restored_from Nothing banks = banks
 restored_from Clear banks = banks

@@ -12,8 +12,8 @@ use Rattle.tpm_session.specs.declared.session.Session.{Session}
 abbrev pub cipher_label : List ℕ
 cipher_label = 0x43 ∷ 0x46 ∷ 0x42 ∷ []
 
--- the key and the IV of a parameter: KDFa(authHash, sessionKey
--- authValue, "CFB", nonceNewer, nonceOlder, 256 bits: 32 bytes)
+-- the key and the IV of a parameter: KDFa(authHash, sessionKey || authValue, "CFB", nonceNewer,
+-- nonceOlder, 256 bits: 32 bytes)
 unfoldable pub cipher_bytes : Session → (auth_value newer older : List ℕ) → List ℕ
 cipher_bytes session auth_value newer older =
     kdfa_of session.hash (session.key ++ auth_value) cipher_label newer older 32
@@ -29,9 +29,9 @@ cipher_iv bytes = drop 16 bytes
 abbrev pub mask_label : List ℕ
 mask_label = 0x58 ∷ 0x4f ∷ 0x52 ∷ []
 
--- the mask of a parameter: KDFa(authHash, sessionKey
--- authValue, "XOR", nonceNewer, nonceOlder, as many bits as a parameter of this size has). A check
--- of TPM2_StartAuthSession makes the hash of XOR authHash
+-- the mask of a parameter: KDFa(authHash, sessionKey || authValue, "XOR", nonceNewer, nonceOlder,
+-- as many bits as a parameter of this size has). A check of TPM2_StartAuthSession makes the hash of
+-- XOR authHash
 unfoldable pub mask_bytes : Session → (auth_value newer older : List ℕ) → (size : ℕ) → List ℕ
 mask_bytes session auth_value newer older size =
     kdfa_of session.hash (session.key ++ auth_value) mask_label newer older size

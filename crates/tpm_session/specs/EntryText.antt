@@ -22,18 +22,13 @@ parts_of text = record {
   attributes = text.attributes;
 }
 
--- the HMAC key of an entry: sessionKey
--- authValue
+-- the HMAC key of an entry: sessionKey || authValue
 abbrev pub entry_key : Session → List ℕ → List ℕ
 entry_key session auth_value = session.key ++ auth_value
 
--- the HMAC text of an entry: pHash
--- nonceNewer
--- nonceOlder
--- nonceTPM of the decrypt session
--- nonceTPM of the encrypt session
--- sessionAttributes. The nonces of other sessions are empty where the entry does not authenticate
--- them
+-- the HMAC text of an entry: pHash || nonceNewer || nonceOlder || nonceTPM of the decrypt session
+-- || nonceTPM of the encrypt session || sessionAttributes. The nonces of other sessions are empty
+-- where the entry does not authenticate them
 abbrev pub entry_text : (hash newer older decrypt encrypt : List ℕ) → SessionAttributes → List ℕ
 entry_text hash newer older decrypt encrypt attributes =
     hash ++ newer ++ older ++ decrypt ++ encrypt ++ attributes.octet ∷ []
