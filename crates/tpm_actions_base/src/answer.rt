@@ -7,8 +7,8 @@ ghost use Rattle.tpm_actions_base.specs.Draws.{draw_limit};
 use tpm_bytes::Sink;
 use tpm_types::{ANSWER_LIMIT, Handle};
 
-/// A response's parameters. An answer is made once and lent to each command, so no command pays for
-/// the room.
+/// The room for a response's parameters. An answer is made once and lent to each command, so that
+/// no command pays for the room.
 pub type Parameters = Sink<ANSWER_LIMIT>;
 
 /// What a command that succeeds answers.

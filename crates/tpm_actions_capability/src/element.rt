@@ -9,7 +9,7 @@ ghost use Rattle.tpm_actions_capability.specs.declared.element.Element.{Element 
 use arrayvec::ArrayVec;
 use tpm_actions_base::answer::Parameters;
 
-/// The most elements of one answer, of whatever capability: there are never more.
+/// The most elements of one answer; no capability ever lists more.
 pub(crate) const ELEMENT_LIMIT: usize = 64;
 
 /// All elements that a capability lists.

@@ -68,7 +68,7 @@ used_in r handles names resolved n place used are named is name_is =
       },
     )
 
--- a Name that was read in its place is that of the handle there
+-- the Name that was read in a place is that of the handle there
 pub name_read : {X : Type 0} (Nothing : Type 0) (More : Bor X → Type 0) (names : List X) (place : ℕ) (read : Option (Bor X)) → IfSome read (λ name. name.now ≡ get_or names place name.now) → MatchOption read Nothing (λ name. (place < length names) × More name) → ForSome read (λ name. slice_get names place ≡ Some name.now)
 name_read Nothing More names place None is within name made = absurd cc
 name_read {X = X} Nothing More names place (Some x) is within name made =

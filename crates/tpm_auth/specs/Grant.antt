@@ -110,6 +110,6 @@ abbrev pub AreGranted : Result (List (Option Grant)) Refused
 AreGranted granted (Ok u) grants = granted ≡ Ok grants
 AreGranted granted (Err e) grants = granted ≡ Err e
 
--- the grants in the code's list of them
+-- the grants that the code has listed
 abbrev pub granted_by : Grants → List (Option Grant)
 granted_by grants = grants.grants.items

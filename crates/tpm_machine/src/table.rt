@@ -1,5 +1,5 @@
-//! The table that gives each command its row, and runs it once its parameters are decrypted. A
-//! refusal leaves the record.
+//! The table that gives each command its row. The row is run once the command's parameters are
+//! decrypted. A refusal leaves the record.
 
 ghost use Rattle.tpm_types.specs.Limits.{buffer_limit};
 ghost use Rattle.std.specs.Prelude.{◌≡◌, ◌≤◌, ◌&&◌, Ok, length, map};
