@@ -187,7 +187,7 @@ few_fail s failed elapsed counts is (inl none) = omega (arith, none)
 few_fail s failed elapsed counts is (inr paid) =
     few_of (period s) s.fields.failed_tries failed s.fields.max_tries s.forgiving_time elapsed (omega (arith, counts)) (is counts) paid
 
--- ---- the time of the next try to be forgiven
+-- ---- the time towards forgiving the next try
 
 pub same_forgives : (old new : LockoutState) → SameTries old new → IsForgiving old → IsForgiving new
 same_forgives old new same is counts = rw (same.3, same.0) (is (λ none. counts (same.0 ∙ none)))

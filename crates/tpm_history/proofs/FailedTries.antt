@@ -133,7 +133,7 @@ password_at r c locality n used e password =
     comparison_at r c locality n used e granted (used_protection r used) (is_password_of (granted_value r granted) e.hmac) (same_check used)
     (ap (λ k. touched_by k r c locality n used e) password))
 
--- the demand of a session
+-- what a session demands of an entry, where the entry fails a try
 demand_at : (k : SessionType) (r : Record) (c : Whole) (locality n : ℕ) (handle : Handle) (s : Session) (used : Option Handle) (e : Entry) → IfErr (demand_by k r c locality n handle s) (IfFailsAt r c locality n used e)
 demand_at type.Hmac r c locality n handle s used e = search (rules, err_bind, err_if, other_at)
 demand_at _ r c locality n handle s used e = search (rules, err_other, use_other, other_at)
@@ -232,7 +232,7 @@ IfTryOf r locality buffer e = is_try e.counted ≡ true → FailsTry r locality 
 plain_of : (r : Record) (locality : ℕ) (buffer : List ℕ) (e : Refused) → IsPlain e → IfTryOf r locality buffer e
 plain_of r locality buffer e plain tries = absurd (false≢true (sym (ap is_try plain) ∙ tries))
 
--- what holds of a refusal of a first step that succeeds here, and of each step after it
+-- what holds of the refusal of a step, if it refuses, and of each refusal after it
 err_bind_at : {A B E : Type 0} (Q : E → Type 0) (x : Result A E) (f : A → Result B E) → ((e : E) → x ≡ Err e → Q e) → ((a : A) → IfErr (f a) Q) → IfErr (x >>= f) Q
 err_bind_at Q (Ok a) f here after = after a
 err_bind_at Q (Err e) f here after = here e refl

@@ -42,7 +42,7 @@ extended_none bank (Ok []) old is = refl
 extended_none bank (Ok (digest ∷ digests)) old is = absurd (omega (arith, is))
 extended_none bank (Err e) old is = refl
 
--- a value that would be written twice is not written
+-- where a command would write two values, and counts none, each value stays
 never_two : (handles : List Handle) (pcr : ℕ) (new old : List ℕ) → pcr < 24 → if_pcr handles 2 ≡ 0 → cond (names_pcr handles pcr) new old ≡ old
 never_two handles pcr new old below is =
     elim (unwritten handles 2 pcr below is) [

@@ -54,16 +54,13 @@ value_in_key history c place s (Some handle) =
     let is_bound : Bool = is_bound_to s (name_in c.views place) value in
     if has_value_in_key s.kind is_bound (policy_in s).demand then value else []
 
--- the HMAC key of the entry in a place: sessionKey
--- authValue
+-- the HMAC key of the entry in a place: sessionKey || authValue
 abbrev pub key_in : History → AcceptedCommand → ℕ → LiveSession → List ℕ
 key_in history c place s = s.key ++ value_in_key history c place s (used_in c.command place)
 
 -- ---- the text of an HMAC
 
--- cpHash: H(commandCode
--- Names of the handles
--- parameters as they were sent)
+-- cpHash: H(commandCode || Names of the handles || parameters as they were sent)
 abbrev pub cp_hash_in : AcceptedCommand → HashAlg → List ℕ
 cp_hash_in c hash =
     command_hash_of hash (code_number c.command.code) (map view_name c.views) c.command.parameters
@@ -77,12 +74,8 @@ entry_nonce history e =
 abbrev pub nonce_where : History → (Entry → Bool) → List Entry → List ℕ
 nonce_where history test entries = option_map_or (entry_nonce history) (find test entries) []
 
--- the HMAC text of an entry: cpHash
--- nonceCaller
--- nonceTPM
--- nonceTPM of the decrypt session
--- nonceTPM of the encrypt session
--- sessionAttributes
+-- the HMAC text of an entry: cpHash || nonceCaller || nonceTPM || nonceTPM of the decrypt session
+-- || nonceTPM of the encrypt session || sessionAttributes
 unfoldable pub text_in : History → AcceptedCommand → ℕ → Entry → LiveSession → List ℕ
 text_in history c place e s =
     let others : List Entry = other_entries c.command (place + 1) in

@@ -53,7 +53,7 @@ IsPolicyOf s (Some entity) =
 abbrev pub written_at : AcceptedCommand → ℕ → Option Bool
 written_at c place = option_and_then view_written (slice_get c.views place)
 
--- In the role ADMIN a policy has to name a command.
+-- For a handle in the role ADMIN, a policy has to name a command.
 abbrev pub NamesCommand : Role → Option ℕ → Type 0
 NamesCommand role.User number = Unit {0}
 NamesCommand role.Admin number = is_some number ≡ true

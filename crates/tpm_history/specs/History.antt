@@ -72,8 +72,8 @@ pub data PastEvent : Type 0 where
 abbrev pub History : Type 0
 History = List PastEvent
 
--- the history with one command more, where its row reports check 0: neither a refusal is recorded,
--- nor MEMORY in place of a success
+-- the history with one command more, where its row reports check 0: a refusal is not recorded, nor
+-- MEMORY in place of a success
 abbrev pub with_command : Record → Result Accepted RefusedCommand → (check : ℕ)
     → History → History
 with_command r (Ok a) zero history = Done (command_of r a) ∷ history

@@ -40,8 +40,7 @@ abbrev pub extended_by_all : HashAlg → Result (List DigestValue) Refused → L
 extended_by_all bank (Ok digests) old = fold (value_extended bank) old digests
 extended_by_all bank (Err e) old = old
 
--- the value of a PCR after TPM2_PCR_Event: H(old
--- H(event))
+-- the value of a PCR after TPM2_PCR_Event: H(old || H(event))
 abbrev pub measured_by : HashAlg → Result (List ℕ) Refused → List ℕ → List ℕ
 measured_by bank (Ok event) old = hash_of bank (old ++ hash_of bank event)
 measured_by bank (Err e) old = old

@@ -170,7 +170,7 @@ sessions_by command.PolicySecret c history live = with_asserted command.PolicySe
 sessions_by command.PolicyNv c history live = with_asserted command.PolicyNv c history live
 sessions_by _ c history live = live
 
--- ---- an entry names a session
+-- ---- entries that name sessions
 
 -- live sessions with their new nonces, and the random bytes that are left
 pub record Rolled : Type 0 where

@@ -1,4 +1,4 @@
--- Sizes that sessions have by how they are made, and that no type of the code says.
+-- Sizes of sessions, which follow from how sessions are made, and which no type of the code says.
 use Rattle.std.specs.Prelude.{◌≡◌, ◌⊎◌, true, [], length}
 use Rattle.tpm_mac.specs.Digest.{digest_size}
 use Rattle.tpm_containers.specs.Slots.{AreAll}
