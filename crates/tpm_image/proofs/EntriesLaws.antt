@@ -14,7 +14,8 @@ use Rattle.tpm_image.specs.declared.fault.FillFault.{FillFault}
 use Rattle.tpm_image.specs.declared.fault.FillFault.TheVariants as unfilled
 use Rattle.tpm_image.specs.declared.fault.Malformed.{Malformed}
 
--- a reading of entries with one more in front, from whose key on they ascend
+-- the entries that were read with one more in front, and a check that the keys of entries ascend
+-- from this one on
 abbrev pub before : {X : Type 0} → ℕ × X → Entries X × List ℕ → Result (Entries X × List ℕ) Malformed
 before e o = Ok (e ∷ o.0, o.1)
 

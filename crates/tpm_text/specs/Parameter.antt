@@ -62,7 +62,7 @@ hash_and_rest_in piece = do
   hash ← hash_in (take place piece)
   Ok (hash, drop (place + 1) piece)
 
--- the selection of the PCRs of these numbers, each at most 23; they are joined by commas
+-- the selection of the PCRs whose numbers, each at most 23, are joined by commas
 unfoldable pub pcrs_in : List ℕ → Result ℕ TokenFault
 pcrs_in numbers = do
   pcrs ← each_in (number_in 23) (pieces_of comma numbers)

@@ -1,4 +1,4 @@
--- What is written of tokens that are read.
+-- Reading tokens, and writing the text of what they spell.
 use Rattle.std.specs.Prelude.{◌≡◌, ℕ, Bool, true, false, List, [], ◌∷◌, Option, Some, None, Result, Ok, Err}
 use Rattle.tpm_types_command.specs.declared.tag.Tag.{Tag}
 use Rattle.tpm_types_command.specs.AuthEntry.{Entry}

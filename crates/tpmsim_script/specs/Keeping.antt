@@ -21,8 +21,9 @@ pub record Kept (S : Type 0) : Type 0 where
 abbrev pub kept : {S : Type 0} → Playing → S → Kept S
 kept playing saver = record { playing = playing; saver = saver }
 
--- What the saver was told after a line, with the device that the line left: of a command the
--- device, of a power cycle its clock too. After another line the saver is as before.
+-- What the saver was told of the device that a line left: after a command, that the device may have
+-- changed; after a power cycle, the device, its clock too. After another line the saver is as
+-- before.
 abbrev pub Tells : {S : Type 0} → (saves saves_change : S → Record → S → Type 0)
     → Option Meaning → Record → S → S → Type 0
 Tells saves saves_change (Some (Executes digits)) device old new = saves_change old device new
