@@ -97,7 +97,7 @@ fn check_password<K: Keep>(
 #[tactic(auto, unfolding(crate::specs::Grant::grant))]
 fn check_grant<K: Keep>(
     keep: &K,
-    sent: Sent,
+    sent: &Sent,
     hashes: &mut ParameterHashes,
     keyed: &mut KeyedMac,
     number: u8,
@@ -106,10 +106,10 @@ fn check_grant<K: Keep>(
 ) -> Result<Option<Grant>, Refused>
     requires number { 1 ≤ number }
     requires hashed { hashes.old
-        ≡ hashed_command (K.record_of keep.now) (whole_of sent.command.now) }
+        ≡ hashed_command (K.record_of keep.now) (whole_of sent.now.command.now) }
     requires used { ForSome used (IsUsed (K.record_of keep.now)) }
-    ensures value { result ≡ grant (K.record_of keep.now) (whole_of sent.entry.command.now)
-        (locality_number sent.entry.locality) number (option_map used_handle used.entry)
+    ensures value { result ≡ grant (K.record_of keep.now) (whole_of sent.now.command.now)
+        (locality_number sent.now.locality) number (option_map used_handle used.entry)
         (entry_of entry.now) }
     ensures same { hashes.new ≡ hashes.old }
 {
@@ -130,18 +130,18 @@ fn check_grant<K: Keep>(
 /// fault is that of the first that fails.
 fn check_grants<K: Keep>(
     keep: &K,
-    sent: Sent,
+    sent: &Sent,
     hashes: &mut ParameterHashes,
     keyed: &mut KeyedMac,
     entries: &[AuthEntry],
     grants: &mut ArrayVec<Option<Grant>, 3>,
 ) -> Result<(), Refused>
     requires hashed { hashes.old
-        ≡ hashed_command (K.record_of keep.now) (whole_of sent.command.now) }
+        ≡ hashed_command (K.record_of keep.now) (whole_of sent.now.command.now) }
     requires few { length grants.old.items + length entries.now ≤ 3 }
-    requires resolved { IsResolved (K.record_of keep.now) sent }
-    ensures { AreGranted (grants_pass (K.record_of keep.now) (whole_of sent.entry.command.now)
-        (locality_number sent.entry.locality) grants.old.items (map entry_of entries.now)) result
+    requires resolved { IsResolved (K.record_of keep.now) sent.now }
+    ensures { AreGranted (grants_pass (K.record_of keep.now) (whole_of sent.now.command.now)
+        (locality_number sent.now.locality) grants.old.items (map entry_of entries.now)) result
         grants.new.items }
 {
     let [entry, entries @ ..] = entries else {
@@ -172,13 +172,13 @@ fn resolved_at<'a>(resolved: &[Resolved<'a>], place: usize) -> Resolved<'a>
 
 /// The Name of the handle after those with these Names: where the command has the handle a second
 /// time, its Name is copied.
-fn next_name<K: Keep>(keep: &K, sent: Sent, names: &[Name]) -> Name
-    requires resolved { IsResolved (K.record_of keep.now) sent }
+fn next_name<K: Keep>(keep: &K, sent: &Sent, names: &[Name]) -> Name
+    requires resolved { IsResolved (K.record_of keep.now) sent.now }
     requires named { names.now ≡ map (name_of (K.record_of keep.now))
-        (take (length names.now) (whole_of sent.command.now).handles) }
-    requires more { length names.now < length sent.resolved.now }
+        (take (length names.now) (whole_of sent.now.command.now).handles) }
+    requires more { length names.now < length sent.now.resolved.now }
     ensures { Some result ≡ option_map (name_of (K.record_of keep.now))
-        (slice_get (whole_of sent.entry.command.now).handles (length names.now)) }
+        (slice_get (whole_of sent.now.command.now).handles (length names.now)) }
 {
     let resolved = resolved_at(sent.resolved, names.len());
     let first = resolved_at(sent.resolved, 0);
@@ -190,11 +190,11 @@ fn next_name<K: Keep>(keep: &K, sent: Sent, names: &[Name]) -> Name
 
 /// Makes the Names of a command's handles.
 #[tactic(auto, using(crate::proofs::Resolving::one_more_named, crate::proofs::Resolving::as_many))]
-fn make_names<K: Keep>(keep: &K, sent: Sent, names: &mut ArrayVec<Name, 3>)
-    requires resolved { IsResolved (K.record_of keep.now) sent }
+fn make_names<K: Keep>(keep: &K, sent: &Sent, names: &mut ArrayVec<Name, 3>)
+    requires resolved { IsResolved (K.record_of keep.now) sent.now }
     requires empty { names.old.items ≡ [] }
     ensures { names.new.items
-        ≡ map (name_of (K.record_of keep.now)) (whole_of sent.entry.command.now).handles }
+        ≡ map (name_of (K.record_of keep.now)) (whole_of sent.now.command.now).handles }
 {
     for _ in sent.command.handles.as_slice() {
         let name = next_name(keep, sent, names.as_slice());
@@ -204,10 +204,10 @@ fn make_names<K: Keep>(keep: &K, sent: Sent, names: &mut ArrayVec<Name, 3>)
 
 /// Checks each handle by the entry in its place, and the other entries, and tells what each
 /// authorizes.
-fn check_resolved<K: Keep>(keep: &K, sent: Sent, keyed: &mut KeyedMac) -> Result<Grants, Refused>
-    requires { IsResolved (K.record_of keep.now) sent }
-    ensures { Gives granted_by (grants_pass (K.record_of keep.now) (whole_of sent.entry.command.now)
-        (locality_number sent.entry.locality) [] (whole_of sent.entry.command.now).entries) result }
+fn check_resolved<K: Keep>(keep: &K, sent: &Sent, keyed: &mut KeyedMac) -> Result<Grants, Refused>
+    requires { IsResolved (K.record_of keep.now) sent.now }
+    ensures { Gives granted_by (grants_pass (K.record_of keep.now) (whole_of sent.now.command.now)
+        (locality_number sent.now.locality) [] (whole_of sent.now.command.now).entries) result }
 {
     let command = sent.command;
     let mut names = ArrayVec::new();
@@ -215,9 +215,9 @@ fn check_resolved<K: Keep>(keep: &K, sent: Sent, keyed: &mut KeyedMac) -> Result
     let code = command.code.number();
     let hashed = HashedParameters::Command(code, names.as_slice(), command.parameters);
     let mut hashes = ParameterHashes::new(hashed);
-    let named = Sent {
+    let named = &Sent {
         names: names.as_slice(),
-        ..sent
+        ..*sent
     };
     let mut entries = ArrayVec::new();
     check_grants(
@@ -255,7 +255,7 @@ fn check_sessions<K: Keep>(
 {
     let mut resolved = ArrayVec::new();
     resolve_all(keep, command.handles.as_slice(), &mut resolved);
-    let sent = Sent {
+    let sent = &Sent {
         command,
         resolved: resolved.as_slice(),
         names: &[],

@@ -108,7 +108,7 @@ fn policy_of<'a>(resolved: &'a Resolved) -> Option<EntityPolicy<'a>>
 #[tactic(auto, unfolding(crate::specs::SessionGrant::use_of, tpm_record::specs::Entity::is_available, tpm_record::specs::Entity::written_of, tpm_record::specs::Entity::policy_of))]
 fn use_of<'a, K: Keep>(
     keep: &K,
-    sent: Sent,
+    sent: &Sent,
     cp_hash: &'a [u8],
     number: u8,
     resolved: &'a Resolved,
@@ -116,10 +116,10 @@ fn use_of<'a, K: Keep>(
 ) -> Use<'a>
     requires number { 1 ≤ number }
     requires hashed { cp_hash.now ≡ parameter_hash_of session.now.hash
-        (hashed_command (K.record_of keep.now) (whole_of sent.command.now)) }
+        (hashed_command (K.record_of keep.now) (whole_of sent.now.command.now)) }
     requires found { IsFound (K.record_of keep.now) resolved.now }
-    ensures { parts_of result ≡ use_of (K.record_of keep.now) (whole_of sent.entry.command.now)
-        (locality_number sent.entry.locality) number resolved.now.handle session.now }
+    ensures { parts_of result ≡ use_of (K.record_of keep.now) (whole_of sent.now.command.now)
+        (locality_number sent.now.locality) number resolved.now.handle session.now }
 {
     let code = sent.command.code;
     let place = usize::from(number) - 1;
@@ -141,7 +141,7 @@ fn use_of<'a, K: Keep>(
 /// What the policy of a session demands for this handle, if it authorizes the use.
 fn policy_demand<K: Keep>(
     keep: &K,
-    sent: Sent,
+    sent: &Sent,
     hashes: &mut ParameterHashes,
     number: u8,
     resolved: &Resolved,
@@ -149,10 +149,10 @@ fn policy_demand<K: Keep>(
 ) -> Result<Demand, Refused>
     requires number { 1 ≤ number }
     requires hashed { hashes.old
-        ≡ hashed_command (K.record_of keep.now) (whole_of sent.command.now) }
+        ≡ hashed_command (K.record_of keep.now) (whole_of sent.now.command.now) }
     requires found { IsFound (K.record_of keep.now) resolved.now }
-    ensures value { result ≡ by_policy (K.record_of keep.now) (whole_of sent.entry.command.now)
-        (locality_number sent.entry.locality) number resolved.now.handle session.now }
+    ensures value { result ≡ by_policy (K.record_of keep.now) (whole_of sent.now.command.now)
+        (locality_number sent.now.locality) number resolved.now.handle session.now }
     ensures same { hashes.new ≡ hashes.old }
 {
     let cp_hash = hashes.by(session.hash);
@@ -167,7 +167,7 @@ fn policy_demand<K: Keep>(
 #[tactic(auto, unfolding(crate::specs::SessionGrant::demanded, tpm_record::specs::Entity::is_available))]
 fn demand_of<K: Keep>(
     keep: &K,
-    sent: Sent,
+    sent: &Sent,
     hashes: &mut ParameterHashes,
     number: u8,
     resolved: &Resolved,
@@ -175,10 +175,10 @@ fn demand_of<K: Keep>(
 ) -> Result<Demand, Refused>
     requires number { 1 ≤ number }
     requires hashed { hashes.old
-        ≡ hashed_command (K.record_of keep.now) (whole_of sent.command.now) }
+        ≡ hashed_command (K.record_of keep.now) (whole_of sent.now.command.now) }
     requires found { IsFound (K.record_of keep.now) resolved.now }
-    ensures value { result ≡ demanded (K.record_of keep.now) (whole_of sent.entry.command.now)
-        (locality_number sent.entry.locality) number resolved.now.handle session.now }
+    ensures value { result ≡ demanded (K.record_of keep.now) (whole_of sent.now.command.now)
+        (locality_number sent.now.locality) number resolved.now.handle session.now }
     ensures same { hashes.new ≡ hashes.old }
 {
     let nv_use = sent.command.code.nv_use_at(usize::from(number) - 1);
@@ -281,7 +281,7 @@ fn compare<K: Keep>(
 #[tactic(auto, unfolding(crate::specs::SessionGrant::session_grant))]
 pub fn check_session<K: Keep>(
     keep: &K,
-    sent: Sent,
+    sent: &Sent,
     hashes: &mut ParameterHashes,
     keyed: &mut KeyedMac,
     number: u8,
@@ -291,10 +291,10 @@ pub fn check_session<K: Keep>(
 ) -> Result<Option<Grant>, Refused>
     requires number { 1 ≤ number }
     requires hashed { hashes.old
-        ≡ hashed_command (K.record_of keep.now) (whole_of sent.command.now) }
+        ≡ hashed_command (K.record_of keep.now) (whole_of sent.now.command.now) }
     requires used { ForSome used (IsUsed (K.record_of keep.now)) }
-    ensures value { result ≡ session_grant (K.record_of keep.now) (whole_of sent.entry.command.now)
-        (locality_number sent.entry.locality) number (option_map used_handle used.entry)
+    ensures value { result ≡ session_grant (K.record_of keep.now) (whole_of sent.now.command.now)
+        (locality_number sent.now.locality) number (option_map used_handle used.entry)
         (entry_of entry.now) session.now }
     ensures same { hashes.new ≡ hashes.old }
 {

@@ -68,20 +68,20 @@ impl Used<'_> {
 }
 
 /// The handles of a command that need authorization, with what they name.
-fn authorized<'a>(sent: Sent<'a, '_>) -> &'a [Resolved<'a>]
-    requires { length sent.resolved.now ≡ length (whole_of sent.command.now).handles }
-    ensures { result.now ≡ take (authorized_handles (whole_of sent.entry.command.now).code)
-        sent.entry.resolved.now }
+fn authorized<'a>(sent: &Sent<'a, '_>) -> &'a [Resolved<'a>]
+    requires { length sent.now.resolved.now ≡ length (whole_of sent.now.command.now).handles }
+    ensures { result.now ≡ take (authorized_handles (whole_of sent.now.command.now).code)
+        sent.now.resolved.now }
 {
     &sent.resolved[..sent.command.code.authorized_handles()]
 }
 
 /// What the entry in a place is to authorize, or nothing.
 #[tactic(auto, using(crate::proofs::Resolving::used_in, crate::proofs::Resolving::nothing_in))]
-pub fn used_at<'a>(sent: Sent<'a, '_>, place: usize) -> Option<Used<'a>>
-    requires { length sent.resolved.now ≡ length (whole_of sent.command.now).handles }
-    ensures { (r : Record) → IsResolved r sent.entry
-        → IsUsedFor r (slice_get (authorized (whole_of sent.entry.command.now)) place) result }
+pub fn used_at<'a>(sent: &Sent<'a, '_>, place: usize) -> Option<Used<'a>>
+    requires { length sent.now.resolved.now ≡ length (whole_of sent.now.command.now).handles }
+    ensures { (r : Record) → IsResolved r sent.now
+        → IsUsedFor r (slice_get (authorized (whole_of sent.now.command.now)) place) result }
 {
     match authorized(sent).get(place) {
         Some(resolved) => Some(Used {
