@@ -3,8 +3,9 @@
 //! The image of a device: what it keeps without power, as bytes from which another device is
 //! opened.
 //!
-//! [`image::save`] writes it, and [`image::open`] reads it; [`kept_text`] tells whether anything
-//! in it changed but the clock. Of its two [versions](Version) the second is written, and both are
+//! [`image::save`] writes it, and [`image::open`] reads it; [`image::save_into`] and
+//! [`image::open_into`] do so in the caller's memory. [`kept_text`] tells whether anything in it
+//! changed but the clock. Of its two [versions](Version) the second is written, and both are
 //! read. Each part of what is kept has a file with its text and its reading; `specs/Body` and
 //! `specs/Image` define them. The crate stands on the machine, and on what the parts of its state
 //! are made of.
@@ -28,6 +29,6 @@ mod saved;
 pub mod version;
 
 pub use fault::{ImageFault, SaveFault};
-pub use image::{open, save};
+pub use image::{fault_of, open, open_into, save, save_into};
 pub use kept_text::KeptText;
 pub use version::Version;
