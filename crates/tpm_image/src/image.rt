@@ -175,7 +175,7 @@ fn open_device<K: Keep>(alloc: Global, text: &[u8]) -> Result<Machine<K>, ImageF
 /// said of the machine.
 pub fn open_into<K: Keep>(machine: &mut Machine<K>, text: &[u8]) -> Result<(), ImageFault>
     requires new { state_of K.record_of machine.old ≡ manufactured (replicate 256 0) }
-    requires roomy { K.can_refuse ≡ false }
+    requires never_refused { K.can_refuse ≡ false }
     // Which device it is, or the first fault.
     ensures exact { Opens (λ done. state_of K.record_of machine.new) false text.now result }
 
@@ -191,7 +191,7 @@ pub fn open_into<K: Keep>(machine: &mut Machine<K>, text: &[u8]) -> Result<(), I
 /// The same, without what is said of histories.
 fn fill_machine<K: Keep>(machine: &mut Machine<K>, text: &[u8]) -> Result<(), ImageFault>
     requires new { state_of K.record_of machine.old ≡ manufactured (replicate 256 0) }
-    requires roomy { K.can_refuse ≡ false }
+    requires never_refused { K.can_refuse ≡ false }
     ensures exact { Opens (λ done. state_of K.record_of machine.new) false text.now result }
     ensures bytes { AreBytes text.now }
 {

@@ -1,0 +1,65 @@
+//! What C holds of a device: one pointer.
+
+ghost use Rattle.std.specs.Prelude.{◌≡◌};
+ghost use Rattle.std.specs.Option.{MatchOption};
+ghost use Rattle.std.specs.declared.option.Option.{Option};
+ghost use Rattle.std.specs.declared.option.Option.TheVariants.{None, Some};
+ghost use Rattle.tpm_library.specs.Held.{held};
+ghost use Rattle.tpm_library.specs.contracts.device.Device.{the_row as device_row};
+ghost use Rattle.tpm_library.specs.declared.device.Device.{Device};
+
+use crate::device::Device;
+use std::alloc::Global;
+use std::marker::Model;
+
+/// What C holds of a device: a pointer to the box of it, which the handle owns; or null, and no
+/// device. C sees one pointer, since an allocator has no bytes.
+#[repr(C)]
+#[derive(Drop)]
+pub struct Handle {
+    at: *mut u8,
+    alloc: Global,
+    ghost device: { Option Device },
+}
+
+impl Model for Handle {
+    ghost also_owns = { λ h. held device_row h.alloc h.at h.device };
+}
+
+impl Handle {
+    /// A handle with no device.
+    pub fn empty(alloc: Global) -> Handle
+        ensures { result.device ≡ None }
+    {
+        Handle {
+            at: std::ptr::null_mut(),
+            alloc,
+        }
+    }
+
+    /// A handle with this device.
+    pub fn of(device: Box<Device>) -> Handle
+        ensures { result.device ≡ Some device.value }
+    {
+        let (at, alloc) = Box::into_raw_with_allocator(device);
+        Handle {
+            at: at as *mut u8,
+            alloc,
+        }
+    }
+
+    /// The device, if there is one.
+    pub fn into_box(self) -> Option<Box<Device>>
+        ensures { MatchOption result (self.device ≡ None) (λ b. self.device ≡ Some b.value) }
+    {
+        let Handle { at, alloc } = self;
+        if at.is_null() {
+            None
+        } else {
+            Some(unsafe { Box::from_raw(alloc, at as *mut Device) })
+        }
+    }
+}
+
+/// The device may be used and freed in another thread than the one that made it.
+unsafe impl Send for Handle {}
