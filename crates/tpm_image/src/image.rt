@@ -1,13 +1,12 @@
 //! Saving the image of a device, and opening a device from one.
 
 ghost use Rattle.std.specs.Prelude.{◌≡◌, ◌||◌, ◌+◌, ◌<◌, ◌^◌, ◌++◌, ◌∷◌, Err, IfOk, OnErr, OnOk, false, is_ok, length, replicate, true};
-ghost use Rattle.std.specs.Option.{MatchOption};
 ghost use Rattle.std.specs.Io.KnownBytes.{Appends};
 ghost use Rattle.tpm_bytes.specs.Reading.{AreBytes};
 ghost use Rattle.tpm_bytes.specs.Tap.{AppendsFront, device_of, marks_of};
 ghost use Rattle.tpm_image.specs.Body.{body_of};
 ghost use Rattle.tpm_image.specs.Filling.{Filled};
-ghost use Rattle.tpm_image.specs.Image.{IsImage, image_of, image_text};
+ghost use Rattle.tpm_image.specs.Image.{IsImage, image_text};
 ghost use Rattle.tpm_image.specs.NonVolatile.{IsNonVolatile, NonVolatile, kept_of, powered_on};
 ghost use Rattle.tpm_image.specs.Opening.{Opens, OpensAgain};
 ghost use Rattle.tpm_image.specs.Saving.{PutsFront};
@@ -203,19 +202,19 @@ fn fill_machine<K: Keep>(machine: &mut Machine<K>, text: &[u8]) -> Result<(), Im
     }
 }
 
-/// The first fault of a text that is no image of a device.
+/// Why a text is opened as no device where memory is refused: its first fault, or NoMemory where it
+/// is an image. It takes no memory.
 #[inline(never)]
-pub fn fault_of(alloc: Global, text: &[u8]) -> Option<ImageFault>
-    ensures { MatchOption result (is_ok (image_of text.now) ≡ true)
-        (λ fault. image_of text.now ≡ Err fault) }
+pub fn fault_of(alloc: Global, text: &[u8]) -> ImageFault
+    ensures exact { Opens (λ (r : Record). r) true text.now (Err result) }
 {
     let (version, body) = match framed_body(text) {
         Ok(framed) => framed,
-        Err(fault) => return Some(fault),
+        Err(fault) => return fault,
     };
     if is_body(alloc, version, body) {
-        None
+        ImageFault::NoMemory
     } else {
-        Some(ImageFault::Body)
+        ImageFault::Body
     }
 }

@@ -43,20 +43,6 @@ pub struct Answered {
     pub check: u8,
 }
 
-/// A machine in memory of its own; none where memory is refused.
-fn boxed(alloc: Global, machine: Machine<SlotKeep>) -> Option<Box<Device>>
-    ensures { IfSome result (λ b. b.value.machine ≡ machine) }
-{
-    let device = Device {
-        machine,
-        outcome: Outcome::empty(),
-    };
-    match Box::new(alloc, device) {
-        Ok(device) => Some(device),
-        Err(_) => None,
-    }
-}
-
 impl Device {
     /// A new device, whose secrets are these random bytes; none where memory is refused.
     pub fn manufacture(alloc: Global, random: &[u8; 256]) -> Option<Box<Device>>
@@ -66,7 +52,14 @@ impl Device {
         let Ok(machine) = Machine::manufacture(alloc, random) else {
             return None;
         };
-        boxed(alloc, machine)
+        let device = Device {
+            machine,
+            outcome: Outcome::empty(),
+        };
+        match Box::new(alloc, device) {
+            Ok(device) => Some(device),
+            Err(_) => None,
+        }
     }
 
     /// The device of an image, or the first fault.
@@ -77,7 +70,7 @@ impl Device {
             → IfOk result (λ b. Follows (record_of b.value) (PowerCycled ∷ history)) }
     {
         let Some(mut device) = Device::manufacture(alloc, &[0; 256]) else {
-            return Err(fault_of(alloc, image).unwrap_or(ImageFault::NoMemory));
+            return Err(fault_of(alloc, image));
         };
         open_into(&mut device.machine, image)?;
         Ok(device)
