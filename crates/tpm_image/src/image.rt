@@ -191,8 +191,7 @@ pub fn open_into<K: Keep>(machine: &mut Machine<K>, text: &[u8]) -> Result<(), I
 fn fill_machine<K: Keep>(machine: &mut Machine<K>, text: &[u8]) -> Result<(), ImageFault>
     requires new { state_of K.record_of machine.old ≡ manufactured (replicate 256 0) }
     requires never_refused { K.can_refuse ≡ false }
-    ensures exact { Opens (λ done. state_of K.record_of machine.new) false text.now result }
-    ensures bytes { AreBytes text.now }
+    ensures { Opens (λ done. state_of K.record_of machine.new) false text.now result }
 {
     let (version, body) = framed_body(text)?;
     match read_body(version, machine.keep_mut(), body) {
@@ -206,7 +205,7 @@ fn fill_machine<K: Keep>(machine: &mut Machine<K>, text: &[u8]) -> Result<(), Im
 /// is an image. It takes no memory.
 #[inline(never)]
 pub fn fault_of(alloc: Global, text: &[u8]) -> ImageFault
-    ensures exact { Opens (λ (r : Record). r) true text.now (Err result) }
+    ensures { Opens (λ (r : Record). r) true text.now (Err result) }
 {
     let (version, body) = match framed_body(text) {
         Ok(framed) => framed,
