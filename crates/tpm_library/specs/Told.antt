@@ -26,7 +26,7 @@ fault_number fault.Digest = 8
 fault_number fault.Body = 9
 fault_number fault.NoMemory = no_memory
 
--- What was opened is told by its number: a handle has the device, or what it had before.
+-- What was opened is told by its number: a holder has the device, or what it had before.
 abbrev pub Tells : Result Device ImageFault → (old new : Option Device) → (told : ℕ) → Type 0
 Tells (Ok device) old new told = (told ≡ done) × (new ≡ Some device)
 Tells (Err fault) old new told = (told ≡ fault_number fault) × (new ≡ old)

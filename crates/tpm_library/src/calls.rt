@@ -1,5 +1,5 @@
-//! The calls on a handle, as C has them. A call takes the handle's device out, uses it, and puts it
-//! back; that moves a pointer.
+//! The calls on what holds a device, as C has them. A call takes the device out, uses it, and puts
+//! it back; that moves a pointer.
 
 ghost use Rattle.std.specs.Prelude.{◌≡◌, ◌≢◌, ◌<◌, ◌∷◌, [], drop, false, true};
 ghost use Rattle.std.specs.Option.{MatchOption};
@@ -25,10 +25,9 @@ ghost use Rattle.tpm_library.specs.Version.{version_number};
 ghost use Rattle.tpm_library.specs.declared.device.Device.{Device};
 
 use crate::device::{Answered, Device};
-use crate::handle::Handle;
+use crate::holder::Holder;
 use crate::told::{DONE, NO_DEVICE, NO_LOCALITY, NO_MEMORY, fault_number};
 use std::alloc::Global;
-use std::mem;
 use tpm_step::Event;
 use tpm_types::Locality;
 
@@ -39,33 +38,26 @@ pub fn version() -> u32
     0x00_01_00
 }
 
-/// Makes a new device, whose secrets are these random bytes, in place of the handle's own.
-/// NO_MEMORY: memory was refused, and the handle is as it was.
-pub fn manufacture(alloc: Global, handle: &mut Handle, random: &[u8; 256]) -> u8
-    ensures made { result ≡ done → (device : Device) × (handle.new.device ≡ Some device)
+/// Makes a new device, whose secrets are these random bytes, in place of the holder's own.
+/// NO_MEMORY: memory was refused, and the holder is as it was.
+pub fn manufacture(alloc: Global, holder: &mut Holder, random: &[u8; 256]) -> u8
+    ensures made { result ≡ done → (device : Device) × (holder.new.device ≡ Some device)
         × (record_of device ≡ manufactured random.now) × Follows (record_of device) [] }
     ensures refused { result ≢ done
-        → (result ≡ no_memory) × (handle.new.device ≡ handle.old.device) }
+        → (result ≡ no_memory) × (holder.new.device ≡ holder.old.device) }
 {
     let Some(device) = Device::manufacture(alloc, random) else {
         return NO_MEMORY;
     };
-    put(handle, device);
+    holder.put(device);
     DONE
-}
-
-/// Puts a device in place of the handle's own, which is freed.
-fn put(handle: &mut Handle, device: Box<Device>)
-    ensures { handle.new.device ≡ Some device.value }
-{
-    let _before = mem::replace(handle, Handle::of(device)).into_box();
 }
 
 /// Executes a command, and writes its response to the front of the room for it. NO_LOCALITY: a
 /// locality is 0 to 4. NO_DEVICE: there is none. In both cases nothing is written.
 pub fn execute(
     alloc: Global,
-    handle: &mut Handle,
+    holder: &mut Holder,
     buffer: &[u8],
     locality: u8,
     elapsed_ms: u32,
@@ -74,7 +66,7 @@ pub fn execute(
     answered: &mut Answered,
 ) -> u8
     ensures executes { result ≡ done → (before : Device) × (after : Device)
-        × (handle.old.device ≡ Some before) × (handle.new.device ≡ Some after)
+        × (holder.old.device ≡ Some before) × (holder.new.device ≡ Some after)
         × Executes false (record_of before) (Given buffer.now locality elapsed_ms random.now)
         (command_seen response.new answered.new after)
         × After Follows (record_of before) (Given buffer.now locality elapsed_ms random.now)
@@ -83,80 +75,80 @@ pub fn execute(
         (Given buffer.now locality elapsed_ms random.now) answered.new.check) }
     ensures rest { result ≡ done
         → drop answered.new.size response.new ≡ drop answered.new.size response.old }
-    ensures refused { result ≢ done → (handle.new.device ≡ handle.old.device)
+    ensures refused { result ≢ done → (holder.new.device ≡ holder.old.device)
         × (response.new ≡ response.old) × (answered.new ≡ answered.old) }
     ensures told { result ≢ done → result ≢ no_locality
-        → (result ≡ no_device) × (handle.old.device ≡ None) }
+        → (result ≡ no_device) × (holder.old.device ≡ None) }
     ensures locality { result ≡ no_locality → 4 < locality }
 {
     let Some(locality) = Locality::new(locality) else {
         return NO_LOCALITY;
     };
-    let Some(mut device) = mem::replace(handle, Handle::empty(alloc)).into_box() else {
+    let Some(mut device) = holder.take(alloc) else {
         return NO_DEVICE;
     };
     let event = Event::of_command(buffer, locality, elapsed_ms, *random);
     *answered = device.execute(&event, response);
-    *handle = Handle::of(device);
+    holder.put(device);
     DONE
 }
 
 /// Takes power away and gives it back. NO_DEVICE: there is none.
-pub fn power_cycle(alloc: Global, handle: &mut Handle) -> u8
-    ensures executes { MatchOption handle.old.device (handle.new.device ≡ None) (λ before.
-        (after : Device) × (handle.new.device ≡ Some after)
+pub fn power_cycle(alloc: Global, holder: &mut Holder) -> u8
+    ensures executes { MatchOption holder.old.device (holder.new.device ≡ None) (λ before.
+        (after : Device) × (holder.new.device ≡ Some after)
         × Executes false (record_of before) Cycled (cycle_seen after)
         × After Follows (record_of before) Cycled (cycle_seen after)) }
-    ensures told { MatchOption handle.old.device (result ≡ no_device) (λ before. result ≡ done) }
+    ensures told { MatchOption holder.old.device (result ≡ no_device) (λ before. result ≡ done) }
 {
-    let Some(mut device) = mem::replace(handle, Handle::empty(alloc)).into_box() else {
+    let Some(mut device) = holder.take(alloc) else {
         return NO_DEVICE;
     };
     device.cycle_power();
-    *handle = Handle::of(device);
+    holder.put(device);
     DONE
 }
 
 /// Writes the image of the device to the front of a room that has as many bytes. Gives how many
 /// bytes the image has, also where there is no room for it and nothing is written; 0 where there
 /// is no device.
-pub fn save(alloc: Global, handle: &mut Handle, room: &mut [u8]) -> usize
-    ensures saved { MatchOption handle.old.device ((result ≡ 0) × (room.new ≡ room.old))
+pub fn save(alloc: Global, holder: &mut Holder, room: &mut [u8]) -> usize
+    ensures saved { MatchOption holder.old.device ((result ≡ 0) × (room.new ≡ room.old))
         (λ device. PutsFront (image_text Two (kept_of (record_of device))) room.old result
         room.new) }
-    ensures kept { handle.new.device ≡ handle.old.device }
+    ensures kept { holder.new.device ≡ holder.old.device }
 {
-    let Some(device) = mem::replace(handle, Handle::empty(alloc)).into_box() else {
+    let Some(device) = holder.take(alloc) else {
         return 0;
     };
     let size = device.save_into(room);
-    *handle = Handle::of(device);
+    holder.put(device);
     size
 }
 
-/// Opens a device from its image, as after a power cycle, in place of the handle's own. Else the
-/// number is that of the first fault, or NO_MEMORY in place of a device, and the handle is as it
+/// Opens a device from its image, as after a power cycle, in place of the holder's own. Else the
+/// number is that of the first fault, or NO_MEMORY in place of a device, and the holder is as it
 /// was.
-pub fn open(alloc: Global, handle: &mut Handle, image: &[u8]) -> u8
+pub fn open(alloc: Global, holder: &mut Holder, image: &[u8]) -> u8
     ensures opens { (opened : Result Device Fault) × Opens record_of true image.now opened
-        × Tells opened handle.old.device handle.new.device result }
+        × Tells opened holder.old.device holder.new.device result }
     ensures history { result ≡ done → (version : Version) (r : Record) (history : History)
         → IsRecord r → Follows r history → IsImage version (kept_of r) image.now
-        → (device : Device) × (handle.new.device ≡ Some device)
+        → (device : Device) × (holder.new.device ≡ Some device)
         × Follows (record_of device) (PowerCycled ∷ history) }
 {
     match Device::open(alloc, image) {
         Ok(device) => {
-            put(handle, device);
+            holder.put(device);
             DONE
         }
         Err(fault) => fault_number(fault),
     }
 }
 
-/// Frees the device, if there is one. The handle has none then.
-pub fn free(alloc: Global, handle: &mut Handle)
-    ensures { handle.new.device ≡ None }
+/// Frees the device, if there is one. The holder has none then.
+pub fn free(alloc: Global, holder: &mut Holder)
+    ensures { holder.new.device ≡ None }
 {
-    let _before = mem::replace(handle, Handle::empty(alloc)).into_box();
+    let _before = holder.take(alloc);
 }

@@ -8,7 +8,7 @@ use tpm_image::ImageFault;
 /// The call is done.
 pub const DONE: u8 = 0;
 
-/// The handle has no device.
+/// The holder has no device.
 pub const NO_DEVICE: u8 = 1;
 
 /// There is no such locality.

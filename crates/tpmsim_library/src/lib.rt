@@ -28,7 +28,7 @@ ghost use Rattle.tpm_library.specs.Version.{version_number};
 ghost use Rattle.tpm_library.specs.declared.device.Device.{Device};
 
 use std::alloc::Global;
-use tpm_library::{Answered, Handle};
+use tpm_library::{Answered, Holder};
 
 /// The version, with 256 times the number behind the first point, and 65,536 times that before it.
 #[unsafe(no_mangle)]
@@ -38,22 +38,22 @@ pub extern "C" fn tpmsim_version() -> u32
     tpm_library::version()
 }
 
-/// Makes a new device of 256 random bytes, in place of the handle's own.
+/// Makes a new device of 256 random bytes, in place of the holder's own.
 #[unsafe(no_mangle)]
-pub extern "C" fn tpmsim_manufacture(alloc: Global, handle: &mut Handle, random: &[u8; 256]) -> u8
-    ensures made { result ≡ done → (device : Device) × (handle.new.device ≡ Some device)
+pub extern "C" fn tpmsim_manufacture(alloc: Global, holder: &mut Holder, random: &[u8; 256]) -> u8
+    ensures made { result ≡ done → (device : Device) × (holder.new.device ≡ Some device)
         × (record_of device ≡ manufactured random.now) × Follows (record_of device) [] }
     ensures refused { result ≢ done
-        → (result ≡ no_memory) × (handle.new.device ≡ handle.old.device) }
+        → (result ≡ no_memory) × (holder.new.device ≡ holder.old.device) }
 {
-    tpm_library::manufacture(alloc, handle, random)
+    tpm_library::manufacture(alloc, holder, random)
 }
 
 /// Executes a command.
 #[unsafe(no_mangle)]
 pub extern "C" fn tpmsim_execute(
     alloc: Global,
-    handle: &mut Handle,
+    holder: &mut Holder,
     buffer: &[u8],
     locality: u8,
     elapsed_ms: u32,
@@ -62,7 +62,7 @@ pub extern "C" fn tpmsim_execute(
     answered: &mut Answered,
 ) -> u8
     ensures executes { result ≡ done → (before : Device) × (after : Device)
-        × (handle.old.device ≡ Some before) × (handle.new.device ≡ Some after)
+        × (holder.old.device ≡ Some before) × (holder.new.device ≡ Some after)
         × Executes false (record_of before) (Given buffer.now locality elapsed_ms random.now)
         (command_seen response.new answered.new after)
         × After Follows (record_of before) (Given buffer.now locality elapsed_ms random.now)
@@ -71,57 +71,57 @@ pub extern "C" fn tpmsim_execute(
         (Given buffer.now locality elapsed_ms random.now) answered.new.check) }
     ensures rest { result ≡ done
         → drop answered.new.size response.new ≡ drop answered.new.size response.old }
-    ensures refused { result ≢ done → (handle.new.device ≡ handle.old.device)
+    ensures refused { result ≢ done → (holder.new.device ≡ holder.old.device)
         × (response.new ≡ response.old) × (answered.new ≡ answered.old) }
     ensures told { result ≢ done → result ≢ no_locality
-        → (result ≡ no_device) × (handle.old.device ≡ None) }
+        → (result ≡ no_device) × (holder.old.device ≡ None) }
     ensures locality { result ≡ no_locality → 4 < locality }
 {
     tpm_library::execute(
-        alloc, handle, buffer, locality, elapsed_ms, random, response, answered,
+        alloc, holder, buffer, locality, elapsed_ms, random, response, answered,
     )
 }
 
 /// Takes power away and gives it back.
 #[unsafe(no_mangle)]
-pub extern "C" fn tpmsim_power_cycle(alloc: Global, handle: &mut Handle) -> u8
-    ensures executes { MatchOption handle.old.device (handle.new.device ≡ None) (λ before.
-        (after : Device) × (handle.new.device ≡ Some after)
+pub extern "C" fn tpmsim_power_cycle(alloc: Global, holder: &mut Holder) -> u8
+    ensures executes { MatchOption holder.old.device (holder.new.device ≡ None) (λ before.
+        (after : Device) × (holder.new.device ≡ Some after)
         × Executes false (record_of before) Cycled (cycle_seen after)
         × After Follows (record_of before) Cycled (cycle_seen after)) }
-    ensures told { MatchOption handle.old.device (result ≡ no_device) (λ before. result ≡ done) }
+    ensures told { MatchOption holder.old.device (result ≡ no_device) (λ before. result ≡ done) }
 {
-    tpm_library::power_cycle(alloc, handle)
+    tpm_library::power_cycle(alloc, holder)
 }
 
 /// Writes the image of the device to a room, if that has as many bytes.
 #[unsafe(no_mangle)]
-pub extern "C" fn tpmsim_save(alloc: Global, handle: &mut Handle, room: &mut [u8]) -> usize
-    ensures saved { MatchOption handle.old.device ((result ≡ 0) × (room.new ≡ room.old))
+pub extern "C" fn tpmsim_save(alloc: Global, holder: &mut Holder, room: &mut [u8]) -> usize
+    ensures saved { MatchOption holder.old.device ((result ≡ 0) × (room.new ≡ room.old))
         (λ device. PutsFront (image_text Two (kept_of (record_of device))) room.old result
         room.new) }
-    ensures kept { handle.new.device ≡ handle.old.device }
+    ensures kept { holder.new.device ≡ holder.old.device }
 {
-    tpm_library::save(alloc, handle, room)
+    tpm_library::save(alloc, holder, room)
 }
 
-/// Opens a device from its image, in place of the handle's own.
+/// Opens a device from its image, in place of the holder's own.
 #[unsafe(no_mangle)]
-pub extern "C" fn tpmsim_open(alloc: Global, handle: &mut Handle, image: &[u8]) -> u8
+pub extern "C" fn tpmsim_open(alloc: Global, holder: &mut Holder, image: &[u8]) -> u8
     ensures opens { (opened : Result Device Fault) × Opens record_of true image.now opened
-        × Tells opened handle.old.device handle.new.device result }
+        × Tells opened holder.old.device holder.new.device result }
     ensures history { result ≡ done → (version : Version) (r : Record) (history : History)
         → IsRecord r → Follows r history → IsImage version (kept_of r) image.now
-        → (device : Device) × (handle.new.device ≡ Some device)
+        → (device : Device) × (holder.new.device ≡ Some device)
         × Follows (record_of device) (PowerCycled ∷ history) }
 {
-    tpm_library::open(alloc, handle, image)
+    tpm_library::open(alloc, holder, image)
 }
 
 /// Frees the device, if there is one.
 #[unsafe(no_mangle)]
-pub extern "C" fn tpmsim_free(alloc: Global, handle: &mut Handle)
-    ensures { handle.new.device ≡ None }
+pub extern "C" fn tpmsim_free(alloc: Global, holder: &mut Holder)
+    ensures { holder.new.device ≡ None }
 {
-    tpm_library::free(alloc, handle);
+    tpm_library::free(alloc, holder);
 }

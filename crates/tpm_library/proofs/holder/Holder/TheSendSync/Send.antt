@@ -1,4 +1,4 @@
--- A handle may go to another thread, as the box of its device may.
+-- A holder may go to another thread, as the box of its device may.
 use mir.Raw.{raw}
 use base.Shift.{Keyless}
 use base.Fraction.{full_share}
@@ -17,7 +17,7 @@ use Rattle.std.specs.declared.option.Option.TheVariants.{None, Some}
 use Rattle.tpm_library.specs.Held.{held}
 use Rattle.tpm_library.specs.contracts.device.Device as device
 use Rattle.tpm_library.proofs.device.Device.TheSendSync.{the_send as device_sends}
-use Rattle.tpm_library.specs.contracts.handle.Handle.{the_row, the_type}
+use Rattle.tpm_library.specs.contracts.holder.Holder.{the_row, the_type}
 
 -- what stays of it in the thread that it leaves: nothing
 quiet : {D X : Type 0} (to : D → X) (e : Exit X) → Quiet e → Quiet (hidden (under to e))
