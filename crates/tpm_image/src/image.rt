@@ -1,6 +1,6 @@
 //! Saving the image of a device, and opening a device from one.
 
-ghost use Rattle.std.specs.Prelude.{◌≡◌, ◌||◌, ◌++◌, ◌∷◌, IfOk, OnErr, OnOk, is_ok, true};
+ghost use Rattle.std.specs.Prelude.{◌≡◌, ◌||◌, ◌+◌, ◌<◌, ◌^◌, ◌++◌, ◌∷◌, Err, IfOk, OnErr, OnOk, false, is_ok, length, replicate, true};
 ghost use Rattle.std.specs.Io.KnownBytes.{Appends};
 ghost use Rattle.tpm_bytes.specs.Reading.{AreBytes};
 ghost use Rattle.tpm_bytes.specs.Tap.{AppendsFront, device_of, marks_of};
@@ -9,13 +9,14 @@ ghost use Rattle.tpm_image.specs.Filling.{Filled};
 ghost use Rattle.tpm_image.specs.Image.{IsImage, image_text};
 ghost use Rattle.tpm_image.specs.NonVolatile.{IsNonVolatile, NonVolatile, kept_of, powered_on};
 ghost use Rattle.tpm_image.specs.Opening.{Opens, OpensAgain};
+ghost use Rattle.tpm_image.specs.Saving.{PutsFront};
 ghost use Rattle.tpm_image.specs.declared.version.Version.{Version};
 ghost use Rattle.tpm_image.specs.declared.version.Version.TheVariants.{Two};
 ghost use Rattle.tpm_machine.specs.State.{state_of};
 ghost use Rattle.tpm_history.specs.Follows.{Follows};
 ghost use Rattle.tpm_history.specs.History.{History, PowerCycled};
 ghost use Rattle.tpm_record.specs.IsRecord.{IsRecord};
-ghost use Rattle.tpm_record.specs.Record.{Record};
+ghost use Rattle.tpm_record.specs.Record.{Record, manufactured};
 
 use crate::body::{read_body, write_body};
 use crate::fault::{FillFault, ImageFault, SaveFault};
@@ -49,6 +50,38 @@ pub fn save<K: Keep, D: Write>(machine: &Machine<K>, tap: &mut Tap<D>) -> Result
     let digest = digest_parts(HashAlg::Sha256, &[head.as_slice(), text.as_slice()]);
     text.append(digest.as_slice());
     send(tap, head.as_slice(), text.as_slice())
+}
+
+/// Writes the image of a device, which stays as it is, in version 2, to the front of a room that has
+/// as many bytes. Gives how many bytes the image has, also where there is no room for it and nothing
+/// is written.
+#[tactic(auto, unfolding(crate::specs::Image::image_text))]
+pub fn save_into<K: Keep>(machine: &Machine<K>, room: &mut [u8]) -> usize
+    ensures { PutsFront (image_text Two (kept_of (state_of K.record_of machine.now))) room.old
+        result room.new }
+{
+    let mut text = Text::new();
+    write_body(machine.keep(), &mut text);
+    let head = head(text.len());
+    let digest = digest_parts(HashAlg::Sha256, &[head.as_slice(), text.as_slice()]);
+    text.append(digest.as_slice());
+    put_front(head.as_slice(), text.as_slice(), room)
+}
+
+/// Writes the head of an image, and the text after it, to the front of a room that has as many
+/// bytes. Gives how many bytes they have.
+fn put_front(head: &[u8], text: &[u8], room: &mut [u8]) -> usize
+    requires { length head.now + length text.now < 2 ^ 32 }
+    ensures { PutsFront (head.now ++ text.now) room.old result room.new }
+{
+    let size = head.len() + text.len();
+    if size <= room.len() {
+        let (front, _) = room.split_at_mut(size);
+        let (first, second) = front.split_at_mut(head.len());
+        first.copy_from_slice(head);
+        second.copy_from_slice(text);
+    }
+    size
 }
 
 /// Writes the head of an image, and the text after it.
@@ -135,5 +168,54 @@ fn open_device<K: Keep>(alloc: Global, text: &[u8]) -> Result<Machine<K>, ImageF
                 Err(ImageFault::Body)
             }
         }
+    }
+}
+
+/// Opens a device from its image, of either version, where a new machine of zeros lies, which is
+/// never refused memory. It is the device of [`open`], and is not moved. After a fault nothing is
+/// said of the machine.
+pub fn open_into<K: Keep>(machine: &mut Machine<K>, text: &[u8]) -> Result<(), ImageFault>
+    requires new { state_of K.record_of machine.old ≡ manufactured (replicate 256 0) }
+    requires never_refused { K.can_refuse ≡ false }
+    // Which device it is, or the first fault.
+    ensures exact { Opens (λ done. state_of K.record_of machine.new) false text.now result }
+
+    // It follows the history of the device that was saved, with one power cycle more.
+    ensures history { (version : Version) (r : Record) (history : History) → IsRecord r
+        → Follows r history → IsImage version (kept_of r) text.now
+        → IfOk result (λ done. Follows (state_of K.record_of machine.new)
+        (PowerCycled ∷ history)) }
+{
+    fill_machine(machine, text)
+}
+
+/// The same, without what is said of histories.
+fn fill_machine<K: Keep>(machine: &mut Machine<K>, text: &[u8]) -> Result<(), ImageFault>
+    requires new { state_of K.record_of machine.old ≡ manufactured (replicate 256 0) }
+    requires never_refused { K.can_refuse ≡ false }
+    ensures { Opens (λ done. state_of K.record_of machine.new) false text.now result }
+{
+    let (version, body) = framed_body(text)?;
+    match read_body(version, machine.keep_mut(), body) {
+        Ok(()) => Ok(()),
+        Err(FillFault::Malformed) => Err(ImageFault::Body),
+        Err(FillFault::NoMemory) => Err(ImageFault::NoMemory),
+    }
+}
+
+/// Why a text is opened as no device where memory is refused: its first fault, or NoMemory where it
+/// is an image. It takes no memory.
+#[inline(never)]
+pub fn fault_of(alloc: Global, text: &[u8]) -> ImageFault
+    ensures { Opens (λ (r : Record). r) true text.now (Err result) }
+{
+    let (version, body) = match framed_body(text) {
+        Ok(framed) => framed,
+        Err(fault) => return fault,
+    };
+    if is_body(alloc, version, body) {
+        ImageFault::NoMemory
+    } else {
+        ImageFault::Body
     }
 }

@@ -3,6 +3,7 @@
 
 ghost use Rattle.tpm_types.specs.Limits.{buffer_limit, response_limit};
 ghost use Rattle.std.specs.Prelude.{◌≡◌, ◌≤◌, ◌<◌, ◌^◌, List, [], IfOk, OnErr, false, length, map, true};
+ghost use Rattle.std.specs.Borrow.{Lends, sem};
 ghost use Rattle.tpm_record.specs.IsRecord.{IsRecord};
 ghost use Rattle.tpm_record.specs.Record.{manufactured};
 ghost use Rattle.tpm_step.specs.Events.{IsEvent, plain_event};
@@ -44,9 +45,15 @@ pub struct Machine<K: Keep> {
     answer: Answer,
     /// The key of the latest HMAC, which is no part of the state.
     keyed: KeyedMac,
+    /// How many random bytes the latest event drew, which is none of it either.
+    drawn: usize,
 }
 
 impl<K: Keep> Machine<K> {
+    ghost use Rattle.tpm_machine.specs.Drawn.{drawn_by};
+    ghost use Rattle.tpm_machine.specs.State.{latest_drawn, with_keep};
+    ghost use Rattle.tpm_machine.specs.contracts.machine.Machine.{the_row as machine_row};
+
     /// A new device. Its memory comes from `alloc`, and its hierarchies' secrets are the random
     /// bytes.
     pub fn manufacture(alloc: Global, random: &[u8; 256]) -> Result<Machine<K>, NoMemory>
@@ -73,6 +80,7 @@ impl<K: Keep> Machine<K> {
             keep,
             answer: Answer::empty(),
             keyed: KeyedMac::new(),
+            drawn: 0,
         }
     }
 
@@ -83,6 +91,24 @@ impl<K: Keep> Machine<K> {
     {
         read_widths(&self.keep);
         &self.keep
+    }
+
+    /// What keeps the device's state, to be filled where it lies.
+    pub fn keep_mut(&mut self) -> &mut K
+        ensures* writes_back { sem 𝓛 (Lends (machine_row K.row K.SessionSlots.row
+            K.ObjectSlots.row K.PersistentMap.row K.NvIndices.row) K.row self.entry result
+            (with_keep self.entry.now)) }
+        ensures value { K.record_of result.now ≡ state_of K.record_of self.old }
+    {
+        &mut self.keep
+    }
+
+    /// How many of its random bytes the latest event drew, from their front: those of the command
+    /// itself and of its sessions' new nonces. A refusal draws none, nor does a power cycle.
+    pub fn drawn(&self) -> usize
+        ensures { result ≡ latest_drawn self.now }
+    {
+        self.drawn
     }
 
     /// Executes one event: its response, its row and the state after it are those of the table, or
@@ -125,6 +151,10 @@ impl<K: Keep> Machine<K> {
         ensures executes { Executes K.can_refuse (state_of K.record_of self.old)
             (plain_event event.now) (outcome_step (state_of K.record_of self.new) outcome.new) }
 
+        // So many of the event's random bytes were drawn.
+        ensures drawn { latest_drawn self.new ≡ drawn_by (state_of K.record_of self.old)
+            (plain_event event.now) outcome.new.row.check }
+
         // Where the device followed a history, it follows the history with this event, if that was
         // accepted: counters, PCRs, authorization values and sessions are those of the history.
         // Every replay in it repeats a nonce or an HMAC, each use had its grounds, and each use by
@@ -165,8 +195,11 @@ impl<K: Keep> Machine<K> {
         ensures modest { result.check ≡ 0
             → IsModestIfAccepted (state_of K.record_of self.old) (plain_event event.now) }
         ensures fits { length text.new.items ≤ response_limit }
+        ensures drawn { latest_drawn self.new ≡ drawn_by (state_of K.record_of self.old)
+            (plain_event event.now) result.check }
         ensures event { IsEvent (plain_event event.now) }
     {
+        self.drawn = 0;
         match event {
             Event::PowerCycle => {
                 power_cycle(&mut self.keep);
@@ -219,6 +252,7 @@ impl<K: Keep> Machine<K> {
         }
     }
 
+    ghost use Rattle.tpm_machine.specs.Drawn.{drawn_by_command};
     ghost use Rattle.tpm_types.specs.Locality.{locality_number};
     ghost use Rattle.tpm_step.specs.Safe.{IsModest};
     ghost use Rattle.tpm_step.specs.Step.{Answers, accepted};
@@ -233,7 +267,8 @@ impl<K: Keep> Machine<K> {
         random: &[u8; 256],
         text: &mut Response,
     ) -> Row
-        requires { text.old.items ≡ [] }
+        requires empty { text.old.items ≡ [] }
+        requires none { latest_drawn self.old ≡ 0 }
         ensures answer { Answers K.can_refuse (state_of K.record_of self.old) random.now
             (accepted (state_of K.record_of self.old) buffer.now
             (locality_number locality) random.now)
@@ -247,6 +282,9 @@ impl<K: Keep> Machine<K> {
             (locality_number locality) random.now)
             (IsModest random.now) }
         ensures fits { length text.new.items ≤ response_limit }
+        ensures drawn { latest_drawn self.new ≡ drawn_by_command random.now
+            (accepted (state_of K.record_of self.old) buffer.now
+            (locality_number locality) random.now) result.check }
     {
         let command = match decode(&self.keep, buffer) {
             Ok(command) => command,
@@ -283,6 +321,7 @@ impl<K: Keep> Machine<K> {
         requires size { length command.now.parameters.now ≤ buffer_limit }
         requires granted { authorization (state_of K.record_of self.old) (whole_of command.now)
             (locality_number locality) ≡ Ok grants.now.grants.items }
+        requires none { latest_drawn self.old ≡ 0 }
         ensures answer { Answers K.can_refuse (state_of K.record_of self.old) random.now
             (in_command command.now.code (acceptance (state_of K.record_of self.old)
             (whole_of command.now) (locality_number locality) random.now))
@@ -294,13 +333,16 @@ impl<K: Keep> Machine<K> {
         ensures modest { result.check ≡ 0 → IfOk (acceptance (state_of K.record_of self.old)
             (whole_of command.now) (locality_number locality) random.now) (IsModest random.now) }
         ensures fits { length text.new.items ≤ response_limit }
+        ensures drawn { latest_drawn self.new ≡ drawn_by_command random.now
+            (in_command command.now.code (acceptance (state_of K.record_of self.old)
+            (whole_of command.now) (locality_number locality) random.now)) result.check }
     {
         self.answer.clear();
         let (keep, answer) = (&mut self.keep, &mut self.answer);
         let keyed = &mut self.keyed;
         match accept(keep, command, grants, locality, random, answer) {
             Ok(()) => {
-                write_success(keep, command, grants, answer, random, keyed, text);
+                self.drawn = write_success(keep, command, grants, answer, random, keyed, text);
                 settle(keep, command.code);
                 Row {
                     code: command.code.number(),

@@ -10,4 +10,5 @@ invariant-loop-entry g l =
     record {
       rolled : entries_rolled (record_of l.keep) (map entry_of (drop l.entry-index l.entries)) l.draws ≡ entries_rolled (record_of l.initial.keep) (map entry_of l.entries) l.initial.draws;
       random : length l.initial.draws ≤ length l.draws + 32 * l.entry-index;
+      left : length l.draws ≤ length l.initial.draws;
     }
