@@ -1,6 +1,6 @@
 //! Saving the image of a device, and opening a device from one.
 
-ghost use Rattle.std.specs.Prelude.{◌≡◌, ◌||◌, ◌+◌, ◌<◌, ◌^◌, ◌++◌, ◌∷◌, Err, IfOk, OnErr, OnOk, false, is_ok, length, replicate, true};
+ghost use Rattle.std.specs.Prelude.{◌≡◌, ◌||◌, ◌+◌, ◌<◌, ◌^◌, ◌++◌, [], ◌∷◌, Err, IfOk, OnErr, OnOk, false, is_ok, length, replicate, true};
 ghost use Rattle.std.specs.Io.KnownBytes.{Appends};
 ghost use Rattle.tpm_bytes.specs.Reading.{AreBytes};
 ghost use Rattle.tpm_bytes.specs.Tap.{AppendsFront, device_of, marks_of};
@@ -25,15 +25,29 @@ use crate::frame::{framed_body, head};
 use crate::version::Version;
 use std::alloc::Global;
 use std::io::Write;
-use tpm_bytes::Tap;
+use tpm_bytes::{Sink, Tap};
 use tpm_mac::{HashAlg, digest_parts};
 use tpm_machine::Machine;
 use tpm_record::{Keep, SlotKeep};
 
+/// Writes the body of an image in version 2, and the digest after it, to an empty text. Gives the
+/// head, which stands before them.
+#[tactic(auto, unfolding(crate::specs::Image::image_text))]
+fn write_image<K: Keep>(keep: &K, text: &mut Text) -> Sink<10>
+    requires { text.old ≡ [] }
+    ensures image { result ++ text.new ≡ image_text Two (kept_of (K.record_of keep.now)) }
+    ensures fits { length result + length text.new < 2 ^ 32 }
+{
+    write_body(keep, text);
+    let head = head(text.len());
+    let digest = digest_parts(HashAlg::Sha256, &[head.as_slice(), text.as_slice()]);
+    text.append(digest.as_slice());
+    head
+}
+
 /// Writes the image of a device, which stays as it is, in version 2. If the tap had not failed
 /// before, Write is answered just where the writer failed; a part of the image from its front went
 /// out then.
-#[tactic(auto, unfolding(crate::specs::Image::image_text))]
 pub fn save<K: Keep, D: Write>(machine: &Machine<K>, tap: &mut Tap<D>) -> Result<(), SaveFault>
     ensures written { OnOk result (Appends (D.contents (device_of tap.old))
         (D.contents (device_of tap.new))
@@ -45,26 +59,19 @@ pub fn save<K: Keep, D: Write>(machine: &Machine<K>, tap: &mut Tap<D>) -> Result
     ensures failed { OnErr result ((marks_of tap.new).failed ≡ true) }
 {
     let mut text = Text::new();
-    write_body(machine.keep(), &mut text);
-    let head = head(text.len());
-    let digest = digest_parts(HashAlg::Sha256, &[head.as_slice(), text.as_slice()]);
-    text.append(digest.as_slice());
+    let head = write_image(machine.keep(), &mut text);
     send(tap, head.as_slice(), text.as_slice())
 }
 
 /// Writes the image of a device, which stays as it is, in version 2, to the front of a room that has
 /// as many bytes. Gives how many bytes the image has, also where there is no room for it and nothing
 /// is written.
-#[tactic(auto, unfolding(crate::specs::Image::image_text))]
 pub fn save_into<K: Keep>(machine: &Machine<K>, room: &mut [u8]) -> usize
     ensures { PutsFront (image_text Two (kept_of (state_of K.record_of machine.now))) room.old
         result room.new }
 {
     let mut text = Text::new();
-    write_body(machine.keep(), &mut text);
-    let head = head(text.len());
-    let digest = digest_parts(HashAlg::Sha256, &[head.as_slice(), text.as_slice()]);
-    text.append(digest.as_slice());
+    let head = write_image(machine.keep(), &mut text);
     put_front(head.as_slice(), text.as_slice(), room)
 }
 
@@ -189,7 +196,8 @@ pub fn open_into<K: Keep>(machine: &mut Machine<K>, text: &[u8]) -> Result<(), I
     fill_machine(machine, text)
 }
 
-/// The same, without what is said of histories.
+/// Opens a device from its image where a new machine of zeros lies; the contract says nothing of
+/// histories.
 fn fill_machine<K: Keep>(machine: &mut Machine<K>, text: &[u8]) -> Result<(), ImageFault>
     requires new { state_of K.record_of machine.old ≡ manufactured (replicate 256 0) }
     requires never_refused { K.can_refuse ≡ false }
