@@ -83,10 +83,15 @@ accepted_draws random c grants (Ok a) answer effect n is (same, granted, written
 pub ruleset acting = (accepted_answers, accepted_modest, accepted_draws, refused_answers)
 
 -- a command that is refused, or is refused memory, draws no random bytes
-pub refused_draws : (can : Bool) (random : List ℕ) (c : Whole) (a : Result Accepted Refused) (e : Refused) → RefusesOrWantsMemory can c a e → 0 ≡ drawn_by_command random (in_command c.code a) (check_number e.check)
-refused_draws can random c (Err refused) e is = refl
-refused_draws can random c (Ok a) e (may, same, grows, is) =
+refused_so : (can : Bool) (random : List ℕ) (c : Whole) (a : Result Accepted Refused) (e : Refused) → RefusesOrWantsMemory can c a e → 0 ≡ drawn_by_command random (in_command c.code a) (check_number e.check)
+refused_so can random c (Err refused) e is = refl
+refused_so can random c (Ok a) e (may, same, grows, is) =
     ap (λ (f : Refused). drawn_by_command random (in_command c.code (Ok a)) (check_number f.check)) (sym is)
+
+-- a command whose row reports the check of such a refusal draws no random bytes
+pub refused_draws : (can : Bool) (random : List ℕ) (c : Whole) (a : Result Accepted Refused) (e : Refused) (check : ℕ) → check ≡ check_number e.check → RefusesOrWantsMemory can c a e → 0 ≡ drawn_by_command random (in_command c.code a) check
+refused_draws can random c a e check reported is =
+    subst (λ (n : ℕ). 0 ≡ drawn_by_command random (in_command c.code a) n) (sym reported) (refused_so can random c a e is)
 
 -- a command that is not authorized is refused
 pub not_authorized : (can : Bool) (r : Record) (c : Whole) (locality : ℕ) (random : List ℕ) (e : Refused) → authorize r c locality ≡ Err e → RefusesOrWantsMemory can c (acceptance r c locality random) e
@@ -100,10 +105,10 @@ command_refused can r buffer locality random c e x decoded is seen =
     rw (decoded, seen) (refused_answers can r random c (acceptance r c locality random) e is)
 
 -- a command that is not authorized draws no random bytes
-pub unauthorized_draws : (can : Bool) (r : Record) (buffer : List ℕ) (locality : ℕ) (random : List ℕ) (c : Whole) (e : Refused) → general r buffer ≡ Ok c → RefusesOrWantsMemory can c (acceptance r c locality random) e → 0 ≡ drawn_by_command random (accepted r buffer locality random) (check_number e.check)
+pub unauthorized_draws : (can : Bool) (r : Record) (buffer : List ℕ) (locality : ℕ) (random : List ℕ) (c : Whole) (e : Refused) (check : ℕ) → check ≡ check_number e.check → general r buffer ≡ Ok c → RefusesOrWantsMemory can c (acceptance r c locality random) e → 0 ≡ drawn_by_command random (accepted r buffer locality random) check
 unfolding accepted
-unauthorized_draws can r buffer locality random c e decoded is =
-    rw decoded (refused_draws can random c (acceptance r c locality random) e is)
+unauthorized_draws can r buffer locality random c e check reported decoded is =
+    rw decoded (refused_draws can random c (acceptance r c locality random) e check reported is)
 
 -- the answer to an authorized command whose row refuses, or is refused memory
 pub row_refused : (can : Bool) (r : Record) (random : List ℕ) (c : Whole) (a : Result Accepted Refused) (e : Refused) (x : Stepped) → RefusesOrWantsMemory can c a e → x ≡ refusal_step r (record { code = code_number c.code; refused = e }) → Answers can r random (in_command c.code a) x

@@ -11,4 +11,4 @@ returns-in-Err-authorize_keyed-clause-answer g c =
 pub returns-in-Err-authorize_keyed-clause-drawn : goal.returns-in-Err-authorize_keyed-clause-drawn
 returns-in-Err-authorize_keyed-clause-drawn g c =
     let command = whole_of c.in-Ok.command in
-    c.requires.none ∙ unauthorized_draws g.K.Keep.can_refuse _ _ _ _ command c.in-Err-authorize_keyed.refused c.in-Ok.ensures.decoded (not_authorized _ _ command _ _ c.in-Err-authorize_keyed.refused (search rules))
+    c.requires.none ∙ unauthorized_draws g.K.Keep.can_refuse _ _ _ _ command c.in-Err-authorize_keyed.refused c.refuse-in-Err-authorize_keyed.result.check (search rules) c.in-Ok.ensures.decoded (not_authorized _ _ command _ _ c.in-Err-authorize_keyed.refused (search rules))

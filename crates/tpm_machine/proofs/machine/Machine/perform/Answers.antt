@@ -9,4 +9,4 @@ returns-in-Err-clause-answer g c =
 
 pub returns-in-Err-clause-drawn : goal.returns-in-Err-clause-drawn
 returns-in-Err-clause-drawn g c =
-    c.requires.none ∙ refused_draws _ _ (whole_of c.args.command.now) _ c.in-Err.refused c.in-Err.ensures.1
+    c.requires.none ∙ refused_draws _ _ (whole_of c.args.command.now) _ c.in-Err.refused c.refuse.result.check (search rules) c.in-Err.ensures.1
