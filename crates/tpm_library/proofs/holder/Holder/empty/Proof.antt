@@ -26,11 +26,11 @@ use Rattle.std.specs.contracts.alloc.Global as heap
 use Rattle.std.specs.declared.option.Option.TheVariants.{None}
 use Rattle.tpm_library.proofs.Boxes.{boxes, HolderRow, Heap}
 use Rattle.std.proofs.BoxSteps.Form.{P, owning}
-use Rattle.tpm_library.specs.contracts.holder.Holder.empty as contract
+use Rattle.tpm_library.specs.contracts.holder.Holder.empty as promised
 use Rattle.tpm_library.proofs.holder.Holder.empty.Statement.{statement}
 use Rattle.tpm_library.proofs.holder.Holder.empty.Code as code
 
-abbrev stayed : Stays contract.ended.signature.params contract.ended.kept
+abbrev stayed : Stays promised.ended.signature.params promised.ended.kept
 stayed = (stay_dropped (plain (λ _. heap.the_row)) yes, tt)
 
 abbrev null : Val
@@ -38,10 +38,10 @@ null = ptr_val null_ptr
 
 pub empty_spec : {M : Type 1} → statement M
 empty_spec {M} 𝓤 𝓛 𝓜 𝓡 wired =
-    let H = 𝓛.H in let 𝓣 = tables 𝓤 H 𝓜 𝓡 𝓡.env in let c = contract.clauses 𝓛 𝓜.mem 𝓡.returns in let fn = code.function in
-    proved_at 𝓛 contract.ended stayed c 𝓜 𝓡 (Goes-blank 𝓛 0 (plain (λ _. heap.the_row)) yes (λ κs x f. tt), tt) contract.Key.name fn (code.unfolded 𝓤 H 𝓜 𝓡 wired) (λ z are.
-    let κs = z.0.0 in let a = z.0.3.0 in let Post : Val → SProp 𝓤 = (walk_of 𝓛 contract.ended stayed c).post z in let Run : List Val → SProp 𝓤 = λ ws. WpFn 𝓤 H 𝓣.C 𝓣.Λ fn ws Post in
-    qed 𝓛 ((‵ ftrue ⊛ ‵ (owns (types_at contract.ended.signature.params κs) z.0.3 z.0.4)) ∷ raw ((c κs z.0.3).requires z.1) ∷ []) ∵ split ! $ drop ! $ fsplit ! $
+    let H = 𝓛.H in let 𝓣 = tables 𝓤 H 𝓜 𝓡 𝓡.env in let c = promised.clauses 𝓛 𝓜.mem 𝓡.returns in let fn = code.function in
+    proved_at 𝓛 promised.ended stayed c 𝓜 𝓡 (Goes-blank 𝓛 0 (plain (λ _. heap.the_row)) yes (λ κs x f. tt), tt) promised.Key.name fn (code.unfolded 𝓤 H 𝓜 𝓡 wired) (λ z are.
+    let κs = z.0.0 in let a = z.0.3.0 in let Post : Val → SProp 𝓤 = (walk_of 𝓛 promised.ended stayed c).post z in let Run : List Val → SProp 𝓤 = λ ws. WpFn 𝓤 H 𝓣.C 𝓣.Λ fn ws Post in
+    qed 𝓛 ((‵ ftrue ⊛ ‵ (owns (types_at promised.ended.signature.params κs) z.0.3 z.0.4)) ∷ raw ((c κs z.0.3).requires z.1) ∷ []) ∵ split ! $ drop ! $ fsplit ! $
     use1 𝓛 (‵ (Heap.own_val a z.0.4.0)) (id⊢ 𝓤 _) $ handle_tells boxes.al ! a z.0.4.0 (λ h ws fits.
     let w : Val = vstruct (vcons null (vcons h vnil)) in
     let made : HolderRow.Denot = record { at = null_ptr; alloc = a; device = None } in
@@ -51,5 +51,5 @@ empty_spec {M} 𝓤 𝓛 𝓜 𝓡 wired =
     feq_i ! Ptr null_ptr null_ptr refl $ nothing ! $ move ! (2 ∷ 0 ∷ []) $ fjoin ! $ feq_i ! (List Val) (null ∷ []) (null ∷ []) refl $ fjoin ! $ feq_i ! (List Val) (w ∷ []) (w ∷ []) refl $ fjoin ! $
     fpack ! (Valss (RawPtr ∷ P boxes ∷ [])) (within (shape (owning boxes)) (null_ptr, (a, tt)) (w ∷ [])) (null ∷ [], (h ∷ [], tt)) $ fjoin ! $
     use1 𝓛 (‵ (HolderRow.own_val made (w ∷ []))) (id⊢ 𝓤 _) $
-    suffices ! _ (ends_at 𝓛 contract.ended stayed c z w made (tt, tt) (tt, tt)) $ says ! refl $
+    suffices ! _ (ends_at 𝓛 promised.ended stayed c z w made (tt, tt) (tt, tt)) $ says ! refl $
     nothing ! $ nothing ! $ fjoin ! $ join ! $ nothing ! $ join ! $ done !)))

@@ -48,11 +48,11 @@ use Rattle.tpm_library.proofs.device.Device.TheLaws as device_laws
 use Rattle.tpm_library.specs.declared.device.Device.{Device}
 use Rattle.tpm_library.proofs.Boxes.{boxes, HolderRow, BoxRow, no_drop, Content, content_is_lawful, Heap, heap_is_lawful}
 use Rattle.tpm_library.proofs.Destruct++none.drop.Symbol as drop_symbol
-use Rattle.tpm_library.specs.contracts.holder.Holder.into_box as contract
+use Rattle.tpm_library.specs.contracts.holder.Holder.into_box as promised
 use Rattle.tpm_library.proofs.holder.Holder.into_box.Statement.{statement}
 use Rattle.tpm_library.proofs.holder.Holder.into_box.Code as code
 
-abbrev stayed : Stays contract.ended.signature.params contract.ended.kept
+abbrev stayed : Stays promised.ended.signature.params promised.ended.kept
 stayed = (stay_dropped (plain (λ _. HolderRow)) yes, tt)
 
 -- the code behind the call
@@ -66,17 +66,17 @@ by_device (Some x) none one = one x refl
 
 pub into_box_spec : {M : Type 1} → statement M
 into_box_spec {M} 𝓤 𝓛 𝓜 𝓡 wired =
-    let H = 𝓛.H in let 𝓣 = tables 𝓤 H 𝓜 𝓡 𝓡.env in let c = contract.clauses 𝓛 𝓜.mem 𝓡.returns in let fn = code.function in
+    let H = 𝓛.H in let 𝓣 = tables 𝓤 H 𝓜 𝓡 𝓡.env in let c = promised.clauses 𝓛 𝓜.mem 𝓡.returns in let fn = code.function in
     let dz = no_drop Heap in
     let Call = triple_of 𝓛 (from_raw.signature Content Heap ghosts dict dz) (from_raw.spec Content Heap ghosts dict dz 𝓛 𝓜.mem 𝓡.returns) in
     let allocator = heap_met.passed 𝓡.env (code.calls-std_heap::GlobalAllocator::allocate 𝓡.env wired) (code.calls-std_heap::GlobalAllocator::deallocate 𝓡.env wired)
     (code.calls-std_heap::GlobalAllocator::grow 𝓡.env wired) (code.calls-std_heap::GlobalAllocator::shrink 𝓡.env wired) M 𝓤 𝓛 𝓜 𝓡 in
     let glue_z = drop_symbol.glues 𝓡.env (code.calls-tpm_library::Destruct++none::drop 𝓡.env wired) Heap heap_is_lawful M 𝓤 𝓛 𝓜 𝓡 in
     let met = raw_met.met 𝓤 𝓛 𝓜 𝓡 (code.calls-std_alloc::boxed::Box::from_raw 𝓡.env wired) Content Heap content_is_lawful heap_is_lawful ghosts dict dz allocator glue_z in
-    proved_at 𝓛 contract.ended stayed c 𝓜 𝓡 (Goes-blank 𝓛 0 (plain (λ _. HolderRow)) yes (λ κs x f. tt), tt) contract.Key.name fn (code.unfolded 𝓤 H 𝓜 𝓡 wired) (λ z are.
-    let κs = z.0.0 in let v = z.0.3.0 in let a = v.alloc in let Post : Val → SProp 𝓤 = (walk_of 𝓛 contract.ended stayed c).post z in let Run : List Val → SProp 𝓤 = λ ws. WpFn 𝓤 H 𝓣.C 𝓣.Λ fn ws Post in
-    let Out : RattleType = type_at contract.ended.signature.result κs in
-    qed 𝓛 ((‵ ftrue ⊛ ‵ (owns (types_at contract.ended.signature.params κs) z.0.3 z.0.4)) ∷ raw ((c κs z.0.3).requires z.1) ∷ []) ∵ split ! $ drop ! $ fsplit ! $
+    proved_at 𝓛 promised.ended stayed c 𝓜 𝓡 (Goes-blank 𝓛 0 (plain (λ _. HolderRow)) yes (λ κs x f. tt), tt) promised.Key.name fn (code.unfolded 𝓤 H 𝓜 𝓡 wired) (λ z are.
+    let κs = z.0.0 in let v = z.0.3.0 in let a = v.alloc in let Post : Val → SProp 𝓤 = (walk_of 𝓛 promised.ended stayed c).post z in let Run : List Val → SProp 𝓤 = λ ws. WpFn 𝓤 H 𝓣.C 𝓣.Λ fn ws Post in
+    let Out : RattleType = type_at promised.ended.signature.result κs in
+    qed 𝓛 ((‵ ftrue ⊛ ‵ (owns (types_at promised.ended.signature.params κs) z.0.3 z.0.4)) ∷ raw ((c κs z.0.3).requires z.1) ∷ []) ∵ split ! $ drop ! $ fsplit ! $
     by_device v.device
     (λ is. rewrite ! 0 (λ (s : Option Device). ‵ (HolderRow.own_val (record { at = v.at; alloc = a; device = s }) z.0.4.0)) is refl $
     use1 𝓛 (‵ (fsep (fex (Valss (RawPtr ∷ P boxes ∷ [])) (within (shape (owning boxes)) (v.at, (a, tt)) z.0.4.0)) (feq Ptr v.at null_ptr))) (id⊢ 𝓤 _) $
@@ -91,7 +91,7 @@ into_box_spec {M} 𝓤 𝓛 𝓜 𝓡 wired =
     (λ _. sets_last ! (agg ! (and_then ! (lit ! tt) (no_more !))) refl (tt, (record { fits = lit< tt }, tt)) $ exec ! 𝓣.C 𝓣.Λ Ev code.Mir.t-6 (at_ret Ev Post) $
     sets ! (of_opd ! (get ! refl)) refl (tt, (record { fits = lit< tt }, tt)) $ returns ! (look_at ! 0 refl) $ free_all ! refl $ keep ! [] $
     use0 𝓛 (‵ (Out.own_val None (live 0 vnil ∷ []))) (none_of 𝓛 BoxRow) $
-    suffices ! _ (ends_at 𝓛 contract.ended stayed c z (live 0 vnil) None (tt, tt) (tt, tt)) $ says ! is $
+    suffices ! _ (ends_at 𝓛 promised.ended stayed c z (live 0 vnil) None (tt, tt) (tt, tt)) $ says ! is $
     nothing ! $ nothing ! $ fjoin ! $ join ! $ nothing ! $ join ! $ done !)
     (λ wrong. absurd wrong))))))))
     (λ x is. rewrite ! 0 (λ (s : Option Device). ‵ (HolderRow.own_val (record { at = v.at; alloc = a; device = s }) z.0.4.0)) is refl $
@@ -127,5 +127,5 @@ into_box_spec {M} 𝓤 𝓛 𝓜 𝓡 wired =
     exec ! 𝓣.C 𝓣.Λ Ev code.Mir.t-6 (at_ret Ev Post) $ sets ! (of_opd ! (get ! refl)) refl (and_tt _ typed.0, (record { fits = lit< tt }, (typed.1, tt))) $
     returns ! (look_at ! 0 refl) $ free_all ! refl $ keep ! (0 ∷ []) $
     use1 𝓛 (‵ (Out.own_val (Some r) (v₁ ∷ []))) (Some-of 𝓛 BoxRow r u) $
-    suffices ! _ (ends_at 𝓛 contract.ended stayed c z v₁ (Some r) (tt, tt) (tt, tt)) $ says ! (is ∙ ap Some (sym same)) $
+    suffices ! _ (ends_at 𝓛 promised.ended stayed c z v₁ (Some r) (tt, tt) (tt, tt)) $ says ! (is ∙ ap Some (sym same)) $
     nothing ! $ nothing ! $ fjoin ! $ join ! $ nothing ! $ join ! $ done !)))))))))))))

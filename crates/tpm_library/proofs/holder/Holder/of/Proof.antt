@@ -40,16 +40,16 @@ use Rattle.std.proofs.impls.GlobalAllocator.TheImpl.Met as heap_met
 use Rattle.std.proofs.alloc.Global.TheLaws as heap_laws
 use Rattle.tpm_library.proofs.device.Device.TheLaws as device_laws
 use Rattle.tpm_library.proofs.Boxes.{boxes, HolderRow, BoxRow, no_drop, Content, content_is_lawful, Heap, heap_is_lawful}
-use Rattle.tpm_library.specs.contracts.holder.Holder.of as contract
+use Rattle.tpm_library.specs.contracts.holder.Holder.of as promised
 use Rattle.tpm_library.proofs.holder.Holder.of.Statement.{statement}
 use Rattle.tpm_library.proofs.holder.Holder.of.Code as code
 
-abbrev stayed : Stays contract.ended.signature.params contract.ended.kept
+abbrev stayed : Stays promised.ended.signature.params promised.ended.kept
 stayed = (stay_dropped (plain (λ _. BoxRow)) yes, tt)
 
 pub of_spec : {M : Type 1} → statement M
 of_spec {M} 𝓤 𝓛 𝓜 𝓡 wired =
-    let H = 𝓛.H in let 𝓣 = tables 𝓤 H 𝓜 𝓡 𝓡.env in let c = contract.clauses 𝓛 𝓜.mem 𝓡.returns in let fn = code.function in
+    let H = 𝓛.H in let 𝓣 = tables 𝓤 H 𝓜 𝓡 𝓡.env in let c = promised.clauses 𝓛 𝓜.mem 𝓡.returns in let fn = code.function in
     let dz = no_drop Heap in let dx = no_drop Content in
     let Call = triple_of 𝓛 (into_raw.signature Content Heap ghosts dict dz dx) (into_raw.spec Content Heap ghosts dict dz dx 𝓛 𝓜.mem 𝓡.returns) in
     let allocator = heap_met.passed 𝓡.env (code.calls-std_heap::GlobalAllocator::allocate 𝓡.env wired) (code.calls-std_heap::GlobalAllocator::deallocate 𝓡.env wired)
@@ -57,9 +57,9 @@ of_spec {M} 𝓤 𝓛 𝓜 𝓡 wired =
     let glue_z = drop_symbol.glues 𝓡.env (code.calls-tpm_library::Destruct++none::drop 𝓡.env wired) Heap heap_is_lawful M 𝓤 𝓛 𝓜 𝓡 in
     let glue_x = drop_symbol.glues 𝓡.env (code.calls-tpm_library::Destruct++none::drop 𝓡.env wired) Content content_is_lawful M 𝓤 𝓛 𝓜 𝓡 in
     let met = raw_met.met 𝓤 𝓛 𝓜 𝓡 (code.calls-std_alloc::boxed::Box::into_raw_with_allocator 𝓡.env wired) Content Heap content_is_lawful heap_is_lawful ghosts dict dz dx allocator glue_z glue_x in
-    proved_at 𝓛 contract.ended stayed c 𝓜 𝓡 (Goes-blank 𝓛 0 (plain (λ _. BoxRow)) yes (λ κs x f. tt), tt) contract.Key.name fn (code.unfolded 𝓤 H 𝓜 𝓡 wired) (λ z are.
-    let κs = z.0.0 in let v = z.0.3.0 in let a = v.alloc in let Post : Val → SProp 𝓤 = (walk_of 𝓛 contract.ended stayed c).post z in let Run : List Val → SProp 𝓤 = λ ws. WpFn 𝓤 H 𝓣.C 𝓣.Λ fn ws Post in
-    qed 𝓛 ((‵ ftrue ⊛ ‵ (owns (types_at contract.ended.signature.params κs) z.0.3 z.0.4)) ∷ raw ((c κs z.0.3).requires z.1) ∷ []) ∵ split ! $ drop ! $ fsplit ! $
+    proved_at 𝓛 promised.ended stayed c 𝓜 𝓡 (Goes-blank 𝓛 0 (plain (λ _. BoxRow)) yes (λ κs x f. tt), tt) promised.Key.name fn (code.unfolded 𝓤 H 𝓜 𝓡 wired) (λ z are.
+    let κs = z.0.0 in let v = z.0.3.0 in let a = v.alloc in let Post : Val → SProp 𝓤 = (walk_of 𝓛 promised.ended stayed c).post z in let Run : List Val → SProp 𝓤 = λ ws. WpFn 𝓤 H 𝓣.C 𝓣.Λ fn ws Post in
+    qed 𝓛 ((‵ ftrue ⊛ ‵ (owns (types_at promised.ended.signature.params κs) z.0.3 z.0.4)) ∷ raw ((c κs z.0.3).requires z.1) ∷ []) ∵ split ! $ drop ! $ fsplit ! $
     box_out boxes ! v z.0.4.0 (λ b o hv e ws fa. box_in boxes ! v b o v.value e refl $ fjoin ! $
     let w = word boxes hv b o in
     suffices ! (Run (w ∷ [])) (subst (λ (us : List Val). ent 𝓤 (Run (w ∷ [])) (Run us)) (sym (λ i. ws i ++ [])) (id⊢ 𝓤 (Run (w ∷ [])))) $
@@ -84,5 +84,5 @@ of_spec {M} 𝓤 𝓛 𝓜 𝓡 wired =
     sets ! (agg ! (and_then ! (get ! refl) (and_then ! (get ! refl) (no_more !)))) refl (box_typed boxes hw b' o' fw) $ returns ! (look_at ! 0 refl) $ free_all ! refl $
     -- [the holder; true; what the box owns; the requires]
     move ! (2 ∷ []) $ fsplit ! $ move ! (0 ∷ 1 ∷ 2 ∷ []) $ box_in boxes ! d b' o' v.value refl refl $ use1 𝓛 (‵ (HolderRow.own_val made (word boxes hw b' o' ∷ []))) (id⊢ 𝓤 _) $ keep ! (0 ∷ []) $
-    suffices ! _ (ends_at 𝓛 contract.ended stayed c z (word boxes hw b' o') made (tt, tt) (tt, tt)) $ says ! refl $
+    suffices ! _ (ends_at 𝓛 promised.ended stayed c z (word boxes hw b' o') made (tt, tt) (tt, tt)) $ says ! refl $
     nothing ! $ nothing ! $ fjoin ! $ join ! $ nothing ! $ join ! $ done !))))))))))))))
