@@ -14,3 +14,8 @@ returns-in-Err-clause-opens c = (
   fault_alike (λ (b : D boxes). record_of b.value) record_of true c.args.image.now c.in-Err.fault c.in-Err.ensures.exact,
   (c.fault_number.ensures, refl),
 )
+
+-- the device that is put into the holder is the one that follows the history
+pub returns-in-Ok-clause-history : goal.returns-in-Ok-clause-history
+returns-in-Ok-clause-history c =
+    λ done version r history is follows image. (c.in-Ok.device.value, c.put.ensures, c.in-Ok.ensures.history version r history is follows image)
