@@ -76,7 +76,7 @@ typedef struct tpmsim_answered {
     /* How many bytes the response has, 10 to 4,096. */
     size_t size;
     /* How many of the 256 random bytes the command drew, from their front: none where it was
-       refused, and at most 192. Those behind them were not used, and may be handed in again. */
+       refused. The bytes after them were not used, and may be handed in again. */
     size_t drawn;
     /* The number of the command, TPM_CC; 0 where none was found. */
     uint32_t code;
