@@ -1,16 +1,24 @@
 #!/bin/sh
-# Makes dist/: the program that `rt ci` built and proved here, and PROVED, which names the kit of
-# that, and the checksums of the sources and of the program. Needs `rt`.
+# Makes the program in dist/: the one that `rt ci` built and proved here, and its lines in PROVED,
+# which name the kit of that, and the checksums of the sources and of the program. Needs `rt`.
+# tools/library.sh makes the library.
 #
 #   tools/dist.sh           makes it, where no source is newer than the program that was built here
 #   tools/dist.sh --check   says whether dist/ is of the sources as they stand and, where it names
-#                           the kit that is here, of the bytes that were built here
+#                           the kit that is here, whether the program has the bytes that were built
+#                           here. The library is not built anew: its bytes are those that PROVED
+#                           names
 set -u
 cd "$(dirname "$0")/.." || exit 1
 . tools/proved.sh
 
 # What is wrong with dist/, a fault a line.
 faults() {
+    faults_of_program
+    faults_of_library
+}
+
+faults_of_program() {
     for file in "$shipped" "$proved"; do
         [ -f "$file" ] || { echo "$file is not there" && return; }
     done
@@ -26,6 +34,21 @@ faults() {
     fi
 }
 
+faults_of_library() {
+    for file in "$archive" "$shared" dist/tpmsim.h dist/tpmsim.pc; do
+        [ -f "$file" ] || { echo "$file is not there" && return; }
+    done
+    is_proved 'library sources' "$(sources_checksum tpmsim_library)" ||
+        echo "$archive was proved of other sources than these"
+    is_proved 'library archive' "$(checksum <"$archive")" ||
+        echo "$archive is not the archive that $proved names"
+    is_proved 'library shared object' "$(checksum <"$shared")" ||
+        echo "$shared is not the shared object that $proved names"
+    for file in tpmsim.h tpmsim.pc; do
+        cmp -s "library/$file" "dist/$file" || echo "dist/$file has other bytes than library/$file"
+    done
+}
+
 kit=$(rt version) || exit 1
 case $* in
 --check)
@@ -39,7 +62,9 @@ case $* in
     fi
     sources=$(sources_checksum) && program=$(checksum <"$built") && mkdir -p dist || exit 1
     cp "$built" "$shipped.new" && chmod 755 "$shipped.new" && mv "$shipped.new" "$shipped" || exit 1
+    library=$(sed -n '/^library /p' "$proved" 2>/dev/null)
     printf 'kit: %s\nsources: %s\nprogram: %s\n' "$kit" "$sources" "$program" >"$proved"
+    [ -z "$library" ] || printf '%s\n' "$library" >>"$proved"
     ;;
 *)
     echo "usage: $0 [--check]" >&2

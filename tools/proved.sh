@@ -3,7 +3,14 @@
 # shellcheck shell=sh disable=SC2034 # other scripts use the names
 built=crates/tpmsim/out/tpmsim
 shipped=dist/tpmsim
+archive=dist/libtpmsim.a
+shared=dist/libtpmsim.so.0
 proved=dist/PROVED
+
+# uses CRATE: prints the libraries that the line of a crate names.
+uses() {
+    sed -n -e "s/^$1\( [^:]*\)\{0,1\}://p" crates.txt
+}
 
 # crates_below CRATE..: prints the crates of this repository that these stand on, lowest first.
 crates_below() {
@@ -16,7 +23,7 @@ crates_below() {
                 visit(uses[names[i]])
             }
         }
-        /^[^#]/ { uses[$1] = $2; order[++lines] = $1 }
+        /^[^#]/ { sub(/ .*/, "", $1); uses[$1] = $2; order[++lines] = $1 }
         END {
             count = split(tops, names, " ")
             for (i = 1; i <= count; i++) visit(uses[names[i]])
@@ -24,22 +31,23 @@ crates_below() {
         }' crates.txt
 }
 
-# Prints the files and folders that the program is made of.
+# sources [CRATE]: prints the files and folders that a program or the library is made of, by its
+# crate; else those of tpmsim.
 sources() {
-    below=$(crates_below tpmsim) || return 1
+    below=$(crates_below "${1:-tpmsim}") || return 1
     echo crates.txt
     echo HANDLES
-    for crate in $below tpmsim; do
+    for crate in $below "${1:-tpmsim}"; do
         for part in src specs proofs; do
             [ ! -d "crates/$crate/$part" ] || echo "crates/$crate/$part"
         done
     done
 }
 
-# is_newest PROGRAM: whether it is there, and no source and no folder of sources is newer.
+# is_newest FILE [CRATE]: whether it is there, and no source and no folder of sources is newer.
 is_newest() {
     # shellcheck disable=SC2086 # no name of a source has a space
-    [ -x "$1" ] && sources=$(sources) &&
+    [ -e "$1" ] && sources=$(sources "${2:-tpmsim}") &&
         newer=$(find $sources -newer "$1" -print -quit 2>/dev/null) && [ -z "$newer" ]
 }
 
@@ -48,10 +56,10 @@ checksum() {
     sum=$(sha256sum) && echo "${sum%% *}"
 }
 
-# Prints the SHA-256 of the sources: that of the lines which sha256sum writes of the files, in the
-# order of their paths, which are those in the repository.
+# sources_checksum [CRATE]: prints the SHA-256 of the sources: that of the lines which sha256sum
+# writes of the files, in the order of their paths, which are those in the repository.
 sources_checksum() {
-    sources=$(sources) || return 1
+    sources=$(sources "$@") || return 1
     # shellcheck disable=SC2086 # as above
     sums=$(find $sources ! -type d -print0 | LC_ALL=C sort -z | xargs -0 sha256sum) || return 1
     printf '%s\n' "$sums" | checksum

@@ -3,25 +3,27 @@
 # programs that `rt ci` leaves and with the one in dist/, and compares what comes of them with the
 # files beside them. Then it runs the scripts that are to end well with tpmsim_lists, which keeps
 # the device's state in lists and not in fixed places, for the same bytes over both keeps; and the
-# shell tests of that program. Where nothing was built here, the program in dist/ is run alone; that
-# takes a minute, and needs no `rt`.
+# shell tests of that program; and those of the library, over the one in dist/. Where nothing was
+# built here, what is in dist/ is run alone; that takes a minute, and needs no `rt`.
 #
 #   tools/scripts.sh                   all of them
 #   tools/scripts.sh pcr_extend files  these
 #
 # NAME.tpm is run as `PROGRAM run NAME.tpm`, or as `tpmsim_lists <NAME.tpm`, and NAME.sh as `sh
-# NAME.sh PROGRAM`. A shell test whose name begins with lists_ is run with tpmsim_lists alone, and all
-# others with the other programs. NAME.out is what standard output must be, NAME.err what standard
-# error must be (no file: empty), and NAME.status the exit status (no file: 0). Where there is a
-# NAME.trace, NAME.tpm is run as `PROGRAM run --trace NAME.tpm` too, which is a further test, and
-# NAME.trace is what standard output must be. A shell test that cannot run here ends with status 77,
-# and prints one line, its reason: it is skipped, and so counted, as is one whose program is not
-# there. The last line is `N passed, M failed`, and behind that `, K skipped` where a test was.
+# NAME.sh PROGRAM`. A shell test whose name begins with lists_ is run with tpmsim_lists alone, one
+# whose name begins with library_ with dist/libtpmsim.a, and all others with the other programs.
+# NAME.out is what standard output must be, NAME.err what standard error must be (no file: empty),
+# and NAME.status the exit status (no file: 0). Where there is a NAME.trace, NAME.tpm is run as
+# `PROGRAM run --trace NAME.tpm` too, which is a further test, and NAME.trace is what standard
+# output must be. A shell test that cannot run here ends with status 77, and prints one line, its
+# reason: it is skipped, and so counted, as is one whose program is not there. The last line is `N
+# passed, M failed`, and behind that `, K skipped` where a test was.
 set -u
 
 top=$(CDPATH='' cd "$(dirname "$0")/.." && pwd -P) || exit 1
 out=$top/crates/tpmsim/out
 lists=$top/crates/tpmsim_lists/out/tpmsim_lists
+library=$top/dist/libtpmsim.a
 work=$(mktemp -d) || exit 1
 trap 'rm -rf "$work"' EXIT
 : >"$work/empty"
@@ -94,8 +96,8 @@ run() {
     esac
 }
 
-# check TEST PROGRAM WANTED [OPTION]: counts a test that is run with a program, and says what differs
-# from the file of what is wanted.
+# check TEST PROGRAM WANTED [OPTION]: counts a test that is run with a program, and says what
+# differs from the file of what is wanted.
 check() {
     base=${1%.*}
     named="${1#"$top/"} with $(name_of "$2")${4:+ $4}"
@@ -167,7 +169,7 @@ for program in "$out/tpmsim" "$out/tpmsim.by-rattle" "$top/dist/tpmsim"; do
     programs=$((programs + 1))
     for test do
         case $test in
-        */lists_*.sh) continue ;;
+        */lists_*.sh | */library_*.sh) continue ;;
         esac
         check "$test" "$program" "${test%.*}.out"
         case $test in
@@ -191,6 +193,27 @@ else
         esac
     done
 fi
+
+# Whether the library in dist/ is of the sources as they stand, and the one that was proved.
+library_is_proved() (
+    cd "$top" && . tools/proved.sh &&
+        is_proved 'library sources' "$(sources_checksum tpmsim_library)" &&
+        is_proved 'library archive' "$(checksum <"$library")"
+)
+
+# Why no test of the library can run; nothing where they can.
+missing_library() {
+    [ -f "$library" ] || { echo "${library#"$top/"} is not there" && return; }
+    library_is_proved || echo "${library#"$top/"} was proved of other sources than these"
+}
+
+why=$(missing_library)
+for test do
+    case $test,$why in
+    */library_*.sh,) check "$test" "$library" "${test%.*}.out" ;;
+    */library_*.sh,*) skip "${test#"$top/"}" "$why" ;;
+    esac
+done
 
 [ -x "$out/tpmsim" ] || echo 'No proof was run: nothing was proved and built here.'
 counts="$passed passed, $failed failed"

@@ -230,9 +230,8 @@ def of_a_full_device(comparison, seed, count):
     print(f"{different:,} images among these: {again:,} saved again as they were")
 
 
-def main():
-    path, *mode = sys.argv[1:]
-    comparison = Comparison(Program(os.path.abspath(path)))
+def main(program, mode):
+    comparison = Comparison(program)
     if mode[:1] == ["full"]:
         seed, count = (int(it) for it in (mode[1:] + DEFAULTS[len(mode) - 1 :]))
         of_a_full_device(comparison, seed, count)
@@ -242,4 +241,5 @@ def main():
     sys.exit(comparison.differ > 0)
 
 
-main()
+if __name__ == "__main__":
+    main(Program(os.path.abspath(sys.argv[1])), sys.argv[2:])

@@ -3,9 +3,9 @@
 //! What each command does: one call for each command that is served, which reads its plain
 //! parameters, checks them, and changes the record last (TPM 2.0 Library, Part 3).
 //!
-//! This crate only passes the calls on. They stand in its parts, a file for each command:
-//! tpm_actions_device, tpm_actions_policy, tpm_actions_object, tpm_actions_capability and
-//! tpm_nvactions, all of which stand on tpm_actions_base. A call takes the command's
+//! This crate only passes the calls on. The commands are in its parts, with a file for each
+//! command: tpm_actions_device, tpm_actions_policy, tpm_actions_object, tpm_actions_capability and
+//! tpm_nvactions, all of which use tpm_actions_base. A call takes the command's
 //! [`tpm_actions_base::call::Call`] and gives its [`tpm_actions_base::answer::Answer`], or the
 //! first refusal, which leaves the record; each is proved to be its row.
 

@@ -28,11 +28,11 @@ pub record AnswerParts : Type 0 where
   pub body : Body
   pub drawn : ℕ
 
--- parameters alone
+-- an answer that is parameters alone: no handle, and no random bytes are drawn
 abbrev pub answer_of : Body → AnswerParts
 answer_of body = record { handle = None; body = body; drawn = 0 }
 
--- and none
+-- the answer of a command that answers no parameters
 abbrev pub nothing : AnswerParts
 nothing = answer_of (Plain [])
 
@@ -42,6 +42,6 @@ IsAnswer parts a =
     (a.handle ≡ parts.handle) × (a.parameters ≡ answer_body_text parts.body)
     × (a.drawn ≡ parts.drawn)
 
--- The code's answer is empty, to be written.
+-- The code's answer is still empty.
 abbrev pub IsEmpty : Answer → Type 0
 IsEmpty a = IsAnswer nothing a

@@ -1,5 +1,5 @@
--- The refusals by which a row answers, its parameters' apart (Rows). TPM 2.0 Library, Part 3: the
--- response codes of each command.
+-- The refusals by which a row answers, those of parameters apart (Rows). TPM 2.0 Library, Part 3:
+-- the response codes of each command.
 use Rattle.std.specs.Prelude.{ℕ, Result, Ok, Err}
 use Rattle.tpm_types.specs.declared.action_check.ActionCheck.{ActionCheck}
 use Rattle.tpm_types.specs.declared.action_fault.ActionFault.{ActionFault}
@@ -12,28 +12,28 @@ use Rattle.tpm_types.specs.declared.rc.ResponseCode.{ResponseCode}
 use Rattle.tpm_types.specs.declared.rc.ResponseCode.TheVariants as code
 use Rattle.tpm_types.specs.declared.refused.Refused.{Refused}
 
--- a handle does not name what the general checks have found that it names, so that no row acts.
--- That does not occur (later_handle_laws of tpm_laws)
+-- the refusal where a handle does not name what the general checks have found that it names, so
+-- that no row acts. It does not occur (later_handle_laws of tpm_laws)
 abbrev pub handle_refusal : Refused
 handle_refusal = refusal check.Handles (plain code.Failure)
 
--- one of the command's own checks, of which A1 is the first
+-- the refusal by one of the command's own checks, of which A1 is the first
 abbrev pub action_refusal : ActionCheck → Rc → Refused
 action_refusal action rc = refusal (check.Action action) rc
 
--- and for one of its parameters
+-- the refusal by one of the command's own checks, for one of its parameters
 abbrev pub parameter_refusal : ActionCheck → (parameter : ℕ) → ResponseCode → Refused
 parameter_refusal action parameter fault = action_refusal action (at (place.Parameter parameter) (plain fault))
 
--- one of the command's own checks, by what it found
+-- the refusal by the command's own check that found this fault
 abbrev pub fault_refusal : ActionFault → Refused
 fault_refusal fault = action_refusal fault.check fault.rc
 
--- want of memory, M
+-- the refusal for want of memory, by check M
 abbrev pub memory_refusal : Refused
 memory_refusal = refusal check.Memory (plain code.Memory)
 
--- a fault of a part of the device, by the refusal of this command
+-- the result of a part of the device, with this command's refusal in place of the part's fault
 abbrev pub or_refusal : {X F : Type 0} → (F → Refused) → Result X F → Result X Refused
 or_refusal refusal (Ok x) = Ok x
 or_refusal refusal (Err fault) = Err (refusal fault)

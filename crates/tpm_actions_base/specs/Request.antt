@@ -1,4 +1,4 @@
--- What a command asks for, wherever its bytes lie in memory.
+-- The request of a command: what it asks for, wherever its bytes lie in memory.
 use Rattle.std.specs.Prelude.{ℕ, List, [], ◌∷◌, Result, Ok, Err}
 use Rattle.tpm_types.specs.declared.handle.Handle.{Handle}
 use Rattle.tpm_types.specs.Locality.{locality_number}
@@ -6,8 +6,8 @@ use Rattle.tpm_types.specs.declared.refused.Refused.{Refused}
 use Rattle.tpm_actions_base.specs.Refusals.{handle_refusal}
 use Rattle.tpm_actions_base.specs.declared.call.Call.{Call}
 
--- its handles, as many as its shape has, the number of its locality, its plain parameters, and the
--- event's 256 random bytes
+-- the request of a command: its handles, as many as its shape has, the number of its locality, its
+-- parameters in plain, and the event's 256 random bytes
 pub record Request : Type 0 where
   pub handles : List Handle
   pub locality : ℕ
@@ -27,12 +27,12 @@ abbrev pub first_handle : List Handle → Result Handle Refused
 first_handle [] = Err handle_refusal
 first_handle (handle ∷ handles) = Ok handle
 
--- and the second of a command that has two
+-- the second handle of a command that has two
 abbrev pub second_handle : List Handle → Result Handle Refused
 second_handle (first ∷ handle ∷ handles) = Ok handle
 second_handle handles = Err handle_refusal
 
--- and the third of one that has three
+-- the third handle of a command that has three
 abbrev pub third_handle : List Handle → Result Handle Refused
 third_handle (first ∷ second ∷ handle ∷ handles) = Ok handle
 third_handle handles = Err handle_refusal

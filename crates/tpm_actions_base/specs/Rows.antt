@@ -13,32 +13,32 @@ use Rattle.tpm_actions_base.specs.Answer.{AnswerParts, IsAnswer}
 use Rattle.tpm_actions_base.specs.Refusals.{memory_refusal}
 use Rattle.tpm_actions_base.specs.declared.answer.Answer.{Answer}
 
--- the refusal of a parameter, G11: its fault is placed at the parameter of this number
+-- the refusal of a parameter, by G11: its fault is placed at the parameter of this number
 abbrev pub parameter_refusal : ℕ → Rc → Refused
 parameter_refusal n rc = refusal check.Parameters (at (place.Parameter n) rc)
 
--- a parameter that is read
+-- the value that was read of a parameter and what stands after it, or the refusal of that parameter
 abbrev pub parameter : {X : Type 0} → ℕ → Result X Rc → Result X Refused
 parameter n (Ok x) = Ok x
 parameter n (Err rc) = Err (parameter_refusal n rc)
 
--- no byte is left over after the parameters, G11 too
+-- the check that no byte is left over after the parameters, which is G11 too
 abbrev pub all_read : List ℕ → Result (Unit {0}) Refused
 all_read rest = refused_if (not (length rest == 0)) (refusal check.Parameters (plain code.Size))
 
--- a command's only parameter
+-- the value of a command's only parameter
 abbrev pub only : {X : Type 0} → Result (X × List ℕ) Rc → Result X Refused
 only read = do
   p ← parameter 1 read
   ended ← all_read p.1
   Ok p.0
 
--- a command that succeeds: what it answers, and the record after it
+-- the success of a command: what it answers, and the record after it
 pub record Success : Type 0 where
   pub answer : AnswerParts
   pub after : Record
 
--- an answer, and the record as it was
+-- the success that answers this, and leaves the record as it was
 abbrev pub unchanged : Record → AnswerParts → Success
 unchanged r answer = record { answer = answer; after = r }
 
@@ -54,7 +54,8 @@ ActsIfRoom can (Ok s) old (Err e) answer new =
 ActsIfRoom can (Err refused) old (Ok done) answer new = ⊥
 ActsIfRoom can (Err refused) old (Err e) answer new = (e ≡ refused) × (new ≡ old)
 
--- A command that grows nothing did what its row says, and the same is said of its refusal.
+-- A command that grows nothing did what its row says. A refusal leaves the record, and nothing is
+-- said of the answer then.
 abbrev pub Acts : Result Success Refused
     → Record → Result (Unit {0}) Refused → Answer → Record → Type 0
 Acts row old result answer new = ActsIfRoom false row old result answer new

@@ -1,5 +1,5 @@
--- What a command on an NV index names: what authorizes it, the index, whether the one may write the
--- other, and whether it may read it. TPM 2.0 Library, Part 3, section 31 (non-volatile storage),
+-- What a command on an NV index names: what authorizes it, the index, whether that may write the
+-- index, and whether it may read it. TPM 2.0 Library, Part 3, section 31 (non-volatile storage),
 -- and Part 2, section 13.4 (TPMA_NV).
 use Rattle.std.specs.Prelude.{◌==◌, not, Bool, Result, Ok, ok_or, if◌then◌else◌}
 use Rattle.tpm_bytes.specs.Reading.{◌>>=◌, refused_if}
@@ -20,17 +20,17 @@ use Rattle.tpm_actions_base.specs.Refusals.{handle_refusal}
 use Rattle.tpm_actions_base.specs.Request.{Request, first_handle, second_handle}
 use Rattle.tpm_actions_base.specs.declared.target.Target.{Target}
 
--- the index of a handle, which the general checks have found
+-- the NV index of a handle; the general checks have found that it is there
 abbrev pub index_or_refusal : Record → Handle → Result NvIndex Refused
 index_or_refusal r handle = ok_or (index_at r.nv handle) handle_refusal
 
--- and its attributes
+-- the attributes of the NV index of a handle
 abbrev pub attributes_of : Record → Handle → Result NvAttributes Refused
 attributes_of r handle = do
   index ← index_or_refusal r handle
   Ok index.public.attributes
 
--- authHandle, nvIndex, and the attributes of that
+-- the target of a command: authHandle, nvIndex, and the attributes of that index
 abbrev pub target_of : Record → Request → Result Target Refused
 target_of r q = do
   auth_handle ← first_handle q.handles
@@ -38,8 +38,8 @@ target_of r q = do
   attributes ← attributes_of r handle
   Ok (record { auth_handle = auth_handle; handle = handle; attributes = attributes })
 
--- whether authHandle may do something with the index: the owner and the platform where that has the
--- attribute that lets them, and else the index itself alone
+-- whether authHandle may do something with the index: the owner and the platform may where the
+-- index has the attribute that lets them, and else the index itself alone may
 abbrev pub may : (owner platform : NvAttribute) → Target → Bool
 may owner platform target =
     if target.auth_handle.number == owner_handle.number then has target.attributes owner
@@ -54,8 +54,9 @@ may_read target = may attribute.OwnerRead attribute.PpRead target
 
 -- ---- what is read of an index, and by whom
 
--- the first checks of its own of each command that reads an index (Part 3, sections 23.9 and
--- 31.13): A1: authHandle may not read it; A2: it is locked against reading; A3: it is not written
+-- the first checks of its own that each command has which reads an NV index (Part 3, sections 23.9
+-- and 31.13). A1: authHandle may not read the index; A2: the index is locked against reading; A3:
+-- it is not written
 abbrev pub reading_passes : Target → Result (Unit {0}) ActionFault
 reading_passes target = do
   a1 ← refused_if (not (may_read target)) (plain_fault action.First code.NvAuthorization)

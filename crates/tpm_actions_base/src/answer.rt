@@ -7,17 +7,17 @@ ghost use Rattle.tpm_actions_base.specs.Draws.{draw_limit};
 use tpm_bytes::Sink;
 use tpm_types::{ANSWER_LIMIT, Handle};
 
-/// A response's parameters. An answer is made once and lent to each command, so no command pays for
-/// the room.
+/// The room for a response's parameters. An answer is made once and lent to each command, so that
+/// no command pays for the room.
 pub type Parameters = Sink<ANSWER_LIMIT>;
 
 /// What a command that succeeds answers.
 #[derive(Drop)]
 pub struct Answer {
-    /// The handle of what it made, if it answers one.
+    /// The handle of what the command made, if it answers one.
     pub handle: Option<Handle>,
     pub parameters: Parameters,
-    /// How many random bytes it drew, from the front of the event's.
+    /// How many random bytes the command drew, from the front of the event's.
     pub drawn: usize,
     ghost few: { drawn ≤ draw_limit },
 }
@@ -25,7 +25,7 @@ pub struct Answer {
 impl Answer {
     ghost use Rattle.tpm_actions_base.specs.Answer.{IsEmpty};
 
-    /// No handle, no parameters, and no random bytes drawn.
+    /// An answer with no handle, no parameters, and no random bytes drawn.
     pub fn empty() -> Answer
         ensures { IsEmpty result }
     {

@@ -9,10 +9,10 @@ use tpm_types::{Handle, Locality, Refused};
 /// What a command is called with, once the general checks and the authorization have passed.
 #[derive(Clone, Copy)]
 pub struct Call<'a> {
-    /// As many as the command's shape has.
+    /// The command's handles, as many as its shape has.
     pub handles: &'a [Handle],
     pub locality: Locality,
-    /// The parameters, decrypted.
+    /// The command's parameters, decrypted.
     pub parameters: &'a [u8],
     /// The event's random bytes.
     pub random: &'a [u8; 256],

@@ -5,7 +5,7 @@
 //! ([`reading`]), by what it refuses ([`refusals`]), and what a command on an NV index names
 //! ([`target`]).
 //!
-//! It stands on `tpm_record`, and the crates of the commands stand on it: tpm_actions_device,
+//! The crate uses `tpm_record`, and the crates of the commands use it: tpm_actions_device,
 //! tpm_actions_policy, tpm_actions_object, tpm_actions_capability and tpm_nvactions. Each call
 //! equals its definition in `specs/`, where `Acts` says what all rows promise: a success answers
 //! and changes the record as the row says, and a refusal is the row's and leaves the record.

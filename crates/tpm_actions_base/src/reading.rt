@@ -10,14 +10,14 @@ ghost use Rattle.tpm_actions_base.specs.Rows.{all_read, parameter, parameter_ref
 use tpm_bytes::{Cursor, Short};
 use tpm_types::{Check, Rc, Refused, ResponseCode};
 
-/// A refusal of the parameter of this number.
+/// The refusal of the parameter of this number.
 fn at_parameter(number: u8, rc: Rc) -> Refused
     ensures { result ≡ parameter_refusal number rc }
 {
     Refused::by(Check::Parameters, rc.at_parameter(number))
 }
 
-/// A parameter that is read, by its place.
+/// The value of a parameter that was read, or the refusal of the parameter in this place.
 pub fn parameter<T>(place: u8, read: Result<T, Rc>) -> Result<T, Refused>
     ensures { result ≡ parameter place read }
 {
@@ -27,7 +27,8 @@ pub fn parameter<T>(place: u8, read: Result<T, Rc>) -> Result<T, Refused>
     }
 }
 
-/// A number that is read, by its place: the only fault is that it is cut.
+/// The value of a number that was read, or the refusal of the parameter in this place: its only
+/// fault is that it is cut.
 pub fn number<T>(place: u8, read: Result<T, Short>) -> Result<T, Refused>
     ensures { result ≡ parameter place (or_fault read (plain code.Insufficient)) }
 {

@@ -20,14 +20,14 @@ pub fn action_refusal(check: ActionCheck, rc: Rc) -> Refused
     Refused::by(Check::Action(check), rc)
 }
 
-/// The refusal by one of a command's own checks, with this code of a parameter.
+/// The refusal by one of a command's own checks, with this code for a parameter.
 pub fn parameter_refusal(check: ActionCheck, parameter: u8, code: ResponseCode) -> Refused
     ensures { result ≡ parameter_refusal check parameter code }
 {
     action_refusal(check, code.anywhere().at_parameter(parameter))
 }
 
-/// The refusal by what one of a command's own checks found.
+/// The refusal by what one of a command's own checks found at fault.
 pub fn fault_refusal(fault: ActionFault) -> Refused
     ensures { result ≡ fault_refusal fault }
 {

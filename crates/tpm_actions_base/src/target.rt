@@ -34,7 +34,7 @@ fn attributes_of<K: Keep>(keep: &K, handle: Handle) -> Result<NvAttributes, Refu
     }
 }
 
-/// What a command's first two handles name.
+/// The target that a command's first two handles name.
 pub fn target_of<K: Keep>(keep: &K, call: &Call) -> Result<Target, Refused>
     ensures { result ≡ target_of (K.record_of keep.now) (request_of call.now) }
 {
@@ -63,21 +63,22 @@ impl Target {
         }
     }
 
-    /// Whether it may write the index.
+    /// Whether authHandle may write the index.
     pub fn may_write(&self) -> bool
         ensures { result ≡ may_write self.now }
     {
         self.may(NvAttribute::OwnerWrite, NvAttribute::PpWrite)
     }
 
-    /// Whether it may read the index.
+    /// Whether authHandle may read the index.
     pub fn may_read(&self) -> bool
         ensures { result ≡ may_read self.now }
     {
         self.may(NvAttribute::OwnerRead, NvAttribute::PpRead)
     }
 
-    /// Refuses to read the index: who may not, what is locked, and what is not written.
+    /// Refuses to read the index where authHandle may not, where it is locked, or where it is not
+    /// written.
     pub fn check_reading(&self) -> Result<(), ActionFault>
         ensures { result ≡ reading_passes self.now }
     {
@@ -95,7 +96,7 @@ impl Target {
 }
 
 /// The reading of an index that a command names, and that these checks let it read, is refused only
-/// where it goes past the data. It does nothing.
+/// where it goes past the data. The function does nothing.
 #[inline(always)]
 #[tactic(auto, using(crate::proofs::TargetLaws::reading_within))]
 pub fn reading_laws()

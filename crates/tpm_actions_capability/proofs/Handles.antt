@@ -1,4 +1,4 @@
--- What is told of handles that were listed.
+-- The texts of handles that were listed.
 use Rattle.std.proofs.Common.{◌≡◌, ℕ, List, Result, Ok, Err, ap, ◌∙◌}
 use Rattle.tpm_bytes.specs.Reading.{◌>>=◌}
 use Rattle.tpm_types.specs.declared.refused.Refused.{Refused}

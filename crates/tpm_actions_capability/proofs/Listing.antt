@@ -1,4 +1,4 @@
--- One element more, and one number more.
+-- Lists of elements that grow by one element, or by one number.
 use Rattle.tpm_bytes.specs.Numbers.{numbers_below}
 use Rattle.std.proofs.Common.{arith, ◌≡◌, ℕ, suc, ◌+◌, ◌<◌, List, [], ◌∷◌, ◌++◌, length, map, take, get_or, refl, ap, sym, ◌∙◌, append-nil}
 use Rattle.std.proofs.lemmas.Grind.{flat_map-append}
@@ -8,7 +8,7 @@ use Rattle.std.specs.List.{flat_map}
 below_more : (n : ℕ) → numbers_below (n + 1) ≡ numbers_below n ++ n ∷ []
 below_more n = let next : n + 1 ≡ suc n = omega arith in ap numbers_below next
 
--- what stands for each of the numbers so far, and what stands for the next
+-- the elements for the numbers so far, and that for the next, are those for one number more
 pub mapped_more : {X : Type 0} (f : ℕ → X) (n : ℕ) (so new : List X) → so ≡ map f (numbers_below n) → new ≡ so ++ f n ∷ [] → new ≡ map f (numbers_below (n + 1))
 mapped_more f n so new is more = more ∙ ap (λ (l : List _). l ++ f n ∷ []) is ∙ sym (map-append f (numbers_below n) (n ∷ [])) ∙ sym (ap (map f) (below_more n))
 
@@ -18,7 +18,7 @@ flat_more f n so new is more = more ∙ ap (λ (l : List _). l ++ f n) is ∙ ap
     one : {X : Type 0} (f : ℕ → List X) (n : ℕ) → flat_map f (n ∷ []) ≡ f n
     one f n = append-nil (f n)
 
--- what stands for each of these values so far
+-- the elements for the values so far, and that for the next, are those for one value more
 pub taken_more : {A X : Type 0} (f : A → X) (xs : List A) (i : ℕ) (d : A) (so new : List X) → i < length xs → so ≡ map f (take i xs) → new ≡ so ++ f (get_or xs i d) ∷ [] → new ≡ map f (take (i + 1) xs)
 taken_more f xs i d so new below is more =
     more ∙ ap (λ (l : List _). l ++ f (get_or xs i d) ∷ []) is ∙ sym (map-append f (take i xs) (get_or xs i d ∷ [])) ∙ sym (ap (map f) (take_more xs i d below))

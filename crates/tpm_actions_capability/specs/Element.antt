@@ -7,15 +7,15 @@ use Rattle.tpm_actions_capability.specs.declared.element.Element.{Element}
 use Rattle.tpm_actions_capability.specs.declared.element.Telling.{Telling}
 use Rattle.tpm_actions_capability.specs.declared.element.Telling.TheVariants as tell
 
--- an element that is told by its own number
+-- an element of which its own number is listed
 abbrev pub by_itself : ℕ → Element
 by_itself number = record { number = number; told = number }
 
--- an element, if it is there
+-- the list of an element, if that is there, and else the empty list
 abbrev pub if_there : Bool → Element → List Element
 if_there is_there e = if is_there then e ∷ [] else []
 
--- what is told of an element: a value alone, or its number (the property) and the value
+-- the text of an element: its value alone, or its number (the property) and its value
 abbrev pub told_text : Telling → Element → List ℕ
 told_text tell.Value e = to_be_bytes w32 e.told
 told_text tell.NumberAndValue e = to_be_bytes w32 e.number ++ to_be_bytes w32 e.told
@@ -23,7 +23,7 @@ told_text tell.NumberAndValue e = to_be_bytes w32 e.number ++ to_be_bytes w32 e.
 abbrev pub is_from : ℕ → Element → Bool
 is_from from e = nat_le from e.number
 
--- how many elements there are from a number on, and how many of these are told: not more than are
+-- how many elements there are from a number on, and how many of these are listed: not more than are
 -- asked for, and never more than 64
 abbrev pub found_count : ℕ → List Element → ℕ
 found_count from elements = count_by (is_from from) elements
@@ -36,8 +36,8 @@ abbrev pub text_of : Telling → (from count : ℕ) → List Element → List �
 text_of telling from count elements =
     flat_map (told_text telling) (take count (filter (is_from from) elements))
 
--- whether there are more than are told (moreData), the capability, how many are told, and these,
--- the first from a number on
+-- the text of a list: whether there are more elements than are listed (moreData), the capability,
+-- how many are listed, and these, the first from a number on
 abbrev pub listing : Telling → (capability from count : ℕ) → List Element → List ℕ
 listing telling capability from count elements =
     (if nat_lt (told_count from count elements) (found_count from elements) then 1 else 0)

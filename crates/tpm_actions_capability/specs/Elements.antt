@@ -23,15 +23,16 @@ use Rattle.tpm_actions_capability.specs.declared.element.Element.{Element}
 
 -- ---- handles, by the highest byte of the first one that is asked for
 
--- 00: the PCRs
+-- the handles of type 00: the PCRs
 abbrev pub pcr_elements : List Element
 pcr_elements = map by_itself (numbers_below 24)
 
--- 01: the NV indices
+-- the handles of type 01: the NV indices
 abbrev pub index_elements : Record → List Element
 index_elements r = map (λ e. by_itself e.0) (heads_of r.nv)
 
--- 40: what is always there
+-- the handles of type 40, which always name something: the hierarchies, TPM_RH_NULL, lockout and
+-- the password session
 abbrev pub permanent_elements : List Element
 permanent_elements =
     by_itself owner_handle.number
@@ -42,8 +43,8 @@ permanent_elements =
     ∷ by_itself platform_handle.number
     ∷ []
 
--- 02: the sessions, of whatever type, in the order of their places: the place is compared, and the
--- handle is told
+-- the handles of types 02 and 03: the sessions, of whatever type, in the order of their places; the
+-- place is compared, and the handle is listed
 abbrev pub session_element : Record → (place : ℕ) → List Element
 session_element r place =
     option_map_or (λ (s : Session). record { number = place; told = (handle_of s.kind place).number } ∷ [])
@@ -52,7 +53,7 @@ session_element r place =
 abbrev pub session_elements : Record → List Element
 session_elements r = flat_map (session_element r) (numbers_below session_limit)
 
--- 80: the transient objects
+-- the handles of type 80: the transient objects
 abbrev pub object_element : Record → ℕ → List Element
 object_element r place =
     let handle : Handle = numbered (number_of 0x80 place) in
@@ -61,7 +62,7 @@ object_element r place =
 abbrev pub object_elements : Record → List Element
 object_elements r = flat_map (object_element r) (numbers_below object_limit)
 
--- 81: the persistent objects
+-- the handles of type 81: the persistent objects
 abbrev pub persistent_elements : Record → List Element
 persistent_elements r = map (λ e. by_itself e.0) r.persistent
 
@@ -83,8 +84,8 @@ command_elements = map command_element all_codes
 
 -- ---- properties
 
--- TPM_PT_FAMILY_INDICATOR ("2.0" and a zero) and TPM_PT_TOTAL_COMMANDS; TPM_PT_LOCKOUT_COUNTER,
--- TPM_PT_MAX_AUTH_FAIL, TPM_PT_LOCKOUT_INTERVAL and TPM_PT_LOCKOUT_RECOVERY
+-- the properties TPM_PT_FAMILY_INDICATOR ("2.0" and a zero) and TPM_PT_TOTAL_COMMANDS;
+-- TPM_PT_LOCKOUT_COUNTER, TPM_PT_MAX_AUTH_FAIL, TPM_PT_LOCKOUT_INTERVAL and TPM_PT_LOCKOUT_RECOVERY
 abbrev pub property_elements : LockoutState → List Element
 property_elements lockout =
     record { number = 0x100; told = 0x322e3000 }

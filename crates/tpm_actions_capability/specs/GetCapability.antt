@@ -22,7 +22,7 @@ use Rattle.tpm_actions_capability.specs.declared.get_capability.CapabilityParame
 use Rattle.tpm_actions_capability.specs.declared.get_capability.Capability.{Capability}
 use Rattle.tpm_actions_capability.specs.declared.get_capability.Capability.TheVariants as capability
 
--- capability, property, propertyCount
+-- the parameters of TPM2_GetCapability: capability, property, propertyCount
 unfoldable pub capability_parameters : List ℕ → Result CapabilityParameters Refused
 capability_parameters text = do
   capability ← parameter 1 (or_fault (number_at w32 text) (plain code.Insufficient))
@@ -31,7 +31,7 @@ capability_parameters text = do
   ended ← all_read count.1
   Ok (record { capability = capability.0; property = property.0; count = count.0 })
 
--- A1: a capability that is not served
+-- the capability of this number. A1: it is not served
 abbrev pub capability_of : ℕ → Result Capability Refused
 capability_of number =
     if number == 1 then Ok capability.Handles
@@ -41,7 +41,7 @@ capability_of number =
     else Err (parameter_refusal action.First 1 code.Value))))
 
 -- the handles whose highest byte is this one; there are never saved sessions (03). A2: no handle
--- has such a byte
+-- has such a highest byte
 abbrev pub handle_elements : Record → (kind : ℕ) → Result (List Element) Refused
 handle_elements r kind =
     if kind == 0x00 then Ok pcr_elements
@@ -53,7 +53,7 @@ handle_elements r kind =
     else (if kind == 0x81 then Ok (persistent_elements r)
     else Err (parameter_refusal action.Second 2 code.Handle)))))))
 
--- from which on handles are listed: sessions by their places
+-- the number from which on handles are listed: of sessions it is a place
 abbrev pub first_handle_of : ℕ → ℕ
 first_handle_of property = if property / 2 ^ 24 == 0x02 then property % 2 ^ 24 else property
 
@@ -67,7 +67,7 @@ all_banks =
 abbrev pub pcrs_text : List ℕ
 pcrs_text = 0 ∷ to_be_bytes w32 5 ++ selection_text all_banks
 
--- moreData, and the capability with its elements
+-- what TPM2_GetCapability answers: moreData, and the capability with its elements
 abbrev pub told_of : Record → CapabilityParameters → Capability → Result (List ℕ) Refused
 told_of r p capability.Handles = do
   elements ← handle_elements r (p.property / 2 ^ 24)
@@ -84,7 +84,8 @@ get_capability_row r q = do
   text ← told_of r p capability
   Ok (unchanged r (answer_of (Plain text)))
 
--- What the code wrote, a text or elements, is the definition's, or its refusal is.
+-- What the code wrote, a text or elements, is what the definition gives; or the code's refusal is
+-- the definition's.
 abbrev pub Tells : {X : Type 0} → Result X Refused → Result (Unit {0}) Refused → X → Type 0
 Tells (Ok wanted) (Ok done) new = new ≡ wanted
 Tells (Ok wanted) (Err e) new = ⊥

@@ -9,21 +9,21 @@ ghost use Rattle.tpm_actions_capability.specs.declared.element.Element.{Element 
 use arrayvec::ArrayVec;
 use tpm_actions_base::answer::Parameters;
 
-/// The most elements of one answer, of whatever capability: there are never more.
+/// The most elements of one answer; no capability ever lists more.
 pub(crate) const ELEMENT_LIMIT: usize = 64;
 
-/// All that a capability lists.
+/// All elements that a capability lists.
 pub(crate) type Elements = ArrayVec<Element, ELEMENT_LIMIT>;
 
-/// What a capability lists.
+/// An element that a capability lists.
 #[derive(Clone, Copy, Debug, PartialEq, Eq, Default)]
 pub struct Element {
-    /// What is compared with the property from which on elements are asked for.
+    /// The number that is compared with the property from which on elements are asked for.
     pub number: u32,
     pub told: u32,
 }
 
-/// What is told of an element.
+/// What is listed of an element.
 #[derive(Clone, Copy, Debug, PartialEq, Eq)]
 pub enum Telling {
     Value,
@@ -31,7 +31,7 @@ pub enum Telling {
 }
 
 impl Element {
-    /// An element that is told by its own number.
+    /// An element of which its own number is listed.
     pub(crate) fn by_itself(number: u32) -> Element
         ensures { result ≡ by_itself number }
     {
@@ -59,15 +59,15 @@ impl Element {
     }
 }
 
-/// How many elements there are from a number on.
+/// How many elements of a list there are from a number on.
 fn found_count(elements: &[Element], from: u32) -> usize
     ensures { result ≡ found_count from elements.now }
 {
     elements.iter().filter(|e| e.is_from(from)).count()
 }
 
-/// Tells an element, if it is from this number on and any is left to be told; gives how many are
-/// left then.
+/// Writes an element, if it is from this number on and any is left to be written; gives how many
+/// are left then.
 #[tactic(auto, using(crate::proofs::Telling::telling_one))]
 fn tell_if(e: &Element, telling: Telling, from: u32, left: usize, text: &mut Parameters) -> usize
     requires { length text.old + 8 * left ≤ answer_limit }
@@ -83,7 +83,7 @@ fn tell_if(e: &Element, telling: Telling, from: u32, left: usize, text: &mut Par
     left - 1
 }
 
-/// Tells the first elements from a number on.
+/// Writes the first elements from a number on, as many as are left to be written.
 fn tell_elements(
     elements: &[Element],
     telling: Telling,

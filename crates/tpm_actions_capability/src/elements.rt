@@ -17,7 +17,7 @@ use tpm_session::handle_of;
 use tpm_types::{Handle, OBJECT_LIMIT, PCR_COUNT, SESSION_LIMIT};
 use tpm_types_command::CommandCode;
 
-/// The PCRs.
+/// Lists the PCRs.
 #[tactic(auto, using(crate::proofs::Listing::one_more))]
 pub(crate) fn pcrs(elements: &mut Elements)
     requires { elements.old.items ≡ [] }
@@ -28,7 +28,7 @@ pub(crate) fn pcrs(elements: &mut Elements)
     }
 }
 
-/// The handles of what is always there.
+/// Lists the handles that always name something.
 pub(crate) fn permanent(elements: &mut Elements)
     requires { elements.old.items ≡ [] }
     ensures { elements.new.items ≡ permanent_elements }
@@ -41,7 +41,7 @@ pub(crate) fn permanent(elements: &mut Elements)
     elements.push(Element::by_itself(Handle::PLATFORM.number));
 }
 
-/// The session in a place, if there is one.
+/// Lists the session in a place, if there is one.
 fn session<K: Keep>(keep: &K, place: u32, elements: &mut Elements)
     requires place { place < session_limit }
     requires room { length elements.old.items < 64 }
@@ -57,7 +57,7 @@ fn session<K: Keep>(keep: &K, place: u32, elements: &mut Elements)
     }
 }
 
-/// The sessions, in the order of their places.
+/// Lists the sessions, in the order of their places.
 #[tactic(auto, using(crate::proofs::Listing::one_more))]
 pub(crate) fn sessions<K: Keep>(keep: &K, elements: &mut Elements)
     requires { elements.old.items ≡ [] }
@@ -68,7 +68,7 @@ pub(crate) fn sessions<K: Keep>(keep: &K, elements: &mut Elements)
     }
 }
 
-/// The transient object in a place, if there is one.
+/// Lists the transient object in a place, if there is one.
 fn object<K: Keep>(keep: &K, place: u32, elements: &mut Elements)
     requires place { place < object_limit }
     requires room { length elements.old.items < 64 }
@@ -84,7 +84,7 @@ fn object<K: Keep>(keep: &K, place: u32, elements: &mut Elements)
     }
 }
 
-/// The transient objects.
+/// Lists the transient objects.
 #[tactic(auto, using(crate::proofs::Listing::one_more))]
 pub(crate) fn objects<K: Keep>(keep: &K, elements: &mut Elements)
     requires { elements.old.items ≡ [] }
@@ -95,7 +95,7 @@ pub(crate) fn objects<K: Keep>(keep: &K, elements: &mut Elements)
     }
 }
 
-/// The handles of things that are kept under ascending handles.
+/// Lists the handles of things that are kept under ascending handles.
 #[tactic(auto, using(crate::proofs::Listing::one_more))]
 fn kept<T>(things: &[(u32, T)], elements: &mut Elements)
     requires empty { elements.old.items ≡ [] }
@@ -107,7 +107,7 @@ fn kept<T>(things: &[(u32, T)], elements: &mut Elements)
     }
 }
 
-/// The NV indices.
+/// Lists the NV indices.
 pub(crate) fn indices<K: Keep>(keep: &K, elements: &mut Elements)
     requires { elements.old.items ≡ [] }
     ensures { elements.new.items ≡ index_elements (K.record_of keep.now) }
@@ -116,7 +116,7 @@ pub(crate) fn indices<K: Keep>(keep: &K, elements: &mut Elements)
     kept(keep.nv().heads(), elements);
 }
 
-/// The persistent objects.
+/// Lists the persistent objects.
 pub(crate) fn persistent<K: Keep>(keep: &K, elements: &mut Elements)
     requires { elements.old.items ≡ [] }
     ensures { elements.new.items ≡ persistent_elements (K.record_of keep.now) }
@@ -134,7 +134,7 @@ fn command_attributes(code: CommandCode) -> u32
     code.number() + (1 << 25) * shape.handles.len() as u32 + answered
 }
 
-/// A command, with its attributes.
+/// The element of a command, with its attributes.
 fn command(code: CommandCode) -> Element
     ensures { result ≡ command_element code }
 {
@@ -144,7 +144,7 @@ fn command(code: CommandCode) -> Element
     }
 }
 
-/// Some commands.
+/// Lists these commands.
 #[tactic(auto, using(crate::proofs::Listing::one_more))]
 fn list_commands(codes: &[CommandCode], elements: &mut Elements)
     requires empty { elements.old.items ≡ [] }
@@ -156,7 +156,7 @@ fn list_commands(codes: &[CommandCode], elements: &mut Elements)
     }
 }
 
-/// The commands.
+/// Lists the commands that are served.
 pub(crate) fn commands(elements: &mut Elements)
     requires { elements.old.items ≡ [] }
     ensures { elements.new.items ≡ command_elements }
@@ -164,14 +164,14 @@ pub(crate) fn commands(elements: &mut Elements)
     list_commands(CommandCode::ALL, elements);
 }
 
-/// A property and its value.
+/// The element of a property, with its value.
 fn property(number: u32, told: u32) -> Element
     ensures { result ≡ record { number = number; told = told } }
 {
     Element { number, told }
 }
 
-/// The properties.
+/// Lists the properties.
 pub(crate) fn properties(lockout: &Lockout, elements: &mut Elements)
     requires { elements.old.items ≡ [] }
     ensures { elements.new.items ≡ property_elements lockout.now }

@@ -25,7 +25,7 @@ use tpm_mac::HashAlg;
 use tpm_record::Keep;
 use tpm_types::{ActionCheck, BankSelection, PcrSelect, PcrSelection, Refused, ResponseCode};
 
-/// What is asked for.
+/// The parameters of TPM2_GetCapability.
 #[derive(Clone, Copy)]
 pub struct CapabilityParameters {
     capability: u32,
@@ -33,7 +33,7 @@ pub struct CapabilityParameters {
     count: u32,
 }
 
-/// What can be asked for: TPM_CAP of TPM 2.0 Library, Part 2, section 6.12.
+/// The capabilities that are served: TPM_CAP of TPM 2.0 Library, Part 2, section 6.12.
 #[derive(Clone, Copy, Debug, PartialEq, Eq)]
 pub enum Capability {
     Handles,
@@ -59,7 +59,7 @@ fn read_parameters(parameters: &[u8]) -> Result<CapabilityParameters, Refused>
 }
 
 impl Capability {
-    /// That of a number; VALUE where it is not served.
+    /// The capability of this number; VALUE where it is not served.
     fn of(number: u32) -> Result<Capability, Refused>
         ensures { result ≡ capability_of number }
     {
@@ -73,7 +73,7 @@ impl Capability {
     }
 }
 
-/// The handles with this first byte; HANDLE where there are none of such a kind.
+/// Lists the handles with this first byte; HANDLE where no handle has it.
 fn handles<K: Keep>(keep: &K, kind: u32, elements: &mut Elements) -> Result<(), Refused>
     requires { elements.old.items ≡ [] }
     ensures { Tells (handle_elements (K.record_of keep.now) kind) result elements.new.items }
@@ -91,7 +91,7 @@ fn handles<K: Keep>(keep: &K, kind: u32, elements: &mut Elements) -> Result<(), 
     Ok(())
 }
 
-/// From which on handles are listed: sessions by their places.
+/// The number from which on handles are listed: of sessions it is a place.
 fn first_handle_of(property: u32) -> u32
     ensures { result ≡ first_handle_of property }
 {

@@ -1,4 +1,4 @@
--- TPM2_Clear. TPM 2.0 Library, Part 3, section 24.6; the owner of the computer is another now.
+-- TPM2_Clear. TPM 2.0 Library, Part 3, section 24.6. After it the computer has another owner.
 use Rattle.tpm_types.specs.declared.action_check.ActionCheck.TheVariants as action
 use Rattle.std.specs.Prelude.{ℕ, false, List, Result, Ok}
 use Rattle.tpm_bytes.specs.Reading.{◌>>=◌, refused_if}
@@ -20,12 +20,14 @@ use Rattle.tpm_actions_base.specs.Refusals.{action_refusal, or_refusal}
 use Rattle.tpm_actions_base.specs.Request.{Request}
 use Rattle.tpm_actions_base.specs.Rows.{Success, all_read}
 
--- lockoutAuth is open, and no failed try is left; the parameters and the times stay
+-- lockout after TPM2_Clear: lockoutAuth is open, and no failed try is left; the parameters and the
+-- times stay
 abbrev pub cleared_lockout : LockoutState → LockoutState
 cleared_lockout s = with_closed false (with_tries 0 s)
 
--- the hierarchies and lockout are cleared, Clock and the counts begin at 0, and an update of the
--- PCRs is counted; Time and whether TPM2_Clear is refused stay
+-- the fixed part of the record after TPM2_Clear: the hierarchies and lockout are cleared, Clock and
+-- the counts begin at 0, and an update of the PCRs is counted; Time and whether TPM2_Clear is
+-- refused stay
 abbrev pub cleared_fixed : BankValues → List ℕ → Fixed → Fixed
 cleared_fixed banks random f = record f {
   hierarchies = cleared_hierarchies f.hierarchies random;
@@ -36,9 +38,10 @@ cleared_fixed banks random f = record f {
   restart_count = 0;
 }
 
--- authHandle, lockout or the platform, authorized; no parameters. A1: it is disabled, for either of
--- them; A2: the update could not be counted. The owner's objects and indices are gone, and so are
--- the endorsement hierarchy's objects; sessions stay, and what is the platform's
+-- authHandle (lockout or the platform) is authorized; no parameters. A1: TPM2_Clear is disabled,
+-- for both of these; A2: the update of the PCRs could not be counted. The owner's objects and
+-- indices are gone, and so are the endorsement hierarchy's objects; sessions stay, and what is the
+-- platform's
 unfoldable pub clear_row : Record → Request → Result Success Refused
 clear_row r q = do
   ended ← all_read q.parameters

@@ -14,16 +14,16 @@ use Rattle.tpm_actions_base.specs.Refusals.{action_refusal}
 use Rattle.tpm_actions_base.specs.Request.{Request, first_handle}
 use Rattle.tpm_actions_base.specs.Rows.{Success, only}
 
--- a record in which TPM2_Clear is disabled, or is not
+-- the record in which TPM2_Clear is disabled, or is not
 abbrev pub with_disable_clear : Record → Bool → Record
 with_disable_clear r disables = record r { fixed = record r.fixed { disable_clear = disables } }
 
--- whether lockoutAuth would enable what the platform alone may
+-- whether lockout asks that TPM2_Clear be enabled, which only the platform may do
 abbrev pub is_enabled_by_lockout : Handle → (disables : Bool) → Bool
 is_enabled_by_lockout handle disables = handle.number == lockout_handle.number && not disables
 
--- authHandle, lockout or the platform, authorized; disable. A1: lockoutAuth enables nothing, which
--- is no failed try
+-- authHandle (lockout or the platform) is authorized; parameter disable. A1: lockout may not enable
+-- TPM2_Clear; this refusal is no failed try
 unfoldable pub clear_control_row : Record → Request → Result Success Refused
 clear_control_row r q = do
   handle ← first_handle q.handles

@@ -8,7 +8,8 @@ use Rattle.tpm_actions_base.specs.Answer.{nothing}
 use Rattle.tpm_actions_base.specs.Request.{Request}
 use Rattle.tpm_actions_base.specs.Rows.{Success, all_read}
 
--- lockHandle, authorized; no parameters. No failed try is left; the times are not touched
+-- lockHandle is authorized; no parameters. No failed try is left; the times of lockout are not
+-- touched
 unfoldable pub dictionary_attack_lock_reset_row : Record → Request → Result Success Refused
 dictionary_attack_lock_reset_row r q = do
   ended ← all_read q.parameters

@@ -12,7 +12,7 @@ use Rattle.tpm_actions_base.specs.Request.{Request}
 use Rattle.tpm_actions_base.specs.Rows.{Success, all_read, parameter}
 use Rattle.tpm_actions_device.specs.declared.dictionary_attack_parameters.AttackParameters.{AttackParameters}
 
--- newMaxTries, newRecoveryTime, lockoutRecovery
+-- the parameters newMaxTries, newRecoveryTime and lockoutRecovery
 unfoldable pub lockout_parameters : List ℕ → Result AttackParameters Refused
 lockout_parameters text = do
   max_tries ← parameter 1 (or_fault (number_at w32 text) (plain code.Insufficient))
@@ -26,7 +26,7 @@ lockout_parameters text = do
     lockout_recovery = lockout_recovery.0;
   })
 
--- lockHandle, authorized. The three are taken, and both times begin anew
+-- lockHandle is authorized. The three parameters are taken, and both times of lockout begin anew
 unfoldable pub dictionary_attack_parameters_row : Record → Request → Result Success Refused
 dictionary_attack_parameters_row r q = do
   p ← lockout_parameters q.parameters

@@ -16,27 +16,28 @@ use Rattle.tpm_actions_base.specs.Answer.{nothing}
 use Rattle.tpm_actions_base.specs.Refusals.{parameter_refusal}
 use Rattle.tpm_actions_base.specs.Rows.{Success, only}
 
--- whether a handle is of what can be flushed: a session (02, 03) or a transient object (80)
+-- whether a handle has the type of something that can be flushed: a session (02, 03) or a transient
+-- object (80)
 abbrev pub can_be_flushed : Handle → Bool
 can_be_flushed handle = is_session handle || is_transient handle
 
--- whether a session or a transient object has a handle
+-- whether there is a session or a transient object with this handle
 abbrev pub is_loaded : Record → Handle → Bool
 is_loaded r handle = is_some (session_at r.sessions handle) || is_some (object_at r.objects handle)
 
--- the record without the session of a handle, or without the transient object of it
+-- the record without the session of a handle, or without the transient object of a handle
 abbrev pub flushed_from : Record → Handle → (of_session : Bool) → Record
 flushed_from r handle true = record r { sessions = flushed r.sessions handle }
 flushed_from r handle false = record r { objects = without_object r.objects handle }
 
--- flushHandle
+-- the parameter flushHandle
 abbrev pub flushed_handle : List ℕ → Result Handle Refused
 flushed_handle text = do
   number ← only (or_fault (number_at w32 text) (plain code.Insufficient))
   Ok (numbered number)
 
--- flushHandle. A1: it is neither a session's nor a transient object's; A2: there is none of that
--- handle
+-- parameter flushHandle. A1: it is the handle of neither a session nor a transient object; A2:
+-- nothing that is loaded has this handle
 unfoldable pub flush_context_row : Record → Request → Result Success Refused
 flush_context_row r q = do
   handle ← flushed_handle q.parameters

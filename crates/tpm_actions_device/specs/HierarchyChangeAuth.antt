@@ -18,7 +18,7 @@ abbrev pub with_auth_of : Hierarchies → Handle → List ℕ → Hierarchies
 with_auth_of h handle value =
     option_map_or (λ auth. with_hierarchy_auth h auth value) (hierarchy_auth_of handle) h
 
--- authHandle, authorized; newAuth, at most 32 bytes, whose trailing zeros do not count
+-- authHandle is authorized; parameter newAuth, at most 32 bytes, whose trailing zeros do not count
 unfoldable pub hierarchy_change_auth_row : Record → Request → Result Success Refused
 hierarchy_change_auth_row r q = do
   handle ← first_handle q.handles

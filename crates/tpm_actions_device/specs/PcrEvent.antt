@@ -13,7 +13,8 @@ use Rattle.tpm_actions_device.specs.PcrExtend.{extended}
 use Rattle.tpm_actions_base.specs.Answer.{Plain, answer_of}
 use Rattle.tpm_actions_base.specs.Rows.{Success, only}
 
--- pcrHandle, authorized; eventData, within the limit of data; answered: its digests
+-- pcrHandle is authorized; parameter eventData, within the limit of data; answered: the digests of
+-- eventData
 unfoldable pub pcr_event_row : Record → Request → Result Success Refused
 pcr_event_row r q = do
   handle ← first_handle q.handles

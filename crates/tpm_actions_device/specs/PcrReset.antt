@@ -12,11 +12,11 @@ use Rattle.tpm_actions_device.specs.PcrChange.{on_pcr, with_banks}
 use Rattle.tpm_actions_base.specs.Answer.{nothing}
 use Rattle.tpm_actions_base.specs.Rows.{Success, all_read}
 
--- the banks after a PCR was made zeros from this locality
+-- the banks after a PCR was reset to zeros from this locality
 abbrev pub made_zeros : Handle → (locality : ℕ) → BankValues → Result BankValues Refused
 made_zeros handle locality = on_pcr (pcr_of handle) (λ pcr. reset_of pcr locality)
 
--- pcrHandle, authorized; no parameters
+-- pcrHandle is authorized; no parameters
 unfoldable pub pcr_reset_row : Record → Request → Result Success Refused
 pcr_reset_row r q = do
   handle ← first_handle q.handles

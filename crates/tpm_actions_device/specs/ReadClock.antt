@@ -10,7 +10,8 @@ use Rattle.tpm_actions_base.specs.Answer.{Plain, answer_of}
 use Rattle.tpm_actions_base.specs.Request.{Request}
 use Rattle.tpm_actions_base.specs.Rows.{Success, all_read, unchanged}
 
--- Time; Clock, the counts of resets and of restarts; and that Clock never went back (yes)
+-- what TPM2_ReadClock answers: Time; Clock, the counts of resets and of restarts; and that Clock
+-- never went back (yes)
 abbrev pub time_text : Fixed → List ℕ
 time_text f =
     to_be_bytes w64 f.time
@@ -19,7 +20,7 @@ time_text f =
     ++ to_be_bytes w32 f.restart_count
     ++ 1 ∷ []
 
--- no parameters; answered: these
+-- no parameters; answered: Time and the clock's values
 unfoldable pub read_clock_row : Record → Request → Result Success Refused
 read_clock_row r q = do
   ended ← all_read q.parameters

@@ -8,7 +8,7 @@ use Rattle.tpm_actions_base.specs.Answer.{nothing}
 use Rattle.tpm_actions_base.specs.Request.{Request}
 use Rattle.tpm_actions_base.specs.Rows.{Success, only, unchanged}
 
--- fullTest. All tests have passed already, so there is nothing to do
+-- parameter fullTest. All tests have passed already, so there is nothing to do
 unfoldable pub self_test_row : Record → Request → Result Success Refused
 self_test_row r q = do
   full_test ← only (yes_no_at q.parameters)

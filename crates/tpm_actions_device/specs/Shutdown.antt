@@ -9,7 +9,7 @@ use Rattle.tpm_actions_base.specs.Answer.{nothing}
 use Rattle.tpm_actions_base.specs.Request.{Request}
 use Rattle.tpm_actions_base.specs.Rows.{Success, only}
 
--- shutdownType; what it saves takes the place of what was saved before
+-- parameter shutdownType; what the command saves takes the place of what was saved before
 unfoldable pub shutdown_row : Record → Request → Result Success Refused
 shutdown_row r q = do
   type ← only (startup_type_at q.parameters)

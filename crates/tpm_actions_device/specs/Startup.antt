@@ -26,8 +26,8 @@ use Rattle.tpm_actions_base.specs.Rows.{Success, only}
 use Rattle.tpm_actions_device.specs.declared.startup.Start.{Start}
 use Rattle.tpm_actions_device.specs.declared.startup.Start.TheVariants.{Reset, Restart, Resume}
 
--- a startup with CLEAR is a TPM Restart where a state was saved, and else a TPM Reset; with STATE
--- it is a TPM Resume where a state was saved. A1: it was not
+-- what a startup is: with CLEAR it is a TPM Restart where a state was saved, and else a TPM Reset;
+-- with STATE it is a TPM Resume where a state was saved. A1: no state was saved
 abbrev pub start_of : StartupType → SavedKind → Result Start Refused
 start_of type.Clear saved.Nothing = Ok Reset
 start_of type.Clear saved.Clear = Ok Reset
@@ -42,28 +42,29 @@ start_of type.State saved.State = Ok Resume
 abbrev pub counted_up : ℕ → ℕ
 counted_up count = min (count + 1) (2 ^ 32 - 1)
 
--- the device is started, and its updates of PCRs are counted from 0
+-- the fixed part after every startup: the device is started, and its updates of PCRs are counted
+-- from 0
 abbrev pub begun_with : BankValues → Fixed → Fixed
 begun_with banks f = record f { started = true; banks = record banks { update_count = 0 } }
 
--- ---- what each of the three does
+-- ---- what a TPM Reset, a TPM Restart and a TPM Resume do
 
--- platformAuth is empty after a startup with CLEAR (Part 1, section 14.3)
+-- the hierarchies after a startup with CLEAR: platformAuth is empty (Part 1, section 14.3)
 abbrev pub without_platform_auth : Hierarchies → Hierarchies
 without_platform_auth h = with_hierarchy_auth h auth.Platform []
 
--- after a TPM Reset the null hierarchy has a new seed and a new proof, too, the first 64 random
--- bytes (Part 1, sections 14.3 and 14.4)
+-- the hierarchies after a TPM Reset: the null hierarchy, too, has a new seed and a new proof, the
+-- first 64 random bytes (Part 1, sections 14.3 and 14.4)
 abbrev pub reset_hierarchies : Hierarchies → List ℕ → Hierarchies
 reset_hierarchies h random = record (without_platform_auth h) {
   null = record { seed = take 32 random; proof = take 32 (drop 32 random) };
 }
 
--- lockoutAuth after a TPM Reset: it is open where a lockoutRecovery of 0 lets no time open it
+-- lockout after a TPM Reset: lockoutAuth is open where a lockoutRecovery of 0 lets no time open it
 abbrev pub reset_lockout : LockoutState → LockoutState
 reset_lockout s = if s.fields.lockout_recovery == 0 then with_closed false s else s
 
--- one reset more, and no restart or resume since
+-- the fixed part after a TPM Reset: one reset more is counted, and no restart or resume since
 abbrev pub reset_fixed : Fixed → List ℕ → Fixed
 reset_fixed f random = record (begun_with f.banks f) {
   hierarchies = reset_hierarchies f.hierarchies random;
@@ -72,36 +73,36 @@ reset_fixed f random = record (begun_with f.banks f) {
   restart_count = 0;
 }
 
--- one restart more
+-- the fixed part after a TPM Restart: one restart more is counted
 abbrev pub restart_fixed : Fixed → Fixed
 restart_fixed f = record (begun_with f.banks f) {
   hierarchies = without_platform_auth f.hierarchies;
   restart_count = counted_up f.restart_count;
 }
 
--- one more of the same count, and the PCRs that were saved
+-- the fixed part after a TPM Resume, which counts as a restart: the PCRs are those that were saved
 abbrev pub resume_fixed : Fixed → Fixed
 resume_fixed f = record (begun_with (restored_from f.saved f.banks) f) {
   restart_count = counted_up f.restart_count;
 }
 
--- ---- the row
+-- ---- the row of TPM2_Startup
 
--- a startup with CLEAR has its effects on NV indices, and a resume none
+-- the record after a startup: one with CLEAR has its effects on NV indices, and a resume has none
 abbrev pub started_record : Start → Record → List ℕ → Record
 started_record Reset r random =
     record r { fixed = reset_fixed r.fixed random; nv = started r.nv }
 started_record Restart r random = record r { fixed = restart_fixed r.fixed; nv = started r.nv }
 started_record Resume r random = record r { fixed = resume_fixed r.fixed }
 
--- a reset draws a seed and a proof
+-- how many random bytes a startup draws: a reset draws a seed and a proof
 abbrev pub start_draws : Start → ℕ
 start_draws Reset = 64
 start_draws Restart = 0
 start_draws Resume = 0
 
--- startupType, from whatever locality. A1: there is no state to be restored. What was saved is
--- cancelled, as by any success that does not keep it
+-- parameter startupType, from whatever locality. A1: there is no state to be restored. What was
+-- saved is cancelled, as by any success that does not keep it
 unfoldable pub startup_row : Record → Request → Result Success Refused
 startup_row r q = do
   type ← only (startup_type_at q.parameters)

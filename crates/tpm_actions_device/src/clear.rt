@@ -16,11 +16,12 @@ use tpm_nv::Indices;
 use tpm_record::{Fixed, Keep, PersistentObjects};
 use tpm_types::{ActionCheck, Refused, ResponseCode};
 
-/// How many random bytes it draws: the owner's seed and proof, and the endorsement hierarchy's
-/// proof.
+/// How many random bytes TPM2_Clear draws: the owner's seed and proof, and the endorsement
+/// hierarchy's proof.
 const CLEAR_DRAWS: usize = 3 * 32;
 
-/// What it does to the part that does not grow, once it is counted as an update of the PCRs.
+/// Does to the part of the state that does not grow what TPM2_Clear does, once it is counted as an
+/// update of the PCRs.
 fn clear_fixed(fixed: &mut Fixed, random: &[u8; 256])
     ensures { fixed.new ≡ cleared_fixed fixed.old.banks random.now fixed.old }
 {

@@ -14,7 +14,7 @@ use tpm_bytes::Cursor;
 use tpm_record::Keep;
 use tpm_types::{ActionCheck, Handle, Refused, ResponseCode, read_yes_no};
 
-/// TPM2_ClearControl: disables TPM2_Clear, or enables it again; AUTH_FAIL where lockoutAuth would
+/// TPM2_ClearControl: disables TPM2_Clear, or enables it again; AUTH_FAIL where lockout asks to
 /// enable it.
 #[tactic(auto, unfolding(crate::specs::ClearControl::clear_control_row))]
 pub fn clear_control<K: Keep>(

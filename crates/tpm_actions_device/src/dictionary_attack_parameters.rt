@@ -14,7 +14,7 @@ use tpm_bytes::Cursor;
 use tpm_record::Keep;
 use tpm_types::Refused;
 
-/// What is asked for; the times are in seconds.
+/// The parameters of TPM2_DictionaryAttackParameters; the times are in seconds.
 #[derive(Clone, Copy)]
 pub struct AttackParameters {
     max_tries: u32,

@@ -12,7 +12,7 @@ use tpm_bytes::Cursor;
 use tpm_record::Keep;
 use tpm_types::Refused;
 
-/// The most bytes that one call answers.
+/// The most bytes that one TPM2_GetRandom answers.
 const RANDOM_LIMIT: usize = 32;
 
 /// TPM2_GetRandom: as many random bytes as are asked for, at most 32.

@@ -1,5 +1,4 @@
-//! The refusals that the commands share which change PCRs: TPM2_PCR_Extend, TPM2_PCR_Event and
-//! TPM2_PCR_Reset.
+//! The refusals that TPM2_PCR_Extend, TPM2_PCR_Event and TPM2_PCR_Reset share.
 
 ghost use Rattle.std.specs.Prelude.{◌≡◌};
 ghost use Rattle.tpm_actions_device.specs.PcrChange.{change_refusal};

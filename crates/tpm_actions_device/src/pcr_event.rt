@@ -15,8 +15,8 @@ use tpm_pcr::event_digests;
 use tpm_record::Keep;
 use tpm_types::{DATA_LIMIT, Refused, read_buffer};
 
-/// TPM2_PCR_Event: extends a PCR by the digests of the data, and answers them; on TPM_RH_NULL it
-/// answers them and nothing is checked or changed.
+/// TPM2_PCR_Event: extends a PCR by the digests of the data, and answers the digests; on
+/// TPM_RH_NULL nothing is checked or changed, and the digests are answered.
 #[tactic(auto, unfolding(crate::specs::PcrEvent::pcr_event_row))]
 pub fn pcr_event<K: Keep>(keep: &mut K, call: &Call, answer: &mut Answer) -> Result<(), Refused>
     requires { IsEmpty answer.old }

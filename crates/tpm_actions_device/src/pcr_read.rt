@@ -18,7 +18,7 @@ use tpm_pcr::PcrReading;
 use tpm_record::Keep;
 use tpm_types::{PcrSelection, Refused};
 
-/// Writes the counter's low 32 bits, the selection, the values.
+/// Writes the low 32 bits of the update counter, the selection, and the values.
 fn write_reading(update_count: u64, reading: &PcrReading, answer: &mut Parameters)
     requires { answer.old ≡ [] }
     ensures { answer.new ≡ to_be_bytes w32 (update_count % 2 ^ 32)

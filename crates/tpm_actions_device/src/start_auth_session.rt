@@ -1,4 +1,4 @@
-//! TPM2_StartAuthSession: starts a session, bound to an entity or to none, by its row in
+//! TPM2_StartAuthSession: starts a session, bound to an entity or unbound, by its row in
 //! `specs/StartAuthSession`.
 
 ghost use Rattle.tpm_bytes.specs.Reading.{Gives};
@@ -22,7 +22,7 @@ use tpm_types::{
     hash_number, read_buffer, read_hash,
 };
 
-/// What is asked for.
+/// The parameters of TPM2_StartAuthSession.
 #[derive(Clone, Copy)]
 pub struct SessionParameters<'a> {
     nonce_caller: &'a [u8],
@@ -95,7 +95,7 @@ fn binding_of<K: Keep>(keep: &K, bind: Handle) -> Option<Binding>
     })
 }
 
-/// TPM2_StartAuthSession: starts a session, bound to an entity or to none.
+/// TPM2_StartAuthSession: starts a session, bound to an entity or unbound.
 #[tactic(auto, unfolding(crate::specs::StartAuthSession::start_auth_session_row))]
 pub fn start_auth_session<K: Keep>(
     keep: &mut K,

@@ -28,7 +28,7 @@ fn empty_platform_auth(hierarchies: &mut Hierarchies)
     hierarchies.set_auth_value(HierarchyAuth::Platform, AuthValue::empty());
 }
 
-/// Does so, and gives the null hierarchy a new seed and a new proof.
+/// Empties platformAuth, and gives the null hierarchy a new seed and a new proof.
 fn reset_hierarchies(hierarchies: &mut Hierarchies, random: &[u8; 256])
     ensures { hierarchies.new ≡ reset_hierarchies hierarchies.old random.now }
 {
@@ -39,7 +39,7 @@ fn reset_hierarchies(hierarchies: &mut Hierarchies, random: &[u8; 256])
     hierarchies.null = Secrets { seed, proof };
 }
 
-/// Opens lockoutAuth where no time opens it.
+/// Opens lockoutAuth where a lockoutRecovery of 0 lets no time open it.
 fn reset_lockout(lockout: &mut Lockout)
     ensures { lockout.new ≡ reset_lockout lockout.old }
 {
@@ -51,16 +51,16 @@ fn reset_lockout(lockout: &mut Lockout)
 /// What a startup is (TPM 2.0 Library, Part 1, section 12.2.3).
 #[derive(Clone, Copy, Debug, PartialEq, Eq)]
 pub enum Start {
-    /// TPM Reset: with CLEAR, where no state was saved.
+    /// TPM Reset: a startup with CLEAR, where no state was saved.
     Reset,
-    /// TPM Restart: with CLEAR, where a state was saved.
+    /// TPM Restart: a startup with CLEAR, where a state was saved.
     Restart,
-    /// TPM Resume: with STATE, where a state was saved.
+    /// TPM Resume: a startup with STATE, where a state was saved.
     Resume,
 }
 
 impl Start {
-    /// What a startup of this type is; VALUE where it wants a saved state and there is none.
+    /// The kind of a startup of this type; VALUE where it asks for a saved state and none is saved.
     fn of(kind: StartupType, saved: SavedKind) -> Result<Start, Refused>
         ensures { result ≡ start_of kind saved }
     {
@@ -130,8 +130,8 @@ fn begin<K: Keep>(keep: &mut K, start: Start, random: &[u8; 256]) -> usize
     }
 }
 
-/// TPM2_Startup: a TPM Reset, a TPM Restart or a TPM Resume; VALUE where it wants a saved state and
-/// there is none.
+/// TPM2_Startup: a TPM Reset, a TPM Restart or a TPM Resume; VALUE where it asks for a saved state
+/// and none is saved.
 #[tactic(auto, unfolding(crate::specs::Startup::startup_row))]
 pub fn startup<K: Keep>(keep: &mut K, call: &Call, answer: &mut Answer) -> Result<(), Refused>
     requires { IsEmpty answer.old }

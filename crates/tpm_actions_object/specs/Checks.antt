@@ -15,14 +15,14 @@ use Rattle.tpm_types.specs.declared.refused.Refused.{Refused}
 use Rattle.tpm_actions_base.specs.Refusals.{or_refusal, parameter_refusal}
 
 -- the refusal of a template, or of a public area to be loaded, by its checks; this many of the
--- command's checks come before them. It is the second parameter
+-- command's own checks come before them. The template is the second parameter
 abbrev pub template_refusal : (before : ℕ) → TemplateFault → Refused
 template_refusal before template.AuthPolicySize = parameter_refusal (action_named (before + 1)) 2 code.Size
 template_refusal before template.Attributes = parameter_refusal (action_named (before + 2)) 2 code.Attributes
 template_refusal before template.Scheme = parameter_refusal (action_named (before + 3)) 2 code.Scheme
 
--- and of what is given beside a template, the first parameter; what conflicts with the template's
--- attributes is a fault of these
+-- the refusal of what is given beside a template, which is the first parameter; what conflicts with
+-- the template's attributes is a fault of the attributes
 abbrev pub creation_refusal : (before : ℕ) → CreationFault → Refused
 creation_refusal before creation.AuthValueSize = parameter_refusal (action_named (before + 1)) 1 code.Size
 creation_refusal before creation.Attributes = parameter_refusal (action_named (before + 2)) 2 code.Attributes

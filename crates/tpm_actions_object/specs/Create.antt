@@ -20,7 +20,7 @@ use Rattle.tpm_actions_object.specs.Loaded.{is_fixed, parent_passes, loaded_at}
 abbrev pub initial_vector : Parameters → List ℕ → List ℕ
 initial_vector p random = take 16 (drop (drawn_by p.template p.given) random)
 
--- what is created is answered, wrapped by the parent, and not kept
+-- what TPM2_Create answers: the new object, wrapped by its parent, and not kept by the device
 abbrev pub create_answer : Record → Request → Object → Parameters → Created → AnswerParts
 create_answer r q parent p new = record {
   handle = None;
@@ -30,7 +30,7 @@ create_answer r q parent p new = record {
   drawn = drawn_by p.template p.given + 16;
 }
 
--- parentHandle. A1: no storage parent; A2 to A4: the template; A5 to A7: what is given
+-- parentHandle. A1: it is no storage parent; A2 to A4: the template; A5 to A7: what is given
 unfoldable pub create_row : Record → Request → Result Success Refused
 create_row r q = do
   handle ← first_handle q.handles

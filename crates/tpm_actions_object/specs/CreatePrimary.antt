@@ -22,16 +22,17 @@ use Rattle.tpm_actions_object.specs.Checks.{given_passes, public_passes}
 use Rattle.tpm_actions_object.specs.Creation.{Parameters, creation_rest, hierarchy_parent, parameters_in}
 use Rattle.tpm_actions_object.specs.Loaded.{place_for}
 
--- the hierarchy of a handle, which the general checks have seen to name one
+-- the hierarchy that a handle names; the general checks have found that it names one
 abbrev pub named_hierarchy : Handle → Result HierarchyHandle Refused
 named_hierarchy handle = ok_or (hierarchy_of handle) handle_refusal
 
--- the object that is derived from the hierarchy's seed
+-- the primary object that is derived from the hierarchy's seed
 abbrev pub derived : Record → HierarchyHandle → Parameters → Object
 derived r hierarchy p =
     primary_object hierarchy (secrets_of r.fixed.hierarchies hierarchy).seed p.template p.given
 
--- its handle, what there is to say of its creation, and its Name
+-- what TPM2_CreatePrimary answers: the object's handle, what there is to say of its creation, and
+-- its Name
 abbrev pub primary_answer : Record → Request → HierarchyHandle → Parameters → ℕ → Object
     → AnswerParts
 primary_answer r q hierarchy p place object = record {

@@ -30,7 +30,7 @@ use Rattle.tpm_actions_base.specs.Rows.{all_read, parameter}
 use Rattle.tpm_actions_object.specs.declared.creation.CreationParameters.{CreationParameters}
 use Rattle.tpm_actions_object.specs.declared.creation.Parent.{Parent}
 
--- inSensitive, inPublic, outsideInfo and creationPCR
+-- the parameters inSensitive, inPublic, outsideInfo and creationPCR
 pub record Parameters : Type 0 where
   pub given : SensitiveValues
   pub template : Public
@@ -59,7 +59,7 @@ parameters_of asked = record {
   selection = asked.selection.banks.items;
 }
 
--- a hierarchy below which an object is created: it has no nameAlg, and both Names are its handle
+-- a hierarchy as the parent of a new object: it has no nameAlg, and both its Names are its handle
 abbrev pub hierarchy_parent : HierarchyHandle → Parent
 hierarchy_parent hierarchy = record {
   name_alg = None;
@@ -68,7 +68,7 @@ hierarchy_parent hierarchy = record {
   hierarchy = hierarchy;
 }
 
--- and an object
+-- an object as the parent of a new object
 abbrev pub object_parent : Object → Parent
 object_parent o = record {
   name_alg = Some o.public.name_alg;
@@ -94,12 +94,12 @@ creation_data r locality parent p public = record {
 abbrev pub creation_hash : Public → CreationData → List ℕ
 creation_hash public creation = hash_of public.name_alg (creation_data_text creation)
 
--- TPM_ST_CREATION
+-- the tag of a creation ticket: TPM_ST_CREATION
 abbrev pub creation_tag : List ℕ
 creation_tag = to_be_bytes w16 0x8021
 
--- the ticket: its tag, the hierarchy, and the HMAC by the hierarchy's proof, with SHA-256 (which is
--- this device's own choice), of the tag, the object's Name and the creation hash
+-- the creation ticket: its tag, the hierarchy, and the HMAC by the hierarchy's proof, with SHA-256
+-- (which is this device's own choice), of the tag, the object's Name and the creation hash
 unfoldable pub ticket_text : HierarchyHandle → (proof name hash : List ℕ) → List ℕ
 ticket_text hierarchy proof name hash =
     creation_tag ++ to_be_bytes w32 (hierarchy_handle hierarchy).number
@@ -115,7 +115,7 @@ creation_rest r locality parent p public =
     sized_text (creation_data_text creation) ++ sized_text hash
     ++ ticket_text parent.hierarchy proof (object_name public) hash
 
--- and with it
+-- what is answered about a creation from the public area on: that, and the rest
 abbrev pub creation_text : Record → (locality : ℕ) → Parent → Parameters → Public → List ℕ
 creation_text r locality parent p public =
     sized_text (public_text public) ++ creation_rest r locality parent p public

@@ -25,7 +25,7 @@ use Rattle.tpm_actions_base.specs.Request.{Request, first_handle, second_handle}
 use Rattle.tpm_actions_base.specs.Rows.{Success, only}
 use Rattle.tpm_actions_object.specs.Loaded.{loaded_at}
 
--- whether an object of this hierarchy is the owner's, or the platform's, to make persistent: those
+-- whether the owner, or the platform, may make an object of this hierarchy persistent: the objects
 -- of the endorsement hierarchy are the owner's, and those of the null hierarchy nobody's
 abbrev pub is_of : (by_platform : Bool) → HierarchyHandle → Bool
 is_of false hierarchy.Owner = true
@@ -33,8 +33,8 @@ is_of false hierarchy.Endorsement = true
 is_of true hierarchy.Platform = true
 is_of _ _ = false
 
--- whether the platform, or the owner, may evict an object: its own, and the platform may remove any
--- that is persistent
+-- whether the platform, or the owner, may evict an object: each may evict its own, and the platform
+-- may remove any persistent object
 abbrev pub may_evict : (by_platform removes : Bool) → HierarchyHandle → Bool
 may_evict true true h = true
 may_evict true false h = is_of true h
@@ -44,14 +44,15 @@ may_evict false removes h = is_of false h
 abbrev pub is_of_platform : Handle → Bool
 is_of_platform handle = nat_le 0x81800000 handle.number
 
--- whether the platform, or the owner, may name this handle: the owner none of the platform's, and
--- the platform those alone for a new persistent object
+-- whether the platform, or the owner, may name this persistent handle: the owner may name none of
+-- the platform's, and the platform only its own for a new persistent object
 abbrev pub may_name : (by_platform removes : Bool) → Handle → Bool
 may_name true true wanted = true
 may_name true false wanted = is_of_platform wanted
 may_name false removes wanted = not (is_of_platform wanted)
 
--- A1: it is not theirs to evict; A2: it has stClear; A3: the handle is not theirs
+-- the checks of an eviction by the platform, or by the owner. A1: the object is not theirs to
+-- evict; A2: it has stClear; A3: the handle is not theirs
 abbrev pub eviction_passes : (by_platform removes : Bool)
     → Object → Handle → Result (Unit {0}) Refused
 eviction_passes by_platform removes object wanted = do
@@ -61,15 +62,15 @@ eviction_passes by_platform removes object wanted = do
       (action_refusal action.Second (at (place.Handle 2) (plain code.Attributes)))
   refused_if (not (may_name by_platform removes wanted)) (parameter_refusal action.Third 1 code.Range)
 
--- without the persistent object of a handle. A4: another handle is given
+-- the persistent objects without the one of a handle. A4: persistentHandle is another handle
 abbrev pub removed : Entries Object → Handle → Handle → Result (Entries Object) Refused
 removed objects handle wanted = do
   a4 ← refused_if (not (wanted.number == handle.number))
       (action_refusal action.Fourth (at (place.Handle 2) (plain code.Handle)))
   Ok (without_persistent objects handle)
 
--- with a copy of a transient object under a handle. A5: it is taken; A6: there is no
--- room for one more
+-- the persistent objects with a copy of a transient object under a handle. A5: the handle is taken;
+-- A6: there is no room for one more
 abbrev pub copied : Entries Object → Object → Handle → Result (Entries Object) Refused
 copied objects object wanted = do
   a5 ← refused_if (is_some (persistent_at objects wanted)) (action_refusal action.Fifth (plain code.NvDefined))
@@ -81,7 +82,7 @@ abbrev pub evicted : Entries Object → Handle → Object → Handle → Result 
 evicted objects handle object wanted =
     if is_persistent handle then removed objects handle wanted else copied objects object wanted
 
--- auth, the owner or the platform; objectHandle; persistentHandle. A1 to A6 as above
+-- handles auth (the owner or the platform) and objectHandle; persistentHandle. A1 to A6 as above
 unfoldable pub evict_control_row : Record → Request → Result Success Refused
 evict_control_row r q = do
   auth ← first_handle q.handles
@@ -93,8 +94,8 @@ evict_control_row r q = do
   persistent ← evicted r.persistent handle object wanted
   Ok (record { answer = nothing; after = record r { persistent = persistent } })
 
--- The code changed the persistent objects so, or was refused memory, where it can be; or it
--- refused. A refusal changes nothing.
+-- The code changed the persistent objects as the definition does, or was refused memory, where it
+-- can be; or it refused as the definition does. A refusal changes nothing.
 abbrev pub Evicts : Bool → Result (Entries Object) Refused
     → Record → Result (Unit {0}) Refused → Record → Type 0
 Evicts can (Ok persistent) old (Ok done) new = new ≡ record old { persistent = persistent }

@@ -24,24 +24,24 @@ use Rattle.tpm_actions_base.specs.Rows.{Success, all_read, parameter, unchanged}
 use Rattle.tpm_actions_base.specs.Refusals.{action_refusal}
 use Rattle.tpm_actions_object.specs.Loaded.{loaded_at}
 
--- the scheme of a KEYEDHASH, or A1: the object is none
+-- the scheme of a KEYEDHASH. A1: the object is no KEYEDHASH
 abbrev pub scheme_of : PublicParameters → Result KeyedHashScheme Refused
 scheme_of (KeyedHash scheme) = Ok scheme
 scheme_of SymCipher = Err (action_refusal action.First (at (place.Handle 1) (plain code.Type)))
 
--- the hash of a key that has one in its scheme: that, which may be asked for by name or by NULL;
--- there is none where another is asked for
+-- the hash for a key whose scheme names one: that hash, which may be asked for by name or by NULL;
+-- none where another is asked for
 abbrev pub own_hash : HashAlg → Option HashAlg → Option HashAlg
 own_hash own None = Some own
 own_hash own (Some asked) = if hash_number own == hash_number asked then Some own else None
 
--- the hash by which an HMAC is computed, if there is one: a key whose scheme is NULL takes the one
+-- the hash by which an HMAC is computed, if there is one: a key whose scheme is NULL takes the hash
 -- that is asked for
 abbrev pub chosen_hash : KeyedHashScheme → Option HashAlg → Option HashAlg
 chosen_hash scheme.Null asked = asked
 chosen_hash (scheme.Hmac own) asked = own_hash own asked
 
--- buffer, hashAlg
+-- the parameters buffer and hashAlg
 pub record Parameters : Type 0 where
   pub buffer : List ℕ
   pub hash : Option HashAlg
@@ -53,8 +53,8 @@ parameters_in text = do
   ended ← all_read hash.1
   Ok (record { buffer = buffer.0; hash = hash.0 })
 
--- answered: the HMAC. A1: no KEYEDHASH; A2: restricted; A3: no key that signs; A4:
--- another hash than the scheme's, or none at all
+-- answered: the HMAC. A1: the object is no KEYEDHASH; A2: it is restricted; A3: it is no key that
+-- signs; A4: another hash is asked for than the scheme's, or there is none at all
 unfoldable pub hmac_row : Record → Request → Result Success Refused
 hmac_row r q = do
   handle ← first_handle q.handles

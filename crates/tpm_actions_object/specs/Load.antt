@@ -22,18 +22,18 @@ use Rattle.tpm_actions_base.specs.Refusals.{parameter_refusal}
 use Rattle.tpm_actions_object.specs.Checks.{public_passes}
 use Rattle.tpm_actions_object.specs.Loaded.{is_fixed, parent_passes, loaded_at, place_for}
 
--- the sensitive area that a private area wraps, or A5: it is none of the parent's for this public
--- area
+-- the sensitive area that a private area wraps. A5: the parent wrapped no such private area for
+-- this public area
 abbrev pub sensitive_of : Object → Public → List ℕ → Result Sensitive Refused
 sensitive_of parent public private =
     or_fault (unwrapped parent public private) (parameter_refusal action.Fifth 1 code.Integrity)
 
--- the object below its parent, with the parent's hierarchy
+-- the loaded object: it is below its parent, and in the parent's hierarchy
 abbrev pub loaded_below : Object → Public → Sensitive → Object
 loaded_below parent public sensitive =
     loaded_object parent.hierarchy public sensitive parent.qualified_name
 
--- its handle and its Name
+-- what TPM2_Load answers: the object's handle and its Name
 abbrev pub load_answer : ℕ → Object → AnswerParts
 load_answer place object = record {
   handle = Some (object_handle place);
@@ -41,7 +41,8 @@ load_answer place object = record {
   drawn = 0;
 }
 
--- inPrivate, of at most 256 bytes, where the longest private area has 254; inPublic
+-- the parameters inPrivate, of at most 256 bytes, where the longest private area has 254, and
+-- inPublic
 pub record Parameters : Type 0 where
   pub private : List ℕ
   pub public : Public
@@ -53,8 +54,8 @@ parameters_in text = do
   ended ← all_read public.1
   Ok (record { private = private.0; public = public.0 })
 
--- parentHandle. A1: no storage parent; A2 to A4: the public area; A5: the private area; A6: there
--- is no place
+-- parentHandle. A1: it is no storage parent; A2 to A4: the public area; A5: the private area; A6:
+-- there is no place
 unfoldable pub load_row : Record → Request → Result Success Refused
 load_row r q = do
   handle ← first_handle q.handles

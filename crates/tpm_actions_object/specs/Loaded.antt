@@ -19,7 +19,7 @@ use Rattle.tpm_record.specs.Record.{Record}
 use Rattle.tpm_types.specs.declared.refused.Refused.{Refused}
 use Rattle.tpm_actions_base.specs.Refusals.{action_refusal, handle_refusal, memory_refusal}
 
--- the object of a handle, which the general checks have found
+-- the object of a handle; the general checks have found that it is there
 abbrev pub loaded_at : Record → Handle → Result Object Refused
 loaded_at r handle = ok_or (object_of r handle) handle_refusal
 
@@ -29,15 +29,16 @@ parent_passes parent =
     refused_if (not (is_storage_parent parent.public))
     (action_refusal action.First (at (place.Handle 1) (plain code.Type)))
 
--- whether an object has fixedTPM: what is below it then has it as it has fixedParent
+-- whether an object has fixedTPM: an object below it then has fixedTPM exactly where it has
+-- fixedParent
 abbrev pub is_fixed : Object → Bool
 is_fixed parent = has parent.public.attributes attribute.FixedTpm
 
--- the refusal by a check where all places are taken
+-- the refusal, by this check, where all places for objects are taken
 abbrev pub no_place : ActionCheck → Refused
 no_place action = action_refusal action (plain code.ObjectMemory)
 
--- the place that a new object takes, or the refusal by this check: there is none
+-- the place that a new object takes. This check refuses where no place is free
 abbrev pub place_for : ActionCheck → Record → Result ℕ Refused
 place_for action r = ok_or (lowest_free r.objects) (no_place action)
 

@@ -34,7 +34,8 @@ fn template_refusal(before: u8, fault: TemplateFault) -> Refused
     }
 }
 
-/// The refusal of what is given beside a template; this many of the command's checks come before.
+/// The refusal of what is given beside a template; this many of the command's checks come before
+/// it.
 fn creation_refusal(before: u8, fault: CreationFault) -> Refused
     requires { before ≤ 4 }
     ensures { result ≡ creation_refusal before fault }

@@ -18,10 +18,10 @@ use tpm_record::Keep;
 use tpm_types::{HierarchyHandle, Locality, Octets, PcrSelection, Refused, read_filled};
 use tpm_types_object::{CreationData, Public, SensitiveCreate};
 
-/// TPM_ST_CREATION.
+/// The tag of a creation ticket: TPM_ST_CREATION.
 const CREATION_TAG: u16 = 0x8021;
 
-/// What TPM2_CreatePrimary and TPM2_Create ask for.
+/// The parameters of TPM2_CreatePrimary and TPM2_Create.
 #[derive(Drop)]
 pub struct CreationParameters<'a> {
     pub given: SensitiveCreate<'a>,
@@ -30,10 +30,10 @@ pub struct CreationParameters<'a> {
     pub selection: PcrSelection,
 }
 
-/// Below what an object is created.
+/// The parent below which an object is created: a hierarchy or an object.
 #[derive(Drop)]
 pub struct Parent {
-    /// None for a hierarchy.
+    /// The nameAlg of an object; None for a hierarchy.
     pub name_alg: Option<HashAlg>,
     pub name: Name,
     pub qualified_name: Name,
@@ -41,7 +41,7 @@ pub struct Parent {
 }
 
 impl Parent {
-    /// A hierarchy, whose Names are its handle.
+    /// A hierarchy as a parent: both its Names are its handle.
     pub fn of_hierarchy(hierarchy: HierarchyHandle) -> Parent
         ensures { result ≡ hierarchy_parent hierarchy }
     {
@@ -53,7 +53,7 @@ impl Parent {
         }
     }
 
-    /// A loaded object.
+    /// A loaded object as a parent.
     pub fn of_object(object: &Object) -> Parent
         ensures { result ≡ object_parent object.now }
     {
@@ -66,7 +66,7 @@ impl Parent {
     }
 }
 
-/// Reads what is asked for.
+/// Reads the parameters of TPM2_CreatePrimary or TPM2_Create.
 #[tactic(auto, unfolding(crate::specs::Creation::parameters_in))]
 pub fn read_parameters(parameters: &[u8]) -> Result<CreationParameters, Refused>
     ensures read { Gives parameters_of (parameters_in parameters.now) result }
@@ -85,7 +85,7 @@ pub fn read_parameters(parameters: &[u8]) -> Result<CreationParameters, Refused>
     })
 }
 
-/// Under which circumstances an object with this nameAlg is created.
+/// The creation data of an object with this nameAlg: under which circumstances it is created.
 fn creation_data<K: Keep>(
     keep: &K,
     locality: Locality,

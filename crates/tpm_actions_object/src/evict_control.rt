@@ -72,7 +72,7 @@ fn may_name(by_platform: bool, removes: bool, wanted: Handle) -> bool
     }
 }
 
-/// Refuses what the owner, or the platform, may not evict.
+/// Refuses an object, or a handle, that the owner, or the platform, may not evict.
 fn check_eviction(
     by_platform: bool,
     removes: bool,

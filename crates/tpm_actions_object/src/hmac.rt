@@ -34,7 +34,7 @@ fn scheme_of(parameters: PublicParameters) -> Result<KeyedHashScheme, Refused>
     }
 }
 
-/// The hash of a key that has one in its scheme, which may be asked for by name or by none.
+/// The hash for a key whose scheme names one, which may be asked for by name or by NULL.
 fn own_hash(own: HashAlg, asked: Option<HashAlg>) -> Option<HashAlg>
     ensures { result ≡ own_hash own asked }
 {

@@ -22,7 +22,7 @@ pub fn loaded<K: Keep>(keep: &K, handle: Handle) -> Result<&Object, Refused>
     }
 }
 
-/// Refuses an object, which the first handle names, that is no storage parent.
+/// Refuses an object, which the first handle names, that is not a storage parent.
 pub fn check_parent(parent: &Object) -> Result<(), Refused>
     ensures { result ≡ parent_passes parent.now }
 {
@@ -43,7 +43,7 @@ pub fn is_fixed(parent: &Object) -> bool
     parent.public.attributes.has(ObjectAttribute::FixedTpm)
 }
 
-/// The refusal by one of a command's own checks where all places are taken.
+/// The refusal, by one of a command's own checks, where all places for objects are taken.
 fn no_place(check: ActionCheck) -> Refused
     ensures { result ≡ no_place check }
 {

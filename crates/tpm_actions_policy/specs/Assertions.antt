@@ -42,14 +42,14 @@ asserts command.PolicySecret = true
 asserts command.PolicyNv = true
 asserts _ = false
 
--- the handle of the session on which it does: after those of the entity that it authorizes, and of
--- the index that it compares
+-- the handle of the session on which a command asserts: it stands after the handles of the entity
+-- that the command authorizes, and of the index that it compares
 abbrev pub session_handle : CommandCode → List Handle → Result Handle Refused
 session_handle command.PolicySecret handles = second_handle handles
 session_handle command.PolicyNv handles = third_handle handles
 session_handle _ handles = first_handle handles
 
--- what is asserted; every other command has another row
+-- what a command asserts on a session; a command that asserts nothing has another row
 abbrev pub assertion_in : CommandCode
     → Record → Request → Result (Session → Assertion) Refused
 assertion_in command.PolicyPcr r q = pcr_assertion r q
@@ -64,22 +64,22 @@ assertion_in command.PolicySecret r q = secret_assertion r q
 assertion_in command.PolicyNv r q = nv_assertion r q
 assertion_in _ r q = Err handle_refusal
 
--- what is answered
+-- what a command that asserts something answers
 abbrev pub body_of : CommandCode → Body
 body_of command.PolicySecret = no_ticket
 body_of _ = Plain []
 
--- the session of a handle, which the general checks let be a policy or trial session alone
+-- the session of a handle; the general checks accept there a policy or trial session alone
 abbrev pub policy_session : List (Option Session) → Handle → Result Session Refused
 policy_session sessions handle = ok_or (session_at sessions handle) handle_refusal
 
--- what an assertion makes of the policy of a session; one that is refused refuses its command, by
+-- the policy of a session after an assertion; an assertion that is refused refuses its command, by
 -- the same check
 abbrev pub policy_after : (Session → Assertion) → Session → Result Policy Refused
 policy_after assertion s =
     or_refusal fault_refusal (asserted s.hash (is_trial s.kind) (assertion s) s.policy)
 
--- the session of a handle has what an assertion makes of its policy
+-- the sessions after an assertion on the session of a handle: that session has the policy after it
 abbrev pub with_assertion : List (Option Session) → Handle → (Session → Assertion)
     → Result (List (Option Session)) Refused
 with_assertion sessions handle assertion = do

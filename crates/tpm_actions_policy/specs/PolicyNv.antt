@@ -22,7 +22,7 @@ use Rattle.tpm_actions_base.specs.Rows.{all_read, parameter}
 use Rattle.tpm_actions_base.specs.Target.{reading_passes, target_of}
 use Rattle.tpm_actions_base.specs.declared.target.Target.{Target}
 
--- operandB, at most 32 bytes; offset; operation
+-- the parameters operandB, at most 32 bytes, offset and operation
 pub record Parameters : Type 0 where
   pub operand : List ℕ
   pub offset : ℕ
@@ -36,16 +36,16 @@ nv_parameters text = do
   ended ← all_read operation.1
   Ok (record { operand = operand.0; offset = offset.0; operation = operation.0 })
 
--- what is compared with the operand: as many bytes of the index from the offset on. A1 to A3: those
--- of every command that reads; A4: past the data, which is all that then refuses it (reading_laws
--- of tpm_actions_base)
+-- what is compared with the operand: as many bytes of the index as the operand has, from the offset
+-- on. A1 to A3: the checks of every command that reads an index; A4: the bytes reach past the data,
+-- which is all that then refuses the reading (reading_laws of tpm_actions_base)
 abbrev pub compared : Record → Target → Parameters → Result (List ℕ) ActionFault
 compared r target p = do
   readable ← reading_passes target
   or_fault (read_at r.nv target.handle p.offset (length p.operand))
       (plain_fault action.Fourth code.NvRange)
 
--- the index is asserted by its Name
+-- what is asserted of an index, which it names by its Name
 abbrev pub nv_parts_of : Record → Target → Parameters → NvParts
 nv_parts_of r target p = record {
   name = name_of r target.handle;
@@ -55,10 +55,10 @@ nv_parts_of r target p = record {
   compared = compared r target p;
 }
 
--- authHandle, nvIndex, policySession; A1 to A4, what refuses the reading, and A5, that the
--- comparison does not hold, are checked as the assertion is made, and of a trial session nothing
--- is. A1: it may not read; A2: locked; A3: not written; A4: past the data; A5: it does not stand so
--- to the operand
+-- handles authHandle, nvIndex and policySession. The checks A1 to A5 are made with the assertion,
+-- and not on a trial session. A1: authHandle may not read the index; A2: the index is locked; A3:
+-- it is not written; A4: the bytes reach past its data; A5: the comparison with the operand does
+-- not hold
 abbrev pub nv_assertion : Record → Request → Result (Session → Assertion) Refused
 nv_assertion r q = do
   target ← target_of r q

@@ -12,7 +12,7 @@ use Rattle.tpm_types.specs.declared.refused.Refused.{Refused}
 use Rattle.tpm_actions_base.specs.Request.{Request}
 use Rattle.tpm_actions_base.specs.Rows.{all_read, parameter}
 
--- pcrDigest, pcrs
+-- the parameters pcrDigest and pcrs
 pub record Parameters : Type 0 where
   pub given : List ℕ
   pub selection : List BankSelection
@@ -33,7 +33,7 @@ pcr_parts_of r p s = record {
   update_count = r.fixed.banks.update_count;
 }
 
--- the values of PCRs are compared, and no PCR may change
+-- the assertion that the selected PCRs have these values, and that no PCR changes until the use
 abbrev pub pcr_assertion : Record → Request → Result (Session → Assertion) Refused
 pcr_assertion r q = do
   p ← pcr_parameters q.parameters

@@ -10,7 +10,7 @@ use Rattle.tpm_actions_base.specs.Request.{Request, first_handle}
 use Rattle.tpm_actions_base.specs.Rows.{Success, all_read}
 use Rattle.tpm_actions_policy.specs.Assertions.{policy_session}
 
--- the session's policy is as it started; no parameters
+-- the session's policy becomes what it was at the start; no parameters
 unfoldable pub policy_restart_row : Record → Request → Result Success Refused
 policy_restart_row r q = do
   handle ← first_handle q.handles

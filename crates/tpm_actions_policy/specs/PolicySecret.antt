@@ -16,7 +16,7 @@ use Rattle.tpm_actions_base.specs.Answer.{Body, SizedFirst}
 use Rattle.tpm_actions_base.specs.Request.{Request, first_handle}
 use Rattle.tpm_actions_base.specs.Rows.{all_read, parameter}
 
--- nonceTPM, cpHashA, policyRef, expiration
+-- the parameters nonceTPM, cpHashA, policyRef and expiration
 pub record Parameters : Type 0 where
   pub nonce : List ℕ
   pub cp_hash : List ℕ
@@ -37,7 +37,7 @@ secret_parameters text = do
     expiration = expiration.0;
   })
 
--- of the entity with this Name
+-- what is asserted of the entity with this Name
 abbrev pub secret_of : Parameters → (name : List ℕ) → Session → SecretParts
 secret_of p name s = record {
   name = name;
@@ -48,17 +48,18 @@ secret_of p name s = record {
   expiration = p.expiration;
 }
 
--- the secret is shown of the entity that the command authorizes, its first handle's
+-- the assertion that the secret was shown of the entity that the command's first handle names, and
+-- authorizes
 abbrev pub secret_assertion : Record → Request → Result (Session → Assertion) Refused
 secret_assertion r q = do
   entity ← first_handle q.handles
   p ← secret_parameters q.parameters
   Ok (λ s. Secret (secret_of p (name_of r entity) s))
 
--- a ticket that is none: TPM_ST_AUTH_SECRET, TPM_RH_NULL, an empty digest
+-- a null ticket: TPM_ST_AUTH_SECRET, TPM_RH_NULL, an empty digest
 abbrev pub null_ticket : List ℕ
 null_ticket = to_be_bytes w16 0x8023 ++ to_be_bytes w32 null_handle.number ++ to_be_bytes w16 0
 
--- answered: an empty timeout, and no ticket
+-- answered: an empty timeout, and a null ticket
 abbrev pub no_ticket : Body
 no_ticket = SizedFirst [] null_ticket

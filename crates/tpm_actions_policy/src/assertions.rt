@@ -34,7 +34,7 @@ pub enum AssertionParameters<'a> {
 }
 
 impl AssertionParameters<'_> {
-    /// Asserts it on the policy of a session.
+    /// Asserts what a command asks for on the policy of a session.
     fn assert_on<K: Keep>(
         &self,
         keep: &K,

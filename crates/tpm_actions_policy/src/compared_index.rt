@@ -1,4 +1,4 @@
-//! The NV index that TPM2_PolicyNV compares: which bytes of it, or why they cannot be read, and the
+//! The NV index that TPM2_PolicyNV compares: its bytes, or why they cannot be read, and the
 //! assertion of the comparison.
 
 ghost use Rattle.std.specs.Prelude.{◌≡◌, ◌≤◌, length};
@@ -14,7 +14,7 @@ use tpm_record::{Keep, name_of};
 use tpm_session::Session;
 use tpm_types::{ActionCheck, ActionFault, Operation, ResponseCode};
 
-/// The index whose data are compared, with what, from which offset on, and how.
+/// The index whose data are compared, with an operand, an offset and an operation.
 #[derive(Clone, Copy)]
 pub struct ComparedIndex<'a> {
     pub(crate) target: Target,
@@ -40,7 +40,7 @@ impl ComparedIndex<'_> {
         }
     }
 
-    /// Compares them as they are now, in the policy of a session.
+    /// Asserts the comparison of the index, as it is now, in the policy of a session.
     pub fn assert_on<K: Keep>(
         &self,
         keep: &K,

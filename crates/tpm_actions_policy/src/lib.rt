@@ -1,12 +1,13 @@
 #![tactic(auto)]
 
-//! What each policy command does: a file a command (TPM 2.0 Library, Part 3, section 23).
+//! What each policy command does, with a file for each command (TPM 2.0 Library, Part 3, section
+//! 23).
 //!
-//! Ten commands assert something. Each reads what, and `assertions::make_assertion` asserts it on
-//! a copy of the session's policy, which the session takes where the assertion is not refused. What
-//! an assertion is stands in `tpm_policy`.
+//! Ten commands assert something. Each reads what, and `assertions::make_assertion` asserts it on a
+//! copy of the session's policy, which the session takes where the assertion is not refused.
+//! Assertions are defined in `tpm_policy`.
 //!
-//! It stands on `tpm_actions_base` and on `tpm_policy`. `specs/` has a row for each command under
+//! The crate uses `tpm_actions_base` and `tpm_policy`. `specs/` has a row for each command under
 //! the same name; each call is proved to be its row, for each way of keeping the record, and a
 //! refusal leaves the record.
 

@@ -53,8 +53,9 @@ pub fn policy_nv<K: Keep>(keep: &mut K, call: &Call, _answer: &mut Answer) -> Re
     make_assertion(keep, handle, &AssertionParameters::Nv(index))
 }
 
-/// What is compared has the size of its operand where the NV indices have the sizes that they say,
-/// as those of every device have: so no comparison fails for its sizes. It does nothing.
+/// The bytes that TPM2_PolicyNV compares have the size of the operand, where the NV indices have
+/// the sizes that they say, as those of every device have: so no comparison fails for its sizes.
+/// The function does nothing.
 #[inline(always)]
 #[tactic(auto, using(crate::proofs::ComparedSizes::compared_whole))]
 pub fn compared_size_laws()

@@ -31,7 +31,7 @@ pub struct ComparedPcrs<'a> {
 }
 
 impl ComparedPcrs<'_> {
-    /// Compares them as they are now, in the policy of a session.
+    /// Asserts the values of the PCRs, as they are now, in the policy of a session.
     pub(crate) fn assert_on<K: Keep>(
         &self,
         keep: &K,

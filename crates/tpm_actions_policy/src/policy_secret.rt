@@ -27,7 +27,7 @@ use tpm_types::{ActionFault, DIGEST_LIMIT, Handle, Refused, read_buffer};
 /// An empty timeout, and the null ticket: TPM_ST_AUTH_SECRET, TPM_RH_NULL, an empty digest.
 const NO_TICKET: [u8; 10] = [0, 0, 0x80, 0x23, 0x40, 0, 0, 7, 0, 0];
 
-/// The entity whose secret is shown, and for what it is.
+/// The entity whose secret is shown, with the other parameters of TPM2_PolicySecret.
 #[derive(Clone, Copy)]
 pub struct ShownSecret<'a> {
     entity: Handle,
@@ -38,7 +38,7 @@ pub struct ShownSecret<'a> {
 }
 
 impl ShownSecret<'_> {
-    /// Asserts it in the policy of a session.
+    /// Asserts the secret in the policy of a session.
     pub(crate) fn assert_on<K: Keep>(
         &self,
         keep: &K,

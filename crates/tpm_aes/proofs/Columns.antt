@@ -49,7 +49,7 @@ columns_words g state a b c d v w x y size is_a is_b is_c is_d is_v is_w is_x is
     ∙ sym (ap (λ (words : List ℕ). columns_by g (shift_rows (sub_bytes (bytes_of words))))
     (four_words state size))
 
--- columns that are mixed
+-- the words of columns that are mixed
 pub mixed_words : (state a b c d : List ℕ) (v w x y : ℕ) → length state ≡ 4
     → a ≡ to_le_bytes w32 (slice_index_or state 0 0) → b ≡ to_le_bytes w32 (slice_index_or state 1 0)
     → c ≡ to_le_bytes w32 (slice_index_or state 2 0) → d ≡ to_le_bytes w32 (slice_index_or state 3 0)
@@ -66,7 +66,7 @@ words_shifted : (state : List ℕ) → columns_by (λ column. column) (shift_row
 unfolding shift_rows
 words_shifted state = refl
 
--- columns that are not mixed
+-- the words of columns that are not mixed
 pub shifted_words : (state a b c d : List ℕ) (v w x y : ℕ) → length state ≡ 4
     → a ≡ to_le_bytes w32 (slice_index_or state 0 0) → b ≡ to_le_bytes w32 (slice_index_or state 1 0)
     → c ≡ to_le_bytes w32 (slice_index_or state 2 0) → d ≡ to_le_bytes w32 (slice_index_or state 3 0)
@@ -90,7 +90,7 @@ constant_at n low high =
     ap (λ (t : List ℕ). slice_index_or t (n - 1) 0) constant_values
     ∙ get_or-map-range_with_len (times_power 1) 0 10 (n - 1) (n - 1) 0 (omega arith) (omega arith)
 
--- the bytes of a word turned and substituted
+-- the bytes of a word, turned and substituted
 abbrev turned : List ℕ → List ℕ
 turned bytes =
     sub_bytes (slice_index_or bytes 1 0 ∷ slice_index_or bytes 2 0 ∷ slice_index_or bytes 3 0
@@ -122,7 +122,7 @@ next_of_four n p q r s added is_added =
     let w3 = bytes-xor s third ∙ ap (xor_of (to_le_bytes w32 s)) w2 in
     λ i. w0 i ++ (w1 i ++ (w2 i ++ w3 i))
 
--- the next round key
+-- the words of the next round key are those that the standard gives
 pub next_words : (n added : ℕ) (key : List ℕ) → length key ≡ 4
     → to_le_bytes w32 added ≡ scheduled_word n (to_le_bytes w32 (slice_index_or key 3 0))
     → let first = bit_xor (slice_index_or key 0 0) added in

@@ -5,7 +5,7 @@ use Rattle.std.proofs.lemmas.List.FromFn.{fill_by_all, get_or-map-range_with_len
 use Rattle.tpm_aes.specs.Cipher.{expanded_key, mix_column, mix_columns, next_round_key, round_key, shift_rows, state_after, sub_bytes, word_of, xor_of}
 use Rattle.tpm_aes.specs.Words.{bytes_of}
 
--- the four columns
+-- the four columns of a mixed state
 pub words_mixed : (state : List ℕ) → mix_columns state
     ≡ mix_column (word_of state 0) ++ (mix_column (word_of state 1) ++ (mix_column (word_of state 2) ++ mix_column (word_of state 3)))
 unfolding mix_columns
@@ -16,17 +16,17 @@ pub round_key_first : (key : List ℕ) → round_key key 0 ≡ key
 unfolding round_key
 round_key_first key = refl
 
--- the key of one more round
+-- the key of the next round
 pub round_key_more : (key : List ℕ) (n : ℕ) → round_key key (n + 1) ≡ next_round_key (n + 1) (round_key key n)
 unfolding round_key
 round_key_more key n = rw (add-one n) refl
 
--- the state of no round
+-- the state before the first round has the first round key added
 pub state_after_none : (key block : List ℕ) → state_after key block 0 ≡ xor_of block (round_key key 0)
 unfolding state_after
 state_after_none key block = refl
 
--- the state after one more round
+-- the state after the next round
 pub state_after_more : (key block : List ℕ) (n : ℕ) → state_after key block (n + 1)
     ≡ xor_of (mix_columns (shift_rows (sub_bytes (state_after key block n)))) (round_key key (n + 1))
 unfolding state_after
@@ -49,12 +49,12 @@ expanded_key_from keys key size each =
     λ k low. get_or-map bytes_of keys k [] [] (omega arith) ∙ each k low in
     rw first (fill_by_all (round_key key) (map bytes_of keys) 11 [] (simp length-map size) all)
 
--- the keys of the rounds below n stand at their places
+-- The keys of the rounds below n are in their places.
 pub record HasKeysBelow (keys : List (List ℕ)) (key : List ℕ) (n : ℕ) : Type 0 where
   pub size : length keys ≡ 11
   pub each : (k : ℕ) → k < n → bytes_of (slice_index_or keys k []) ≡ round_key key k
 
--- one more round key
+-- the list of round keys with one more
 pub round_keys_more : (keys : List (List ℕ)) (key next : List ℕ) (n : ℕ) → 1 ≤ n → n < length keys
     → ((k : ℕ) → k < n → bytes_of (slice_index_or keys k []) ≡ round_key key k)
     → bytes_of next ≡ next_round_key n (bytes_of (slice_index_or keys (n - 1) []))

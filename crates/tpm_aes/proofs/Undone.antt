@@ -10,7 +10,7 @@ use Rattle.tpm_aes.specs.Cipher.{aes_of, next_round_key, round_key, scheduled_wo
 
 -- ---- lengths
 
--- the bytes of one list, where the other has as many
+-- an exclusive or has as many bytes as the first list, where the second has no fewer
 length-xor_of-whole : (xs ys : List ℕ) → length xs ≤ length ys → length (xor_of xs ys) ≡ length xs
 length-xor_of-whole [] ys fits = refl
 length-xor_of-whole (x ∷ xs) [] fits = absurd (omega arith)
@@ -60,7 +60,7 @@ length-joined piece text like =
 
 -- ---- pieces and their blocks
 
--- what is added twice is gone, where it covers the bytes
+-- bytes that are added twice, by exclusive or, leave the text as it was
 xor_of-twice : (xs ys : List ℕ) → length (xor_of xs ys) ≡ length xs → xor_of (xor_of xs ys) ys ≡ xs
 xor_of-twice [] ys whole = refl
 xor_of-twice (x ∷ xs) [] whole = absurd (omega arith)
@@ -87,7 +87,7 @@ block_at-pieces_to piece (suc n) whole short i low =
           ∙ take_all 16 (piece n) (short n) ∙ ap piece same
     ]
 
--- and of those that are as long as a text's blocks
+-- block i of pieces that are as long as a text's blocks
 block_at-joined : (piece : ℕ → List ℕ) (text : List ℕ) → AreLikeBlocks piece text
     → (i : ℕ) → i < block_count text → block_at (pieces_to piece (block_count text)) i ≡ piece i
 block_at-joined piece text like =
@@ -121,18 +121,18 @@ joined_again piece text other whole each =
 
 -- ---- encryption
 
--- C(i + 1)
+-- C(i + 1) by C(i)
 pub cipher_block_more : (key iv text : List ℕ) (i : ℕ) → cipher_block key iv text (i + 1)
     ≡ xor_of (block_at text i) (aes_of key (cipher_block key iv text i))
 unfolding cipher_block
 cipher_block_more key iv text i = rw (add-one i) refl
 
--- C(0)
+-- C(0) is the IV
 pub cipher_block_none : (key iv text : List ℕ) → cipher_block key iv text 0 ≡ iv
 unfolding cipher_block
 cipher_block_none key iv text = refl
 
--- C(i + 1) as piece i
+-- piece i of a cipher text: C(i + 1)
 abbrev pub cipher_piece : (key iv text : List ℕ) → ℕ → List ℕ
 cipher_piece key iv text i = cipher_block key iv text (i + 1)
 
@@ -179,8 +179,8 @@ pub length-cfb_decrypt_of : (key iv cipher : List ℕ) → length (cfb_decrypt_o
 unfolding pieces_to
 length-cfb_decrypt_of key iv cipher = length-joined (plain_block key iv cipher) cipher (length-plain_block key iv cipher)
 
--- encryption gives the blocks of a cipher text back, where the text's blocks are those that it was
--- decrypted to
+-- encryption gives the blocks of a cipher text back, where the plain blocks are those that the
+-- cipher text was decrypted to
 encrypted_again : (key iv cipher text : List ℕ) (n : ℕ)
     → ((i : ℕ) → i < n → block_at text i ≡ plain_block key iv cipher i)
     → (i : ℕ) → i ≤ n → cipher_block key iv text i ≡ block_before iv cipher i

@@ -1,20 +1,20 @@
--- Lists of bytes, of four and of any number.
+-- Words of four bytes as lists, and lists of bytes of any length.
 use Rattle.std.proofs.Common.{◌≡◌, ℕ, suc, zero, ◌+◌, ◌/◌, ◌%◌, ◌^◌, ◌<◌, ◌≤◌, List, [], ◌∷◌, ◌++◌, add-one, ap, ap₂, arith, bit_xor, drop, length, refl, slice_index_or, slice_set, sym, take, ◌∙◌}
 use Rattle.std.proofs.lemmas.Nat.{xor_mod, xor_shr}
 use Rattle.std.specs.Int.{to_le_bytes, w32}
 use Rattle.tpm_aes.specs.Cipher.{xor_of}
 use Rattle.tpm_aes.specs.Words.{bytes_of}
 
--- a byte of a sum of words
+-- byte k of an exclusive or of two words
 byte-xor : (a b k : ℕ) → bit_xor a b / 2 ^ k % 256 ≡ bit_xor (a / 2 ^ k % 256) (b / 2 ^ k % 256)
 byte-xor a b k = ap (λ (n : ℕ). n % 256) (xor_shr a b k) ∙ xor_mod (a / 2 ^ k) (b / 2 ^ k) 8
 
--- the bytes of a sum of words
+-- the bytes of an exclusive or of two words
 pub bytes-xor : (a b : ℕ)
     → to_le_bytes w32 (bit_xor a b) ≡ xor_of (to_le_bytes w32 a) (to_le_bytes w32 b)
 bytes-xor a b = rw (xor_mod a b 8, byte-xor a b 8, byte-xor a b 16, byte-xor a b 24) refl
 
--- the bytes of sums of words
+-- the bytes of exclusive ors of two lists of words
 pub bytes_of-xor_of : (xs ys : List ℕ) → bytes_of (xor_of xs ys) ≡ xor_of (bytes_of xs) (bytes_of ys)
 bytes_of-xor_of [] ys = refl
 bytes_of-xor_of (x ∷ xs) [] = refl
@@ -32,7 +32,7 @@ pub four_words : (words : List ℕ) → length words ≡ 4 → words ≡ by_inde
 four_words (a ∷ b ∷ c ∷ d ∷ []) size = refl
 four_words words size = absurd (omega arith)
 
--- the bytes of four sums
+-- the bytes of the exclusive ors of four words
 pub bytes_of-sums : (xs ys : List ℕ) → length xs ≡ 4 → length ys ≡ 4
     → bytes_of (xor_of (by_index xs) (by_index ys)) ≡ xor_of (bytes_of xs) (bytes_of ys)
 bytes_of-sums xs ys x4 y4 =
@@ -48,7 +48,7 @@ bytes-byte a small =
     let fourth : a / 16777216 % 256 ≡ 0 = omega arith in
     rw (first, second, third, fourth) refl
 
--- the first i bytes of a list with others added
+-- a list whose first i bytes have others added, by exclusive or
 abbrev pub xored_front : List ℕ → List ℕ → ℕ → List ℕ
 xored_front old other i = xor_of (take i old) (take i other) ++ drop i old
 
@@ -61,7 +61,7 @@ get_or-xored_front (x ∷ xs) (y ∷ ys) zero within fits = refl
 get_or-xored_front (x ∷ xs) (y ∷ ys) (suc i) within fits =
     get_or-xored_front xs ys i (omega arith) (omega arith)
 
--- byte i is added
+-- byte i is added to the list
 set-xored_front : (old other : List ℕ) (i : ℕ) → i < length old → length old ≤ length other
     → slice_set (xored_front old other i) i (bit_xor (slice_index_or old i 0) (slice_index_or other i 0))
     ≡ xored_front old other (suc i)
@@ -71,14 +71,14 @@ set-xored_front (x ∷ xs) (y ∷ ys) zero within fits = refl
 set-xored_front (x ∷ xs) (y ∷ ys) (suc i) within fits =
     ap (λ (t : List ℕ). bit_xor x y ∷ t) (set-xored_front xs ys i (omega arith) (omega arith))
 
--- one more byte is added
+-- one more byte is added to the front of a list
 pub xored_more : (old other bytes : List ℕ) (i : ℕ) → i < length old → length old ≤ length other
     → bytes ≡ xored_front old other i
     → slice_set bytes i (bit_xor (slice_index_or bytes i 0) (slice_index_or other i 0)) ≡ xored_front old other (i + 1)
 xored_more old other bytes i within fits so_far =
     rw (so_far, get_or-xored_front old other i within fits, add-one i) (set-xored_front old other i within fits)
 
--- all bytes are added
+-- all bytes of a list are added
 pub xored_all : (old other : List ℕ) (n : ℕ) → n ≡ length old → length old ≤ length other
     → xored_front old other n ≡ xor_of old other
 xored_all [] other zero whole fits = refl

@@ -12,7 +12,8 @@ block_at text i = take 16 (drop (16 * i) text)
 abbrev pub block_count : List ℕ → ℕ
 block_count text = length text / 16 + min 1 (length text % 16)
 
--- C(0) is the IV, and C(i + 1) = P(i + 1) xor E(C(i)); a short block takes the first bytes of E
+-- the cipher text before block i, C(i): C(0) is the IV, and C(i + 1) = P(i + 1) xor E(C(i)); a
+-- short block takes the first bytes of E
 unfoldable pub cipher_block : (key iv plain : List ℕ) → ℕ → List ℕ
 cipher_block key iv plain zero = iv
 cipher_block key iv plain (suc i) =
@@ -23,12 +24,12 @@ abbrev pub cfb_encrypt_of : (key iv plain : List ℕ) → List ℕ
 cfb_encrypt_of key iv plain =
     flat_map (λ i. cipher_block key iv plain (i + 1)) (range_with_len 0 (block_count plain))
 
--- what stands before block i of a cipher text: the block before it, and the IV before the first
+-- what stands before block i of a cipher text: the block before it, or the IV before the first
 abbrev pub block_before : (iv cipher : List ℕ) → ℕ → List ℕ
 block_before iv cipher zero = iv
 block_before iv cipher (suc i) = block_at cipher i
 
--- P(i + 1) = C(i + 1) xor E(C(i))
+-- block i of the plain text: P(i + 1) = C(i + 1) xor E(C(i))
 abbrev pub plain_block : (key iv cipher : List ℕ) → ℕ → List ℕ
 plain_block key iv cipher i =
     xor_of (block_at cipher i) (aes_of key (block_before iv cipher i))

@@ -20,7 +20,7 @@ word_of block c = map (λ r. slice_index block (r + 4 * c)) (range_with_len 0 4)
 abbrev pub sub_bytes : List ℕ → List ℕ
 sub_bytes state = map sub_byte state
 
--- row r turned left by r places: its column c is what was its column c + r (5.1.2)
+-- each row r turned left by r places: its column c is what was its column c + r (5.1.2)
 unfoldable pub shift_rows : List ℕ → List ℕ
 shift_rows state =
     map (λ i. slice_index state (i % 4 + 4 * ((i / 4 + i % 4) % 4))) (range_with_len 0 16)

@@ -5,7 +5,7 @@ use Rattle.std.specs.Int.{to_le_bytes, w32}
 use Rattle.tpm_aes.specs.Cipher.{mix_column}
 use Rattle.tpm_aes.specs.Field.{sub_byte}
 
--- entry a is what the S-box gives for a
+-- Entry a of the table is what the S-box gives for a.
 abbrev pub IsSBox : List ℕ → Type 0
 IsSBox table = (a : ℕ) → a < 256 → slice_index table a ≡ sub_byte a
 
@@ -13,8 +13,8 @@ IsSBox table = (a : ℕ) → a < 256 → slice_index table a ≡ sub_byte a
 abbrev pub column_with : (r byte : ℕ) → List ℕ
 column_with r byte = slice_set (0 ∷ 0 ∷ 0 ∷ 0 ∷ []) r byte
 
--- the bytes of entry a of table r are what MixColumns makes of the column with what the S-box gives
--- for a in row r, and 0 in the others
+-- The bytes of entry a of table r are what MixColumns makes of a column that has, in row r, what
+-- the S-box gives for a, and 0 in the other rows.
 abbrev pub AreMixed : List (List ℕ) → Type 0
 AreMixed tables = (r a : ℕ) → r < 4 → a < 256
     → to_le_bytes w32 (slice_index (slice_index_or tables r []) a)

@@ -11,7 +11,7 @@ const BLOCK_SIZE: usize = 16;
 
 impl Aes128 {
     /// Encrypts the text in place. The text may have any length; a last block that is short is
-    /// added to the first bytes of its key stream.
+    /// combined, by exclusive or, with the first bytes of its key stream.
     pub fn cfb_encrypt(&self, iv: &[u8; 16], text: &mut [u8])
         ensures value { text.new ≡ cfb_encrypt_of self.now iv.now text.old }
         ensures undone { cfb_decrypt_of self.now iv.now text.new ≡ text.old }
@@ -24,8 +24,8 @@ impl Aes128 {
         }
     }
 
-    /// Decrypts the text in place: undoes `cfb_encrypt` under the same key and IV, and is undone by
-    /// it.
+    /// Decrypts the text in place: under the same key and IV, `cfb_encrypt` and this undo each
+    /// other.
     pub fn cfb_decrypt(&self, iv: &[u8; 16], text: &mut [u8])
         ensures value { text.new ≡ cfb_decrypt_of self.now iv.now text.old }
         ensures undone { cfb_encrypt_of self.now iv.now text.new ≡ text.old }

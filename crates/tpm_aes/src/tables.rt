@@ -35,7 +35,7 @@ fn sub_byte(a: u8) -> u8
 
 /// Every entry of the tables is what the standard says, and not only the sum of those that a column
 /// takes; the S-box, as defined, gives two of the bytes that the standard prints (FIPS 197, 5.1.1,
-/// figure 7). It does nothing.
+/// figure 7). The function does nothing.
 #[inline(always)]
 #[tactic(auto, using(crate::proofs::Entries::s_box_entries, crate::proofs::Entries::mixed_entries, crate::proofs::Vectors::published_bytes))]
 pub fn table_laws()
@@ -44,7 +44,7 @@ pub fn table_laws()
     ensures published { (sub_byte 0x00 ≡ 0x63) × (sub_byte 0x53 ≡ 0xed) }
 {}
 
-/// The S-box: entry a is what it gives for a.
+/// The S-box: entry a is what the S-box gives for a.
 static S_BOX: [u8; 256] = [
     0x63, 0x7c, 0x77, 0x7b, 0xf2, 0x6b, 0x6f, 0xc5, 0x30, 0x01, 0x67, 0x2b, 0xfe, 0xd7, 0xab, 0x76,
     0xca, 0x82, 0xc9, 0x7d, 0xfa, 0x59, 0x47, 0xf0, 0xad, 0xd4, 0xa2, 0xaf, 0x9c, 0xa4, 0x72, 0xc0,
@@ -65,8 +65,8 @@ static S_BOX: [u8; 256] = [
 ];
 
 /// Entry a of table r is what MixColumns makes of the column with `S_BOX[a]` in row r and 0 in the
-/// others. A column is the sum of four such columns, and what is made of it the sum of what is made
-/// of them.
+/// others. A column is the sum of four such columns, and its mixed column the sum of their mixed
+/// columns.
 static MIXED: [[u32; 256]; 4] = [
     [
         0xa56363c6, 0x847c7cf8, 0x997777ee, 0x8d7b7bf6, 0x0df2f2ff, 0xbd6b6bd6, 0xb16f6fde,

@@ -24,7 +24,7 @@ not_false : (b : Bool) → not b ≡ false → b ≡ true
 not_false true is = refl
 not_false false is = absurd cc
 
--- ---- no HMAC is empty
+-- ---- no HMAC that is computed is empty
 
 digest_some : (alg : HashAlg) → 0 < digest_size alg
 digest_some Sha1 = omega arith
@@ -52,12 +52,12 @@ authentic r c n grant e s is empty =
     let value : List ℕ = used_auth_value r s grant in
     by_test (entry_key s value) e.hmac (command_mac_of s value (entry_parts r c n e s)) is empty (mac_some s value (entry_parts r c n e s))
 
--- ---- what is accepted
+-- ---- an entry that is accepted
 
 abbrev HasNoKey : Record → Session → Option Grant → Type 0
 HasNoKey r s accepted = (entry_key s (used_auth_value r s accepted) ≡ []) ⊎ ((demands_password accepted ≡ true) × (trimmed (granted_value r accepted) ≡ []))
 
--- an empty password is that of an empty value alone
+-- an empty password is right only for an empty value
 no_value : (value password : List ℕ) → is_password_of value password ≡ true → password ≡ [] → trimmed value ≡ []
 unfolding trimmed
 no_value value password is empty = sym ((bytes_eq-Decides (trimmed password) (trimmed value)).0 is) ∙ ap trimmed empty

@@ -33,7 +33,7 @@ checked_ok check (Err rc) y is = absurd cc
 -- ---- the walk over the entries
 
 module _ (r : Record) (c : Whole) (locality : ℕ) where
-  -- These grants are those of these entries, the first of which stands in this place.
+  -- These grants are those of these entries, of which the first is in this place.
   record AreOf (first : ℕ) (es : List Entry) (given : List (Option Grant)) : Type 0 where
     as_many : length given ≡ length es
     each : (place i : ℕ) (e : Entry) (granted : Option Grant) → place ≡ first + i → slice_get es i ≡ Some e → slice_get given i ≡ Some granted → IsGranted r c locality place e granted
@@ -48,7 +48,7 @@ module _ (r : Record) (c : Whole) (locality : ℕ) where
       each_of place zero x granted at entry there = let here : first ≡ place = omega arith in cc
       each_of place (suc i) x granted at entry there = others.each place i x granted (omega arith) entry there
 
-  -- the grants of the entries that are left come after those before them
+  -- the walk over the entries that are left adds their grants to those of the entries before them
   walk : (before : List (Option Grant)) (es : List Entry) → IfOk (grants_pass r c locality before es) (λ grants. (given : List (Option Grant)) × (before ++ given ≡ grants) × AreOf (length before) es given)
   walk before [] = ([], append-nil before, none (length before))
   walk before (e ∷ es) =

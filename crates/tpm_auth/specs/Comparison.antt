@@ -30,18 +30,21 @@ failure check n protection.Tries =
 failure check n protection.Lockout =
     record { rc = entry_fault n code.AuthFail; check = check; counted = counted.Lockout }
 
--- G9 for an entry that authorizes a handle, G10 for the others
+-- the check by which a comparison fails: G9 for an entry that authorizes a handle, G10 for the
+-- others
 abbrev pub check_of : Option Grant → Check
 check_of (Some grant) = check.Authorization
 check_of None = check.Others
 
--- whether what is protected so is locked out: by too many failed tries, or as lockoutAuth is closed
+-- whether an entity with this protection is locked out: by too many failed tries, or as lockoutAuth
+-- is closed
 abbrev pub is_locked_out : LockoutState → Protection → Bool
 is_locked_out lockout protection.None = false
 is_locked_out lockout protection.Tries = is_locked lockout.fields
 is_locked_out lockout protection.Lockout = lockout.fields.closed
 
--- what is locked out is not compared, and that counts nothing (TPM_RC_LOCKOUT)
+-- the check that an entity is not locked out (TPM_RC_LOCKOUT): then nothing is compared, and no
+-- failed try is counted
 abbrev pub may_be_tried : LockoutState → Option Grant → Protection → Result (Unit {0}) Refused
 may_be_tried lockout grant protection =
     refused_if (is_locked_out lockout protection) (refusal (check_of grant) (plain code.Lockout))

@@ -12,9 +12,9 @@ use Rattle.tpm_types.specs.AuthValue.{trimmed}
 use Rattle.tpm_auth.specs.SessionGrant.{demands_password, granted_value, session_grant, used_auth_value}
 use Rattle.tpm_auth.specs.declared.session_grant.Grant.{Grant}
 
--- a session's entry that is accepted with an empty HMAC has an empty key, neither a session key nor
--- an authorization value in it; or it authorizes by a policy that demands a password, what has no
--- authorization value
+-- A session's entry that is accepted with an empty HMAC has an empty key, with neither a session
+-- key nor an authorization value in it; or it authorizes, by a policy that demands a password, an
+-- entity that has no authorization value.
 abbrev pub EmptyHmacHasNoKey : Type 0
 EmptyHmacHasNoKey =
     (r : Record) (c : Whole) (locality n : ℕ) (used : Option Handle) (e : Entry) (s : Session)

@@ -1,5 +1,5 @@
--- The entries of an authorization area, each for itself. TPM 2.0 Library, Part 3, section 5.5
--- (session area validation), and Part 1, section 21 (which sessions encrypt).
+-- The entries of an authorization area, each checked for itself. TPM 2.0 Library, Part 3, section
+-- 5.5 (session area validation), and Part 1, section 21 (which sessions encrypt).
 use Rattle.std.specs.Prelude.{ℕ, ◌+◌, ◌==◌, ◌||◌, ◌&&◌, not, nat_lt, Bool, false, List, [], ◌∷◌, ◌++◌, length, if◌then◌else◌, Option, is_none, Result, Ok, Err}
 use Rattle.std.specs.List.{list_any}
 use Rattle.std.specs.Option.{option_map_or}
@@ -27,7 +27,7 @@ session_of r e = session_at r.sessions e.session
 abbrev pub is_password : Entry → Bool
 is_password e = e.session.number == password_handle.number
 
--- whether its session decrypts the command's first parameter, or encrypts the response's
+-- whether an entry's session decrypts the command's first parameter, or encrypts the response's
 abbrev pub decrypts : Entry → Bool
 decrypts e = of_session.decrypts e.attributes
 
@@ -40,21 +40,22 @@ reference_of n =
     plain (if n == 1 then code.ReferenceS0
     else (if n == 2 then code.ReferenceS1 else code.ReferenceS2))
 
--- whether there is what an entry's handle names: a password always is
+-- the check that what an entry's handle names is there: a password always is
 abbrev pub kind_passes : Record → ℕ → Entry → SessionKind → Result (Unit {0}) Rc
 kind_passes r n e kind.Other = Err (entry_fault n code.Value)
 kind_passes r n e kind.Session = refused_if (is_none (session_of r e)) (reference_of n)
 kind_passes r n e kind.Password = Ok tt
 
--- whether entry n names a session for the second time, or is a password that authorizes nothing
+-- whether entry n names a session that an earlier entry names, or is a password that authorizes
+-- nothing
 abbrev pub is_misplaced : CommandCode → ℕ → List Entry → Entry → Bool
 is_misplaced c n before e =
     if is_password e then nat_lt (authorized_handles c) n
     else list_any (λ earlier. earlier.session.number == e.session.number) before
 
--- an audit session, which is not served; or decrypt or encrypt on a password, where an earlier
--- entry has the same, or where the first parameter of the command or of its answer is no sized
--- buffer
+-- whether an entry asks for an audit session, which is not served; or for decrypt or encrypt on a
+-- password, where an earlier entry asks for the same, or where the first parameter of the command
+-- or of its answer is no sized buffer
 abbrev pub has_wrong_attributes : CommandCode → List Entry → Entry → Bool
 has_wrong_attributes c before e =
     audits e.attributes
@@ -62,14 +63,14 @@ has_wrong_attributes c before e =
     || decrypts e && (list_any decrypts before || not (has_sized_parameter c))
     || encrypts e && (list_any encrypts before || not (shape_of c).sized_answer)
 
--- decrypt or encrypt by a session that has no symmetric algorithm
+-- whether an entry asks for decrypt or encrypt by a session that has no symmetric algorithm
 abbrev pub lacks_cipher : Record → Entry → Bool
 lacks_cipher r e =
     uses_cipher e.attributes
     && option_map_or (λ (s : Session). is_null s.symmetric) (session_of r e) false
 
--- an entry after these others of its command: the sizes of its nonce and HMAC, its session, the
--- reserved bits 3 and 4, the other attributes, the session's algorithm
+-- the checks of an entry after these others of its command: the sizes of its nonce and HMAC, its
+-- session, the reserved bits 3 and 4, the other attributes, the session's algorithm
 unfoldable pub entry_passes : Record → CommandCode → List Entry → Entry → Result (Unit {0}) Rc
 entry_passes r c before e = do
   let n : ℕ = length before + 1
@@ -81,7 +82,7 @@ entry_passes r c before e = do
   attributes ← refused_if (has_wrong_attributes c before e) (entry_fault n code.Attributes)
   refused_if (lacks_cipher r e) (entry_fault n code.Symmetric)
 
--- each entry in order
+-- the checks of each entry, in order
 abbrev pub entries_pass : Record → CommandCode → (before entries : List Entry)
     → Result (Unit {0}) Rc
 entries_pass r c before [] = Ok tt

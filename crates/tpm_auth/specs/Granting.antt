@@ -13,15 +13,16 @@ use Rattle.tpm_auth.specs.Grant.{authorized, grant}
 use Rattle.tpm_auth.specs.declared.session_grant.Grant.{Grant}
 
 -- The entry in a place, from 0, is accepted and granted this: it is to authorize the handle in the
--- same place among those that need authorization, or none where there is none. Entries are
+-- same place among those that need authorization, or no handle where none is there. Entries are
 -- numbered from 1.
 abbrev pub IsGranted : Record → Whole → (locality place : ℕ) → Entry → Option Grant → Type 0
 IsGranted r c locality place e granted =
     grant r c locality (place + 1) (slice_get (authorized c) place) e ≡ Ok granted
 
 -- These grants are what the entries of a command authorize. Each entry passes its own checks, and
--- there is one for each handle that needs authorization. There are as many grants as entries, and
--- each entry is granted what stands in its place. What a session decrypts is there.
+-- there is an entry for each handle that needs authorization. There are as many grants as entries,
+-- and each entry is granted what stands in its place. The parameter that a session decrypts is
+-- there.
 pub record IsGranting
     (r : Record) (c : Whole) (locality : ℕ) (grants : List (Option Grant)) : Type 0 where
   pub own : entries_pass r c.code [] c.entries ≡ Ok tt

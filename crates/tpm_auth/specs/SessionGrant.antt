@@ -51,9 +51,9 @@ is_password_demand demand.None = false
 is_password_demand demand.AuthValue = false
 is_password_demand demand.Password = true
 
--- whether the HMAC's key has the authorization value of the handle that an entry authorizes: that
--- of an HMAC session unless it is bound to the handle, that of a policy session only where the
--- policy demands it, and then although it is bound
+-- whether the HMAC's key has the authorization value of the handle that an entry authorizes. For an
+-- HMAC session it has, unless the session is bound to the handle; for a policy session only where
+-- the policy demands it, although the session may be bound
 abbrev pub has_value_in_key : SessionType → (bound : Bool) → Demand → Bool
 has_value_in_key type.Hmac bound demand = not bound
 has_value_in_key type.Policy bound demand = is_in_key demand
@@ -62,7 +62,7 @@ has_value_in_key type.Trial bound demand = is_in_key demand
 unfoldable pub takes_value : Record → Session → Grant → Bool
 takes_value r s grant = has_value_in_key s.kind (is_bound_to r s grant.handle) grant.demand
 
--- the authorization value in the key of an entry
+-- the authorization value in the HMAC key of a session's entry
 unfoldable pub used_auth_value : Record → Session → Option Grant → List ℕ
 used_auth_value r s None = []
 used_auth_value r s (Some grant) =
@@ -72,20 +72,21 @@ used_auth_value r s (Some grant) =
 abbrev pub entry_nonce : Record → Entry → List ℕ
 entry_nonce r e = option_map_or (λ (s : Session). s.nonce_tpm) (session_of r e) []
 
--- and of the first entry that passes a test
+-- the nonceTPM of the session of the first entry that passes a test
 unfoldable pub nonce_where : Record → (Entry → Bool) → List Entry → List ℕ
 nonce_where r test entries = option_map_or (entry_nonce r) (find test entries) []
 
--- the entries whose sessions' nonces may stand in the text of entry n: for the first, where it
--- authorizes a handle, those after it; for any other none
+-- the entries whose sessions' nonces may stand in the HMAC text of entry n: those after it where it
+-- is the first and authorizes a handle, and else none
 abbrev pub other_entries : Whole → ℕ → List Entry
 other_entries c n = if n == 1 && nat_lt 0 (authorized_handles c.code) then drop 1 c.entries else []
 
--- an entry that encrypts, and is not the one that decrypts
+-- whether an entry encrypts and does not decrypt
 abbrev pub only_encrypts : Entry → Bool
 only_encrypts e = encrypts e && not (decrypts e)
 
--- what a command's hash is of: its code, the Names of its handles, its parameters as it was sent
+-- what the hash of a command is taken of: its code, the Names of its handles, its parameters as
+-- they were sent
 abbrev pub hashed_command : Record → Whole → HashedParts
 hashed_command r c = OfCommand (code_number c.code) (map (name_of r) c.handles) c.parameters
 
@@ -107,7 +108,7 @@ is_authentic r c n grant e s =
     length (entry_key s value) == 0 && length e.hmac == 0
     || bytes_eq e.hmac (command_mac_of s value (entry_parts r c n e s))
 
--- whether a policy demands a password of an entry
+-- whether the policy of an entry's session demands a password
 abbrev pub demands_password : Option Grant → Bool
 demands_password None = false
 demands_password (Some grant) = is_password_demand grant.demand
@@ -118,7 +119,7 @@ granted_value r None = []
 granted_value r (Some grant) = auth_value_of r grant.handle
 
 -- whether the comparison of entry n holds: where its policy demands a password, its HMAC field is
--- that as a password
+-- the authorization value
 unfoldable pub comparison_holds : Record → Whole → ℕ → Option Grant → Entry → Session → Bool
 comparison_holds r c n grant e s =
     if demands_password grant then is_password_of (granted_value r grant) e.hmac
@@ -133,9 +134,9 @@ or_protection protection.None other = other
 or_protection protection.Tries other = protection.Tries
 or_protection protection.Lockout other = protection.Lockout
 
--- the protection that a wrong entry of a session comes up against: that of the entity whose
--- authorization value is compared, in a key or as a password, if it is protected; else that of what
--- its session was bound to
+-- the protection that a wrong entry of a session meets: that of the entity whose authorization
+-- value is compared, in a key or as a password, if it is protected; else that of what its session
+-- was bound to
 unfoldable pub entry_protection : Record → Session → Option Grant → Protection
 entry_protection r s None = binding_protection s
 entry_protection r s (Some grant) =
@@ -143,7 +144,7 @@ entry_protection r s (Some grant) =
     then or_protection (protection_of r grant.handle) (binding_protection s)
     else binding_protection s
 
--- what is to be authorized by entry n of a policy session
+-- the use that entry n of a policy session is to authorize
 unfoldable pub use_of : Record → Whole → (locality n : ℕ) → Handle → Session → UseParts
 use_of r c locality n handle s = record {
   entry = n;
@@ -159,15 +160,16 @@ use_of r c locality n handle s = record {
   entity = policy_of r handle;
 }
 
--- what stands before the comparison of an entry that authorizes a handle, and what its policy
--- demands of that: an HMAC session authorizes what is available by its authorization value
+-- what an HMAC session demands of the entry that authorizes a handle, which has to be available by
+-- its authorization value: nothing more
 abbrev by_value : Record → Whole → (n : ℕ) → Handle → Result Demand Refused
 by_value r c n handle = do
   available ← refused_if (not (is_available r handle means.AuthValue (nv_use_at c.code (n - 1))))
       (refusal check.Authorization (plain code.AuthUnavailable))
   Ok demand.None
 
--- and a policy session what its policy is for; a trial session nothing
+-- what a policy session demands of the entry that authorizes a handle, where the policy allows the
+-- use; a trial session authorizes nothing
 abbrev pub by_policy : Record → Whole → (locality n : ℕ) → Handle → Session → Result Demand Refused
 by_policy r c locality n handle s =
     checked check.Authorization (use_passes s.policy (use_of r c locality n handle s))
@@ -182,7 +184,7 @@ unfoldable pub demanded : Record
     → Whole → (locality n : ℕ) → Handle → Session → Result Demand Refused
 demanded r c locality n handle s = demand_by s.kind r c locality n handle s
 
--- entry n is compared, unless what it comes up against is locked out
+-- the comparison of entry n, which is made unless the entity whose value it uses is locked out
 abbrev pub comparison : Record
     → Whole → ℕ → Option Grant → Entry → Session → Result (Option Grant) Refused
 comparison r c n grant e s = do
@@ -191,8 +193,8 @@ comparison r c n grant e s = do
       (failure (check_of grant) n (entry_protection r s grant))
   Ok grant
 
--- entry n is of a session, and is to authorize this handle or none; a trial session may authorize
--- none, and be there to encrypt (this device's own)
+-- the grant of entry n, which names a session, and is to authorize this handle or none; a trial
+-- session may authorize none, and be there to encrypt (this device's own)
 unfoldable pub session_grant : Record
     → Whole → (locality n : ℕ) → Option Handle → Entry → Session → Result (Option Grant) Refused
 session_grant r c locality n None e s = comparison r c n None e s

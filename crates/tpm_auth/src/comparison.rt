@@ -1,5 +1,5 @@
-//! Whether a password is right, and how an entry is refused whose comparison fails or that comes up
-//! against what is locked out (TPM 2.0 Library, Part 1, section 19.4).
+//! Whether a password is right, and how an entry is refused whose comparison fails, or whose entity
+//! is locked out (TPM 2.0 Library, Part 1, section 19.4).
 
 ghost use Rattle.std.specs.Prelude.{◌≡◌};
 ghost use Rattle.tpm_types.specs.Rc.{plain};
@@ -12,7 +12,7 @@ use tpm_lockout::Lockout;
 use tpm_session::Protection;
 use tpm_types::{Check, Counted, Refused, ResponseCode, trimmed};
 
-/// Whether a password is an authorization value: neither counts with the zeros at its end (TPM 2.0
+/// Whether a password is an authorization value: zeros at the end of either do not count (TPM 2.0
 /// Library, Part 1, section 19.4).
 pub fn is_password_of(value: &[u8], password: &[u8]) -> bool
     ensures { result ≡ is_password_of value.now password.now }
@@ -36,7 +36,7 @@ pub fn failure(check: Check, number: u8, protection: Protection) -> Refused
     }
 }
 
-/// Whether what is protected so is locked out.
+/// Whether an entity with this protection is locked out.
 pub fn is_locked_out(lockout: &Lockout, protection: Protection) -> bool
     ensures { result ≡ is_locked_out lockout.now protection }
 {
@@ -47,14 +47,14 @@ pub fn is_locked_out(lockout: &Lockout, protection: Protection) -> bool
     }
 }
 
-/// The refusal of an entry, that authorizes so, or nothing, by what is locked out.
+/// The refusal of an entry with this grant, or none, since the entity is locked out.
 pub fn lockout_refusal(grant: Option<Grant>) -> Refused
     ensures { result ≡ refusal (check_of grant) (plain code.Lockout) }
 {
     Refused::by(check_of(grant), ResponseCode::Lockout.anywhere())
 }
 
-/// The check of an entry that authorizes so, or nothing.
+/// The check of the comparison of an entry with this grant, or none.
 pub fn check_of(grant: Option<Grant>) -> Check
     ensures { result ≡ check_of grant }
 {

@@ -1,4 +1,4 @@
-//! The checks of each authorization entry for itself, before it is asked what the entry authorizes:
+//! The checks of each authorization entry for itself, before it is known what the entry authorizes:
 //! session, attributes, sizes, cipher.
 
 ghost use Rattle.std.specs.Prelude.{◌≡◌, ◌+◌, ◌≤◌, ◌==◌, [], length, map};
@@ -25,7 +25,7 @@ pub fn encrypts(entry: &AuthEntry) -> bool
     entry.attributes.encrypts()
 }
 
-/// The code for an absent session in this entry.
+/// The code for an absent session in the entry of this number.
 pub fn reference_of(number: u8) -> Rc
     ensures { result ≡ reference_of number }
 {
@@ -50,7 +50,7 @@ fn check_kind<K: Keep>(keep: &K, number: u8, entry: &AuthEntry) -> Result<(), Rc
     }
 }
 
-/// Whether one of these entries names the session.
+/// Whether one of these entries names this session.
 fn is_named_in(entries: &[AuthEntry], session: Handle) -> bool
     ensures { result ≡ list_any (λ earlier. earlier.session.number == session.number)
         (map entry_of entries.now) }
@@ -63,7 +63,7 @@ fn is_named_in(entries: &[AuthEntry], session: Handle) -> bool
     }
 }
 
-/// Whether one of these entries decrypts.
+/// Whether one of these entries asks for decrypt.
 pub fn any_decrypts(entries: &[AuthEntry]) -> bool
     ensures { result ≡ list_any decrypts (map entry_of entries.now) }
 {

@@ -1,5 +1,5 @@
-//! The HMAC of an entry of a session: the authorization value in its key, the nonces in its text, and
-//! whether it is right.
+//! The HMAC of an entry of a session: the authorization value in its key, the nonces in its text,
+//! and whether the HMAC is right.
 
 ghost use Rattle.std.specs.Prelude.{◌≡◌, ◌≤◌, length, map, option_map};
 ghost use Rattle.std.specs.Option.{ForSome};
@@ -20,8 +20,8 @@ use tpm_session::{CommandText, ParameterHashes, Session};
 use tpm_types::SessionType;
 use tpm_types_command::{AuthEntry, Command};
 
-/// Whether a session is bound to an entity, as that is now. Its Name is not asked for where it has
-/// another authorization value.
+/// Whether a session is bound to an entity, as that is now. The entity's Name is not asked for
+/// where its authorization value is another.
 #[tactic(auto, unfolding(crate::specs::SessionGrant::is_bound_to, tpm_record::specs::Entity::auth_value_of))]
 fn is_bound_to<K: Keep>(keep: &K, session: &Session, used: &Used) -> bool
     requires { IsUsed (K.record_of keep.now) used.now }
@@ -36,7 +36,7 @@ fn is_bound_to<K: Keep>(keep: &K, session: &Session, used: &Used) -> bool
     }
 }
 
-/// Whether the authorization value is in the key of an entry that authorizes so.
+/// Whether the HMAC key of an entry has the authorization value of what the entry authorizes.
 #[tactic(auto, unfolding(crate::specs::SessionGrant::takes_value))]
 pub fn takes_value<K: Keep>(keep: &K, session: &Session, granted: &Granted) -> bool
     requires { IsToGrant (K.record_of keep.now) granted.now }
@@ -48,7 +48,8 @@ pub fn takes_value<K: Keep>(keep: &K, session: &Session, granted: &Granted) -> b
     }
 }
 
-/// The authorization value in the key of an entry that authorizes so. An empty one is in each key.
+/// The authorization value in the HMAC key of an entry that authorizes this. An empty value changes
+/// no key.
 #[tactic(auto, unfolding(crate::specs::SessionGrant::used_auth_value, tpm_record::specs::Entity::auth_value_of))]
 fn key_value<'a, K: Keep>(keep: &'a K, session: &Session, granted: &Granted<'a>) -> &'a [u8]
     requires { IsToGrant (K.record_of keep.now) granted.now }
@@ -64,7 +65,7 @@ fn key_value<'a, K: Keep>(keep: &'a K, session: &Session, granted: &Granted<'a>)
     }
 }
 
-/// The authorization value in the key of an entry that authorizes so, or nothing.
+/// The authorization value in the HMAC key of an entry with this grant, or none.
 #[tactic(auto, unfolding(crate::specs::SessionGrant::used_auth_value))]
 pub fn used_auth_value<'a, K: Keep>(
     keep: &'a K,
@@ -89,7 +90,7 @@ pub fn used_auth_value<'a, K: Keep>(
     }
 }
 
-/// The nonce of an entry's session, if there is one.
+/// The nonceTPM of an entry's session, if there is one.
 fn nonce_of<'a, K: Keep>(keep: &'a K, entry: &AuthEntry) -> &'a [u8]
     ensures { result.now ≡ entry_nonce (K.record_of keep.now) (entry_of entry.now) }
 {
@@ -99,7 +100,7 @@ fn nonce_of<'a, K: Keep>(keep: &'a K, entry: &AuthEntry) -> &'a [u8]
     }
 }
 
-/// The nonce of the first entry that decrypts, or no byte.
+/// The nonceTPM of the first entry that decrypts, or no byte.
 #[tactic(auto, unfolding(crate::specs::SessionGrant::nonce_where))]
 fn decrypting_nonce<'a, K: Keep>(keep: &'a K, entries: &[AuthEntry]) -> &'a [u8]
     ensures { result.now ≡ nonce_where (K.record_of keep.now) decrypts (map entry_of entries.now) }
@@ -111,7 +112,7 @@ fn decrypting_nonce<'a, K: Keep>(keep: &'a K, entries: &[AuthEntry]) -> &'a [u8]
     }
 }
 
-/// The nonce of the first entry that encrypts and does not decrypt, or no byte.
+/// The nonceTPM of the first entry that encrypts and does not decrypt, or no byte.
 #[tactic(auto, unfolding(crate::specs::SessionGrant::nonce_where))]
 fn encrypting_nonce<'a, K: Keep>(keep: &'a K, entries: &[AuthEntry]) -> &'a [u8]
     ensures { result.now
@@ -124,8 +125,8 @@ fn encrypting_nonce<'a, K: Keep>(keep: &'a K, entries: &[AuthEntry]) -> &'a [u8]
     }
 }
 
-/// The entries whose sessions' nonces stand in the text of this entry: those after the first,
-/// where that authorizes a handle.
+/// The entries whose sessions' nonces stand in the HMAC text of this entry: where it is the first
+/// and authorizes a handle, those after it.
 fn other_entries<'a, 'b>(command: &'a Command<'b>, number: u8) -> &'a [AuthEntry<'b>]
     ensures { map entry_of result.now ≡ other_entries (whole_of command.now) number }
 {
@@ -139,7 +140,7 @@ fn other_entries<'a, 'b>(command: &'a Command<'b>, number: u8) -> &'a [AuthEntry
     &entries[first..]
 }
 
-/// The authorization value in the key of an entry that is about to authorize so, or nothing.
+/// The authorization value in the HMAC key of an entry that is about to authorize this, or nothing.
 #[tactic(auto, unfolding(crate::specs::SessionGrant::used_auth_value))]
 fn value_in_key<'a, K: Keep>(
     keep: &'a K,
@@ -157,7 +158,7 @@ fn value_in_key<'a, K: Keep>(
     }
 }
 
-/// Whether the HMAC of an entry is right, that authorizes so, or nothing.
+/// Whether the HMAC of an entry is right that is about to authorize this, or nothing.
 #[tactic(auto, unfolding(crate::specs::SessionGrant::is_authentic, crate::specs::SessionGrant::entry_parts))]
 pub fn is_authentic<K: Keep>(
     keep: &K,

@@ -30,7 +30,7 @@ use tpm_types::{Check, Handle, Locality, Refused, ResponseCode, SessionKind};
 use tpm_types_command::{AuthEntry, Command, CommandCode};
 use tpm_types_name::Name;
 
-/// What the entries of a command authorize, each a handle or nothing.
+/// The grants of a command's entries: each authorizes a handle or nothing.
 #[derive(Drop)]
 pub struct Grants {
     pub grants: ArrayVec<Option<Grant>, 3>,
@@ -71,7 +71,7 @@ fn check_value<K: Keep>(
 }
 
 /// Checks that the entry of this number is a password for what it is to authorize; where that is
-/// nothing, an empty one.
+/// nothing, an empty password.
 #[tactic(auto, unfolding(crate::specs::Grant::password_grant))]
 fn check_password<K: Keep>(
     keep: &K,
@@ -97,7 +97,7 @@ fn check_password<K: Keep>(
 #[tactic(auto, unfolding(crate::specs::Grant::grant))]
 fn check_grant<K: Keep>(
     keep: &K,
-    sent: Sent,
+    sent: &Sent,
     hashes: &mut ParameterHashes,
     keyed: &mut KeyedMac,
     number: u8,
@@ -106,10 +106,10 @@ fn check_grant<K: Keep>(
 ) -> Result<Option<Grant>, Refused>
     requires number { 1 ≤ number }
     requires hashed { hashes.old
-        ≡ hashed_command (K.record_of keep.now) (whole_of sent.command.now) }
+        ≡ hashed_command (K.record_of keep.now) (whole_of sent.now.command.now) }
     requires used { ForSome used (IsUsed (K.record_of keep.now)) }
-    ensures value { result ≡ grant (K.record_of keep.now) (whole_of sent.entry.command.now)
-        (locality_number sent.entry.locality) number (option_map used_handle used.entry)
+    ensures value { result ≡ grant (K.record_of keep.now) (whole_of sent.now.command.now)
+        (locality_number sent.now.locality) number (option_map used_handle used.entry)
         (entry_of entry.now) }
     ensures same { hashes.new ≡ hashes.old }
 {
@@ -126,22 +126,22 @@ fn check_grant<K: Keep>(
     }
 }
 
-/// Checks these entries after those so far, and adds what each authorizes; the first that fails is
-/// answered.
+/// Checks these entries, after those that were granted so far, and adds what each authorizes; the
+/// fault is that of the first that fails.
 fn check_grants<K: Keep>(
     keep: &K,
-    sent: Sent,
+    sent: &Sent,
     hashes: &mut ParameterHashes,
     keyed: &mut KeyedMac,
     entries: &[AuthEntry],
     grants: &mut ArrayVec<Option<Grant>, 3>,
 ) -> Result<(), Refused>
     requires hashed { hashes.old
-        ≡ hashed_command (K.record_of keep.now) (whole_of sent.command.now) }
+        ≡ hashed_command (K.record_of keep.now) (whole_of sent.now.command.now) }
     requires few { length grants.old.items + length entries.now ≤ 3 }
-    requires resolved { IsResolved (K.record_of keep.now) sent }
-    ensures { AreGranted (grants_pass (K.record_of keep.now) (whole_of sent.entry.command.now)
-        (locality_number sent.entry.locality) grants.old.items (map entry_of entries.now)) result
+    requires resolved { IsResolved (K.record_of keep.now) sent.now }
+    ensures { AreGranted (grants_pass (K.record_of keep.now) (whole_of sent.now.command.now)
+        (locality_number sent.now.locality) grants.old.items (map entry_of entries.now)) result
         grants.new.items }
 {
     let [entry, entries @ ..] = entries else {
@@ -154,14 +154,14 @@ fn check_grants<K: Keep>(
     check_grants(keep, sent, hashes, keyed, entries, grants)
 }
 
-/// Whether the first parameter, a sized buffer, is not all there.
+/// Whether the sized buffer that is the first parameter is not all there.
 fn is_cut(parameters: &[u8]) -> bool
     ensures { result ≡ not (has_first_buffer parameters.now) }
 {
     first_size(parameters).is_none()
 }
 
-/// What is resolved in a place.
+/// The handle in a place, with what it names.
 #[tactic(auto, using(std::proofs::lemmas::Option::slice_get_read))]
 fn resolved_at<'a>(resolved: &[Resolved<'a>], place: usize) -> Resolved<'a>
     requires { place < length resolved.now }
@@ -170,15 +170,15 @@ fn resolved_at<'a>(resolved: &[Resolved<'a>], place: usize) -> Resolved<'a>
     resolved[place]
 }
 
-/// The Name of the handle after those with these Names: where a handle stands there for the second
-/// time, that is copied.
-fn next_name<K: Keep>(keep: &K, sent: Sent, names: &[Name]) -> Name
-    requires resolved { IsResolved (K.record_of keep.now) sent }
+/// The Name of the handle after those with these Names: where the command has the handle a second
+/// time, its Name is copied.
+fn next_name<K: Keep>(keep: &K, sent: &Sent, names: &[Name]) -> Name
+    requires resolved { IsResolved (K.record_of keep.now) sent.now }
     requires named { names.now ≡ map (name_of (K.record_of keep.now))
-        (take (length names.now) (whole_of sent.command.now).handles) }
-    requires more { length names.now < length sent.resolved.now }
+        (take (length names.now) (whole_of sent.now.command.now).handles) }
+    requires more { length names.now < length sent.now.resolved.now }
     ensures { Some result ≡ option_map (name_of (K.record_of keep.now))
-        (slice_get (whole_of sent.entry.command.now).handles (length names.now)) }
+        (slice_get (whole_of sent.now.command.now).handles (length names.now)) }
 {
     let resolved = resolved_at(sent.resolved, names.len());
     let first = resolved_at(sent.resolved, 0);
@@ -190,11 +190,11 @@ fn next_name<K: Keep>(keep: &K, sent: Sent, names: &[Name]) -> Name
 
 /// Makes the Names of a command's handles.
 #[tactic(auto, using(crate::proofs::Resolving::one_more_named, crate::proofs::Resolving::as_many))]
-fn make_names<K: Keep>(keep: &K, sent: Sent, names: &mut ArrayVec<Name, 3>)
-    requires resolved { IsResolved (K.record_of keep.now) sent }
+fn make_names<K: Keep>(keep: &K, sent: &Sent, names: &mut ArrayVec<Name, 3>)
+    requires resolved { IsResolved (K.record_of keep.now) sent.now }
     requires empty { names.old.items ≡ [] }
     ensures { names.new.items
-        ≡ map (name_of (K.record_of keep.now)) (whole_of sent.entry.command.now).handles }
+        ≡ map (name_of (K.record_of keep.now)) (whole_of sent.now.command.now).handles }
 {
     for _ in sent.command.handles.as_slice() {
         let name = next_name(keep, sent, names.as_slice());
@@ -202,12 +202,12 @@ fn make_names<K: Keep>(keep: &K, sent: Sent, names: &mut ArrayVec<Name, 3>)
     }
 }
 
-/// Checks each handle by the entry of its place, and the other entries, and tells what each
+/// Checks each handle by the entry in its place, and the other entries, and tells what each
 /// authorizes.
-fn check_resolved<K: Keep>(keep: &K, sent: Sent, keyed: &mut KeyedMac) -> Result<Grants, Refused>
-    requires { IsResolved (K.record_of keep.now) sent }
-    ensures { Gives granted_by (grants_pass (K.record_of keep.now) (whole_of sent.entry.command.now)
-        (locality_number sent.entry.locality) [] (whole_of sent.entry.command.now).entries) result }
+fn check_resolved<K: Keep>(keep: &K, sent: &Sent, keyed: &mut KeyedMac) -> Result<Grants, Refused>
+    requires { IsResolved (K.record_of keep.now) sent.now }
+    ensures { Gives granted_by (grants_pass (K.record_of keep.now) (whole_of sent.now.command.now)
+        (locality_number sent.now.locality) [] (whole_of sent.now.command.now).entries) result }
 {
     let command = sent.command;
     let mut names = ArrayVec::new();
@@ -215,9 +215,9 @@ fn check_resolved<K: Keep>(keep: &K, sent: Sent, keyed: &mut KeyedMac) -> Result
     let code = command.code.number();
     let hashed = HashedParameters::Command(code, names.as_slice(), command.parameters);
     let mut hashes = ParameterHashes::new(hashed);
-    let named = Sent {
+    let named = &Sent {
         names: names.as_slice(),
-        ..sent
+        ..*sent
     };
     let mut entries = ArrayVec::new();
     check_grants(
@@ -255,7 +255,7 @@ fn check_sessions<K: Keep>(
 {
     let mut resolved = ArrayVec::new();
     resolve_all(keep, command.handles.as_slice(), &mut resolved);
-    let sent = Sent {
+    let sent = &Sent {
         command,
         resolved: resolved.as_slice(),
         names: &[],
@@ -280,7 +280,7 @@ fn first_used<'a, K: Keep>(keep: &'a K, command: &Command) -> Option<Used<'a>>
     }
 }
 
-/// Checks a handle by the only entry, which is a password.
+/// Checks a handle by the only entry of its command, which is a password.
 #[tactic(auto, unfolding(crate::specs::Grant::grant))]
 fn check_one_password<K: Keep>(
     keep: &K,
@@ -321,8 +321,8 @@ fn check_all<K: Keep>(
 }
 
 /// Checks the entries of a command, and by them the handles that need authorization: first each
-/// entry for itself, then that there are enough, then each handle and each other entry, and last
-/// that what a session decrypts is there.
+/// entry for itself, then that there are enough entries, then each handle and each other entry, and
+/// last that the parameter is there that a session decrypts.
 pub fn authorize<K: Keep>(
     keep: &K,
     command: &Command,
@@ -334,7 +334,8 @@ pub fn authorize<K: Keep>(
     authorize_keyed(keep, command, locality, &mut KeyedMac::new())
 }
 
-/// As [`authorize`], where the key of the latest HMAC is kept for the next one.
+/// Checks the entries of a command as [`authorize`] does, where the key of the latest HMAC is kept
+/// for the next one.
 #[tactic(auto, unfolding(crate::specs::Grant::authorize))]
 pub fn authorize_keyed<K: Keep>(
     keep: &K,

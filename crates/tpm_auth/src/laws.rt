@@ -1,4 +1,4 @@
-//! What an accepted authorization says.
+//! The laws of an accepted authorization.
 
 ghost use Rattle.std.specs.Prelude.{ℕ, IfOk};
 ghost use Rattle.tpm_types_command.specs.Command.{Whole};

@@ -4,7 +4,7 @@
 //! section 19, and Part 3, sections 5.5 and 5.6).
 //!
 //! [`authorize`] first checks each entry for itself, then each handle that needs authorization by
-//! the entry of its place, and says in [`Grants`] what each entry authorizes. It stands on
+//! the entry of its place, and says in [`Grants`] what each entry authorizes. The crate uses
 //! tpm_record, and promises the definitions of `specs/` for each way of keeping the record.
 
 mod comparison;

@@ -1,5 +1,5 @@
-//! What the entry of a session authorizes, by its HMAC or by its policy: whether it may, what it
-//! comes up against, and whether its comparison holds.
+//! What the entry of a session authorizes, by its HMAC or by its policy: whether it may, whether
+//! the entity whose value it uses is locked out, and whether its comparison holds.
 
 ghost use Rattle.std.specs.Prelude.{◌≡◌, ◌≤◌, length, option_map};
 ghost use Rattle.std.specs.Option.{ForSome};
@@ -25,7 +25,7 @@ use tpm_session::{ParameterHashes, Protection, Session};
 use tpm_types::{Check, Handle, Refused, ResponseCode, SessionType};
 use tpm_types_command::{AuthEntry, Command};
 
-/// What an entry authorizes: a handle, and what the policy demanded by which it does so.
+/// What an entry authorizes: a handle, with what the session's policy demanded for it.
 #[derive(Clone, Copy, Debug, PartialEq, Eq)]
 pub struct Grant {
     pub handle: Handle,
@@ -51,7 +51,8 @@ fn or_protection(protection: Protection, other: Protection) -> Protection
     }
 }
 
-/// How the entity is protected that an entry of a session touches, which authorizes so.
+/// The protection of the entity whose authorization value the entry of a session uses, where the
+/// entry is about to authorize this.
 #[tactic(auto, unfolding(crate::specs::SessionGrant::entry_protection, tpm_record::specs::Entity::protection_of))]
 fn granted_protection<K: Keep>(keep: &K, session: &Session, granted: &Granted) -> Protection
     requires { IsToGrant (K.record_of keep.now) granted.now }
@@ -66,7 +67,7 @@ fn granted_protection<K: Keep>(keep: &K, session: &Session, granted: &Granted) -
     }
 }
 
-/// How the entity is protected that an entry of a session touches.
+/// The protection of the entity whose authorization value the entry of a session uses.
 #[tactic(auto, unfolding(crate::specs::SessionGrant::entry_protection))]
 fn entry_protection<K: Keep>(keep: &K, session: &Session, granted: Option<Granted>) -> Protection
     requires { ForSome granted (IsToGrant (K.record_of keep.now)) }
@@ -79,8 +80,8 @@ fn entry_protection<K: Keep>(keep: &K, session: &Session, granted: Option<Grante
     }
 }
 
-/// Whether what an entry of a session comes up against is locked out. Where nothing is, that is not
-/// looked for.
+/// Whether the entity whose authorization value the entry of a session uses is locked out. Where
+/// nothing is locked out, the entity is not looked up.
 fn comes_up_against_lockout<K: Keep>(keep: &K, session: &Session, granted: Option<Granted>) -> bool
     requires { ForSome granted (IsToGrant (K.record_of keep.now)) }
     ensures { result ≡ is_locked_out (K.record_of keep.now).fixed.lockout
@@ -91,7 +92,7 @@ fn comes_up_against_lockout<K: Keep>(keep: &K, session: &Session, granted: Optio
         && is_locked_out(lockout, entry_protection(keep, session, granted))
 }
 
-/// The policy of what a handle names, lent no longer than that.
+/// The policy of what a handle names, lent no longer than what the code found.
 fn policy_of<'a>(resolved: &'a Resolved) -> Option<EntityPolicy<'a>>
     ensures { option_map entity_parts result
         ≡ entity_policy (entity_seen resolved.now.entity) }
@@ -103,11 +104,11 @@ fn policy_of<'a>(resolved: &'a Resolved) -> Option<EntityPolicy<'a>>
     })
 }
 
-/// What is to be authorized by the entry of this number, of a policy session.
+/// The use that the entry of this number, of a policy session, is to authorize.
 #[tactic(auto, unfolding(crate::specs::SessionGrant::use_of, tpm_record::specs::Entity::is_available, tpm_record::specs::Entity::written_of, tpm_record::specs::Entity::policy_of))]
 fn use_of<'a, K: Keep>(
     keep: &K,
-    sent: Sent,
+    sent: &Sent,
     cp_hash: &'a [u8],
     number: u8,
     resolved: &'a Resolved,
@@ -115,10 +116,10 @@ fn use_of<'a, K: Keep>(
 ) -> Use<'a>
     requires number { 1 ≤ number }
     requires hashed { cp_hash.now ≡ parameter_hash_of session.now.hash
-        (hashed_command (K.record_of keep.now) (whole_of sent.command.now)) }
+        (hashed_command (K.record_of keep.now) (whole_of sent.now.command.now)) }
     requires found { IsFound (K.record_of keep.now) resolved.now }
-    ensures { parts_of result ≡ use_of (K.record_of keep.now) (whole_of sent.entry.command.now)
-        (locality_number sent.entry.locality) number resolved.now.handle session.now }
+    ensures { parts_of result ≡ use_of (K.record_of keep.now) (whole_of sent.now.command.now)
+        (locality_number sent.now.locality) number resolved.now.handle session.now }
 {
     let code = sent.command.code;
     let place = usize::from(number) - 1;
@@ -137,10 +138,10 @@ fn use_of<'a, K: Keep>(
     }
 }
 
-/// What the policy of a session demands for this handle, if it authorizes that.
+/// What the policy of a session demands for this handle, if it authorizes the use.
 fn policy_demand<K: Keep>(
     keep: &K,
-    sent: Sent,
+    sent: &Sent,
     hashes: &mut ParameterHashes,
     number: u8,
     resolved: &Resolved,
@@ -148,10 +149,10 @@ fn policy_demand<K: Keep>(
 ) -> Result<Demand, Refused>
     requires number { 1 ≤ number }
     requires hashed { hashes.old
-        ≡ hashed_command (K.record_of keep.now) (whole_of sent.command.now) }
+        ≡ hashed_command (K.record_of keep.now) (whole_of sent.now.command.now) }
     requires found { IsFound (K.record_of keep.now) resolved.now }
-    ensures value { result ≡ by_policy (K.record_of keep.now) (whole_of sent.entry.command.now)
-        (locality_number sent.entry.locality) number resolved.now.handle session.now }
+    ensures value { result ≡ by_policy (K.record_of keep.now) (whole_of sent.now.command.now)
+        (locality_number sent.now.locality) number resolved.now.handle session.now }
     ensures same { hashes.new ≡ hashes.old }
 {
     let cp_hash = hashes.by(session.hash);
@@ -162,11 +163,11 @@ fn policy_demand<K: Keep>(
     }
 }
 
-/// What a session demands for this handle beside its comparison, if it can authorize it.
+/// What a session demands for this handle besides its comparison, if it can authorize the handle.
 #[tactic(auto, unfolding(crate::specs::SessionGrant::demanded, tpm_record::specs::Entity::is_available))]
 fn demand_of<K: Keep>(
     keep: &K,
-    sent: Sent,
+    sent: &Sent,
     hashes: &mut ParameterHashes,
     number: u8,
     resolved: &Resolved,
@@ -174,10 +175,10 @@ fn demand_of<K: Keep>(
 ) -> Result<Demand, Refused>
     requires number { 1 ≤ number }
     requires hashed { hashes.old
-        ≡ hashed_command (K.record_of keep.now) (whole_of sent.command.now) }
+        ≡ hashed_command (K.record_of keep.now) (whole_of sent.now.command.now) }
     requires found { IsFound (K.record_of keep.now) resolved.now }
-    ensures value { result ≡ demanded (K.record_of keep.now) (whole_of sent.entry.command.now)
-        (locality_number sent.entry.locality) number resolved.now.handle session.now }
+    ensures value { result ≡ demanded (K.record_of keep.now) (whole_of sent.now.command.now)
+        (locality_number sent.now.locality) number resolved.now.handle session.now }
     ensures same { hashes.new ≡ hashes.old }
 {
     let nv_use = sent.command.code.nv_use_at(usize::from(number) - 1);
@@ -193,7 +194,7 @@ fn demand_of<K: Keep>(
     }
 }
 
-/// The authorization value of what an entry authorizes, or no byte.
+/// The authorization value of the entity that an entry authorizes, or no byte.
 pub fn granted_value<'a, K: Keep>(keep: &'a K, grant: Option<Grant>) -> &'a [u8]
     ensures value { result.now ≡ granted_value (K.record_of keep.now) grant }
     ensures fits { length result.now ≤ 32 }
@@ -204,8 +205,8 @@ pub fn granted_value<'a, K: Keep>(keep: &'a K, grant: Option<Grant>) -> &'a [u8]
     }
 }
 
-/// Whether the comparison of an entry holds: of a password, where its policy demands one, else of
-/// an HMAC.
+/// Whether the comparison of an entry holds: of a password, where its session's policy demands one,
+/// else of an HMAC.
 #[tactic(auto, unfolding(crate::specs::SessionGrant::comparison_holds, tpm_record::specs::Entity::auth_value_of))]
 fn comparison_holds<K: Keep>(
     keep: &K,
@@ -233,7 +234,7 @@ fn comparison_holds<K: Keep>(
     }
 }
 
-/// What an entry authorizes, without what that names.
+/// What an entry authorizes: its handle and the demand, without what the handle names.
 fn grant_of(granted: Option<Granted>) -> Option<Grant>
     ensures { result ≡ option_map grant_by granted.entry }
 {
@@ -243,7 +244,8 @@ fn grant_of(granted: Option<Granted>) -> Option<Grant>
     }
 }
 
-/// What is accepted of a session that is about to authorize so, or nothing, if its comparison holds.
+/// The grant of an entry of a session that is about to authorize this, or nothing, if its
+/// comparison holds.
 #[inline(always)]
 fn compare<K: Keep>(
     keep: &K,
@@ -274,12 +276,12 @@ fn compare<K: Keep>(
     Err(failure(check_of(grant), number, protection))
 }
 
-/// What the entry of a session authorizes, this handle or nothing, if it can and its comparison
-/// holds.
+/// The grant of the entry of a session, for this handle or for none, if the session can authorize
+/// it and the comparison holds.
 #[tactic(auto, unfolding(crate::specs::SessionGrant::session_grant))]
 pub fn check_session<K: Keep>(
     keep: &K,
-    sent: Sent,
+    sent: &Sent,
     hashes: &mut ParameterHashes,
     keyed: &mut KeyedMac,
     number: u8,
@@ -289,10 +291,10 @@ pub fn check_session<K: Keep>(
 ) -> Result<Option<Grant>, Refused>
     requires number { 1 ≤ number }
     requires hashed { hashes.old
-        ≡ hashed_command (K.record_of keep.now) (whole_of sent.command.now) }
+        ≡ hashed_command (K.record_of keep.now) (whole_of sent.now.command.now) }
     requires used { ForSome used (IsUsed (K.record_of keep.now)) }
-    ensures value { result ≡ session_grant (K.record_of keep.now) (whole_of sent.entry.command.now)
-        (locality_number sent.entry.locality) number (option_map used_handle used.entry)
+    ensures value { result ≡ session_grant (K.record_of keep.now) (whole_of sent.now.command.now)
+        (locality_number sent.now.locality) number (option_map used_handle used.entry)
         (entry_of entry.now) session.now }
     ensures same { hashes.new ≡ hashes.old }
 {
@@ -322,8 +324,8 @@ pub fn check_session<K: Keep>(
     )
 }
 
-/// What is accepted of a session with an empty HMAC had an empty key, or a policy demanded a
-/// password. It does nothing.
+/// An entry of a session that is accepted with an empty HMAC had an empty key, or a policy demanded
+/// a password. The function does nothing.
 #[inline(always)]
 #[tactic(auto, using(crate::proofs::EmptyHmac::no_key))]
 pub fn empty_hmac_laws()

@@ -1,5 +1,5 @@
-//! What an entry is to authorize: a handle of its command, with what that names, which was looked up
-//! once.
+//! What an entry is to authorize: a handle of its command, with what that names, which was looked
+//! up once.
 
 ghost use Rattle.std.specs.Prelude.{◌≡◌, ◌≤◌, length, map, slice_get, take};
 ghost use Rattle.std.specs.Str.{bytes_eq};
@@ -22,7 +22,7 @@ use tpm_types_name::Name;
 pub struct Sent<'a, 'b> {
     pub command: &'a Command<'b>,
     pub resolved: &'a [Resolved<'a>],
-    /// The Names of its handles, or of none where nothing asks for them.
+    /// The Names of the command's handles; none where nothing asks for them.
     pub names: &'a [Name],
     pub locality: Locality,
 }
@@ -34,7 +34,7 @@ pub struct Used<'a> {
     pub name: Option<&'a Name>,
 }
 
-/// What an entry authorizes, and what the policy demanded by which it does so.
+/// What an entry authorizes, with what the session's policy demanded for it.
 #[derive(Clone, Copy)]
 pub struct Granted<'a> {
     pub used: Used<'a>,
@@ -42,7 +42,7 @@ pub struct Granted<'a> {
 }
 
 impl Granted<'_> {
-    /// The same without what the handle names.
+    /// What an entry authorizes: its handle and the demand, without what the handle names.
     pub fn grant(&self) -> Grant
         ensures { result ≡ grant_by self.now }
     {
@@ -54,7 +54,7 @@ impl Granted<'_> {
 }
 
 impl Used<'_> {
-    /// Whether this is its Name, which is made here where it was not before.
+    /// Whether this is the entity's Name, which is made here where it was not made before.
     #[tactic(auto, unfolding(tpm_record::specs::Entity::name_of))]
     pub fn is_named(&self, name: &Name) -> bool
         ensures { (r : Record) → IsUsed r self.now
@@ -67,21 +67,21 @@ impl Used<'_> {
     }
 }
 
-/// What the handles of a command name that need authorization.
-fn authorized<'a>(sent: Sent<'a, '_>) -> &'a [Resolved<'a>]
-    requires { length sent.resolved.now ≡ length (whole_of sent.command.now).handles }
-    ensures { result.now ≡ take (authorized_handles (whole_of sent.entry.command.now).code)
-        sent.entry.resolved.now }
+/// The handles of a command that need authorization, with what they name.
+fn authorized<'a>(sent: &Sent<'a, '_>) -> &'a [Resolved<'a>]
+    requires { length sent.now.resolved.now ≡ length (whole_of sent.now.command.now).handles }
+    ensures { result.now ≡ take (authorized_handles (whole_of sent.now.command.now).code)
+        sent.now.resolved.now }
 {
     &sent.resolved[..sent.command.code.authorized_handles()]
 }
 
 /// What the entry in a place is to authorize, or nothing.
 #[tactic(auto, using(crate::proofs::Resolving::used_in, crate::proofs::Resolving::nothing_in))]
-pub fn used_at<'a>(sent: Sent<'a, '_>, place: usize) -> Option<Used<'a>>
-    requires { length sent.resolved.now ≡ length (whole_of sent.command.now).handles }
-    ensures { (r : Record) → IsResolved r sent.entry
-        → IsUsedFor r (slice_get (authorized (whole_of sent.entry.command.now)) place) result }
+pub fn used_at<'a>(sent: &Sent<'a, '_>, place: usize) -> Option<Used<'a>>
+    requires { length sent.now.resolved.now ≡ length (whole_of sent.now.command.now).handles }
+    ensures { (r : Record) → IsResolved r sent.now
+        → IsUsedFor r (slice_get (authorized (whole_of sent.now.command.now)) place) result }
 {
     match authorized(sent).get(place) {
         Some(resolved) => Some(Used {

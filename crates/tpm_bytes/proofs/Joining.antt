@@ -1,16 +1,16 @@
--- Things read so far and things still to be read are the things to be read.
+-- The things read so far, and those still to be read, are all that were to be read.
 use Rattle.std.proofs.Common.{◌≡◌, ℕ, suc, List, [], ◌∷◌, ◌++◌, map, Result, Ok, Err, refl, ap, sym, ◌∙◌, append_assoc}
 use Rattle.std.proofs.lemmas.List.{map-append}
 use Rattle.tpm_bytes.specs.Many.{many_at}
 use Rattle.tpm_bytes.specs.Reading.{◌>>=◌}
 
--- what is read, after what was read before it
+-- a reading whose things come after those that were read before
 abbrev pub behind : {A E : Type 0} → List A → Result (List A × List ℕ) E → Result (List A × List ℕ) E
 behind front read = do
   others ← read
   Ok (front ++ others.0, others.1)
 
--- one thing more in front is one that was read before
+-- a thing that was read before, moved to the front of what is read after it
 pub moved : {A E : Type 0} (front : List A) (x : A) (read : Result (List A × List ℕ) E) → behind (front ++ x ∷ []) read ≡ behind front (read >>= λ others. Ok (x ∷ others.0, others.1))
 moved front x (Err e) = refl
 moved front x (Ok y) = ap (λ l. Ok (l, y.1)) (append_assoc front (x ∷ []) y.0)
@@ -18,7 +18,7 @@ moved front x (Ok y) = ap (λ l. Ok (l, y.1)) (append_assoc front (x ∷ []) y.0
 pub map_push : {X Y : Type 0} (f : X → Y) (xs : List X) (x : X) → map f (xs ++ x ∷ []) ≡ map f xs ++ f x ∷ []
 map_push f xs x = map-append f xs (x ∷ [])
 
--- one thing more
+-- one thing more is read
 pub one_more : {X A E : Type 0} (view : X → A) (at : List ℕ → Result (A × List ℕ) E) (so_far : List X) (m n : ℕ) (x : X) (text rest : List ℕ) → m ≡ suc n → at text ≡ Ok (view x, rest) → behind (map view (so_far ++ x ∷ [])) (many_at at n rest) ≡ behind (map view so_far) (many_at at m text)
 one_more {X} {A} {E} view at so_far m n x text rest e is =
     let front = map view so_far in
@@ -27,7 +27,7 @@ one_more {X} {A} {E} view at so_far m n x text rest e is =
     ∙ ap (λ (r : Result (A × List ℕ) E). behind front (r >>= λ first. many_at at n first.1 >>= λ others. Ok (first.0 ∷ others.0, others.1))) (sym is)
     ∙ ap (λ k. behind front (many_at at k text)) (sym e)
 
--- a thing that is not read ends the reading
+-- a thing that cannot be read ends the reading
 pub none_more : {A E : Type 0} (at : List ℕ → Result (A × List ℕ) E) (front : List A) (m n : ℕ) (fault : E) (text : List ℕ) → m ≡ suc n → at text ≡ Err fault → behind front (many_at at m text) ≡ Err fault
 none_more {A} {E} at front m n fault text e is =
     ap (λ k. behind front (many_at at k text)) e

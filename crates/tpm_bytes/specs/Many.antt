@@ -3,7 +3,7 @@
 use Rattle.std.specs.Prelude.{ℕ, zero, suc, ◌+◌, List, [], ◌∷◌, Result, Ok}
 use Rattle.tpm_bytes.specs.Reading.{◌>>=◌}
 
--- a number of things, each read where the one before it ended
+-- a number of things in a text, each read where the one before it ended
 abbrev pub many_at : {A E : Type 0}
     → (List ℕ → Result (A × List ℕ) E)
     → ℕ → List ℕ → Result (List A × List ℕ) E
@@ -13,7 +13,7 @@ many_at at (suc count) text = do
   others ← many_at at count first.1
   Ok (first.0 ∷ others.0, others.1)
 
--- a thing for each key, from the n-th on
+-- a thing in a text for each key, read one after another; keys are numbered from n on
 abbrev pub each_at : {K A E : Type 0}
     → (ℕ → K → List ℕ → Result (A × List ℕ) E)
     → ℕ → List K → List ℕ → Result (List A × List ℕ) E

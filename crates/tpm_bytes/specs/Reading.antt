@@ -13,7 +13,7 @@ abbrev pub ◌>>=◌ : {A B E : Type 0} → Result A E → (A → Result B E) �
 (Ok x) >>= f = f x
 (Err e) >>= f = Err e
 
--- the same with another fault
+-- a result with this fault in place of its own
 abbrev pub or_fault : {A E F : Type 0} → Result A E → F → Result A F
 or_fault (Ok x) fault = Ok x
 or_fault (Err e) fault = Err fault
@@ -23,27 +23,28 @@ abbrev pub refused_if : {E : Type 0} → Bool → E → Result (Unit {0}) E
 refused_if true fault = Err fault
 refused_if false fault = Ok tt
 
--- each is below 256
+-- Each number of a list is below 256.
 abbrev pub AreBytes : List ℕ → Type 0
 AreBytes bytes = (i : ℕ) → get_or bytes i 0 < 256
 
 abbrev pub too_short : Short
 too_short = record {}
 
--- the first bytes, and what is after them
+-- the first bytes of a text, and what is after them
 abbrev pub bytes_at : ℕ → List ℕ → Result (List ℕ × List ℕ) Short
 bytes_at count text =
     if nat_lt (length text) count then Err too_short
     else Ok (take count text, drop count text)
 
--- a number, and what is after it
+-- the number at the front of a text, and what is after it
 abbrev pub number_at : Width → List ℕ → Result (ℕ × List ℕ) Short
 number_at width text =
     if nat_lt (length text) (byte_len width) then Err too_short
     else Ok (from_be_bytes width (take (byte_len width) text), drop (byte_len width) text)
 
--- the bytes of a sized buffer, and what is after it: too long where its size is over the limit,
--- whether its bytes are there or not, and else short where they are not
+-- the bytes of the sized buffer at the front of a text, and what is after it. The fault is "too
+-- long" where its size is over the limit, whether its bytes are there or not, and else "short"
+-- where they are not
 abbrev pub sized_at : ℕ → List ℕ → Result (List ℕ × List ℕ) SizedFault
 sized_at limit text = do
   size ← or_fault (number_at w16 text) fault.Short

@@ -1,18 +1,18 @@
--- What a tap tells of the reader or the writer that it stands before.
+-- What a tap tells of its device: the reader or writer that it wraps.
 use Rattle.std.specs.Prelude.{◌≡◌, ℕ, ◌+◌, ◌-◌, ◌^◌, ◌==◌, min, List, ◌++◌}
 use Rattle.std.specs.Prelude.{Bool, true, false, Option, Result, Ok, Err, if◌then◌else◌}
 use Rattle.std.specs.Io.KnownBytes.{Appends}
 use Rattle.tpm_bytes.specs.declared.tap.Tap.{Tap}
 
--- whether the device failed or ended, how many of its reads gave bytes, and for how many bytes the
--- last read had room
+-- the marks of a device: whether it failed or ended, how many of its reads gave bytes, and for how
+-- many bytes the last read had room
 pub record Marks : Type 0 where
   pub failed : Bool
   pub ended : Bool
   pub reads : ℕ
   pub room : ℕ
 
--- those of a device of which nothing was asked yet
+-- the marks of a device of which nothing was asked yet
 abbrev pub unmarked : Marks
 unmarked = record { failed = false; ended = false; reads = 0; room = 0 }
 
@@ -37,7 +37,7 @@ after_read marks (Ok count) room =
     else record marks { ended = true; room = room }
     ) else record marks { reads = min (marks.reads + 1) (2 ^ 64 - 1); room = room }
 
--- the marks after a write of a piece of this length; one that took a part of it leaves them
+-- the marks after a write of a piece of this length; a write that took a part of it leaves them
 abbrev pub after_write : {E : Type 0} → Marks → Result ℕ E → ℕ → Marks
 after_write marks (Err e) size = record marks { failed = true }
 after_write marks (Ok count) size =

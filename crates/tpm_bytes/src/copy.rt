@@ -4,7 +4,7 @@ ghost use Rattle.std.specs.Prelude.{◌≡◌, ◌+◌, ◌≤◌, ◌++◌, len
 
 use arrayvec::ArrayVec;
 
-/// These bytes at the end of a buffer, which has room for them.
+/// Puts these bytes at the end of a buffer, which has room for them.
 pub fn append<const N: usize>(buffer: &mut ArrayVec<u8, N>, bytes: &[u8])
     requires { length buffer.old.items + length bytes.now ≤ N }
     ensures { buffer.new.items ≡ buffer.old.items ++ bytes.now }
@@ -12,7 +12,7 @@ pub fn append<const N: usize>(buffer: &mut ArrayVec<u8, N>, bytes: &[u8])
     let _ = buffer.try_extend_from_slice(bytes);
 }
 
-/// The bytes, copied.
+/// A buffer with a copy of these bytes.
 pub fn copied<const N: usize>(bytes: &[u8]) -> ArrayVec<u8, N>
     requires { length bytes.now ≤ N }
     ensures value { result.items ≡ bytes.now }

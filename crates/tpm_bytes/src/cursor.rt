@@ -7,16 +7,16 @@ ghost use Rattle.tpm_bytes.specs.Reading.{AreBytes, Reads, bytes_at, number_at, 
 
 use std::marker::Model;
 
-/// Fewer bytes are left than were asked for.
+/// The fault that fewer bytes are left than were asked for.
 #[derive(Clone, Copy, Debug, PartialEq, Eq)]
 pub struct Short;
 
 /// Why a sized buffer was not read.
 #[derive(Clone, Copy, Debug, PartialEq, Eq)]
 pub enum SizedFault {
-    /// Its size is over the limit, whether its bytes are there or not.
+    /// The size of the buffer is over the limit, whether its bytes are there or not.
     TooLong,
-    /// Its size, or some of its bytes, are not there.
+    /// The size of the buffer, or some of its bytes, are not there.
     Short,
 }
 

@@ -4,7 +4,7 @@
 //! stand one after another, a [`sink::Sink`] of fixed capacity takes bytes, and a [`tap::Tap`]
 //! tells what a reader or a writer of them did.
 //!
-//! It stands on `arrayvec` for texts of fixed capacity, and on no part of a TPM. Numbers are
+//! The crate uses `arrayvec` for texts of fixed capacity, and no part of a TPM. Numbers are
 //! big-endian, as everywhere in a TPM's buffers (TPM 2.0 Library, Part 2, section 3.2). Each call
 //! equals its definition in `specs/`; a cursor and a sink that refuse are left as they were, and no
 //! call here takes memory.

@@ -12,7 +12,7 @@ use arrayvec::ArrayVec;
 pub trait Readable<'a>: Sized {
     type Fault;
 
-    /// What contracts see of it.
+    /// The thing as contracts see it.
     ghost Seen: { Type 0 };
 
     ghost seen: { Self → Seen };
@@ -42,11 +42,12 @@ pub fn read_many<'a, T: Readable<'a> + Default + Drop, const N: usize>(
     Ok(things)
 }
 
-/// A thing that a text spells, where a key says what it may be, and its place where its faults are.
+/// A thing that a text spells, where a key says what may stand there, and a number in which place a
+/// fault is.
 pub trait ReadableBy<'a, K>: Sized {
     type Fault;
 
-    /// What contracts see of it.
+    /// The thing as contracts see it.
     ghost Seen: { Type 0 };
 
     ghost seen: { Self → Seen };

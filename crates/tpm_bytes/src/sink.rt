@@ -11,7 +11,7 @@ use crate::copy::append;
 use arrayvec::ArrayVec;
 use std::marker::Model;
 
-/// The text does not fit.
+/// The fault that a text does not fit.
 #[derive(Clone, Copy, Debug, PartialEq, Eq)]
 pub struct Full;
 
@@ -56,11 +56,12 @@ impl<const N: usize> Sink<N> {
     pub fn as_mut_slice(&mut self) -> &mut [u8]
         ensures* writes_back { sem 𝓛 (lends_bytes N.row self.entry result) }
         ensures value { result.now ≡ self.old }
+        ensures fits { length self.old ≤ N }
     {
         self.bytes.as_mut_slice()
     }
 
-    /// Drops the bytes so far.
+    /// Drops the bytes that were written so far.
     pub fn clear(&mut self)
         ensures { self.new ≡ [] }
     {
@@ -107,7 +108,8 @@ impl<const N: usize> Sink<N> {
         self.put(&number.to_be_bytes())
     }
 
-    /// A sized buffer: the size of `bytes` in two bytes, then `bytes`. Over 65,535 bytes never fit.
+    /// Writes a sized buffer: the size of `bytes` in two bytes, then `bytes`. Over 65,535 bytes
+    /// never fit.
     pub fn put_sized(&mut self, bytes: &[u8]) -> Result<(), Full>
         ensures { PutsSized N bytes.now self.old result self.new }
     {
@@ -117,7 +119,8 @@ impl<const N: usize> Sink<N> {
         self.put_u16(bytes.len() as u16)?;
         self.put(bytes)
     }
-    /// These bytes at the end, where there is room for them.
+
+    /// Writes these bytes at the end, where there is room for them.
     pub fn append(&mut self, bytes: &[u8])
         requires { length self.old + length bytes.now ≤ N }
         ensures { self.new ≡ self.old ++ bytes.now }
@@ -153,8 +156,8 @@ impl<const N: usize> Sink<N> {
         self.append(&number.to_be_bytes());
     }
 
-    /// A sized buffer of these bytes, where there is room for it: their size in two bytes, then the
-    /// bytes.
+    /// Writes a sized buffer of these bytes, where there is room for it: their size in two bytes,
+    /// then the bytes.
     pub fn append_sized(&mut self, bytes: &[u8])
         requires short { length bytes.now < 2 ^ 16 }
         requires room { length self.old + (2 + length bytes.now) ≤ N }

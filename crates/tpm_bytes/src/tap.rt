@@ -81,7 +81,7 @@ impl<D> Tap<D> {
 }
 
 impl<D: Read> Tap<D> {
-    /// One read of the device.
+    /// Makes one read of the device.
     pub fn read(&mut self, buffer: &mut [u8]) -> io::Result<usize>
         ensures bound { ReadsAtMost result buffer.new }
         ensures bytes { ReadConsumes
@@ -106,7 +106,7 @@ impl<D: Read> Tap<D> {
 }
 
 impl<D: Write> Tap<D> {
-    /// One write to the device.
+    /// Makes one write to the device.
     pub fn write(&mut self, piece: &[u8]) -> io::Result<usize>
         ensures bound { WritesAtMost result piece.now }
         ensures bytes { WriteAppends
@@ -149,7 +149,7 @@ impl<D: Write> Tap<D> {
         Ok(())
     }
 
-    /// Has the device pass on what was written and it still holds.
+    /// Has the device pass on what was written and is still held.
     pub fn flush(&mut self) -> Result<(), Failed>
         ensures kept { Keeps (D.contents (device_of self.old)) (D.contents (device_of self.new)) }
         ensures unmarked { OnOk result (marks_of self.new ≡ marks_of self.old) }

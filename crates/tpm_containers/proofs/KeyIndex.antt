@@ -23,7 +23,7 @@ module _ {X : Type 0} where
   abbrev is_from : ℕ → ℕ × X → Bool
   is_from key e = nat_le key e.0
 
-  -- no entry passes a test where none is found
+  -- where no entry passes a test, none in a place does
   position-None : (test : ℕ × X → Bool) (es : Entries X) (d : ℕ × X) → position test es ≡ None → (k : ℕ) → k < length es → test (get_or es k d) ≡ false
   position-None test es d is k inside =
       let none : length es ≤ position_or_len test es = ltb-false _ _ (not_found _ (position_or_len test es) is) in
@@ -63,12 +63,12 @@ module _ {X : Type 0} where
 
   -- ---- edits where a key is found
 
-  -- an index inside, at which a test holds, and before which it does not
+  -- At this index inside, a test holds that holds at none before it.
   abbrev IsFirst : (ℕ × X → Bool) → Entries X → ℕ → ℕ × X → Type 0
   IsFirst test es i d =
       (i < length es) × (test (get_or es i d) ≡ true) × ((k : ℕ) → k < i → test (get_or es k d) ≡ false)
 
-  -- it is the first among the rest too
+  -- the first place at which a test holds is the first among the rest too
   first_rest : (test : ℕ × X → Bool) (e : ℕ × X) (es : Entries X) (i : ℕ) (d : ℕ × X) → IsFirst test (e ∷ es) (suc i) d → IsFirst test es i d
   first_rest test e es i d p =
       let inside = p.0 in
@@ -118,14 +118,14 @@ module _ {X : Type 0} where
   set_position es key i x is =
       set_there es key i x (key, x) (position-Some (has key) es i (key, x) is)
 
-  -- ---- the entry where a key is found
+  -- ---- the entry at the place of a key
 
-  -- what is read there is under the key
+  -- what is read at the place of a key is under the key
   pub read_where : (es : Entries X) (key : ℕ) (o : Option ℕ) → o ≡ position (λ e. e.0 == key) es → IfSome o (λ i. (e : ℕ × X) → get_or es i e ≡ e → at_key es key ≡ Some e.1)
   read_where es key None is = tt
   read_where es key (Some i) is = λ e read. at_key_position es key i e (sym is) ∙ ap (λ (p : ℕ × X). Some p.1) read
 
-  -- what is written there changes what is under the key
+  -- what is written at the place of a key changes what is under the key
   pub written_where : (es : Entries X) (key : ℕ) (o : Option ℕ) → o ≡ position (λ e. e.0 == key) es → IfSome o (λ i. (e : ℕ × X) (x : X) → get_or es i e ≡ e → slice_set es i (e.0, x) ≡ changed_key es key x)
   written_where es key None is = tt
   written_where es key (Some i) is = λ e x read.
@@ -133,12 +133,12 @@ module _ {X : Type 0} where
       let same : e.0 ≡ key = ap (λ (p : ℕ × X). p.0) (sym read) ∙ here in
       ap (λ (k : ℕ). slice_set es i (k, x)) same ∙ set_position es key i x (sym is)
 
-  -- an entry at an index, which is read and written there under this key
+  -- An entry at an index is read and written there under this key.
   pub record Lent (es : Entries X) (key i : ℕ) (e : ℕ × X) : Type 0 where
     pub value : at_key es key ≡ Some e.1
     pub written : (x : X) → slice_set es i (e.0, x) ≡ changed_key es key x
 
-  -- so is the one that is lent of the entries which a container shows as a slice
+  -- an entry that is lent from the slice that a container shows is read and written under its key
   pub lent_at : (shown es : Entries X) (key i : ℕ) (e : ℕ × X) → shown ≡ es → e ≡ get_or es i e → ((e : ℕ × X) → get_or shown i e ≡ e → at_key shown key ≡ Some e.1) → ((e : ℕ × X) (x : X) → get_or shown i e ≡ e → slice_set shown i (e.0, x) ≡ changed_key shown key x) → Lent es key i e
   lent_at shown es key i e same read value written =
       let is : get_or shown i e ≡ e = ap (λ (l : Entries X). get_or l i e) same ∙ sym {b = get_or es i e} read in

@@ -12,7 +12,7 @@ module _ {X : Type 0} (kind : X → ℕ) where
 
   -- ---- numbers
 
-  -- what is found under a number in a place that holds this
+  -- what is found under a number whose place holds this
   abbrev seen : ℕ → Option X → Option X
   seen number cell = option_and_then (if_of_kind kind number) cell
 
@@ -53,7 +53,7 @@ module _ {X : Type 0} (kind : X → ℕ) where
         | inr apart ↦ ap (seen other) (at_set-other places place (place_of other) cell apart)
       ]
 
-  -- ---- what is in a place
+  -- ---- the value in a place
 
   pub taken : (places : Slots) (place : ℕ) (x : X) → place < 2 ^ 24 → at_place places place ≡ Some x → at_number kind places (number_of (kind x) place) ≡ Some x
   unfolding at_number
@@ -81,7 +81,7 @@ module _ {X : Type 0} (kind : X → ℕ) where
       (λ here. seen_apart other x (λ byte. apart (one_number other (number_of (kind x) place) (here ∙ sym (place_of-number_of (kind x) place below)) (byte ∙ sym (kind_of-number_of (kind x) place below)))) ∙ ap (seen other) (sym free.1))
       free.0
 
-  -- ---- what is written where a value is
+  -- ---- a place that is written over a value
 
   abbrev Found : Slots → ℕ → X → Type 0
   Found places number x = (at_place places (place_of number) ≡ Some x) × (kind_of number ≡ kind x)
@@ -90,7 +90,7 @@ module _ {X : Type 0} (kind : X → ℕ) where
   unfolding at_number
   found_at places number x is = seen_some number (at_place places (place_of number)) x is
 
-  -- another number of the place has another highest byte, and finds nothing there
+  -- another number of the same place has another highest byte, and finds nothing there
   hidden : (places : Slots) (number other : ℕ) (x y : X) → Found places number x → kind y ≡ kind x → other ≢ number → place_of other ≡ place_of number → seen other (Some y) ≡ None
   hidden places number other x y is same apart here =
       seen_apart other y (λ byte. apart (one_number other number here (byte ∙ same ∙ sym is.1)))
@@ -161,7 +161,7 @@ module _ {X : Type 0} (kind : X → ℕ) where
       by (Some x) is = ap (λ (p : Slots). at_number kind p other) (changed_some change places number x is) ∙ others_stay places number other x (Some (change x)) is apart (λ here. hidden places number other x (change x) (found_at places number x is) (keeps x) apart here)
       by None is = ap (λ (p : Slots). at_number kind p other) (changed_absent change places number is)
 
-  -- ---- how many are taken
+  -- ---- how many places are taken
 
   pub put_taken : (places : Slots) (place : ℕ) (x : X) → lowest_free places ≡ Some place → taken_count (slice_set places place (Some x)) ≡ taken_count places + 1
   put_taken places place x is =
@@ -170,11 +170,11 @@ module _ {X : Type 0} (kind : X → ℕ) where
       let set = taken_set places place (Some x) free.0 in
       omega (arith, set, none)
 
-  -- what is found under a number stands in its place
+  -- the value that is found under a number is in the place of the number, which counts as one
   one_taken : (places : Slots) (number : ℕ) (x : X) → at_number kind places number ≡ Some x → counted (at_place places (place_of number)) ≡ 1
   one_taken places number x is = ap counted (found_at places number x is).0
 
-  -- and what is written there
+  -- a place that is written under a number counts as what is written there
   taken_there : (places : Slots) (number : ℕ) (x : X) (cell : Option X) → at_number kind places number ≡ Some x → taken_count (slice_set places (place_of number) cell) + 1 ≡ taken_count places + counted cell
   taken_there places number x cell is =
       let set = taken_set places (place_of number) cell (at_inside places (place_of number) x (found_at places number x is).0) in
@@ -186,7 +186,7 @@ module _ {X : Type 0} (kind : X → ℕ) where
       let there = taken_there places number x None is in
       rw (removed_some places number x is) (omega (arith, there))
 
-  -- whether or not there was one, no more are taken
+  -- after a removal no more places are taken, whether or not there was a value
   pub removed_taken : (places : Slots) (number : ℕ) → taken_count (without_number kind places number) ≤ taken_count places
   removed_taken places number = by (at_number kind places number) refl
     where

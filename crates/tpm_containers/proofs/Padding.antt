@@ -8,7 +8,7 @@ use Rattle.tpm_containers.specs.Slots.{at_place, free, lowest_free, padded_to}
 abbrev Cells : Type 0 → Type 0
 Cells X = List (Option X)
 
--- ---- what is in a place
+-- ---- the value in a place
 
 at_free : {X : Type 0} (n place : ℕ) → at_place (free {X = X} n) place ≡ None
 at_free zero place = refl
@@ -54,13 +54,13 @@ clear_padded (first ∷ cells) n (suc place) behind = ap (λ (l : Cells _). firs
 pub padded-clear : {X : Type 0} (most : ℕ) (cells : Cells X) (place : ℕ) → length cells ≤ place → slice_set (padded_to most cells) place None ≡ padded_to most cells
 padded-clear most cells place behind = clear_padded cells _ place behind
 
--- nothing is in a place after the end
+-- nothing is in a place after the end of the list
 pub at_behind : {X : Type 0} (cells : Cells X) (place : ℕ) → length cells ≤ place → at_place cells place ≡ None
 at_behind [] place behind = refl
 at_behind (first ∷ cells) zero behind = absurd (omega arith)
 at_behind (first ∷ cells) (suc place) behind = at_behind cells place (omega arith)
 
--- ---- the lowest free place
+-- ---- the lowest free place of a list
 
 abbrev pub first_free : {X : Type 0} → Cells X → ℕ
 first_free cells = position_or_len is_none cells
@@ -84,7 +84,7 @@ first_free-right [] (suc n) none = refl
 first_free-right (None ∷ cells) n none = absurd (omega arith)
 first_free-right (Some s ∷ cells) n none = let more = first_free-right cells n (omega arith) in omega (arith, more)
 
--- a free cell among those that are there
+-- a free cell among those of the list is the lowest free place
 pub free_among : {X : Type 0} (most : ℕ) (cells : Cells X) (place : ℕ) → position is_none cells ≡ Some place → lowest_free (padded_to most cells) ≡ Some place
 free_among most cells place is =
     let here = found (ltb (first_free cells) (length cells)) (first_free cells) place is in
@@ -96,7 +96,7 @@ free_among most cells place is =
 length-padded : {X : Type 0} (most : ℕ) (cells : Cells X) → length cells ≤ most → length (padded_to most cells) ≡ most
 length-padded most cells few = rw (length-append, length-replicate) (omega arith)
 
--- where none is there, the first place after them
+-- where no cell of the list is free, the first place after them is
 pub free_behind : {X : Type 0} (most : ℕ) (cells : Cells X) → length cells < most → position is_none cells ≡ None → lowest_free (padded_to most cells) ≡ Some (length cells)
 free_behind most cells few is =
     let none : length cells ≤ first_free cells = ltb-false _ _ (not_found (ltb (first_free cells) (length cells)) (first_free cells) is) in
@@ -104,7 +104,7 @@ free_behind most cells few is =
     let inside : ltb (length cells) (length (padded_to most cells)) ≡ true = lt-ltb _ _ (omega (arith, few, length-padded most cells (omega arith))) in
     rw (same, inside) refl
 
--- ---- one cell more
+-- ---- a list with one cell more
 
 set_first_free : {X : Type 0} (cells : Cells X) (n : ℕ) (cell : Option X) → slice_set (cells ++ free (suc n)) (length cells) cell ≡ (cells ++ cell ∷ []) ++ free n
 set_first_free [] n cell = refl
@@ -118,15 +118,15 @@ padded-push most cells cell few =
     ∙ sym (set_first_free cells (most - suc (length cells)) cell)
     ∙ ap (λ (n : ℕ). slice_set (cells ++ free n) (length cells) cell) (sym before)
 
--- ---- what is read of the cells, and written back
+-- ---- cells that are read, and written back
 
--- what a read of the cells says of a place
+-- a cell that is read is what is in the place
 pub at_place-read : {X : Type 0} (cells : Cells X) (place : ℕ) (cell d : Option X) → place < length cells → get_or cells place d ≡ cell → at_place cells place ≡ cell
 at_place-read [] place cell d below is = absurd (omega arith)
 at_place-read (first ∷ cells) zero cell d below is = is
 at_place-read (first ∷ cells) (suc place) cell d below is = at_place-read cells place cell d (omega arith) is
 
--- what was in a place is put there again
+-- what was in a place is put there again, and changes nothing
 pub set_same : {X : Type 0} (cells : Cells X) (place : ℕ) (cell : Option X) → get_or cells place cell ≡ cell → slice_set cells place cell ≡ cells
 set_same [] place cell is = refl
 set_same (first ∷ cells) zero cell is = ap (λ (c : Option _). c ∷ cells) (sym is)

@@ -30,7 +30,7 @@ is_none_true : {X : Type 0} (cell : Option X) → is_none cell ≡ true → cell
 is_none_true None e = refl
 is_none_true (Some x) e = absurd cc
 
--- it is free, and there
+-- the lowest free place is free, and is there
 pub lowest_free-free : {X : Type 0} (places : List (Option X)) (place : ℕ) → lowest_free places ≡ Some place → (place < length places) × (at_place places place ≡ None)
 lowest_free-free places place is =
     let p = position-Some is_none places place None is in
@@ -40,7 +40,7 @@ is_none_false : {X : Type 0} (cell : Option X) → is_none cell ≡ false → ce
 is_none_false None e same = absurd cc
 is_none_false (Some x) e same = absurd cc
 
--- and each place below it is taken
+-- each place below the lowest free one is taken
 pub lowest_free-lowest : {X : Type 0} (places : List (Option X)) (place below : ℕ) → lowest_free places ≡ Some place → below < place → at_place places below ≢ None
 lowest_free-lowest places place below is lower =
     let p = position-Some is_none places place None is in
@@ -59,7 +59,7 @@ pub all_taken : {X : Type 0} (places : List (Option X)) (place : ℕ) → lowest
 all_taken places place is below =
     taken_up places place (ltb-false _ _ (not_found (ltb (first_free places) (length places)) (first_free places) is)) below
 
--- ---- in a list that grows
+-- ---- the lowest free place in a list that grows
 
 -- the lowest free place is one of the list's cells, or the first after them
 pub free_within : {X : Type 0} (most : ℕ) (cells : List (Option X)) (place : ℕ) → lowest_free (padded_to most cells) ≡ Some place → place ≤ length cells
@@ -69,9 +69,9 @@ free_within most cells place is =
       | inr within ↦ within
     ]
 
--- ---- how many are taken
+-- ---- how many places are taken
 
--- what one place counts
+-- how many one place counts as: 1 if it is taken
 abbrev pub counted : {X : Type 0} → Option X → ℕ
 counted cell = cond (is_some cell) 1 0
 

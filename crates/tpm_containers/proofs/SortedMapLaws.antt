@@ -8,11 +8,11 @@ use Rattle.tpm_containers.specs.IsSortedMap.{IsSortedMap}
 module _ {X : Type 0} where
   -- ---- the first entry
 
-  -- it is found under its own key
+  -- the first entry is found under its own key
   at_first : (e : ℕ × X) (es : Entries X) (key : ℕ) → e.0 ≡ key → at_key (e ∷ es) key ≡ Some e.1
   at_first e es key same = cond-true _ _ _ (eq-eqb e.0 key same)
 
-  -- and under another key it is passed over
+  -- under another key the first entry is passed over
   at_rest : (e : ℕ × X) (es : Entries X) (key : ℕ) → e.0 ≢ key → at_key (e ∷ es) key ≡ at_key es key
   at_rest e es key apart = cond-false _ _ _ (ne_eqb e.0 key apart)
 
@@ -129,7 +129,7 @@ module _ {X : Type 0} where
       (λ _. omega arith)
       (λ _. omega (arith, removed_few es key))
 
-  -- ---- what holds of each value
+  -- ---- what holds of each value of a map
 
   pub put_each : (Is : ℕ → X → Type 0) (es : Entries X) (key : ℕ) (x : X) → AreEach Is es → Is key x → AreEach Is (with_key es key x)
   put_each Is [] key x each is = (is, tt)
@@ -254,7 +254,7 @@ module _ {X : Type 0} where
 
   -- ---- the next key
 
-  -- it is the first, or it comes from the rest
+  -- the next key is the first, or comes from the rest
   from_first : (e : ℕ × X) (es : Entries X) (key : ℕ) (o : Option ℕ) → key_from (e ∷ es) key ≡ o → ((key ≤ e.0) × (Some e.0 ≡ o)) ⊎ ((e.0 < key) × (key_from es key ≡ o))
   from_first e es key o =
       cond_both (leb key e.0) _ _ (λ v. v ≡ o → ((key ≤ e.0) × (Some e.0 ≡ o)) ⊎ ((e.0 < key) × (key_from es key ≡ o)))
@@ -305,7 +305,7 @@ module _ {X : Type 0} where
   abbrev SameFound : Entries X → Entries X → Type 0
   SameFound es fs = (key : ℕ) → at_key es key ≡ at_key fs key
 
-  -- the first key of the one is not below that of the other
+  -- the first key of the one map is not below that of the other
   not_below : (e f : ℕ × X) (es fs : Entries X) → Ascends (f ∷ fs) → SameFound (e ∷ es) (f ∷ fs) → f.0 ≤ e.0
   not_below e f es fs up found =
       elim (cases_lt e.0 f.0) [
@@ -317,7 +317,7 @@ module _ {X : Type 0} where
         | inr above ↦ above
       ]
 
-  -- nor is anything else found among the rest
+  -- where two maps have the same first entry, the rest of both finds the same
   same_rest : (e f : ℕ × X) (es fs : Entries X) → e.0 ≡ f.0 → Ascends (e ∷ es) → Ascends (f ∷ fs) → SameFound (e ∷ es) (f ∷ fs) → SameFound es fs
   same_rest e f es fs one up vp found key =
       elim (cases_eq e.0 key) [

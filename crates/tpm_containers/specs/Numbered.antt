@@ -17,23 +17,23 @@ module _ {X : Type 0} where
   abbrev pub if_of_kind : (X → ℕ) → ℕ → X → Option X
   if_of_kind kind number x = if kind_of number == kind x then Some x else None
 
-  -- what is found under a number
+  -- the value that is found under a number
   unfoldable pub at_number : (X → ℕ) → List (Option X) → ℕ → Option X
   at_number kind places number =
       option_and_then (if_of_kind kind number) (at_place places (place_of number))
 
-  -- without it
+  -- the places without the value under a number
   unfoldable pub without_number : (X → ℕ) → List (Option X) → ℕ → List (Option X)
   without_number kind places number =
       if is_some (at_number kind places number) then slice_set places (place_of number) None else places
 
-  -- with it changed, if there is one
+  -- the places with the value under a number changed, if there is one
   abbrev pub changed_at : (X → ℕ) → (X → X) → List (Option X) → ℕ → List (Option X)
   changed_at kind change places number =
       option_map_or (λ (x : X). slice_set places (place_of number) (Some (change x)))
       (at_number kind places number) places
 
-  -- the laws of this map
+  -- the laws of slots as a map from numbers
   pub record MapLaws (kind : X → ℕ) : Type 0 where
     -- what is put into the lowest free place is found under its number, and all else stays
     pub put_found : (places : List (Option X)) (place : ℕ) (x : X) → place < 2 ^ 24
@@ -42,12 +42,12 @@ module _ {X : Type 0} where
     pub put_others : (places : List (Option X)) (place : ℕ) (x : X) (other : ℕ) → place < 2 ^ 24
         → lowest_free places ≡ Some place → other ≢ number_of (kind x) place
         → at_number kind (slice_set places place (Some x)) other ≡ at_number kind places other
-    -- under no number of that place was anything, and each lower place is taken
+    -- under no number of the lowest free place was anything, and each lower place is taken
     pub free : (places : List (Option X)) (k place : ℕ) → place < 2 ^ 24
         → lowest_free places ≡ Some place → at_number kind places (number_of k place) ≡ None
     pub lowest : (places : List (Option X)) (place below : ℕ)
         → lowest_free places ≡ Some place → below < place → at_place places below ≢ None
-    -- there is none only where all are taken
+    -- there is no free place only where all are taken
     pub full : (places : List (Option X)) (place : ℕ)
         → lowest_free places ≡ None → place < length places → at_place places place ≢ None
     -- what is in a place is found under its number
@@ -58,7 +58,7 @@ module _ {X : Type 0} where
         → at_number kind (without_number kind places number) number ≡ None
     pub removed_others : (places : List (Option X)) (number other : ℕ) → other ≢ number
         → at_number kind (without_number kind places number) other ≡ at_number kind places other
-    -- where nothing was there, nothing changes, so as many are taken
+    -- removing a number under which nothing was changes nothing
     pub removed_absent : (places : List (Option X)) (number : ℕ)
         → at_number kind places number ≡ None → without_number kind places number ≡ places
     -- what is changed and keeps its kind is found changed, and all else stays
@@ -68,8 +68,8 @@ module _ {X : Type 0} where
     pub changed_others : (change : X → X) → ((x : X) → kind (change x) ≡ kind x)
         → (places : List (Option X)) (number other : ℕ) → other ≢ number
         → at_number kind (changed_at kind change places number) other ≡ at_number kind places other
-    -- with one that is put one more is taken, with one that is removed one less, and with one that
-    -- is changed as many
+    -- where a value is put in, one place more is taken; where one is removed, one less; where one
+    -- is changed, as many
     pub put_taken : (places : List (Option X)) (place : ℕ) (x : X)
         → lowest_free places ≡ Some place
         → taken_count (slice_set places place (Some x)) ≡ taken_count places + 1

@@ -7,11 +7,11 @@ use Rattle.tpm_containers.specs.declared.slots.SlotFault.TheVariants.{Full, NoMe
 abbrev pub free : {X : Type 0} → ℕ → List (Option X)
 free n = replicate n None
 
--- what is in a place
+-- the value in a place, if it is not free
 abbrev pub at_place : {X : Type 0} → List (Option X) → ℕ → Option X
 at_place places place = option_and_then (λ x. x) (slice_get places place)
 
--- what is in each place is such a one
+-- This holds of the value in each place that is taken.
 abbrev pub AreAll : {X : Type 0} → (X → Type 0) → List (Option X) → Type 0
 AreAll IsOne places = (place : ℕ) → IfSome (at_place places place) IsOne
 
@@ -22,7 +22,7 @@ lowest_free places = position is_none places
 abbrev pub taken_count : {X : Type 0} → List (Option X) → ℕ
 taken_count places = count_by is_some places
 
--- A value took the lowest free of `most` places, unless all are taken or memory was refused.
+-- A value took the lowest free of `most` places, unless all were taken or memory was refused.
 abbrev pub Inserts : {X : Type 0} → ℕ → Bool → List (Option X) → X
     → Result ℕ SlotFault → List (Option X) → Type 0
 Inserts most can old x (Ok place) new =

@@ -3,32 +3,32 @@ use Rattle.std.specs.Prelude.{◌≡◌, ℕ, ◌==◌, ◌<◌, ◌≤◌, nat_
 use Rattle.tpm_containers.specs.declared.sorted_map.KeyFault.{KeyFault}
 use Rattle.tpm_containers.specs.declared.sorted_map.KeyFault.TheVariants.{Taken, Full, NoMemory}
 
--- keys, each with a value
+-- entries: keys, each with a value
 abbrev pub Entries : Type 0 → Type 0
 Entries X = List (ℕ × X)
 
 module _ {X : Type 0} where
-  -- what is under a key
+  -- the value under a key
   abbrev pub at_key : Entries X → ℕ → Option X
   at_key [] key = None
   at_key (e ∷ es) key = if e.0 == key then Some e.1 else at_key es key
 
-  -- the first key that is there from this one on: where keys ascend, the lowest
+  -- the first key of the entries that is not below this one: as keys ascend, the lowest such
   abbrev pub key_from : Entries X → ℕ → Option ℕ
   key_from [] key = None
   key_from (e ∷ es) key = if nat_le key e.0 then Some e.0 else key_from es key
 
-  -- with a value under one more key, before the keys above it
+  -- the entries with a value under one more key, before the keys above it
   abbrev pub with_key : Entries X → ℕ → X → Entries X
   with_key [] key x = (key, x) ∷ []
   with_key (e ∷ es) key x = if nat_le key e.0 then (key, x) ∷ e ∷ es else e ∷ with_key es key x
 
-  -- with another value under a key, if the key is there
+  -- the entries with another value under a key, if the key is there
   abbrev pub changed_key : Entries X → ℕ → X → Entries X
   changed_key [] key x = []
   changed_key (e ∷ es) key x = if e.0 == key then (e.0, x) ∷ es else e ∷ changed_key es key x
 
-  -- without a key and its value
+  -- the entries without a key and its value
   abbrev pub without_key : Entries X → ℕ → Entries X
   without_key [] key = []
   without_key (e ∷ es) key = if e.0 == key then es else e ∷ without_key es key
@@ -47,7 +47,7 @@ module _ {X : Type 0} where
   Ascends [] = Unit {0}
   Ascends (e ∷ es) = AllAbove e.0 es × Ascends es
 
-  -- this holds of each value under its key
+  -- This holds of each key with its value.
   abbrev pub AreEach : (ℕ → X → Type 0) → Entries X → Type 0
   AreEach Is [] = Unit {0}
   AreEach Is (e ∷ es) = Is e.0 e.1 × AreEach Is es

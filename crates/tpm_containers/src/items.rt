@@ -17,7 +17,7 @@ pub trait Choice<T> {
 
 /// Items in order, with room for `N` of them.
 pub trait Items<const N: usize>: Drop + Sized {
-    /// What an item is.
+    /// The type of an item.
     type Item;
 
     /// The items.
@@ -36,11 +36,11 @@ pub trait Items<const N: usize>: Drop + Sized {
     fn new(alloc: Global) -> Self
         ensures { items result ≡ [] };
 
-    /// The items.
+    /// Lends the items.
     fn as_slice(&self) -> &[Self::Item]
         ensures { result.now ≡ items self.now };
 
-    /// The item in a place, to be changed.
+    /// Lends the item in a place, to be changed.
     fn item_mut(&mut self, place: usize) -> Option<&mut Self::Item>
         ensures* writes_back { sem 𝓛 (LendsIf Self.row Self.Item.row self.entry result
             (with_item self.entry.now place) self.entry.now) }
@@ -48,7 +48,7 @@ pub trait Items<const N: usize>: Drop + Sized {
             × (item.now ≡ slice_index_or (items self.old) place item.now)) }
         ensures absent { IfNone result (length (items self.old) ≤ place) };
 
-    /// The items, to be changed.
+    /// Lends all items, to be changed.
     fn slice_mut(&mut self) -> &mut [Self::Item]
         ensures* writes_back { sem 𝓛 (Lends Self.row (Array Self.Item.row 0) self.entry result
             (with_items self.entry.now)) }
@@ -75,11 +75,11 @@ pub trait Items<const N: usize>: Drop + Sized {
     fn truncate(&mut self, count: usize)
         ensures { items self.new ≡ take count (items self.old) };
 
-    /// What is written through a loan is then in its place.
+    /// An item that is written through a loan is in its place afterwards.
     ghost written: { (all : Self) (place : ℕ) (item : Self.Item)
         → items (with_item all place item) ≡ slice_set (items all) place item };
 
-    /// As many items as there are, written through a loan of all, are then there.
+    /// Items that are written through a loan of all, as many as there are, are there afterwards.
     ghost written_all: { (all : Self) (new : List Self.Item) → length new ≡ length (items all)
         → items (with_items all new) ≡ new };
 }

@@ -6,7 +6,8 @@ ghost use Rattle.tpm_containers.specs.SortedMap.{Ascends, Entries, at_key, chang
 ghost use Rattle.tpm_containers.specs.SortedMap.{kept_entries, without_key};
 
 /// Keys in ascending order, each with a value, are a map: what is found after one was put, removed
-/// or changed, that they still ascend, how many there are, and which comes next. It does nothing.
+/// or changed, that they still ascend, how many there are, and which comes next. The function does
+/// nothing.
 #[inline(always)]
 #[tactic(auto, using(crate::proofs::SortedMapLaws::is_map))]
 pub fn sorted_map_laws<T>()
@@ -15,7 +16,7 @@ pub fn sorted_map_laws<T>()
 
 /// What is found under any key: once one is removed, or some are kept, what was found before or
 /// nothing; where one changes and shows the same by a view, what shows the same; and where all
-/// change, what was found, changed. It does nothing.
+/// change, what was found, changed. The function does nothing.
 #[inline(always)]
 #[tactic(auto, using(crate::proofs::FoundKeys::removed_or_same, crate::proofs::FoundKeys::kept_or_gone, crate::proofs::FoundKeys::changed_shows, crate::proofs::FoundKeys::all_changed_found))]
 pub fn found_laws<T, V>()

@@ -3,7 +3,7 @@
 ghost use Rattle.std.specs.Prelude.{◌≡◌, ◌<◌, ◌≤◌, ◌==◌, ℕ, IfNone, IfSome, Some, insert, is_some, length, nat_le, option_copied, position, remove, slice_index_or, slice_set};
 ghost use Rattle.tpm_containers.specs.SortedMap.{at_key, changed_key, key_from, with_key, without_key};
 
-/// The first entry with a key.
+/// The place of the first entry with a key.
 fn first_with<T>(entries: &[(u32, T)], key: u32) -> Option<usize>
     ensures value { result ≡ position (λ e. e.0 == key) entries.now }
     ensures within { IfSome result (λ i. i < length entries.now) }
@@ -11,7 +11,7 @@ fn first_with<T>(entries: &[(u32, T)], key: u32) -> Option<usize>
     entries.iter().position(|entry| entry.0 == key)
 }
 
-/// The first entry whose key is this one or above it.
+/// The place of the first entry whose key is this one or above it.
 fn first_from<T>(entries: &[(u32, T)], key: u32) -> Option<usize>
     ensures value { result ≡ position (λ e. nat_le key e.0) entries.now }
     ensures within { IfSome result (λ i. i < length entries.now) }
@@ -19,7 +19,7 @@ fn first_from<T>(entries: &[(u32, T)], key: u32) -> Option<usize>
     entries.iter().position(|entry| key <= entry.0)
 }
 
-/// What is under a key.
+/// The value under a key.
 #[tactic(auto, using(crate::proofs::KeyIndex::at_key_position, crate::proofs::KeyIndex::at_key_absent))]
 pub(crate) fn value_at<T>(entries: &[(u32, T)], key: u32) -> Option<&T>
     ensures { option_copied result ≡ at_key entries.now key }
@@ -37,7 +37,8 @@ pub(crate) fn key_at<T>(entries: &[(u32, T)], key: u32) -> Option<u32>
     Some(entries[index].0)
 }
 
-/// Where a key is: to read, to write or to remove the entry there is to do so under the key.
+/// The place of the entry with a key: to read, to write or to remove that entry is to do so under
+/// the key.
 #[tactic(auto, using(crate::proofs::KeyIndex::remove_position, crate::proofs::KeyIndex::without_absent))]
 pub(crate) fn index_of<T>(entries: &[(u32, T)], key: u32) -> Option<usize>
     ensures there { is_some result ≡ is_some (at_key entries.now key) }
@@ -52,7 +53,7 @@ pub(crate) fn index_of<T>(entries: &[(u32, T)], key: u32) -> Option<usize>
     first_with(entries, key)
 }
 
-/// Where a key is put that is not there.
+/// The place at which a key that is not there is put.
 #[tactic(auto, using(crate::proofs::KeyIndex::insert_position, crate::proofs::KeyIndex::insert_none))]
 pub(crate) fn index_for<T>(entries: &[(u32, T)], key: u32) -> usize
     ensures within { result ≤ length entries.now }

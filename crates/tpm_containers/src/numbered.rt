@@ -9,7 +9,7 @@ ghost use Rattle.tpm_containers.specs.Slots.{AreAll, free};
 
 use crate::slots::Slots;
 
-/// A value that stands under numbers of one kind: that is their highest byte.
+/// A value that is found under numbers of one kind, which is their highest byte.
 pub trait Kinded: Drop {
     ghost kind: { Self → ℕ };
 
@@ -19,10 +19,10 @@ pub trait Kinded: Drop {
 
 /// A value of which something holds by the types of its parts.
 pub trait Sizes: Drop {
-    /// What holds of it.
+    /// What holds of the value by the types of its parts.
     ghost IsOne: { Self → Type 0 };
 
-    /// Says it. It only reads.
+    /// Says of the value what holds by the types of its parts. The call only reads.
     fn read_sizes(&self)
         ensures { IsOne self.now };
 }
@@ -46,7 +46,7 @@ pub fn number_of(kind: u32, place: usize) -> u32
     kind * PLACE_NUMBERS + place as u32
 }
 
-/// What is found under a number.
+/// The value that is found under a number.
 #[tactic(auto, unfolding(crate::specs::Numbered::at_number))]
 pub fn get<T: Kinded, const N: usize, P: Slots<T, N>>(places: &P, number: u32) -> Option<&T>
     ensures value { option_copied result ≡ at_number T.kind (P.places places.now) number }
@@ -61,7 +61,7 @@ pub fn get<T: Kinded, const N: usize, P: Slots<T, N>>(places: &P, number: u32) -
     }
 }
 
-/// What is found under a number, to be changed.
+/// The value that is found under a number, to be changed.
 #[tactic(auto, unfolding(crate::specs::Numbered::at_number))]
 pub fn get_mut<T: Kinded, const N: usize, P: Slots<T, N>>(
     places: &mut P,
@@ -77,7 +77,7 @@ pub fn get_mut<T: Kinded, const N: usize, P: Slots<T, N>>(
     places.get_mut(place_of(number))
 }
 
-/// Removes what is found under a number, and tells whether there was anything.
+/// Removes the value that is found under a number, and tells whether there was one.
 #[tactic(auto, unfolding(crate::specs::Numbered::without_number))]
 pub fn remove<T: Kinded, const N: usize, P: Slots<T, N>>(places: &mut P, number: u32) -> bool
     ensures there { result ≡ is_some (at_number T.kind (P.places places.old) number) }
@@ -90,8 +90,8 @@ pub fn remove<T: Kinded, const N: usize, P: Slots<T, N>>(places: &mut P, number:
     true
 }
 
-/// Says of each value what holds of it by the types of its parts, and how many places there are. It
-/// only reads.
+/// Says of each value what holds of it by the types of its parts, and how many places there are.
+/// The call only reads.
 pub fn read_sizes<T: Sizes, const N: usize, P: Slots<T, N>>(places: &P)
     ensures each { AreAll T.IsOne (P.places places.now) }
     // There are always `N` places.
@@ -105,7 +105,7 @@ pub fn read_sizes<T: Sizes, const N: usize, P: Slots<T, N>>(places: &P)
     }
 }
 
-/// Slots are a map from numbers, whatever is in them. It does nothing.
+/// Slots are a map from numbers, whatever is in them. The function does nothing.
 #[inline(always)]
 #[tactic(auto, using(crate::proofs::NumberedLaws::is_map))]
 pub fn numbered_laws<T: Kinded>()
@@ -113,7 +113,7 @@ pub fn numbered_laws<T: Kinded>()
 {}
 
 /// What is found under any number: once one is removed, what was found before or nothing; and
-/// nothing where all places are free. It does nothing.
+/// nothing where all places are free. The function does nothing.
 #[inline(always)]
 #[tactic(auto, using(crate::proofs::FoundNumbers::removed_or_same, crate::proofs::FoundNumbers::free_found))]
 pub fn found_laws<T: Kinded>()

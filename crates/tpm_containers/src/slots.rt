@@ -17,29 +17,29 @@ pub enum SlotFault {
     NoMemory,
 }
 
-/// `N` places for values, numbered from 0. They are seen as the list of them, each free or with
+/// `N` places for values, numbered from 0. Contracts see the list of the places, each free or with
 /// its value.
 pub trait Slots<T: Drop, const N: usize>: Drop + Sized {
     /// The places.
     ghost places: { Self → List (Option T) };
 
-    /// With another value in a place.
+    /// The same places with another value in one of them.
     ghost with_place: { Self → ℕ → T → Self };
 
     /// Whether memory can be refused.
     ghost can_refuse: { Bool };
 
-    /// Free places; no memory is taken.
+    /// `N` free places; no memory is taken.
     fn new(alloc: Global) -> Self
         ensures { places result ≡ free N };
 
-    /// What is in a place.
+    /// The value in a place, if it is not free.
     fn get(&self, place: usize) -> Option<&T>
         ensures value { option_copied result ≡ at_place (places self.now) place }
         // There are always `N` places.
         ensures all { length (places self.now) ≡ N };
 
-    /// What is in a place, to be changed.
+    /// The value in a place, if it is not free, to be changed.
     fn get_mut(&mut self, place: usize) -> Option<&mut T>
         ensures* writes_back { sem 𝓛 (LendsIf Self.row T.row self.entry result
             (with_place self.entry.now place) self.entry.now) }
@@ -62,7 +62,7 @@ pub trait Slots<T: Drop, const N: usize>: Drop + Sized {
     fn clear(&mut self)
         ensures { places self.new ≡ free N };
 
-    /// What is written to a place is in it.
+    /// A value that is written to a place through a loan is in it afterwards.
     ghost written: { (all : Self) (place : ℕ) (value : T)
         → places (with_place all place value) ≡ slice_set (places all) place (Some value) };
 }

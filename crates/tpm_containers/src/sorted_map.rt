@@ -43,14 +43,14 @@ pub trait SortedMap<T: Drop, const N: usize>: Drop + Sized {
     fn as_slice(&self) -> &[(u32, T)]
         ensures { result.now ≡ entries self.now };
 
-    /// What is under a key.
+    /// The value under a key.
     fn get(&self, key: u32) -> Option<&T>
         ensures value { option_copied result ≡ at_key (entries self.now) key }
         // The keys always ascend, and there are never more than `N`.
         ensures ascends { Ascends (entries self.now) }
         ensures few { length (entries self.now) ≤ N };
 
-    /// What is under a key, to be changed.
+    /// The value under a key, to be changed.
     fn get_mut(&mut self, key: u32) -> Option<&mut T>
         ensures* writes_back { sem 𝓛 (LendsIf Self.row T.row self.entry result
             (with_value self.entry.now key) self.entry.now) }
@@ -64,7 +64,7 @@ pub trait SortedMap<T: Drop, const N: usize>: Drop + Sized {
     fn insert(&mut self, key: u32, value: T) -> Result<(), KeyFault>
         ensures { PutsKey N can_refuse (entries self.old) key value result (entries self.new) };
 
-    /// Removes what is under a key, and tells whether there was anything.
+    /// Removes the value under a key, and tells whether there was one.
     fn remove(&mut self, key: u32) -> bool
         ensures there { result ≡ is_some (at_key (entries self.old) key) }
         ensures after { entries self.new ≡ without_key (entries self.old) key };
@@ -77,7 +77,7 @@ pub trait SortedMap<T: Drop, const N: usize>: Drop + Sized {
     fn clear(&mut self)
         ensures { entries self.new ≡ [] };
 
-    /// What is written through a loan is then under its key.
+    /// A value that is written through a loan is under its key afterwards.
     ghost written: { (map : Self) (key : ℕ) (value : T)
         → entries (with_value map key value) ≡ changed_key (entries map) key value };
 }

@@ -1,4 +1,4 @@
--- Pairs of digits by their values.
+-- Pairs of hex digits, by the values of the digits.
 use Rattle.std.proofs.Common.{◌≡◌, ℕ, ◌+◌, ◌*◌, ◌%◌, ◌<◌, ◌≤◌, inl, inr, List, length, take, drop, max, slice_index, slice_set, unwrap_or, Option, Some, None, Ok, Err, ap, refl, sym, arith}
 use Rattle.std.proofs.lemmas.Bool.{cases_lt}
 use Rattle.hex.specs.Hex.{decode_pairs, hex_digit_value, pair_value}
@@ -13,7 +13,7 @@ PairsTellSoFar digits largest place bytes =
     ≡ prepend (take place bytes) (decode_pairs (2 * place) (drop (2 * place) digits)))
     × (16 ≤ largest → (fault : FromHexError) × (decode_pairs 0 digits ≡ Err fault))
 
--- the value of a digit is below 16, and no other byte's is
+-- the value of a digit is below 16, and that of no other byte
 small_is_digit : (digit : Option ℕ) (value : ℕ) → value ≡ unwrap_or digit 255 → value < 16 → digit ≡ Some value
 small_is_digit (Some own) value e small = ap Some (sym e)
 small_is_digit None value e small = absurd (omega (arith, e, small))
@@ -28,7 +28,7 @@ digits_write : (first second high low index : ℕ)
 digits_write first second high low index e f small small' =
     rw (e, f) (ap Ok (omega (arith, small, small')))
 
--- a pair with another byte writes none
+-- a pair with a byte that is no digit writes no byte
 first_is_bad : (first second index : ℕ) → hex_digit_value first ≡ None
     → pair_value first second index ≡ Err (InvalidHexCharacter first index)
 first_is_bad first second index e = rw e refl

@@ -2,21 +2,21 @@
 
 //! Bytes in hex, of which a script's lines and its responses consist.
 //!
-//! It stands on the kit's `hex`, whose definitions say what hex is: each call is proved to be its
-//! definition there. A text that is no hex is refused, and then nothing is said of the room that it
-//! was read to. The loops have no branch for a single digit, so that the compiler can do sixteen
-//! digits at a time.
+//! The crate uses the kit's `hex`, whose definitions say what hex is: each call is proved to be its
+//! definition there. A text that is not hex is refused, and then nothing is said of the room that
+//! its bytes were to go to. The loops have no branch for a single digit, so that the compiler can
+//! do sixteen digits at a time.
 
 ghost use Rattle.std.specs.Prelude.{◌≡◌, ◌*◌, ◌/◌, ◌<◌, length, slice_index, unwrap_or, IsErr, MatchResult};
 ghost use Rattle.hex.specs.Hex.{decode_of, encode_lower, hex_digit_value, lower_digits};
 ghost use Rattle.tpm_hex.specs.Values.{PairsTell};
 ghost use Rattle.tpm_hex.specs.declared.TheConstants.{NO_DIGIT};
 
-/// The text is no hex: its length is odd, or a byte of it is no digit.
+/// The fault that a text is not hex: its length is odd, or a byte of it is no digit.
 #[derive(Clone, Copy, Debug, PartialEq, Eq)]
 pub struct NotHex;
 
-/// What stands for the value of a byte that is no digit.
+/// The value that a byte has which is no digit.
 const NO_DIGIT: u8 = 255;
 
 /// Writes bytes in hex, in lower case.
@@ -31,8 +31,8 @@ pub fn encode(bytes: &[u8], digits: &mut [u8])
     }
 }
 
-/// Tells the bytes that hex digits of either case write. Of a text that is no hex it is not said
-/// what it leaves there.
+/// Writes the bytes that hex digits of either case spell. For a text that is not hex, it is not
+/// said what is left in `bytes`.
 pub fn decode(digits: &[u8], bytes: &mut [u8]) -> Result<(), NotHex>
     requires { length bytes.old ≡ length digits.now / 2 }
     ensures { MatchResult (decode_of digits.now)
@@ -45,7 +45,7 @@ pub fn decode(digits: &[u8], bytes: &mut [u8]) -> Result<(), NotHex>
     Ok(())
 }
 
-/// Tells the bytes that pairs of digits write, and gives the largest of the digits' values.
+/// Writes the bytes that pairs of digits spell, and gives the largest of the digits' values.
 fn largest_value(digits: &[u8], bytes: &mut [u8]) -> u8
     requires { length digits.now ≡ 2 * length bytes.old }
     ensures { PairsTell digits.now result bytes.new }
@@ -71,7 +71,7 @@ fn digit_of(value: u8) -> u8
     }
 }
 
-/// The value of a digit of either case.
+/// The value of a hex digit of either case; `NO_DIGIT` for any other byte.
 fn value_of(digit: u8) -> u8
     ensures { result ≡ unwrap_or (hex_digit_value digit) NO_DIGIT }
 {

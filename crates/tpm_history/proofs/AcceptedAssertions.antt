@@ -1,4 +1,5 @@
--- What an assertion found that a policy session accepted, as a history tells of the assertion.
+-- What an assertion of a policy session found as it was accepted, as a history tells of the
+-- assertion.
 use Rattle.std.proofs.Common.{◌≡◌, ◌<◌, ◌^◌, ◌+◌, ℕ, arith, Bool, true, false, cond, List, [], ◌∷◌, length, Option, Some, None, Result, Ok, Err, IfOk, IfSome, refl, ap, sym, subst, ◌∙◌}
 use Rattle.std.specs.Prelude.{not, nat_lt, is_some, ◌==◌, ◌&&◌}
 use Rattle.std.specs.Int.{w8, w32}
@@ -58,7 +59,7 @@ use Rattle.tpm_history.specs.View.{name_in}
 use Rattle.tpm_history.proofs.Asserted.{policy_passed}
 use Rattle.tpm_history.proofs.UseGrounds.{recorded_hash, recorded_is, recorded_written}
 
--- ---- what is found of a policy
+-- ---- what an assertion finds of a policy
 
 both_hold : (b c : Bool) → (b && c) ≡ false → b ≡ true → c ≡ false
 both_hold true c none holds = none
@@ -131,7 +132,7 @@ offset_small r target p are =
     ok_bind _ (reading_passes target) _ (λ u.
     faulted p.offset (plain_fault action.Fourth code.NvRange) (read_at r.nv target.handle p.offset (length p.operand)) (read_small r.nv target.handle p.offset (length p.operand) are))
 
--- ---- what a history tells of it
+-- ---- what a history tells of an assertion
 
 module _ (r : Record) (c : AcceptedCommand) (history : History) (are : AreIndices r.nv.indices) where
   abbrev q : Request
@@ -149,7 +150,7 @@ module _ (r : Record) (c : AcceptedCommand) (history : History) (are : AreIndice
       let one : tell s x ≡ told = ok_is {E = Refused} (tell s x) told (sym (tells s ∙ ap (λ (y : Result X Refused). y >>= λ x. let it : Result Assertion Refused = Ok (tell s x) in it) found) ∙ is) in
       subst (λ (b : Assertion). Finds b p × HasWidths s.hash b) one (same s x p holds))
 
-  -- where it is told so whatever the device found
+  -- A history tells of an assertion whatever the device found.
   abbrev TellsPlainly : Code → Type 0
   TellsPlainly code = (s : Session) → IfOk (assertion_by code c history s.hash s.nonce_tpm) (λ told. (p : Policy) → Finds told p × HasWidths s.hash told)
 
@@ -180,9 +181,10 @@ module _ (r : Record) (c : AcceptedCommand) (history : History) (are : AreIndice
       by_reading NvParameters command.PolicyNv (nv_parameters q.parameters) (λ s x. assertion.Nv (nv_parts_of r target x)) (λ s x. nv_told x) (λ s. refl) (λ s x p holds. nv_same target s x p holds))
   agrees _ = tt
 
-  -- ---- a row
+  -- ---- the assertion of a row
 
-  -- On a policy session, no trial one, an accepted command found what it asserts, as it is told.
+  -- On a policy session, no trial one, an accepted command found what it asserts, as the history
+  -- tells it.
   abbrev pub FindsItsOwn : Code → Type 0
   FindsItsOwn code =
       (handle : Handle) (s : Session) (told : Assertion) → session_handle code q.handles ≡ Ok handle

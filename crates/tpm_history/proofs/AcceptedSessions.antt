@@ -4,7 +4,7 @@ use Rattle.std.proofs.lemmas.Option.{same_Some}
 use Rattle.tpm_mac.specs.declared.algorithm.HashAlg.{HashAlg}
 use Rattle.tpm_nv.specs.IsContents.{AreIndices}
 use Rattle.tpm_policy.specs.Assertion.{Assertion}
-use Rattle.tpm_policy_meaning.specs.Asserted.{HasWidths}
+use Rattle.tpm_policy_meaning.specs.Asserted.{HasWidths, evaluated}
 use Rattle.tpm_session.specs.Sessions.{session_at}
 use Rattle.tpm_session.specs.declared.session.Session.{Session}
 use Rattle.tpm_types.specs.SessionType.{is_trial}
@@ -21,7 +21,7 @@ use Rattle.tpm_laws.proofs.Binding.{ok_at}
 use Rattle.tpm_history.specs.AcceptedAssertions.{AllFind, Finds, SessionsFind}
 use Rattle.tpm_history.specs.DeviceSessions.{HasSessions, SessionFacts, facts_of, session_facts}
 use Rattle.tpm_history.specs.History.{AcceptedCommand, Done, History, command_of}
-use Rattle.tpm_history.specs.Policies.{assertion_by, evaluated, with_assertion}
+use Rattle.tpm_history.specs.Policies.{assertion_by, with_assertion}
 use Rattle.tpm_history.specs.Sessions.{LiveSession, policy_in, rolled_by, sessions_of}
 use Rattle.tpm_history.proofs.AcceptedAssertions.{FindsItsOwn, row_finds}
 use Rattle.tpm_history.proofs.LivingOn.{Asserted, Begun, Came, Keeps, Stayed, entries_kept, row_came}
@@ -32,7 +32,7 @@ module _ (r : Record) (a : Accepted) (locality : ℕ) (random : List ℕ) (histo
   abbrev c : AcceptedCommand
   c = command_of r a
 
-  -- of a session that lived on
+  -- the assertions of a session that lived on found what they assert
   stayed_find : (handle : Handle) (old mid : LiveSession) → sessions_of history handle ≡ Some old → mid.kind ≡ type.Policy → Keeps old mid → AllFind mid.hash mid.assertions
   stayed_find handle old mid lived policy keeps = by keeps.asserted
     where
@@ -41,7 +41,7 @@ module _ (r : Record) (a : Accepted) (locality : ℕ) (random : List ℕ) (histo
       by (inl same) =
           subst (AllFind mid.hash) (sym same) (subst (λ (h : HashAlg). AllFind h old.assertions) (sym keeps.continues.hash) (before handle old lived (sym keeps.continues.kind ∙ policy)))
 
-  -- what the command asserted on the session of the device
+  -- what the command asserted on the device's session found what it asserts
   told_finds : (handle : Handle) (old : LiveSession) (told : Assertion) → asserts c.command.code ≡ true → session_handle c.command.code c.request.handles ≡ Ok handle → sessions_of history handle ≡ Some old → old.kind ≡ type.Policy → assertion_by c.command.code c history old.hash old.nonce_tpm ≡ Ok told → Finds told (policy_in old) × HasWidths old.hash told
   told_finds handle old told it_does names lived kind tells = by (session_at r.sessions handle) refl (has.live handle)
     where
@@ -78,7 +78,7 @@ module _ (r : Record) (a : Accepted) (locality : ℕ) (random : List ℕ) (histo
       by mid keeps found (inr none) = subst (AllFind new.hash) (sym none) tt
       by mid keeps found (inl same) = subst (AllFind new.hash) (sym same) (subst (λ (h : HashAlg). AllFind h mid.assertions) (sym keeps.continues.hash) found)
 
--- ---- no session lives
+-- ---- where no session lives
 
 pub none_find : (history : History) → ((handle : Handle) → sessions_of history handle ≡ None) → SessionsFind history
 none_find history none handle s lives policy = absurd (let gone = none handle in let never : ⊥ = cc in never)

@@ -1,4 +1,5 @@
--- Two devices that follow one history, and of which everybody may read the same, authorize alike.
+-- Two devices that follow one history, and of whose handles everybody may read the same, authorize
+-- alike.
 use Rattle.std.proofs.Common.{◌≡◌, Bool, true, false, [], Option, Some, None, option_map, refl, ap, sym, subst, ◌∙◌}
 use Rattle.std.specs.Option.{option_map_or}
 use Rattle.tpm_session.specs.Sessions.{session_at}
@@ -24,7 +25,7 @@ use Rattle.tpm_history.proofs.Views.{views_tell}
 use Rattle.tpm_history.specs.Alike.{AuthorizeAlike}
 use Rattle.tpm_history.proofs.AuthorizeAlike.{authorize_same}
 
--- a session is what is told of it
+-- a session of a device is made of what the history tells of it
 unbound : Bound → Binding
 unbound b = record { name = b.name; auth_value = b.auth_value; protection = b.protection }
 
@@ -71,7 +72,7 @@ kept_viewed : (r : Record) (handle : Handle) → is_viewed (view_of r handle) �
 unfolding view_of
 kept_viewed r handle = viewed_kept handle (entity_at r handle)
 
--- what is no object and no index has the value of its handle
+-- an entity that is no object and no index has the authorization value of its handle
 permanent_value : (r : Record) (handle : Handle) (x : Entity) → is_kept x ≡ false → entity_auth_value r handle x ≡ permanent_auth_value r handle
 permanent_value r handle (AnObject object) none = absurd cc
 permanent_value r handle (AnIndex index) none = absurd cc
@@ -81,7 +82,7 @@ other_value : (r : Record) (handle : Handle) → is_kept (entity_at r handle) �
 unfolding auth_value_of
 other_value r handle none = permanent_value r handle (entity_at r handle) none
 
--- a hierarchy, or lockout
+-- a hierarchy, or lockout, shows its authorization value
 hierarchy_seen : (r : Record) (a : HierarchyAuth) → auth_seen r (auth_handle a) ≡ Some (permanent_auth_value r (auth_handle a))
 hierarchy_seen r auth.Owner = refl
 hierarchy_seen r _ = refl
@@ -113,7 +114,7 @@ module _ (one other : Record) (history : History) (ones : HasAuthValues one hist
           ∙ sym (others h (auth_value_of other h) (kept_seen other h (sym kept ∙ is)))
       by false is = other_value one h is ∙ permanent_same h ∙ sym (other_value other h (sym kept ∙ is))
 
--- ---- both devices
+-- ---- two devices of one history
 
 pub authorize_alike : AuthorizeAlike
 authorize_alike one other history alike c locality =

@@ -1,4 +1,4 @@
--- What a command asserts is what a history says of it.
+-- A command asserts what a history says that it asserts.
 use Rattle.std.proofs.Common.{◌≡◌, ℕ, Bool, List, [], ◌∷◌, map, Result, Ok, Err, IfOk, refl, ap, sym, ◌∙◌}
 use Rattle.std.specs.Int.{w8, w32}
 use Rattle.tpm_bytes.specs.Reading.{◌>>=◌, number_at, or_fault}
@@ -56,17 +56,17 @@ second_name r (first ∷ second ∷ handles) handle is = view_named r second ∙
 
 -- ---- what a command asserts
 
--- One assertion makes the same of every policy as another.
+-- Two assertions make the same of every policy.
 abbrev MakesAs : HashAlg → Assertion → Assertion → Type 0
 MakesAs hash one other = (trial : Bool) (policy : Policy) → policy_with hash trial one policy ≡ policy_with hash trial other policy
 
--- A history says of a command that it asserts on this session what makes the same.
+-- A history says of a command an assertion on this session that makes the same of every policy.
 pub record Tells (c : AcceptedCommand) (history : History) (code : Code) (s : Session) (a : Assertion) : Type 0 where
   pub told : Assertion
   pub is : assertion_by code c history s.hash s.nonce_tpm ≡ Ok told
   pub makes : MakesAs s.hash a told
 
--- And so it does on every session.
+-- A history says of a command, on every session, an assertion that makes the same of every policy.
 abbrev pub IsAsserted : AcceptedCommand → History → Code → (Session → Assertion) → Type 0
 IsAsserted c history code assertion = (s : Session) → Tells c history code s (assertion s)
 
@@ -87,7 +87,7 @@ module _ (r : Record) (c : AcceptedCommand) (history : History) (viewed : c.view
         makes = λ trial policy. ap (λ (parts : PcrParts). policy_with s.hash trial (Pcr parts) policy) (pcr_same p s);
       })
 
-  -- by what is read of its parameters alone
+  -- an assertion that follows from the command's parameters alone
   by_reading : (X : Type 0) (code : Code) (read : Result X Refused) (make : X → Assertion) → ((s : Session) → assertion_by code c history s.hash s.nonce_tpm ≡ (read >>= λ x. Ok (make x))) → IfOk (read >>= λ x. Ok (λ (s : Session). make x)) (IsAsserted c history code)
   by_reading X code read make told =
       ok_bind_is _ read _ (λ x found. λ s. record {
@@ -153,13 +153,13 @@ module _ (r : Record) (c : AcceptedCommand) (history : History) (viewed : c.view
   is_asserted command.PolicyNv = by_nv
   is_asserted _ = tt
 
--- ---- what it makes of a session
+-- ---- what an assertion makes of a session
 
 pub policy_passed : (x : Result Policy ActionFault) (policy : Policy) → or_refusal fault_refusal x ≡ Ok policy → x ≡ Ok policy
 policy_passed (Ok made) policy is = ap (λ (p : Policy). Ok p) (ok_is {E = Refused} made policy is)
 policy_passed (Err fault) policy is = absurd cc
 
--- what a session is after it
+-- the facts of a session after an assertion
 abbrev asserted_facts : Assertion → SessionFacts → SessionFacts
 asserted_facts a f = record f { policy = policy_with f.start.hash (is_trial f.start.kind) a f.policy }
 

@@ -1,4 +1,4 @@
--- What is asserted on a session was asserted by an accepted command, and stands since then.
+-- Each assertion of a session was made by an accepted command, and the session has it since then.
 use Rattle.std.proofs.Common.{◌≡◌, ◌⊎◌, ◌≤◌, ℕ, arith, List, [], ◌∷◌, append_assoc, length, take, Some, Result, Ok, Err, slice_get, refl, ap, sym, subst, ◌∙◌, inl, inr}
 use Rattle.tpm_policy.specs.Assertion.{Assertion}
 use Rattle.tpm_policy_meaning.specs.Asserted.{IsAmong}
@@ -17,7 +17,7 @@ use Rattle.tpm_history.specs.Policies.{assertion_by, with_assertion}
 use Rattle.tpm_history.specs.Sessions.{LiveSession, rolled_by, sessions_of}
 use Rattle.tpm_history.proofs.LivingOn.{Asserted, Begun, Came, Stayed, entries_kept, row_came}
 
--- ---- what the first handle of such a command names was authorized
+-- ---- the first handle of an accepted command was authorized
 
 abbrev AsksForItsHandles : AcceptedCommand → Type 0
 AsksForItsHandles c = c.request.handles ≡ c.command.handles
@@ -44,7 +44,7 @@ first_authorized history c session either names asks grounds =
 
 -- ---- after one event more
 
--- Both are known of an assertion: which command asserted it, and on what grounds.
+-- Of an assertion it is known which command made it, and on what grounds.
 pub record HasOrigin (history : History) (handle : Handle) (one : Assertion) : Type 0 where
   pub asserted : IsAssertedBy history handle one
   pub grounds : UsesHaveGrounds asserted.before asserted.command
@@ -69,7 +69,7 @@ later_origin event history handle one stands origin =
       asks = origin.asks;
     }
 
--- each assertion of a session has one
+-- Of each assertion of a session it is known which command made it, and on what grounds.
 abbrev pub HaveOrigins : History → Handle → LiveSession → Type 0
 HaveOrigins history handle s = (one : Assertion) → IsAmong one s.assertions → HasOrigin history handle one
 
@@ -80,7 +80,7 @@ module _ (c : AcceptedCommand) (history : History) (handle : Handle) (new : Live
   later : (one : Assertion) → IsAmong one new.assertions → HasOrigin history handle one → Origin one
   later one among origin = later_origin (Done c) history handle one (new, lives, among) origin
 
-  -- the command itself
+  -- the command that is accepted makes the assertion itself
   itself : (old : LiveSession) (one : Assertion) → sessions_of history handle ≡ Some old → session_handle c.command.code c.request.handles ≡ Ok handle → assertion_by c.command.code c history old.hash old.nonce_tpm ≡ Ok one → IsAmong one new.assertions → Origin one
   itself old one lived names asserts among = record {
     asserted = record {

@@ -1,4 +1,5 @@
--- What is read of parameters that set an authorization value: no zero ends the value, and the handle is of its type.
+-- Values and handles that are read from the parameters of commands that set an authorization value:
+-- no zero ends a value, and the handle has its type.
 use Rattle.std.proofs.Common.{rules, ◌≡◌, true, List, ℕ, length, ◌==◌, not, Result, Ok, Err, IfOk}
 use Rattle.tpm_bytes.specs.Reading.{◌>>=◌, refused_if}
 use Rattle.tpm_types.proofs.Trimming.{trimmed_twice}
@@ -39,7 +40,7 @@ filled_holds P read text holds =
 
 -- ---- values
 
--- no zero is at the end
+-- No zero is at the end of this value.
 abbrev pub IsTrimmed : List ℕ → Type 0
 IsTrimmed value = trimmed value ≡ value
 
@@ -68,7 +69,7 @@ pub wanted_named : (text : List ℕ) → IfOk (only (persistent_handle_at text))
 unfolding persistent_handle_at
 wanted_named text = search (rules, only_holds, ok_bind, ok_bind_is, asked)
 
--- what a definition reads
+-- What a definition reads: the value ends in no zero, and the handle is that of an index.
 pub record IsDefinition (p : definition.Parameters) : Type 0 where
   pub value : IsTrimmed p.auth_value
   pub named : is_nv_index p.public.nv_index ≡ true

@@ -94,7 +94,7 @@ use Rattle.tpm_laws.proofs.HandleRules.{first_fits, second_fits}
 index_keys : IsSortedMap NvIndex
 index_keys = is_map
 
--- each index shows the authorization value that it showed
+-- Each index shows the authorization value that it showed before.
 abbrev ShowSame : (old new : NvContents) → Type 0
 ShowSame old new = (n : ℕ) → index_auth (at_key new.indices n) ≡ index_auth (at_key old.indices n)
 
@@ -167,14 +167,14 @@ flush_keeps : (r : Record) (q : Request) → IfOk (row_of r command.FlushContext
 unfolding row_of flush_context_row
 flush_keeps r q = search (rules, ok_bind, flushed_keeps)
 
--- ---- what a row sets
+-- ---- the value that a row sets
 
 -- the value that a command sets is this one, for this handle
 set_is : (old new : Record) (values : AuthValues) (handle : Handle) (value : List ℕ) (set : Result (Handle × List ℕ) Refused) → set ≡ Ok (handle, value) → Sets handle value old new → HaveValues old values → HaveValues new (with_value set values)
 set_is old new values handle value set is sets have =
     subst (λ (x : Result (Handle × List ℕ) Refused). HaveValues new (with_value x values)) (sym is) (set_values old new values handle value sets have)
 
--- nothing was there where a step would have refused what is
+-- where a step refuses what is there, and did not refuse, nothing was there
 absent : {X E : Type 0} (found : Option X) (fault : E) (u : Unit {0}) → refused_if (is_some found) fault ≡ Ok u → found ≡ None
 absent None fault u is = refl
 absent (Some x) fault u is = absurd (false≢true (sym (passed true fault u is)))
@@ -304,7 +304,7 @@ object_seen r handle object named =
           | inr is ↦ absurd (false≢true (sym other ∙ is))
         ]
 
--- a value that is set to what it was
+-- a value that is set to what it was before changes nothing
 set_again : (values : AuthValues) (to from : Handle) → to.number ≡ from.number → (h : Handle) → with_at to (values from) values h ≡ values h
 set_again values to from same h =
     cond_both (h.number == to.number) (values from) (values h) (λ v. v ≡ values h)
@@ -389,7 +389,7 @@ cleared_or_same objects n = by (at_number transient_byte objects n) refl
           | inr stays ↦ inl (are_cleared.stays objects n object there stays)
         ]
 
--- three values are empty, and then what is cleared is gone
+-- three values are empty after TPM2_Clear, and objects and indices that it removes have none
 all_cleared : (r : Record) (after : Fixed) (values : AuthValues) → Ascends r.nv.indices → Ascends r.persistent → HaveValues r values → HaveValues (record r { fixed = emptied r.fixed after; objects = cleared_objects r.objects; persistent = cleared_persistent r.persistent; nv = cleared r.nv }) (cleared_values values)
 unfolding object_at with_hierarchy_auth cleared
 all_cleared r after values up also have =

@@ -1,4 +1,5 @@
--- What time, failures and power do to tries is paid for, and the time of the next try to be forgiven stays short.
+-- Whatever time, failures and power do to failed tries is paid for (Potential), and the time
+-- towards forgiving the next stays short.
 use Rattle.std.proofs.Common.{arith, ◌≡◌, ◌≢◌, ◌⊎◌, ℕ, ◌+◌, ◌*◌, ◌/◌, ◌%◌, ◌-◌, ◌<◌, ◌≤◌, Bool, true, false, cond, refl, sym, ap, ◌∙◌, inl, inr}
 use Rattle.std.specs.Prelude.{not, ◌&&◌, ◌==◌, nat_le}
 use Rattle.std.proofs.lemmas.Bool.{cases_eq, cases_lt, cond_both, leb-false, ne_eqb}
@@ -13,7 +14,7 @@ use Rattle.tpm_step.specs.Step.{lockout_counted}
 use Rattle.tpm_history.specs.Potential.{IsForgiving, Pays, credit, period}
 use Rattle.tpm_history.specs.Tries.{is_try}
 
--- ---- what leaves the tries
+-- ---- changes that leave failed tries as they are
 
 -- Two states differ at most in lockoutAuth.
 abbrev pub SameTries : LockoutState → LockoutState → Type 0
@@ -21,7 +22,7 @@ SameTries old new =
     (new.fields.recovery_time ≡ old.fields.recovery_time) × (new.fields.max_tries ≡ old.fields.max_tries)
     × (new.fields.failed_tries ≡ old.fields.failed_tries) × (new.forgiving_time ≡ old.forgiving_time)
 
--- lockoutAuth is closed or open now, and nothing else is another
+-- lockoutAuth was closed or opened, and nothing else changed
 pub closed_same : (old new : LockoutState) (closed : Bool) → new ≡ with_closed closed old → SameTries old new
 closed_same old new closed is = (
   ap (λ (s : LockoutState). s.fields.recovery_time) is,
@@ -50,7 +51,7 @@ same_pays old new same = record {
   within = inl refl;
 }
 
--- what a time forgives of these tries, each for n milliseconds, some of which had passed before
+-- how many of these tries a time forgives, each for n milliseconds, some of which had passed before
 forgiven : (n tries passed elapsed : ℕ) → n * tries + cond ((tries - (passed + elapsed) / n) == 0) 0 (cond ((tries - (passed + elapsed) / n) == 0) 0 ((passed + elapsed) % n)) ≤ n * (tries - (passed + elapsed) / n) + cond (tries == 0) 0 passed + elapsed
 forgiven n tries passed elapsed = by (cases_eq tries 0) (cases_lt (time / n) tries)
   where
@@ -87,7 +88,7 @@ forgiven_pays elapsed s counts =
       within = inl refl;
     })
 
--- what is paid for, and then leaves the tries
+-- a change that is paid for, and then one that leaves the tries
 then_same : (a b c : LockoutState) (elapsed : ℕ) → Pays a b 0 elapsed → SameTries b c → Pays a c 0 elapsed
 then_same a b c elapsed pays same = record {
   recovery_time = same.0 ∙ pays.recovery_time;
@@ -109,7 +110,7 @@ cycle_pays s = record {
   within = inl refl;
 }
 
--- a failed try is counted, where it is not locked out
+-- a failed try that is counted is paid for, where the tries do not lock out yet
 failure_pays : (s : LockoutState) → s.fields.recovery_time ≢ 0 → is_locked s.fields ≡ false → Pays s (after_failure s) 1 0
 unfolding after_failure
 failure_pays s counts unlocked =
@@ -125,13 +126,13 @@ failure_pays s counts unlocked =
       within = inr (omega (arith, few));
     })
 
--- what a refusal counts
+-- what a refusal counts is paid for
 pub refusal_pays : (s : LockoutState) (c : Counted) → s.fields.recovery_time ≢ 0 → (is_try c ≡ true → is_locked s.fields ≡ false) → Pays s (lockout_counted c s) (cond (is_try c) 1 0) 0
 refusal_pays s counted.None counts unlocked = same_pays s s (refl, refl, refl, refl)
 refusal_pays s counted.Try counts unlocked = failure_pays s counts (unlocked refl)
 refusal_pays s counted.Lockout counts unlocked = same_pays s (closed_by_failure s) (closing_same s)
 
--- ---- all of them
+-- ---- all steps of a stretch
 
 -- The tries that failed from a state on, while this number of milliseconds passed, are none, or no
 -- more than maxTries and that time pay for.
@@ -140,7 +141,7 @@ IsPaid s failed elapsed =
     (failed ≡ 0)
     ⊎ (period s * s.fields.failed_tries + period s * failed ≤ period s * s.fields.max_tries + credit s + elapsed)
 
--- one step before others
+-- one step before others, all of which are paid for
 pub pays_more : (a b : LockoutState) (one failed all first elapsed whole : ℕ) → one + failed ≡ all → first + elapsed ≡ whole → Pays a b one first → IsPaid b failed elapsed → IsPaid a all whole
 pays_more a b one failed all first elapsed whole counted passed pays rest = by pays.within (rw (pays.recovery_time, pays.max_tries) at rest)
   where
@@ -158,14 +159,14 @@ pays_more a b one failed all first elapsed whole counted passed pays rest = by p
         let zero : n * failed ≡ 0 = ap (λ k. n * k) nought ∙ mul-zero n in
         inr (omega (arith, pays.balance, most, sum, zero, passed))
 
--- and so how many they are at most
+-- how many tries failed at most, where they are paid for
 few_of : (n tries failed most passed elapsed : ℕ) → 0 < n → passed < n → n * tries + n * failed ≤ n * most + cond (tries == 0) 0 passed + elapsed → failed ≤ most + elapsed / n
 few_of n tries failed most passed elapsed some below paid = by (cases_lt (most + elapsed / n) failed)
   where
     q : ℕ
     q = elapsed / n
 
-    -- where tries were there, each of them was one of the most
+    -- where tries were counted at the start, each of them is one of maxTries
     under : (tries ≡ 0) ⊎ (tries ≡ 0 → ⊥) → n * failed ≤ n * most + elapsed
     under (inl none) =
         let at : n * 0 + n * failed ≤ n * most + 0 + elapsed = rw none at paid in
@@ -186,7 +187,7 @@ few_fail s failed elapsed counts is (inl none) = omega (arith, none)
 few_fail s failed elapsed counts is (inr paid) =
     few_of (period s) s.fields.failed_tries failed s.fields.max_tries s.forgiving_time elapsed (omega (arith, counts)) (is counts) paid
 
--- ---- the time of the next try to be forgiven
+-- ---- the time towards forgiving the next try
 
 pub same_forgives : (old new : LockoutState) → SameTries old new → IsForgiving old → IsForgiving new
 same_forgives old new same is counts = rw (same.3, same.0) (is (λ none. counts (same.0 ∙ none)))

@@ -41,17 +41,17 @@ use Rattle.tpm_history.proofs.HandleMap.{at_other, at_same}
 use Rattle.tpm_history.proofs.IndexChanges.{CountsUp, incremented_counts}
 use Rattle.tpm_history.proofs.Indices.{OthersStay, changed_each, cleared_each, defined_each, removed_each, started_each}
 
--- A counter has the value that stands for its handle.
+-- A counter has the value that is told of its handle.
 abbrev Counts : (Handle → Option ℕ) → Handle → NvIndex → Type 0
 Counts at handle index = IsCounter index → IsCounted index (at handle)
 
--- where another value stands for one handle, all others have theirs
+-- where another value is told of one handle, all other counters have theirs
 others_count : (handle : Handle) (count : Option ℕ) (at : Handle → Option ℕ) → OthersStay (Counts at) (Counts (with_at handle count at)) handle
 others_count handle count at other index apart counts counter =
     let was = counts counter in
     record { stays = was.stays; value = was.value ∙ sym (at_other handle other count at apart) }
 
--- the same contents
+-- the same contents have the same counters
 same_counted : (old new : NvContents) (c : Counters) → new ≡ old → AreCounted old c → AreCounted new c
 same_counted old new c same are = subst (λ (nv : NvContents). AreCounted nv c) (sym same) are
 
@@ -81,7 +81,7 @@ auth_counted old new c made are =
 
 -- ---- a counter counts
 
--- the next value, by whether there is one
+-- the next value of a counter, by whether it has one
 next_by : (b : Bool) (most n : ℕ) → next_count most (cond b (Some n) None) ≡ cond b n most + 1
 next_by true most n = refl
 next_by false most n = refl
@@ -129,13 +129,13 @@ increment_counted q old new c made are =
 counter_number : (n : ℕ) → nv_type_named n ≡ Some type.Counter → (n == 1) ≡ true
 counter_number n is = grind (arith, nat_tests)
 
--- each of some tests fails, where none of them passes
+-- where no test passes, each of them fails
 none_in : (tests : List Bool) (n : ℕ) → list_any (λ wrong. wrong) tests ≡ false → get_or tests n false ≡ false
 none_in [] n none = refl
 none_in (test ∷ tests) zero none = (or_parts test (list_any (λ wrong. wrong) tests) none).0
 none_in (test ∷ tests) (suc n) none = none_in tests n (or_parts test (list_any (λ wrong. wrong) tests) none).1
 
--- what passes the checks of a definition is no counter whose value a startup takes away
+-- an index that passes the checks of a definition is no counter whose value a startup takes away
 stays_is : (by_platform : Bool) (a : NvAttributes) → list_any (λ wrong. wrong) (index_attribute_conflicts by_platform a) ≡ false → index_type a ≡ Some type.Counter → has a attribute.ClearStClear ≡ false
 stays_is by_platform a passes counter =
     let fifth : (is_of a type.Counter && has a attribute.ClearStClear) ≡ false = none_in (index_attribute_conflicts by_platform a) 4 passes in
@@ -172,7 +172,7 @@ clear_counted contents c up are = record { most = are.most; each = cleared_each 
 
 -- ---- a startup
 
--- Attributes have of others what a counter needs.
+-- Two lists of attributes agree in what a counter needs.
 abbrev Alike : NvAttributes → NvAttributes → Type 0
 Alike a b = (index_type b ≡ index_type a) × (has b attribute.Written ≡ has a attribute.Written) × (has b attribute.ClearStClear ≡ has a attribute.ClearStClear)
 
@@ -196,7 +196,7 @@ started_type a =
     (unlocked_alike (kept_written a)).0
     ∙ cond_both (has a attribute.ClearStClear) (without_attribute a attribute.Written) a (λ b. index_type b ≡ index_type a) (λ _. are_attributes.cleared_type a attribute.Written) (λ _. refl)
 
--- a counter that no startup clears is as it was
+-- a counter that no startup clears is as it was after a startup
 startup_keeps : (index : NvIndex) → index_has index attribute.ClearStClear ≡ false → (stored_count (started_index index) ≡ stored_count index) × (index_has (started_index index) attribute.ClearStClear ≡ false)
 startup_keeps index stays =
     let a = index.public.attributes in
@@ -224,7 +224,8 @@ starts_counted old new c (inr starts) are = same_counted (started old) new c sta
 
 -- ---- rows
 
--- whether a success that touches this part leaves the values that a history tells of counters
+-- whether a success that touches this part of the state leaves the values that a history tells of
+-- counters
 abbrev keeps_counters : Part → Bool
 keeps_counters NvCounter = false
 keeps_counters NvDefined = false

@@ -78,14 +78,15 @@ manufactured_auth_values random h v = by (is_nv_index h) (is_persistent h) (is_t
     by false false true is = absurd (none-some v (sym (ap object_auth (free_found transient_byte object_limit h.number)) ∙ is))
     by false false false is = sym (same_Some _ v is) ∙ no_value random h
 
--- ---- what is there has its value
+-- ---- what a handle names, if it is there, has its value
 
--- what is kept under numbers is no session
+-- a handle's type that is kept under numbers is not that of a session
 no_session : (t : ℕ) → (t == 0x01 || t == 0x80 || t == 0x81) ≡ true → (t == 0x02 || t == 0x03) ≡ false
 no_session t kept = grind (arith, nat_tests)
 
 module _ (r : Record) (h : Handle) where
-  -- so what a handle of its type names is there
+  -- where a handle of an object's or an index's type passes the check that it names something, the
+  -- object or index is there
   pub kept_there : is_present r h ≡ true → names_kept h ≡ true → is_kept (entity_at r h) ≡ true
   unfolding is_present
   kept_there present kept =
@@ -104,7 +105,7 @@ module _ (r : Record) (h : Handle) where
   object_there (Some object) kept = refl
   object_there None kept = absurd (false≢true kept)
 
-  -- no transient object has a handle of another type
+  -- no transient object is found under a handle of another type
   none_transient : is_transient h ≡ false → object_at r.objects h ≡ None
   unfolding object_at at_number
   none_transient other = none (at_place r.objects (place_of h.number))
@@ -123,7 +124,7 @@ module _ (r : Record) (h : Handle) where
   seen_by false false true is kept = object_there (object_at r.objects h) (kept refl)
   seen_by false false false is kept = ap (λ (found : Option Object). Some (entity_auth_value r h (option_map_or AnObject found Permanent))) (sym (none_transient is))
 
-  -- what is kept under a number has the value that is seen there
+  -- an object or an index has the authorization value that is seen under its handle
   pub kept_seen : is_kept (entity_at r h) ≡ true → auth_seen r h ≡ Some (auth_value_of r h)
   unfolding auth_value_of entity_at object_of
   kept_seen kept = seen_by (is_nv_index h) (is_persistent h) (is_transient h) refl (λ there. kept)
@@ -141,14 +142,14 @@ handles_auth_values r history [] (h ∷ handles) has fits = absurd fits
 handles_auth_values r history (rule ∷ rules) (h ∷ handles) has fits =
     ap₂ (λ (value : List ℕ) (values : List (List ℕ)). value ∷ values) (present_auth_value r history h has fits.0.1) (handles_auth_values r history rules handles has fits.1)
 
--- and what a command's handles name is there
+-- what the handles of an accepted command name is there
 pub handles_present : (r : Record) (rules : List HandleRule) (handles : List Handle) → HandlesFit r rules handles → (place : ℕ) (handle : Handle) → slice_get handles place ≡ Some handle → is_present r handle ≡ true
 handles_present r rules [] fits place handle at = absurd cc
 handles_present r [] (h ∷ handles) fits place handle at = absurd fits
 handles_present r (rule ∷ rules) (h ∷ handles) fits zero handle at = let same : h ≡ handle = cc in subst (λ (x : Handle). is_present r x ≡ true) same fits.0.1
 handles_present r (rule ∷ rules) (h ∷ handles) fits (suc place) handle at = handles_present r rules handles fits.1 place handle at
 
--- ---- what is neither a hierarchy nor lockout, nor an index or an object
+-- ---- entities that are neither a hierarchy nor lockout, nor an index or an object
 
 pub others_have_none : (r : Record) (history : History) (h : Handle) → HasAuthValues r history → names_kept h ≡ false → hierarchy_auth_of h ≡ None → auth_of history h ≡ []
 others_have_none r history h has other none =

@@ -34,7 +34,7 @@ use Rattle.tpm_history.specs.Pcrs.{Pcrs, before_shutdown, pcr_by, pcr_of, pcrs_a
 use Rattle.tpm_pcr.proofs.OneValue.{new_all, new_values}
 use Rattle.tpm_history.proofs.PcrRows.{SoMeasures, row_measures}
 
--- ---- what is saved
+-- ---- what a shutdown saves
 
 abbrev leaves_saved : Part → Bool
 leaves_saved Saved = false
@@ -75,7 +75,7 @@ row_saves : (r : Record) (code : CommandCode) (q : Request) (history : History) 
 row_saves r command.Shutdown q history has = shutdown_saves r q history has
 row_saves r _ q history has = other_saves r _ q history refl has
 
--- what cancels a shutdown saves nothing
+-- a command that cancels what a shutdown saved leaves nothing saved
 settled_saved : (keeps : Bool) (r : Record) (values : PcrValues) → IsSavedAs r.fixed.saved values → IsSavedAs (cond keeps r (with_saved r Nothing)).fixed.saved values
 settled_saved true r values is = is
 settled_saved false r values is = tt
@@ -106,7 +106,7 @@ module _ (r : Record) (a : Accepted) (locality : ℕ) (random : List ℕ) (histo
       settled_saved (shape_of a.command.code).keeps_shutdown answered (saved_by a.command.code pcrs)
       (subst (λ (x : SavedState). IsSavedAs x (saved_by a.command.code pcrs)) (sym same) row)
 
-  -- all 24 values are known of every record
+  -- of a record whose banks have all 24 values
   pub pcrs_done : HaveAll after.fixed.banks → HasPcrs after (Done (command_of r a) ∷ history)
   pcrs_done all = record {
     all = all;

@@ -34,7 +34,7 @@ use Rattle.tpm_history.proofs.SessionEntries.{answer_told, entries_roll}
 use Rattle.tpm_history.proofs.SessionRows.{IsTold, row_told}
 use Rattle.tpm_laws.proofs.Started.{is_started}
 
--- ---- there is none
+-- ---- where there is no session
 
 pub manufactured_sessions : (random : List ℕ) → HasSessions (manufactured random) []
 manufactured_sessions random = record { live = none_live; asleep = λ asleep handle. refl }
@@ -44,7 +44,7 @@ cycled_sessions r history = record { live = none_live; asleep = λ asleep handle
 
 -- ---- a command is accepted
 
--- whether or not what is saved is kept
+-- sessions are the same whether or not what is saved is kept
 settled_live : (keeps : Bool) (live : LiveSessions) (r : Record) → AreLive r.sessions live → AreLive (cond keeps r (with_saved r Nothing)).sessions live
 settled_live true live r are = are
 settled_live false live r are = are
@@ -71,7 +71,8 @@ module _ (r : Record) (a : Accepted) (locality : ℕ) (random : List ℕ) (histo
       many pcrs has.live a.command.code)
       is.row refl
 
-  -- the row drew what the command's code and parameters say, or it has no entries, and draws none
+  -- the row drew what the command's code and parameters say, or the command has no entries, and is
+  -- said to draw none
   drew : (a.success.answer.drawn ≡ draws_of a.command.code a.request) ⊎ ((a.command.entries ≡ []) × (draws_of a.command.code a.request ≡ 0))
   drew =
       elim (cases_Bool (is_startup a.command.code)) [
@@ -106,7 +107,7 @@ module _ (r : Record) (a : Accepted) (locality : ℕ) (random : List ℕ) (histo
     asleep = λ asleep. absurd (false≢true (sym asleep ∙ is_started r a locality random is));
   }
 
-  -- what is left after the nonces is enough
+  -- enough random bytes are left after the nonces
   pub left_enough : 64 ≤ length (device.entries_rolled a.success.after a.command.entries (drop a.success.answer.drawn random)).left → 64 ≤ length (rolled_by (command_of r a) history (sessions_of history)).left
   left_enough some = by drew (subst (λ (bytes : List ℕ). 64 ≤ length bytes) (entries_roll a.success.after a.command.entries (drop a.success.answer.drawn random) effect after_row).1 some)
     where

@@ -1,4 +1,5 @@
--- The digest of selected PCRs is that which a history gives, and is the same where their values are.
+-- The digest of selected PCRs is the one that a history gives, and two such digests are the same
+-- where the values are.
 use Rattle.std.proofs.Common.{arith, ◌≡◌, ℕ, zero, suc, ◌<◌, ◌≤◌, ◌++◌, Bool, true, false, cond, List, [], ◌∷◌, filter, map, refl, ap, ◌∙◌}
 use Rattle.std.proofs.lemmas.List.{map-append}
 use Rattle.std.proofs.lemmas.List.Elements.{filter-append}
@@ -13,7 +14,7 @@ use Rattle.tpm_record.specs.Record.{Record}
 use Rattle.tpm_history.specs.History.{History}
 use Rattle.tpm_history.specs.Pcrs.{digest_in, pcr_of}
 
--- one number more, where it is chosen
+-- the values of chosen numbers, with one number more, where it is chosen
 one_more : (f g : ℕ → List ℕ) (n : ℕ) (chosen : Bool) (a b : List (List ℕ)) → a ≡ b → f n ≡ g n → a ++ map f (cond chosen (n ∷ []) []) ≡ b ++ map g (cond chosen (n ∷ []) [])
 one_more f g n true a b before here = rw (before, here) refl
 one_more f g n false a b before here = rw before refl
@@ -28,7 +29,7 @@ same_below f g chosen (suc n) few same =
 abbrev pub AgreeBelow : PcrValues → PcrValues → Type 0
 AgreeBelow f g = (bank : HashAlg) (pcr : ℕ) → pcr < 24 → f bank pcr ≡ g bank pcr
 
--- the selected ones of these values
+-- the values of the selected PCRs, from an assignment of values
 abbrev chosen_values : PcrValues → BankSelection → List (List ℕ)
 chosen_values f bank = map (f bank.hash) (selected_pcrs bank)
 

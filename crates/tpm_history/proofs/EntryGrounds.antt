@@ -1,4 +1,4 @@
--- What is accepted of an entry gives a ground for what it authorizes.
+-- An entry that is accepted has a ground for what it authorizes.
 use Rattle.std.proofs.Common.{◌≡◌, ◌≢◌, ℕ, zero, suc, ◌+◌, ◌<◌, arith, Bool, true, false, cond, List, [], ◌∷◌, length, take, map, Option, Some, None, option_map, Ok, IfOk, slice_get, refl, ap, sym, subst, ◌∙◌}
 use Rattle.std.specs.Prelude.{◌&&◌, not, IfSome, option_and_then, ◌-◌}
 use Rattle.std.specs.Int.{bit_at}
@@ -54,7 +54,7 @@ use Rattle.tpm_history.proofs.EntryHmacs.{authentic_told, cp_hash_told, handle_t
 use Rattle.tpm_history.proofs.UseGrounds.{Passes, is_its_policy, names_command, one_bit, recorded_hash, recorded_is, takes_some, use_passed, recorded_written}
 use Rattle.tpm_history.proofs.Views.{views_tell}
 
--- ---- what was compared
+-- ---- the comparison of an entry
 
 compared : (r : Record) (c : Whole) (n : ℕ) (g : Option Grant) (e : Entry) (s : Session) → IfOk (comparison r c n g e s) (λ granted. comparison_holds r c n g e s ≡ true)
 compared r c n g e s =
@@ -77,7 +77,7 @@ nothing_used r s = refl
 less_one : (place : ℕ) → (place + 1) - 1 ≡ place
 less_one place = omega arith
 
--- places of lists
+-- two lists of one length have the same places
 same_place : {X Y : Type 0} (xs : List X) (ys : List Y) (place : ℕ) (x : X) → length ys ≡ length xs → slice_get xs place ≡ Some x → (y : Y) × (slice_get ys place ≡ Some y)
 same_place [] ys place x many is = absurd cc
 same_place (first ∷ xs) [] place x many is = absurd (omega (arith, many))
@@ -99,7 +99,7 @@ not_kept : (kept : Bool) → (kept ≡ true → false ≡ true) → not kept ≡
 not_kept true kept = absurd (false≢true (kept refl))
 not_kept false kept = refl
 
--- the session of a history of which a device's tells
+-- the session of a history whose facts are those of a device's session
 told_of : (found : Session) (told : Option LiveSession) → option_map session_facts (Some found) ≡ option_map facts_of told → (l : LiveSession) × (told ≡ Some l) × (session_facts found ≡ facts_of l)
 told_of found (Some l) same = (l, refl, same_Some (session_facts found) (facts_of l) same)
 told_of found None same = absurd cc
@@ -133,7 +133,7 @@ module _ (r : Record) (c : AcceptedCommand) (history : History) (locality : ℕ)
     kind_same : s.kind ≡ l.kind
     kind_same = ap (λ (f : SessionFacts). f.start.kind) same
 
-    -- the PCRs of a policy with the counter of now hold
+    -- what a session asserts of PCRs holds, where its recorded counter is that of the device
     holds_pcrs : RecordsUpdates e.session history l → is_other s.policy.update_count r.fixed.banks.update_count ≡ false → HoldsPcrs e.session history l
     holds_pcrs records counter =
         let recorded : s.policy.update_count ≡ Some records.count = ap (λ (p : Policy). p.update_count) policy_same ∙ records.recorded in
@@ -271,7 +271,7 @@ module _ (r : Record) (c : AcceptedCommand) (history : History) (locality : ℕ)
       by kind.Session is = with_session (λ g. Ground history c place e) place (Some handle) e (λ s l lives same. session_ground place handle e at s l lives same)
       by kind.Other is = tt
 
-  -- an entry of a session that authorizes nothing
+  -- an entry of a session that authorizes nothing has its HMAC
   other_hmac : (place : ℕ) (e : Entry) (l : LiveSession) → used_in c.command place ≡ None → session_kind e.session ≡ kind.Session → sessions_of history e.session ≡ Some l → IfOk (grant r c.command locality (place + 1) None e) (λ g. HasHmac history c place e l)
   unfolding grant session_grant
   other_hmac place e l none is lives =

@@ -72,7 +72,7 @@ by_test key hmac mac is = by (length key == 0) (length hmac == 0) refl refl is
 -- ---- a device and its history
 
 module _ (r : Record) (c : AcceptedCommand) (history : History) (viewed : c.views ≡ map (view_of r) c.command.handles) (valued : map (auth_value_of r) c.command.handles ≡ map (auth_of history) c.command.handles) (live : AreLive r.sessions (sessions_of history)) where
-  -- ---- what stands in a place
+  -- ---- the entity in a place
 
   pub handle_there : (place : ℕ) (handle : Handle) → used_in c.command place ≡ Some handle → slice_get c.command.handles place ≡ Some handle
   handle_there place handle at = got_of_first (authorized_handles c.command.code) c.command.handles place handle at
@@ -120,7 +120,7 @@ module _ (r : Record) (c : AcceptedCommand) (history : History) (viewed : c.view
       by (Some e) = nonce_told e
       by None = refl
 
-  -- ---- a session of which the same is told
+  -- ---- two sessions with the same facts
 
   module _ (s : Session) (l : LiveSession) (same : session_facts s ≡ facts_of l) (place : ℕ) where
     bound_told : (handle : Handle) → used_in c.command place ≡ Some handle → is_bound_to l (name_in c.views place) (auth_of history handle) ≡ device.is_bound_to r s handle
@@ -135,7 +135,7 @@ module _ (r : Record) (c : AcceptedCommand) (history : History) (viewed : c.view
         by (Some b) = refl
         by None = refl
 
-    -- the same value is in the key, by a demand that puts it there as the policy does
+    -- the same authorization value is in the key, by a demand that puts it there as the policy does
     pub value_told : (handle : Handle) (demand : Demand) → used_in c.command place ≡ Some handle → ((is_bound : Bool) → has_value_in_key s.kind is_bound demand ≡ has_value_in_key s.kind is_bound s.policy.demand) → used_auth_value r s (Some (record { handle = handle; demand = demand })) ≡ value_in_key history c place l (used_in c.command place)
     unfolding used_auth_value takes_value
     value_told handle demand at alike =
@@ -150,7 +150,7 @@ module _ (r : Record) (c : AcceptedCommand) (history : History) (viewed : c.view
         ap (λ (v : List ℕ). s.key ++ v) is
         ∙ ap (λ (f : SessionFacts). f.key ++ value_in_key history c place l (used_in c.command place)) same
 
-    -- what an HMAC is of, by the facts of a session
+    -- the HMAC of an entry, by the facts of its session
     abbrev hmac_by : SessionFacts → Entry → (cp_hash key decrypt encrypt : List ℕ) → List ℕ
     hmac_by f e cp_hash key decrypt encrypt = hmac_of f.start.hash key (entry_text cp_hash e.nonce f.nonce_tpm decrypt encrypt e.attributes)
 

@@ -1,4 +1,5 @@
--- An event fails a try exactly where its authorization is refused with AUTH_FAIL for an entry that touches what is protected, and is answered so.
+-- An event fails a try exactly where its authorization is refused with AUTH_FAIL for an entry that
+-- touches a protected entity, and that is its answer.
 use Rattle.std.proofs.Common.{arith, rules, ◌≡◌, ℕ, ◌+◌, Bool, true, false, List, [], ◌∷◌, ◌++◌, append_assoc, length, length-append, slice_get, Option, Some, None, option_map, Result, Ok, Err, IfErr, refl, sym, ap, subst, ◌∙◌}
 use Rattle.std.specs.Prelude.{not, nat_lt, ◌&&◌, ◌||◌, is_none}
 use Rattle.std.specs.List.{list_any}
@@ -81,7 +82,7 @@ use_other : (policy : Policy) (u : UseParts) → IfErr (use_passes policy u) IsO
 unfolding use_passes
 use_other policy u = search (rules, err_bind, err_if) depth 16
 
--- what holds of a check's refusals, whose codes are others
+-- what holds of a check's refusals, whose codes are other than AUTH_FAIL
 err_other : {X : Type 0} (Q : Refused → Type 0) (check : Check) (x : Result X Rc) → IfErr x IsOther → ((rc : Rc) → IsOther rc → Q (refusal check rc)) → IfErr (checked check x) Q
 err_other Q check (Ok x) others h = tt
 err_other Q check (Err rc) other h = h rc other
@@ -92,13 +93,13 @@ err_other Q check (Err rc) other h = h rc other
 abbrev is_failure : Refused → Bool
 is_failure e = is_try e.counted || is_auth_fail e.rc.code
 
--- A refusal is that of entry n, which is to authorize this handle or none: what it touches is not
--- locked out, and its comparison fails.
+-- A refusal is that of entry n, which is to authorize this handle or none: the entity that the
+-- entry touches is not locked out, and its comparison fails.
 record FailsAt (r : Record) (c : Whole) (locality n : ℕ) (used : Option Handle) (entry : Entry) (e : Refused) : Type 0 where
   unlocked : is_locked_out r.fixed.lockout (touched r c locality n used entry) ≡ false
   is : e ≡ failure (check_for used) n (touched r c locality n used entry)
 
--- It is so, if it counts a try, or is AUTH_FAIL.
+-- A refusal that counts a try, or is AUTH_FAIL, is that of entry n.
 abbrev IfFailsAt : Record → Whole → (locality n : ℕ) → Option Handle → Entry → Refused → Type 0
 IfFailsAt r c locality n used entry e = is_failure e ≡ true → FailsAt r c locality n used entry e
 
@@ -118,7 +119,7 @@ module _ (r : Record) (c : Whole) (locality n : ℕ) (used : Option Handle) (ent
       err_bind_is Q (may_be_tried r.fixed.lockout granted p) _ (err_if Q _ _ (other_at _ _ refl)) (λ tried may.
       err_bind Q (refused_if (not holds) _) _ (err_if Q _ _ (λ fails. failure_at granted p same touches (passed _ _ tried may))) (λ compared. tt))
 
--- a password
+-- the check of a password's comparison
 same_check : (used : Option Handle) → check_of (option_map undemanding used) ≡ check_for used
 same_check None = refl
 same_check (Some handle) = refl
@@ -132,7 +133,7 @@ password_at r c locality n used e password =
     comparison_at r c locality n used e granted (used_protection r used) (is_password_of (granted_value r granted) e.hmac) (same_check used)
     (ap (λ k. touched_by k r c locality n used e) password))
 
--- a session
+-- what a session demands of an entry, where the entry fails a try
 demand_at : (k : SessionType) (r : Record) (c : Whole) (locality n : ℕ) (handle : Handle) (s : Session) (used : Option Handle) (e : Entry) → IfErr (demand_by k r c locality n handle s) (IfFailsAt r c locality n used e)
 demand_at type.Hmac r c locality n handle s used e = search (rules, err_bind, err_if, other_at)
 demand_at _ r c locality n handle s used e = search (rules, err_other, use_other, other_at)
@@ -164,7 +165,7 @@ entry_at r c locality n used e = kind_at (session_kind e.session) r c locality n
 
 -- ---- all entries of a command
 
--- A refusal is that of the entry in a place.
+-- A refusal is that of the entry in this place, whose comparison fails.
 record FailsIn (r : Record) (c : Whole) (locality : ℕ) (e : Refused) : Type 0 where
   place : ℕ
   entry : Entry
@@ -209,7 +210,7 @@ failed_number check n m protection.None is = cc
 failed_number check n m protection.Tries is = cc
 failed_number check n m protection.Lockout is = cc
 
--- it counts a try only at a protected entity other than LOCKOUT
+-- a failed comparison counts a try only at a protected entity other than LOCKOUT
 counts_at : (check : Check) (n : ℕ) (p : Protection) → is_try (failure check n p).counted ≡ true → p ≡ protection.Tries
 counts_at check n protection.Tries tries = refl
 counts_at check n _ tries = absurd (false≢true tries)
@@ -231,7 +232,7 @@ IfTryOf r locality buffer e = is_try e.counted ≡ true → FailsTry r locality 
 plain_of : (r : Record) (locality : ℕ) (buffer : List ℕ) (e : Refused) → IsPlain e → IfTryOf r locality buffer e
 plain_of r locality buffer e plain tries = absurd (false≢true (sym (ap is_try plain) ∙ tries))
 
--- what holds of the refusal of a step that there is, and of each after it
+-- what holds of the refusal of a step, if it refuses, and of each refusal after it
 err_bind_at : {A B E : Type 0} (Q : E → Type 0) (x : Result A E) (f : A → Result B E) → ((e : E) → x ≡ Err e → Q e) → ((a : A) → IfErr (f a) Q) → IfErr (x >>= f) Q
 err_bind_at Q (Ok a) f here after = after a
 err_bind_at Q (Err e) f here after = here e refl
@@ -270,7 +271,7 @@ accepted_of r buffer locality random =
     Q : RefusedCommand → Type 0
     Q e = IfTryOf r locality buffer e.refused
 
--- a command that fails a try is refused so
+-- a command that counts a failed try is refused with AUTH_FAIL
 pub try_of : (r : Record) (buffer : List ℕ) (locality : ℕ) (random : List ℕ) → counts_try (accepted r buffer locality random) ≡ true → FailsTry r locality buffer
 try_of r buffer locality random = by (accepted r buffer locality random) (accepted_of r buffer locality random)
   where
@@ -278,7 +279,7 @@ try_of r buffer locality random = by (accepted r buffer locality random) (accept
     by (Ok a) holds tries = absurd (false≢true tries)
     by (Err e) holds tries = holds tries
 
--- such a command is refused as the entry in its place is
+-- a command that fails a try is refused as the entry in that place is
 module _ {r : Record} {locality : ℕ} {buffer : List ℕ} (f : FailsTry r locality buffer) where
   failure_of : FailsAt r f.command locality (f.place + 1) (used_in f.command f.place) f.entry f.refused
   failure_of = failed_in r f.command locality f.place f.entry f.refused f.there f.is f.fails

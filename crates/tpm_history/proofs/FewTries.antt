@@ -30,7 +30,7 @@ use Rattle.tpm_history.proofs.Leading.{history_apart}
 done_pays : (r : Record) (a : Accepted) (locality : ℕ) (random : List ℕ) → IsAcceptance r locality random a → HasNoReset (with_command r (Ok a) 0 []) → Pays r.fixed.lockout (success_step a random).after.fixed.lockout 0 0
 done_pays r a locality random is quiet = same_pays r.fixed.lockout (success_step a random).after.fixed.lockout (same_done r a locality random is quiet.0)
 
--- what is accepted, or is refused memory in place of its success
+-- a command that is accepted, or refused memory in place of its success, is paid for
 starved_pays : (grows : Bool) (r : Record) (a : Accepted) (locality : ℕ) (random : List ℕ) → IsAcceptance r locality random a → let x : Stepped = cond grows (refusal_without_memory r a.command) (success_step a random) in HasNoReset (with_command r (Ok a) x.row.check []) → Pays r.fixed.lockout x.after.fixed.lockout 0 0
 starved_pays true r a locality random is quiet = same_pays r.fixed.lockout r.fixed.lockout (refl, refl, refl, refl)
 starved_pays false r a locality random is quiet = done_pays r a locality random is quiet
@@ -41,7 +41,7 @@ answer_pays true r (Ok a) locality random counts unlocked is quiet = starved_pay
 answer_pays false r (Err e) locality random counts unlocked is quiet = refusal_pays r.fixed.lockout e.refused.counted counts unlocked
 answer_pays true r (Err e) locality random counts unlocked is quiet = refusal_pays r.fixed.lockout e.refused.counted counts unlocked
 
--- one event before others: it keeps recoveryTime, and with it they are paid for
+-- One event, before others, keeps recoveryTime, and where the others are paid for all are.
 pub record PaysFor (old new : LockoutState) (fails : Bool) (elapsed : ℕ) : Type 0 where
   pub recovery_time : new.fields.recovery_time ≡ old.fields.recovery_time
   pub more : (failed rest : ℕ) → IsPaid new failed rest → IsPaid old (cond fails 1 0 + failed) (elapsed + rest)
@@ -84,7 +84,7 @@ execution_pays can old event x executes counts quiet =
     let stepped = step_pays refused old event counts (subst (λ (y : Stepped). HasNoReset (recorded old event y.row.check [])) is quiet) in
     subst (λ (y : Stepped). PaysFor old.fixed.lockout y.after.fixed.lockout (fails_try old event) (elapsed_of event)) (sym is) stepped
 
--- ---- a stretch
+-- ---- a stretch of events
 
 all_parts : {X : Type 0} (P : X → Type 0) (xs ys : List X) → AllByRecursion P (xs ++ ys) → AllByRecursion P xs × AllByRecursion P ys
 all_parts P [] ys all = (tt, all)
@@ -116,7 +116,7 @@ fails_few can old executions new is leads quiet counts = omega (arith, fails_wit
 pub one_more : (old : Record) (executions : List Execution) → tries_at_most old executions ≡ tries_within old executions + 1
 one_more old executions = omega arith
 
--- ---- what is no reset
+-- ---- commands that are no reset
 
 code_resets : (code : CommandCode) → resets_tries code ≡ true → (code ≡ command.DictionaryAttackLockReset) ⊎ (code ≡ command.DictionaryAttackParameters) ⊎ (code ≡ command.Clear)
 code_resets command.DictionaryAttackLockReset is = inl refl

@@ -75,7 +75,7 @@ record_shape r is = record { sessions_many = is.sessions; objects_many = is.obje
 
 -- ---- an accepted command
 
--- random bytes are left after the nonces that are drawn
+-- Random bytes are left after the nonces that are drawn.
 abbrev LeavesSome : List ℕ → Accepted → Type 0
 LeavesSome random a = 64 ≤ length (entries_rolled a.success.after a.command.entries (drop a.success.answer.drawn random)).left
 
@@ -179,7 +179,7 @@ manufactured_follows random = record {
 
 -- ---- an event
 
--- what is accepted leaves some random bytes
+-- A command that is accepted leaves some random bytes.
 abbrev LeavesIfAccepted : List ℕ → Result Accepted RefusedCommand → (check : ℕ) → Type 0
 LeavesIfAccepted random x check = check ≡ 0 → IfOk x (LeavesSome random)
 
@@ -193,7 +193,7 @@ answer_follows true r locality random (Ok a) history is leaves sound follows = b
     by true leaves sound = refusal_follows r memory_refusal.counted history follows
     by false leaves sound = command_follows r a locality random history is (leaves refl) sound follows
 
--- and so does an event
+-- An event that is an accepted command leaves some random bytes.
 abbrev LeavesAfter : Record → PlainEvent → (check : ℕ) → Type 0
 LeavesAfter r (Given buffer locality elapsed random) check = LeavesIfAccepted random (accepted (ticked r elapsed) buffer locality random) check
 LeavesAfter r Cycled check = Unit {0}
@@ -227,7 +227,7 @@ execution_follows can old event x history executes follows =
         subst (λ (y : Stepped). Follows y.after (recorded old event y.row.check history)) (sym same)
         (step_follows refused old event history (leaves_after old event (step_where refused old event).row.check executes.happens (λ passes. executes.modest (ap (λ (y : Stepped). y.row.check) same ∙ passes))) (subst (λ (y : Stepped). IsSound y.after) same sound) follows)
 
--- ---- a stretch of events
+-- ---- a stretch of events, with its history
 
 pub stretch_follows : (can : Bool) (old : Record) (executions : List Execution) (new : Record) (history : History) → Leads can old executions new → Follows old history → StretchFollows can old executions new history
 stretch_follows can old executions new history leads follows =
@@ -245,9 +245,9 @@ stretch_follows can old executions new history leads follows =
       replays = run_replays_repeat can old executions new history leads now.hmacs;
     }
 
--- ---- a run
+-- ---- a run, with its history
 
--- the executions of a run, told to its closure
+-- The events of a run are executions one after another, and were told to its closure.
 abbrev RunLeads : {F : Type 0} → Mut F (Bor Outcome × Unit {0}) (Unit {0}) → Bool → Record → F → List PlainEvent → Record → F → Type 0
 RunLeads g can old p events new q =
     (executions : List Execution) × (map (λ (one : Execution). one.event) executions ≡ events)
@@ -270,7 +270,7 @@ run_follows g can old p events new q history run follows =
       stretch = stretch_follows can old executions new history leads follows;
     }
 
--- what was told of executions is a run of their events
+-- executions whose outcomes were told are a run of their events
 pub told_runs : {F : Type 0} (g : Mut F (Bor Outcome × Unit {0}) (Unit {0})) (can : Bool) (old : Record) (p : F) (executions : List Execution) (new : Record) (q : F) → Leads can old executions new → Tells g p executions q → Runs g can old p (map (λ (one : Execution). one.event) executions) new q
 told_runs g can old p [] new q leads told = (leads, told)
 told_runs g can old p (one ∷ executions) new q (first, executes, leads) (outcome, next, is, called, told) =

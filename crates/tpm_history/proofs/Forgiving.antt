@@ -1,4 +1,4 @@
--- The time of the next try to be forgiven stays short, whatever a device accepts and refuses.
+-- The time towards forgiving the next try stays short, whatever a device accepts and refuses.
 use Rattle.std.proofs.Common.{arith, ◌≡◌, ◌≢◌, ℕ, Bool, true, false, List, IfOk, refl, sym, ap, subst}
 use Rattle.std.proofs.lemmas.Bool.{false≢true}
 use Rattle.tpm_lockout.specs.Lockout.{LockoutState}
@@ -25,7 +25,7 @@ use Rattle.tpm_history.specs.Potential.{IsForgiving}
 use Rattle.tpm_history.specs.Tries.{resets_tries}
 use Rattle.tpm_history.proofs.Balance.{SameTries, closed_same, refusal_forgives, same_forgives, tick_forgives}
 
--- ---- rows that leave the tries
+-- ---- rows that leave failed tries
 
 abbrev leaves_tries : Part → Bool
 leaves_tries Lockout = false
@@ -53,13 +53,13 @@ leaving_row r code q quiet =
     ok_weaker (λ s. Touches (part_of code) r s.after) (λ s. SameTries r.fixed.lockout s.after.fixed.lockout) (row_of r code q) (row_touches r code q)
     (λ s touches. same_part (part_of code) r s.after (leaves_if code quiet) touches)
 
--- what is accepted and is no reset leaves the tries
+-- a command that is accepted and is no reset leaves failed tries
 pub same_done : (r : Record) (a : Accepted) (locality : ℕ) (random : List ℕ) → IsAcceptance r locality random a → resets_tries a.command.code ≡ false → SameTries r.fixed.lockout (success_step a random).after.fixed.lockout
 same_done r a locality random is quiet =
     subst (λ (s : LockoutState). SameTries r.fixed.lockout s) (sym (ap (λ (x : Record). x.fixed.lockout) (success_leaves a random)))
     (ok_at (λ s. SameTries r.fixed.lockout s.after.fixed.lockout) (row_of r a.command.code a.request) a.success (leaving_row r a.command.code a.request quiet) is.row)
 
--- ---- rows that reset them
+-- ---- rows that reset failed tries
 
 clear_forgives : (r : Record) (q : Request) → IsForgiving r.fixed.lockout → IfOk (row_of r command.Clear q) (λ s. IsForgiving s.after.fixed.lockout)
 clear_forgives r q is =

@@ -1,4 +1,4 @@
--- What stands for a handle after something was put there.
+-- The value of a map at each handle after one was put.
 use Rattle.std.proofs.Common.{◌≡◌, ◌≢◌, ap, refl}
 use Rattle.std.proofs.lemmas.Bool.{eq-eqb, ne_eqb}
 use Rattle.tpm_types.specs.Handle.{numbered}

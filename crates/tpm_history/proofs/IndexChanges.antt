@@ -1,4 +1,4 @@
--- What a counter becomes that counts.
+-- The value that a counter has after it counts.
 use Rattle.std.proofs.Common.{◌≡◌, ℕ, ◌+◌, ◌<◌, ◌^◌, Some, IfOk, refl}
 use Rattle.std.specs.Prelude.{nat_le}
 use Rattle.std.specs.Int.{w64, to_be_bytes}

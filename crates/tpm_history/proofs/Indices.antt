@@ -1,4 +1,5 @@
--- What holds of each NV index, as one is changed, comes or goes, and at a clear and a startup.
+-- What holds of each NV index, as one is changed, defined or removed, and at TPM2_Clear and a
+-- startup.
 use Rattle.std.proofs.Common.{◌≡◌, ◌≢◌, ℕ, Bool, true, false, cond, [], ◌∷◌, Option, Some, None, refl, sym, ap, subst, ◌∙◌, inl, inr}
 use Rattle.std.specs.Prelude.{◌==◌, map}
 use Rattle.std.proofs.lemmas.Bool.{cases_Bool, cases_eq}
@@ -25,11 +26,11 @@ abbrev pub EachIndex : (Handle → NvIndex → Type 0) → NvContents → Type 0
 EachIndex Is contents = (handle : Handle) (index : NvIndex) → index_at contents handle ≡ Some index → Is handle index
 
 module _ (Was Is : Handle → NvIndex → Type 0) where
-  -- what held of an index holds now, if its handle is another
+  -- What held of an index holds now, if its handle is another than this one.
   abbrev pub OthersStay : Handle → Type 0
   OthersStay handle = (other : Handle) (index : NvIndex) → other.number ≢ handle.number → Was other index → Is other index
 
-  -- this index is there now, and all others as they were
+  -- where this index is there now, and all others are as they were, this holds of each
   but_one : (old new : NvContents) (handle : Handle) (index : NvIndex) → index_at new handle ≡ Some index → ((other : Handle) → other.number ≢ handle.number → index_at new other ≡ index_at old other) → Is handle index → OthersStay handle → EachIndex Was old → EachIndex Is new
   but_one old new handle index here apart is stay was other found there =
       elim (cases_eq other.number handle.number) [
@@ -40,21 +41,21 @@ module _ (Was Is : Handle → NvIndex → Type 0) where
         | inr away ↦ stay other found away (was other found (sym (apart other away) ∙ there))
       ]
 
-  -- one is changed in its place
+  -- an index is changed in its place
   pub changed_each : (contents : NvContents) (handle : Handle) (old new : NvIndex) → index_at contents handle ≡ Some old → Is handle new → OthersStay handle → EachIndex Was contents → EachIndex Is (changed_index contents handle new)
   changed_each contents handle old new found =
       but_one contents (changed_index contents handle new) handle new
       (index_map.changed_found contents.indices handle.number old new found)
       (λ other away. index_map.changed_others contents.indices handle.number new other.number away)
 
-  -- one comes
+  -- an index is defined
   pub defined_each : (contents : NvContents) (handle : Handle) (new : NvIndex) → index_at contents handle ≡ None → Is handle new → OthersStay handle → EachIndex Was contents → EachIndex Is (with_index contents handle new)
   defined_each contents handle new free =
       but_one contents (with_index contents handle new) handle new
       (index_map.put_found contents.indices handle.number new free)
       (λ other away. index_map.put_others contents.indices handle.number new other.number away)
 
-  -- all start
+  -- all indices start
   pub started_each : ((handle : Handle) (index : NvIndex) → Was handle index → Is handle (started_index index)) → (contents : NvContents) → EachIndex Was contents → EachIndex Is (started contents)
   unfolding started
   started_each starts contents was handle index there =
@@ -70,7 +71,7 @@ module _ (Was Is : Handle → NvIndex → Type 0) where
           by false more there = more there
 
 module _ (Is : Handle → NvIndex → Type 0) where
-  -- one goes
+  -- an index is removed
   pub removed_each : (contents : NvContents) (handle : Handle) → Ascends contents.indices → EachIndex Is contents → EachIndex Is (without_index contents handle)
   removed_each contents handle up is other index there =
       elim (cases_eq other.number handle.number) [
@@ -82,7 +83,7 @@ module _ (Is : Handle → NvIndex → Type 0) where
             is other index (sym (index_map.removed_others contents.indices handle.number other.number away) ∙ there)
       ]
 
-  -- all go but the platform's
+  -- all indices are removed but the platform's
   pub cleared_each : (contents : NvContents) → Ascends contents.indices → EachIndex Is contents → EachIndex Is (cleared contents)
   unfolding cleared
   cleared_each contents up is handle index there = is handle index (kept_was handle.number index there)

@@ -1,4 +1,4 @@
--- What leads from one history to another.
+-- Facts of executions that lead from one history to another.
 use Rattle.std.proofs.Common.{◌≡◌, ℕ, zero, suc, Bool, List, [], ◌∷◌, ◌++◌, append_assoc, Result, Ok, Err, refl, sym, ap, subst, ◌∙◌}
 use Rattle.tpm_record.specs.Record.{Record}
 use Rattle.tpm_record.specs.Tick.{ticked}
@@ -9,7 +9,7 @@ use Rattle.tpm_step.specs.declared.refused_command.RefusedCommand.{RefusedComman
 use Rattle.tpm_history.specs.Executions.{Execution, Leads, history_after, with_execution}
 use Rattle.tpm_history.specs.History.{History, recorded, with_command}
 
--- ---- a history apart from the one before it
+-- ---- the part of a history after an earlier one
 
 command_apart : (r : Record) (x : Result Accepted RefusedCommand) (check : ℕ) (history : History) → with_command r x check history ≡ with_command r x check [] ++ history
 command_apart r (Ok a) zero history = refl
@@ -34,7 +34,7 @@ all_apart (one ∷ executions) new old =
 pub history_apart : (executions : List Execution) (history : History) → history_after history executions ≡ history_after [] executions ++ history
 history_apart executions history = all_apart executions [] history
 
--- ---- what each execution keeps
+-- ---- facts that each execution keeps
 
 pub leads_keep : (Follows : Record → History → Type 0) → ((can : Bool) (old : Record) (event : PlainEvent) (x : Stepped) (history : History) → Executes can old event x → Follows old history → Follows x.after (recorded old event x.row.check history)) → (can : Bool) (old : Record) (executions : List Execution) (new : Record) (history : History) → Leads can old executions new → Follows old history → Follows new (history_after history executions)
 leads_keep Follows kept can old [] new history leads follows = subst (λ r. Follows r history) (sym leads) follows

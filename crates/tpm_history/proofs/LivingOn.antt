@@ -19,20 +19,22 @@ use Rattle.tpm_actions_device.specs.FlushContext.{flushed_handle}
 use Rattle.tpm_actions_device.specs.StartAuthSession.{Parameters, parameters_in}
 use Rattle.tpm_actions_policy.specs.Assertions.{asserts, session_handle}
 use Rattle.tpm_laws.specs.Draws.{draws_of}
+use Rattle.tpm_policy_meaning.specs.Asserted.{IsAmong}
 use Rattle.tpm_history.specs.AuthValues.{auth_of}
 use Rattle.tpm_history.specs.HandleMap.{by_handle, with_at}
 use Rattle.tpm_history.specs.History.{AcceptedCommand, Done, History}
-use Rattle.tpm_history.specs.Replays.{IsAmong, starts_under}
+use Rattle.tpm_history.specs.Replays.{starts_under}
 use Rattle.tpm_history.specs.Sessions.{Bound, LiveSession, LiveSessions, asserted_by, bound_in, changed_session, entries_ended, entries_rolled, entry_ended, entry_rolled, nonce_size, restarted, rolled_by, sessions_by, sessions_of, started, started_by, started_with, used, used_by, with_asserted, with_nonce, with_started, without_session}
 use Rattle.tpm_history.proofs.HandleMap.{at_other, at_same, same_handle}
 
 -- ---- one session at two times
 
--- the nonces that a session had up to a time
+-- all nonces that a session had up to a time
 abbrev pub all_nonces : LiveSession → List (List ℕ)
 all_nonces s = s.nonce_tpm ∷ s.earlier_nonces
 
--- It has the same type and hash, nonces of one size, and every nonce that it had.
+-- A session goes on: it has the same type and hash, nonces of one size, and every nonce that it
+-- had.
 pub record Continues (old new : LiveSession) : Type 0 where
   pub kind : new.kind ≡ old.kind
   pub hash : new.hash ≡ old.hash
@@ -56,7 +58,7 @@ continues_then a b c first then = record {
     by (inl same) = subst (λ (nonce : List ℕ). IsAmong nonce (all_nonces c)) (sym same) then.latest
     by (inr among) = inr (then.earlier a.nonce_tpm among)
 
--- And the same was asserted on it, or nothing any more.
+-- A session goes on with the same assertions, or with none any more.
 pub record Keeps (old new : LiveSession) : Type 0 where
   pub continues : Continues old new
   pub asserted : (new.assertions ≡ old.assertions) ⊎ (new.assertions ≡ [])
@@ -72,7 +74,7 @@ keeps_then a b c first then = record { continues = continues_then a b c first.co
     by (inl was) (inl same) = inl (same ∙ was)
     by (inr none) (inl same) = inr (same ∙ none)
 
--- It was there before, and this holds of both.
+-- There was a session before, and this holds of the two.
 abbrev pub Was : (LiveSession → LiveSession → Type 0) → Option LiveSession → LiveSession → Type 0
 Was R found new = (old : LiveSession) × (found ≡ Some old) × R old new
 
@@ -86,9 +88,9 @@ was_then : (found : Option LiveSession) (later : Option LiveSession) (new : Live
 was_then found later new back (mid, is, keeps) =
     let (old, was, before) = back mid is in (old, was, keeps_then old mid new before keeps)
 
--- ---- something else under one handle
+-- ---- something else under one handle of sessions
 
--- what stands under a handle after something was put under one
+-- what is under a handle after something was put under one
 put_came : (P : Type 0) (handle other : Handle) (x : Option LiveSession) (live : LiveSessions) (new : LiveSession) → (other.number ≡ handle.number → x ≡ Some new → P) → (live other ≡ Some new → P) → with_at handle x live other ≡ Some new → P
 put_came P handle other x live new here elsewhere is =
     elim (cases_eq other.number handle.number) [
@@ -114,7 +116,7 @@ ended_kept handle other live new is = put_came (Kept (live other) new) handle ot
 restarts : (s : LiveSession) → Keeps s (restarted s)
 restarts s = record { continues = record { kind = refl; hash = refl; size = refl; latest = inl refl; earlier = λ nonce among. among }; asserted = inr refl }
 
--- ---- an entry
+-- ---- a session and one entry
 
 uses : (kind : SessionType) (s : LiveSession) → Keeps s (used_by kind s)
 uses type.Hmac s = keeps_self s
@@ -135,7 +137,7 @@ ends_kept live (g ∷ granted) handle new is =
     let first = entry_ended live g.0 g.1 in
     was_then (live handle) (first handle) new (entry_end_kept live g.0 g.1 handle) (ends_kept first granted handle new is)
 
--- a new nonce, of which no byte is missing
+-- a session with a new nonce, of which no byte is missing, goes on
 renews : (s : LiveSession) (size : ℕ) (left : List ℕ) → size ≡ length s.nonce_tpm → size ≤ length left → Keeps s (with_nonce (take size left) s)
 renews s size left is enough = record {
   continues = record {
@@ -177,9 +179,9 @@ rolls_kept live (e ∷ es) left handle new some is =
     (λ mid was. roll_kept live e left handle mid (enough_first live e es left some) was)
     (rolls_kept first.sessions es first.left handle new some is)
 
--- ---- an entry that names it
+-- ---- an entry that names the session
 
--- It had a nonce before a command that it has among its earlier ones after it.
+-- A session had a nonce before a command that is among its earlier ones after it.
 abbrev Renewed : Option LiveSession → LiveSession → Type 0
 Renewed found new = (old : LiveSession) × (found ≡ Some old) × Keeps old new × IsAmong old.nonce_tpm new.earlier_nonces
 
@@ -234,8 +236,8 @@ module _ (c : AcceptedCommand) (history : History) (some : 1 ≤ length (rolled_
 
 -- ---- what a row does
 
--- How a session came to be what it is after a row: it started there, with nothing asserted; or it
--- was there before; or the command asserted on it.
+-- How a session came to be what it is after a row: it started there, without assertions; or it was
+-- there before; or the command asserted something on it.
 pub data Came (code : CommandCode) (c : AcceptedCommand) (history : History) (found : Option LiveSession) (handle : Handle) (new : LiveSession) : Type 0 where
   Begun : starts_under code c.answer.handle handle ≡ true → new.assertions ≡ [] → Came code c history found handle new
   Stayed : Was Keeps found new → Came code c history found handle new

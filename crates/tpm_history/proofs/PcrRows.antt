@@ -1,4 +1,4 @@
--- What the rows do with PCRs is what their commands tell.
+-- The rows do with PCRs what a history tells of their commands.
 use Rattle.std.proofs.Common.{arith, ◌≡◌, ℕ, ◌+◌, ◌-◌, ◌<◌, ◌≤◌, ◌++◌, Bool, true, false, cond, List, [], ◌∷◌, length, drop, get_or, fold, Some, None, Result, Ok, Err, IfOk, refl, ap, sym, ◌∙◌, inl, inr, ◌⊎◌}
 use Rattle.std.specs.Prelude.{◌==◌, nat_lt, replicate, slice_index_or}
 use Rattle.std.proofs.lemmas.Bool.{cases_lt, le-ltb, lt-ltb}
@@ -46,7 +46,8 @@ use Rattle.tpm_history.specs.DevicePcrs.{AreSaved, IsSavedAs}
 use Rattle.tpm_history.specs.Pcrs.{count_in, extended_by_all, if_pcr, measured_by, names_pcr, pcr_by, resumed, updates_by}
 use Rattle.tpm_pcr.proofs.OneValue.{event_digest, extensions_at, extensions_count, zeros_at}
 
--- What a success does with the values, and with the count of updates, where these are saved.
+-- A success makes of the values of PCRs, and of the count of updates, what a history tells, where
+-- these values are saved.
 pub record Measures (code : CommandCode) (q : Request) (saved : PcrValues) (old new : BankValues) : Type 0 where
   pub values : (bank : HashAlg) (n : ℕ) → n < 24 → pcr_value new bank n ≡ pcr_by code q bank n (saved bank n) (pcr_value old bank n)
   pub updates : new.update_count ≡ updates_by code q old.update_count
@@ -54,14 +55,14 @@ pub record Measures (code : CommandCode) (q : Request) (saved : PcrValues) (old 
 abbrev pub SoMeasures : CommandCode → Request → PcrValues → Record → Success → Type 0
 SoMeasures code q saved r s = Measures code q saved r.fixed.banks s.after.fixed.banks
 
--- ---- a PCR that a handle names
+-- ---- the PCR that a handle names
 
--- the values and the count after a change of the PCR that a handle names, if it names one
+-- A change of the PCR that a handle names, if it names one, makes these values and this count.
 record IsChanged (handle : Handle) (new : HashAlg → ℕ → List ℕ) (count : ℕ) (old banks : BankValues) : Type 0 where
   values : (bank : HashAlg) (n : ℕ) → n < 24 → pcr_value banks bank n ≡ cond (handle.number == n) (new bank n) (pcr_value old bank n)
   updates : banks.update_count ≡ old.update_count + cond (nat_lt handle.number 24) count 0
 
--- and of one that is named by its number
+-- A change of the PCR of this number makes these values and this count.
 record IsMade (pcr : ℕ) (new : HashAlg → ℕ → List ℕ) (count : ℕ) (old banks : BankValues) : Type 0 where
   values : (bank : HashAlg) (n : ℕ) → n < 24 → pcr_value banks bank n ≡ cond (pcr == n) (new bank n) (pcr_value old bank n)
   updates : banks.update_count ≡ old.update_count + count
@@ -69,7 +70,7 @@ record IsMade (pcr : ℕ) (new : HashAlg → ℕ → List ℕ) (count : ℕ) (ol
 plus_none : (n : ℕ) → n ≡ n + 0
 plus_none n = omega arith
 
--- a value where no PCR is named
+-- a value stays where no PCR is named
 other_pcr : (number n : ℕ) (x old : List ℕ) → n < 24 → nat_lt number 24 ≡ false → old ≡ cond (number == n) x old
 other_pcr number n x old below e = grind (arith, nat_tests)
 
@@ -114,7 +115,7 @@ counts_first (h ∷ handles) handle count e = sym (ap (λ (x : Handle). cond (na
 
 -- ---- rows that change a PCR
 
--- the change of a request's PCR, where what it makes is what its command tells
+-- The change of a request's PCR makes what a history tells of its command.
 abbrev Tells : CommandCode → Request → PcrValues → BankValues → (HashAlg → ℕ → List ℕ) → ℕ → Type 0
 Tells code q saved old new count =
     ((bank : HashAlg) (n : ℕ) → cond (names_pcr q.handles n) (new bank n) (pcr_value old bank n) ≡ pcr_by code q bank n (saved bank n) (pcr_value old bank n))
@@ -195,7 +196,7 @@ restored_at : (s : SavedValues) (values : PcrValues) (banks : BankValues) → Ar
 restored_at s values banks is alg.Sha1 n = front_or s.sha1 banks.sha1 n (values alg.Sha1 n) (is.sixteen alg.Sha1) (is.each alg.Sha1 n)
 restored_at s values banks is alg.Sha256 n = front_or s.sha256 banks.sha256 n (values alg.Sha256 n) (is.sixteen alg.Sha256) (is.each alg.Sha256 n)
 
--- the values after a startup of this type, whose updates are counted from 0
+-- A startup of this type leaves these values, and counts updates from 0.
 abbrev Begins : StartupType → PcrValues → BankValues → BankValues → Type 0
 Begins t saved old new =
     ((bank : HashAlg) (n : ℕ) → pcr_value new bank n ≡ resumed (Ok t) n (saved bank n) (pcr_value old bank n))
@@ -248,7 +249,7 @@ touched_banks Cleared old new leaves touches = absurd cc
 touched_banks AuthValues old new leaves touches = ap (λ (r : Record). r.fixed.banks) touches.0
 touched_banks _ old new leaves touches = ap (λ (r : Record). r.fixed.banks) touches
 
--- what a command tells that changes no PCR
+-- A history tells no change of PCRs of this command.
 abbrev TellsNothing : CommandCode → Request → Type 0
 TellsNothing code q =
     ((bank : HashAlg) (n : ℕ) (saved old : List ℕ) → old ≡ pcr_by code q bank n saved old)

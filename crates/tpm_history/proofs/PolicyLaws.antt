@@ -1,4 +1,4 @@
--- Policies of one assertion.
+-- The laws of policies of one assertion.
 use Rattle.std.proofs.Common.{◌≡◌, ℕ, Bool, false, List, [], ◌∷◌, Option, Some, None, ap, sym, subst, ◌∙◌}
 use Rattle.std.specs.Prelude.{IfSome}
 use Rattle.std.specs.List.{AllByRecursion, list_any}
@@ -9,14 +9,14 @@ use Rattle.tpm_types.specs.SessionType.{is_trial}
 use Rattle.tpm_types.specs.declared.session_type.SessionType.{SessionType}
 use Rattle.tpm_types.specs.declared.session_type.SessionType.TheVariants as type
 use Rattle.tpm_types_command.specs.CommandCode.{code_number}
+use Rattle.tpm_policy_meaning.specs.Asserted.{evaluated}
 use Rattle.tpm_history.specs.Grounds.{IsPolicyOf, policy_at, written_at}
 use Rattle.tpm_history.specs.PolicyLaws.{HasPolicyOf, KeepsQuietValues, UsesItsCommand, UsesPcrsAsTheyAre, pcrs_as_in, UsesAsWritten}
-use Rattle.tpm_history.specs.Policies.{evaluated}
 use Rattle.tpm_history.specs.QuietPcrs.{HoldsOf, is_pcr}
 use Rattle.tpm_history.specs.Sessions.{LiveSession, policy_in}
 use Rattle.tpm_history.proofs.QuietValues.{quiet_since}
 
--- the policy of a session is what its assertions make
+-- the policy of a session is the one that its assertions make
 its_assertions : (s : LiveSession) (found : Option EntityParts) (assertions : List Assertion) → s.kind ≡ type.Policy → s.assertions ≡ assertions → IsPolicyOf s found → HasPolicyOf s.hash assertions found
 its_assertions s None assertions kind are is = is
 its_assertions s (Some entity) assertions kind are is =

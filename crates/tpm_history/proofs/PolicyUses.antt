@@ -1,4 +1,5 @@
--- Each use by a policy session meets every policy that has the authPolicy, or the hash is broken.
+-- Each use by a policy session meets every policy that has the authPolicy of the entity, or the
+-- hash is broken.
 use Rattle.std.proofs.Common.{◌≡◌, ◌⊎◌, ℕ, Bool, true, false, cond, List, [], ◌∷◌, Option, Some, None, IfSome, IfOk, refl, ap, sym, subst, ◌∙◌, inl, inr}
 use Rattle.std.proofs.lemmas.Option.{same_Some}
 use Rattle.std.specs.Int.{bit_at, w8, w32}
@@ -8,7 +9,6 @@ use Rattle.tpm_bytes.specs.Reading.{number_at, or_fault}
 use Rattle.tpm_mac.specs.declared.algorithm.HashAlg.{HashAlg}
 use Rattle.tpm_policy.specs.Assertion as assertion
 use Rattle.tpm_policy.specs.Assertion.{Assertion, PcrParts}
-use Rattle.tpm_policy.specs.Made.{policy_with}
 use Rattle.tpm_policy.specs.State.{Policy}
 use Rattle.tpm_policy.specs.Use.{EntityParts}
 use Rattle.tpm_policy.specs.declared.state.Demand.{Demand}
@@ -26,7 +26,7 @@ use Rattle.tpm_types_command.specs.AuthEntry.{Entry}
 use Rattle.tpm_types_command.specs.CommandCode.{code_number}
 use Rattle.tpm_types_command.specs.declared.command_code.CommandCode.{CommandCode as Code}
 use Rattle.tpm_types_command.specs.declared.command_code.CommandCode.TheVariants as command
-use Rattle.tpm_policy_meaning.specs.Asserted.{AreAccepted, IsAmong, IsAsserted, Says, evaluated as session_policy, session_digest}
+use Rattle.tpm_policy_meaning.specs.Asserted.{AreAccepted, IsAmong, IsAsserted, Says, evaluated, session_digest}
 use Rattle.tpm_policy_meaning.specs.Expression.{PolicyAssertion, PolicyPcr, PolicyAuthValue, PolicyPassword, PolicyCommandCode, PolicyLocality, PolicyCpHash, PolicyNvWritten, PolicySecret, PolicyNv}
 use Rattle.tpm_policy_meaning.specs.Expression.{PolicyExpression, Nothing, Then, PolicyOr, PolicyBranches, NoBranch, Branch}
 use Rattle.tpm_policy_meaning.specs.Meaning.{BreaksHash, IsMet, IsOneMet, IsPolicyExpression}
@@ -45,7 +45,7 @@ use Rattle.tpm_history.specs.AuthValues.{auth_of}
 use Rattle.tpm_history.specs.EntryHmacs.{AllShowHmacs, cp_hash_in, is_bound_to, used_in}
 use Rattle.tpm_history.specs.Grounds.{AllHaveGrounds, ByHmac, ByPassword, ByPolicy, Ground, HasDemanded, IsPolicyOf, MeetsPolicy, UsesHaveGrounds, policy_at, written_at}
 use Rattle.tpm_history.specs.History.{AcceptedCommand, History}
-use Rattle.tpm_history.specs.Policies.{assertion_by, evaluated}
+use Rattle.tpm_history.specs.Policies.{assertion_by}
 use Rattle.tpm_history.specs.PolicyUses.{HasAuthPolicy, IsMetBy, MeetsPolicies, PolicyUse, ShowsAuthValue, UsesMeetPolicies}
 use Rattle.tpm_history.specs.QuietPcrs.{HoldsOf, is_pcr}
 use Rattle.tpm_history.specs.Sessions.{policy_in}
@@ -54,7 +54,7 @@ use Rattle.tpm_history.proofs.AssertedBy.{HasOrigin, first_authorized, have_orig
 use Rattle.tpm_history.proofs.RecordedAssertions.{command_recorded, cp_hash_recorded, locality_allowed, written_recorded}
 use Rattle.tpm_history.proofs.Selections.{digest_by_text}
 
--- ---- along a policy
+-- ---- the assertions along a policy
 
 mutual
   met_so : (P Q : PolicyAssertion → Type 0) → ((one : PolicyAssertion) → P one → Q one) → (policy : PolicyExpression) → IsMet P policy → IsMet Q policy
@@ -69,14 +69,10 @@ mutual
 
 -- ---- what the assertions of a session found
 
-evaluated_same : (hash : HashAlg) (trial : Bool) (assertions : List Assertion) → session_policy hash trial assertions ≡ evaluated hash trial assertions
-evaluated_same hash trial [] = refl
-evaluated_same hash trial (one ∷ assertions) = ap (policy_with hash trial one) (evaluated_same hash trial assertions)
-
 are_accepted : (hash : HashAlg) (assertions : List Assertion) → AllFind hash assertions → AreAccepted hash assertions
 are_accepted hash [] find = tt
 are_accepted hash (assertion.Or digests ∷ assertions) find =
-    (find.0.1, subst (λ (p : Policy). IsAmong p.digest digests) (sym (evaluated_same hash false assertions)) find.0.0, are_accepted hash assertions find.1)
+    (find.0.1, find.0.0, are_accepted hash assertions find.1)
 are_accepted hash (assertion.Pcr parts ∷ assertions) find = (find.0.1, tt, are_accepted hash assertions find.1)
 are_accepted hash (one ∷ assertions) find = (find.0.1, tt, are_accepted hash assertions find.1)
 
@@ -96,7 +92,8 @@ all_at P one (other ∷ assertions) all (inr among) = all_at P one assertions al
 
 -- ---- which command asserts what
 
--- of TPM2_PolicySecret and TPM2_PolicyNV the handle whose Name is asserted
+-- The command is TPM2_PolicySecret or TPM2_PolicyNV, and the assertion has the Name of the handle
+-- that it names.
 abbrev IsOf : Code → AcceptedCommand → Assertion → Type 0
 IsOf code c (assertion.Secret parts) = (code ≡ command.PolicySecret) × (name_in c.views 0 ≡ parts.name)
 IsOf code c (assertion.Nv parts) = (code ≡ command.PolicyNv) × (name_in c.views 1 ≡ parts.name)
@@ -120,7 +117,7 @@ of_command history handle one by =
     ok_at (IsOf by.command.command.code by.command) (assertion_by by.command.command.code by.command by.before by.session.hash by.session.nonce_tpm) one
     (asserted_of by.command.command.code by.command by.before by.session.hash by.session.nonce_tpm) by.asserts
 
--- ---- a use
+-- ---- one use of a policy session
 
 module _ (u : PolicyUse) (used : used_in u.command.command u.place ≡ Some u.handle) (kind : u.session.kind ≡ type.Policy) (meets : MeetsPolicy u.history u.command u.place u.entry u.session) (demanded : HasDemanded (is_password_demand (policy_in u.session).demand) u.history u.command u.place u.entry u.session) (find : AllFind u.session.hash u.session.assertions) (origins : (one : Assertion) → IsAmong one u.session.assertions → HasOrigin u.history u.entry.session one) where
   abbrev hash : HashAlg
@@ -132,7 +129,7 @@ module _ (u : PolicyUse) (used : used_in u.command.command u.place ≡ Some u.ha
   policy_is : policy_in u.session ≡ evaluated hash false assertions
   policy_is = ap (λ (k : SessionType). evaluated hash (is_trial k) assertions) kind
 
-  -- the value in the key, by what the policy demands
+  -- the authorization value in the HMAC key, by what the policy demands
   abbrev value_by : SessionType → Demand → List ℕ
   value_by k d = cond (has_value_in_key k (is_bound_to u.session (name_in u.command.views u.place) (auth_of u.history u.handle)) d) (auth_of u.history u.handle) []
 
@@ -146,7 +143,7 @@ module _ (u : PolicyUse) (used : used_in u.command.command u.place ≡ Some u.ha
   shows : IsAsserted assertions PolicyAuthValue ⊎ IsAsserted assertions PolicyPassword → ShowsAuthValue u
   shows either =
       shows_by (policy_in u.session).demand refl
-      (subst (λ (p : Policy). (p.demand ≡ demand.AuthValue) ⊎ (p.demand ≡ demand.Password)) (evaluated_same hash false assertions ∙ sym policy_is) (demands_value hash false assertions either))
+      (subst (λ (p : Policy). (p.demand ≡ demand.AuthValue) ⊎ (p.demand ≡ demand.Password)) (sym policy_is) (demands_value hash false assertions either))
       demanded
 
   secret_shown : (name reference : List ℕ) (one : Assertion) → Says one (PolicySecret name reference) → HasOrigin u.history u.entry.session one → ShowsSecret u.history u.entry.session name reference
@@ -163,7 +160,7 @@ module _ (u : PolicyUse) (used : used_in u.command.command u.place ≡ Some u.ha
       }
   secret_shown name reference one says origin = absurd says
 
-  -- what is asserted is met
+  -- an assertion of a policy that the session asserted is met
   met_by : (written : PolicyAssertion) (one : Assertion) → IsAmong one assertions → Says one written → IsMetBy u written
   met_by (PolicyPcr selection digest) (assertion.Pcr parts) among says =
       let holds = meets.pcrs (any_pcr parts assertions among) in
@@ -205,7 +202,7 @@ module _ (u : PolicyUse) (used : used_in u.command.command u.place ≡ Some u.ha
   its_policy None entity its is = absurd cc
   its_policy (Some other) entity its is =
       let same = same_Some other entity is in
-      (sym its.0 ∙ ap (λ (x : EntityParts). x.hash) same, ap (λ (p : Policy). p.digest) (evaluated_same hash false assertions ∙ sym policy_is) ∙ its.1 ∙ ap (λ (x : EntityParts). x.digest) same)
+      (sym its.0 ∙ ap (λ (x : EntityParts). x.hash) same, ap (λ (p : Policy). p.digest) (sym policy_is) ∙ its.1 ∙ ap (λ (x : EntityParts). x.digest) same)
 
   use_meets : (name_alg : HashAlg) (policy : PolicyExpression) → HasAuthPolicy u.command u.place name_alg policy → IsMet (IsMetBy u) policy ⊎ BreaksHash name_alg policy assertions
   use_meets name_alg policy has =
@@ -218,7 +215,7 @@ module _ (u : PolicyUse) (used : used_in u.command.command u.place ≡ Some u.ha
       by (inl met) = inl (met_so (IsAsserted assertions) (IsMetBy u) (λ written asserted. met_by written asserted.0 asserted.1 asserted.2) policy met)
       by (inr broken) = inr broken
 
--- ---- every use
+-- ---- every use of a command
 
 ground_meets : (history : History) (c : AcceptedCommand) (place : ℕ) (handle : Handle) (e : Entry) → SessionsFind history → AllAskForTheirHandles history → AllShowHmacs history → AllHaveGrounds history → used_in c.command place ≡ Some handle → (ground : Ground history c place e) → MeetsPolicies history c place handle e ground
 ground_meets history c place handle e find asked shows grounds used (ByPassword names takes has) = tt

@@ -1,4 +1,4 @@
--- What a policy session records is what each of its assertions recorded.
+-- The record of a policy session is that of each of its assertions.
 use Rattle.std.proofs.Common.{◌≡◌, ◌≤◌, ℕ, zero, suc, min, arith, Bool, true, false, List, [], ◌∷◌, Option, Some, None, IfSome, refl, ap, sym, ◌∙◌, inl, inr}
 use Rattle.std.specs.Prelude.{bit_and, if◌then◌else◌}
 use Rattle.std.specs.Int.{bit_at}
@@ -8,12 +8,11 @@ use Rattle.tpm_policy.specs.Assertion as assertion
 use Rattle.tpm_policy.specs.Assertion.{Assertion, auth_value_asserted, password_asserted}
 use Rattle.tpm_policy.specs.Made.{policy_with}
 use Rattle.tpm_policy.specs.State.{Policy}
-use Rattle.tpm_policy_meaning.specs.Asserted.{IsAmong}
+use Rattle.tpm_policy_meaning.specs.Asserted.{IsAmong, evaluated}
 use Rattle.tpm_types.specs.Buffer.{is_given}
 use Rattle.tpm_history.specs.AcceptedAssertions.{AllFind, Finds}
-use Rattle.tpm_history.specs.Policies.{evaluated}
 
--- what is recorded, and found the same again
+-- a value that is recorded, and asserted the same again
 same_again : {X : Type 0} (recorded : Option X) (x y : X) → recorded ≡ Some x → IfSome recorded (λ z. z ≡ y) → Some y ≡ Some x
 same_again (Some z) x y is same = ap (λ w. Some w) (sym same) ∙ is
 same_again None x y is same = absurd cc
@@ -64,7 +63,7 @@ module _ (hash : HashAlg) where
       by (assertion.Pcr parts) found is = is
       by _ found is = is
 
-  -- a locality that is allowed is one of each TPM2_PolicyLocality
+  -- a locality that is allowed is one of each TPM2_PolicyLocality of the session
   both_bits : (a b i : ℕ) → bit_at (bit_and a b) i ≡ 1 → (bit_at a i ≡ 1) × (bit_at b i ≡ 1)
   both_bits a b i is = by (bit_at a i) (bit_at b i) (bit_at-lt a i) (bit_at-lt b i) (sym (bit_at_and a b i) ∙ is)
     where

@@ -1,5 +1,5 @@
--- The update counter that a policy records holds by the history: it is not above that of the
--- history, and where it is the same, PCRs hold.
+-- The update counter that a policy session records holds by the history: it is not above that of
+-- the history, and where the two are the same, what is asserted of PCRs holds.
 use Rattle.tpm_types.specs.YesNo.{yes_no_at}
 use Rattle.std.proofs.Common.{◌≡◌, ◌≢◌, ◌⊎◌, ℕ, ◌+◌, ◌≤◌, arith, Bool, true, false, List, [], ◌∷◌, ◌++◌, append_assoc, length, Option, Some, None, option_map, Result, Ok, Err, IfOk, refl, ap, sym, subst, ◌∙◌, inl, inr}
 use Rattle.std.specs.Prelude.{not, ◌&&◌, ◌||◌}
@@ -40,11 +40,12 @@ use Rattle.tpm_step.specs.Step.{Accepted}
 use Rattle.tpm_step.specs.Table.{row_of}
 use Rattle.tpm_laws.specs.Acceptance.{IsAcceptance, IsDue}
 use Rattle.tpm_laws.proofs.Binding.{ok_at, ok_bind, ok_bind_is, ok_then, some_is}
+use Rattle.tpm_policy_meaning.specs.Asserted.{evaluated}
 use Rattle.tpm_history.specs.DevicePcrs.{HasPcrs}
 use Rattle.tpm_history.specs.DeviceSessions.{HasSessions, SessionFacts, facts_of, session_facts}
 use Rattle.tpm_history.specs.History.{AcceptedCommand, Done, History, PastEvent, command_of}
 use Rattle.tpm_history.specs.Pcrs.{updates_by, updates_of, writes}
-use Rattle.tpm_history.specs.Policies.{assertion_by, evaluated, pcr_parts_in, with_assertion}
+use Rattle.tpm_history.specs.Policies.{assertion_by, pcr_parts_in, with_assertion}
 use Rattle.tpm_history.specs.QuietPcrs.{AllRecordUpdates, AreQuietSince, HoldsOf, HoldsPcrs, IsQuiet, RecordsUpdates, asserts_pcrs, has_pcrs, is_pcr}
 use Rattle.tpm_history.specs.Sessions.{LiveSession, asserted_by, policy_in, rolled_by, sessions_by, sessions_of}
 use Rattle.tpm_history.proofs.Asserted.{policy_passed}
@@ -54,7 +55,7 @@ use Rattle.tpm_history.proofs.LivingOn.{Asserted, Begun, Came, Keeps, Stayed, en
 
 -- ---- a TPM2_PolicyPCR, where PCRs were asserted before
 
--- A session that is no trial one and has a counter has that of the device.
+-- A session that is no trial one and records a counter records that of the device.
 abbrev Agrees : Record → Request → Type 0
 Agrees r q =
     (handle : Handle) (s : Session) → first_handle q.handles ≡ Ok handle → session_at r.sessions handle ≡ Some s
@@ -86,9 +87,9 @@ row_agrees r q =
     ok_bind_is _ (policy_after assertion s) _ (λ policy made. agree s policy found made)))
     (λ sessions agree. agree)))
 
--- ---- what an assertion does to the counter
+-- ---- what an assertion does to the recorded counter
 
--- what is read and asserted, and is no TPM2_PolicyPCR
+-- What is read and asserted is no TPM2_PolicyPCR.
 abbrev IsOther : Result Assertion Refused → Type 0
 IsOther x = IfOk x (λ assertion. is_pcr assertion ≡ false)
 
@@ -126,7 +127,8 @@ count_stays hash trial (Locality localities) p is = refl
 count_stays hash trial (Secret secret) p is = refl
 count_stays hash trial (Nv nv) p is = refl
 
--- the same counter, PCRs among the assertions where they were, and what was asserted of them
+-- Two sessions record the same counter, the second asserts PCRs if the first does, and it asserts
+-- the same of them.
 record SameUpdates (old new : LiveSession) : Type 0 where
   count : (policy_in new).update_count ≡ (policy_in old).update_count
   asserts : asserts_pcrs new ≡ asserts_pcrs old
@@ -139,7 +141,7 @@ other_holds : (history : History) (hash : HashAlg) (assertion : Assertion) → i
 other_holds history hash (Pcr parts) is = absurd cc
 other_holds history hash _ is = tt
 
--- where no PCRs are asserted
+-- where no PCRs are asserted, what is asserted of them holds
 none_hold : (history : History) (hash : HashAlg) (assertions : List Assertion) → list_any is_pcr assertions ≡ false → AllByRecursion (HoldsOf history hash) assertions
 none_hold history hash [] none = tt
 none_hold history hash (assertion ∷ assertions) none = let parts = or_parts _ _ none in (other_holds history hash assertion parts.0, none_hold history hash assertions parts.1)
@@ -156,7 +158,7 @@ other_same (Ok assertion) s other = record {
     by true is = absurd cc
 other_same (Err e) s other = same_updates s
 
--- a session of one type and hash on which the same is asserted
+-- a session of one type and hash with the same assertions records the same
 kept_updates : (old new : LiveSession) → new.hash ≡ old.hash → new.kind ≡ old.kind → new.assertions ≡ old.assertions → SameUpdates old new
 kept_updates old new hash kind assertions = record {
   count = ap (λ (h : HashAlg). (evaluated h (is_trial new.kind) new.assertions).update_count) hash
@@ -192,7 +194,7 @@ one_more handle event history has quiet since = record {
 
 -- ---- an accepted command
 
--- what holds of PCRs holds of a session on which the same is asserted of them
+-- what holds of PCRs for a session holds for one that asserts the same of them
 holds_as : {history : History} (handle : Handle) (old new : LiveSession) → SameUpdates old new → HoldsPcrs handle history old → HoldsPcrs handle history new
 holds_as {history} handle old new same holds = record { quiet = holds.quiet; hold = same.holds history holds.hold }
 
@@ -215,14 +217,14 @@ module _ (r : Record) (a : Accepted) (locality : ℕ) (random : List ℕ) (histo
   updates_add command.Startup is = absurd cc
   updates_add _ is = refl
 
-  -- what held before a quiet command holds after it
+  -- what held of PCRs before a quiet command holds after it
   holds_more : (handle : Handle) (s : LiveSession) → has_pcrs (Done c ∷ history) handle ≡ true → IsQuiet (Done c) → HoldsPcrs handle history s → HoldsPcrs handle (Done c ∷ history) s
   holds_more handle s now quiet holds = record {
     quiet = one_more handle (Done c) history now quiet holds.quiet;
     hold = all_hold_on (Done c) history s.hash s.assertions quiet holds.hold;
   }
 
-  -- a counter that was there before
+  -- a counter that a session recorded before is right after a command
   stays_recorded : (handle : Handle) (old new : LiveSession) → sessions_of history handle ≡ Some old → has_pcrs (Done c ∷ history) handle ≡ true → SameUpdates old new → RecordsUpdates handle history old → RecordsUpdates handle (Done c ∷ history) new
   stays_recorded handle old new lived now same records =
       let plain : is_startup c.command.code ≡ false = no_startup handle old lived in
@@ -236,12 +238,12 @@ module _ (r : Record) (a : Accepted) (locality : ℕ) (random : List ℕ) (histo
             holds_more handle new now (plain, nothing) (holds_as handle old new same (records.hold (omega (arith, equal, sum, nothing))));
       }
 
-  -- ---- TPM2_PolicyPCR itself
+  -- ---- the command TPM2_PolicyPCR
 
   same_request : a.command.handles ≡ a.request.handles
   same_request = sym (ap (λ (q : Request). q.handles) is.requested)
 
-  -- the session of the device is no trial one, and has the counter that is told
+  -- the device's session is no trial one, and records the counter that the history tells
   agrees_told : (code : Code) → a.command.code ≡ code → is_policy_pcr code ≡ true → (handle : Handle) (old : LiveSession) (count : ℕ) → first_handle a.request.handles ≡ Ok handle → sessions_of history handle ≡ Some old → old.kind ≡ type.Policy → (policy_in old).update_count ≡ Some count → count ≡ updates_of history
   agrees_told command.PolicyPcr named one handle old count first lived kind recorded = by (session_at r.sessions handle) refl (has.live handle)
     where
@@ -258,7 +260,7 @@ module _ (r : Record) (a : Accepted) (locality : ℕ) (random : List ℕ) (histo
           recorded_is (Some count) r.fixed.banks.update_count same_count ∙ pcrs.updates
   agrees_told _ named one handle old count first lived kind recorded = absurd cc
 
-  -- a session, and what it is after a TPM2_PolicyPCR on it
+  -- a session after a TPM2_PolicyPCR on it
   abbrev with_pcrs : PcrParameters → LiveSession → LiveSession
   with_pcrs p s = record s { assertions = Pcr (pcr_parts_in history s.hash p) ∷ s.assertions }
 
@@ -266,7 +268,7 @@ module _ (r : Record) (a : Accepted) (locality : ℕ) (random : List ℕ) (histo
     quiet_pcr : IsQuiet (Done c)
     quiet_pcr = (ap is_startup code, ap (λ (x : Code). writes x c.request) code)
 
-    -- the first one begins, and before any other PCRs hold
+    -- a first TPM2_PolicyPCR begins a quiet time, and at a later one what is asserted of PCRs holds
     holds_first : (asserts : Bool) → asserts_pcrs old ≡ asserts → AreQuietSince handle (Done c ∷ history) × AllByRecursion (HoldsOf history old.hash) old.assertions
     holds_first false asserts = (
       record {
@@ -303,7 +305,7 @@ module _ (r : Record) (a : Accepted) (locality : ℕ) (random : List ℕ) (histo
 
   -- ---- every command
 
-  -- a session after the row, on which PCRs are asserted, has a counter that holds
+  -- a session after the row, with an assertion of PCRs, records a counter that holds
   module _ (handle : Handle) (mid : LiveSession) (kind : mid.kind ≡ type.Policy) (asserts_some : asserts_pcrs mid ≡ true) (now : has_pcrs (Done c ∷ history) handle ≡ true) where
     nothing_asserted : mid.assertions ≡ [] → ⊥
     nothing_asserted none = false≢true (sym (ap (λ (l : List Assertion). list_any is_pcr l) none) ∙ asserts_some)
@@ -313,7 +315,7 @@ module _ (r : Record) (a : Accepted) (locality : ℕ) (random : List ℕ) (histo
         stays_recorded handle old mid lived now same
         (before handle old lived (sym same_kind ∙ kind) (sym same.asserts ∙ asserts_some))
 
-    -- what Keeps says of a policy
+    -- a session that goes on with its assertions, or without them, records a counter that holds
     kept_recorded : (old : LiveSession) → sessions_of history handle ≡ Some old → Keeps old mid → RecordsUpdates handle (Done c ∷ history) mid
     kept_recorded old lived keeps = by keeps.asserted
       where

@@ -16,15 +16,16 @@ use Rattle.tpm_types_command.specs.AuthEntry.{Entry}
 use Rattle.tpm_types_command.specs.Command.{Whole}
 use Rattle.tpm_auth.specs.Entries.{decrypts}
 use Rattle.tpm_auth.specs.SessionGrant.{only_encrypts, other_entries}
+use Rattle.tpm_policy_meaning.specs.Asserted.{IsAmong}
 use Rattle.tpm_history.specs.EntryHmacs.{AllShowHmacs, HasHmac, ShowsHmacs, cp_hash_in, hmac_in, nonce_where, text_in}
 use Rattle.tpm_history.specs.History.{AcceptedCommand, Done, History, PastEvent, PowerCycled}
-use Rattle.tpm_history.specs.Replays.{HasNonceAgain, HaveOneHmac, IsAmong, IsReplay, LivesThrough, Repeats, ReplaysRepeat, starts}
+use Rattle.tpm_history.specs.Replays.{HasNonceAgain, HaveOneHmac, IsReplay, LivesThrough, Repeats, ReplaysRepeat, starts}
 use Rattle.tpm_history.specs.Sessions.{LiveSession, rolled_by, sessions_of}
 use Rattle.tpm_history.proofs.LivingOn.{Asserted, Begun, Came, Continues, Stayed, Was, continues_self, continues_then, entries_kept, entries_renewed, row_came}
 
 -- ---- one event
 
--- a row that does not start a session
+-- a session goes on through a row that does not start it
 came_continues : (c : AcceptedCommand) (history : History) (handle : Handle) (new : LiveSession) → starts (Done c) handle ≡ false → Came c.command.code c history (sessions_of history handle) handle new → Was Continues (sessions_of history handle) new
 came_continues c history handle new unstarted (Begun begun none) = absurd (false≢true (sym unstarted ∙ begun))
 came_continues c history handle new unstarted (Stayed was) = (was.0, was.1, was.2.continues)
@@ -40,7 +41,8 @@ done_continues c history handle new shows unstarted lives =
     let (old, lived, continues) = came_continues c history handle mid unstarted (row_came c history (sessions_of history) handle mid c.command.code was) in
     (old, lived, continues_then old mid new continues keeps.continues)
 
--- a command whose entry names it: the nonce before is an earlier one after it
+-- a command whose entry names the session renews its nonce: the nonce before is an earlier one
+-- after it
 done_renews : (c : AcceptedCommand) (history : History) (place : ℕ) (e : Entry) (old new : LiveSession) → ShowsHmacs history c → starts (Done c) e.session ≡ false → slice_get c.command.entries place ≡ Some e → sessions_of history e.session ≡ Some old → sessions_of (Done c ∷ history) e.session ≡ Some new → Continues old new × IsAmong old.nonce_tpm new.earlier_nonces
 done_renews c history place e old new shows unstarted entry before after =
     let (mid, was, keeps, among) = entries_renewed c history (some_left history c shows) e.session new after place e entry refl in
@@ -67,7 +69,7 @@ there_is : (found : Option LiveSession) → found ≢ None → (s : LiveSession)
 there_is (Some s) some = (s, refl)
 there_is None some = absurd (some refl)
 
--- a first event, and those after it
+-- the first event of a stretch, and those after it
 first_apart : (handle : Handle) (between : History) (first : PastEvent) (before : History) → LivesThrough handle (between ++ first ∷ []) before → (starts first handle ≡ false) × (sessions_of (first ∷ before) handle ≢ None) × LivesThrough handle between (first ∷ before)
 first_apart handle [] first before through = (through.0, through.1, tt)
 first_apart handle (event ∷ between) first before through =
@@ -78,7 +80,7 @@ lives_last : (handle : Handle) (events before : History) → sessions_of before 
 lives_last handle [] before some through = some
 lives_last handle (event ∷ events) before some through = through.1
 
--- ---- texts
+-- ---- the texts of HMACs
 
 both_parts : (a b c d : List ℕ) → length a ≡ length c → a ++ b ≡ c ++ d → (a ≡ c) × (b ≡ d)
 both_parts a b c d same is = (
@@ -89,7 +91,8 @@ both_parts a b c d same is = (
 spread : (front decrypt encrypt attributes : List ℕ) → front ++ decrypt ++ encrypt ++ attributes ≡ front ++ (decrypt ++ (encrypt ++ attributes))
 spread front decrypt encrypt attributes = append_assoc (front ++ decrypt) encrypt attributes ∙ append_assoc front decrypt (encrypt ++ attributes)
 
--- texts of one hash size, one nonceCaller and one nonce size are the same only with the same nonce
+-- two texts with one hash size, one nonceCaller and one nonce size are the same only with the same
+-- nonceTPM
 nonce_alone : (hash other caller nonce again : List ℕ) (d e a d2 e2 a2 : List ℕ) → length hash ≡ length other → length nonce ≡ length again → hash ++ caller ++ nonce ++ d ++ e ++ a ≡ other ++ caller ++ again ++ d2 ++ e2 ++ a2 → nonce ≡ again
 nonce_alone hash other caller nonce again d e a d2 e2 a2 hashes nonces is =
     let heads : length (hash ++ caller) ≡ length (other ++ caller) = omega (arith, length-append hash caller, length-append other caller, hashes) in
@@ -119,7 +122,7 @@ shows_before [] history shows = shows
 shows_before (Done c ∷ events) history shows = shows_before events history shows.1
 shows_before (PowerCycled ∷ events) history shows = shows_before events history shows
 
--- an HMAC that is there is that of key and text
+-- an HMAC that is not empty is that of its key and text
 hmac_is : (history : History) (c : AcceptedCommand) (place : ℕ) (e : Entry) (s : LiveSession) → e.hmac ≢ [] → HasHmac history c place e s → e.hmac ≡ hmac_in history c place e s
 hmac_is history c place e s some (inl is) = is
 hmac_is history c place e s some (inr empty) = absurd (some empty.1)
@@ -136,8 +139,8 @@ module _ (buffer : List ℕ) (before : History) (first : AcceptedCommand) (betwe
       let same : second.command ≡ first.command = ap (λ (x : Whole × List ℕ). x.0) (ok_is {E = Rc} (second.command, []) (first.command, []) (sym replay.spelled_second ∙ replay.spelled_first)) in
       ap (λ (c : Whole). slice_get c.entries place) same ∙ replay.entry
 
-  -- the session at the second event: of one type, hash and size of nonces, and with the nonce of the
-  -- first event among its earlier ones
+  -- The session at the second event has one type, hash and size of nonces with the first, and the
+  -- nonce of the first event among its earlier ones.
   abbrev IsLater : LiveSession → Type 0
   IsLater t = (sessions_of after e.session ≡ Some t) × Continues s t × IsAmong s.nonce_tpm t.earlier_nonces
 

@@ -1,4 +1,4 @@
--- Two events of a run that give one buffer, and are accepted, are a replay in its history.
+-- Two events of a run that have one buffer, and are accepted, are a replay in its history.
 use Rattle.std.proofs.Common.{◌≡◌, ℕ, Bool, List, [], ◌∷◌, ◌++◌, Some, Result, Ok, Err, IfOk, slice_get, refl, ap, sym, subst, ◌∙◌}
 use Rattle.tpm_bytes.proofs.Fields.{ok_is}
 use Rattle.tpm_types.specs.declared.rc.Rc.{Rc}
@@ -50,7 +50,8 @@ accepted_spells r buffer locality random =
 
 -- ---- an event that is accepted
 
--- What was accepted at an event: the buffer spells it, and it is recorded after whatever was before.
+-- A command was accepted at an event: the buffer spells it, and it is recorded after whatever
+-- history was before.
 record IsAcceptedAt (buffer : List ℕ) (one : Execution) (c : AcceptedCommand) : Type 0 where
   spelled : command_at buffer ≡ Ok (c.command, [])
   is : (before : History) → with_execution one before ≡ Done c ∷ before
@@ -69,7 +70,7 @@ modestly_accepted r Cycled x buffer modest gives passes = absurd gives
 accepted_at : (can : Bool) (buffer : List ℕ) (one : Execution) → Executes can one.before one.event one.seen → Gives buffer one.event → one.seen.row.check ≡ 0 → (c : AcceptedCommand) × IsAcceptedAt buffer one c
 accepted_at can buffer one executes gives passes = modestly_accepted one.before one.event one.seen buffer (executes.modest passes) gives passes
 
--- what an accepted event is recorded as
+-- an accepted event is recorded as its command
 pub accepted_recorded : (can : Bool) (old : Record) (buffer : List ℕ) (locality elapsed : ℕ) (random : List ℕ) (x : Stepped) → Executes can old (Given buffer locality elapsed random) x → x.row.check ≡ 0 → IsRecorded old (Given buffer locality elapsed random) x buffer
 accepted_recorded can old buffer locality elapsed random x executes passes =
     let (c, at) = modestly_accepted old (Given buffer locality elapsed random) x buffer (executes.modest passes) refl passes in
@@ -77,7 +78,7 @@ accepted_recorded can old buffer locality elapsed random x executes passes =
 
 -- ---- executions one after another
 
--- an execution among others
+-- an execution among others is one on the record that those before it left
 executed : (can : Bool) (old : Record) (earlier : List Execution) (one : Execution) (later : List Execution) (new : Record) → Leads can old (earlier ++ one ∷ later) new → Executes can one.before one.event one.seen × Leads can one.seen.after later new
 executed can old [] one later new leads = (subst (λ (r : Record). Executes can r one.event one.seen) (sym leads.0) leads.1, leads.2)
 executed can old (first ∷ earlier) one later new leads = executed can first.seen.after earlier one later new leads.2
@@ -97,7 +98,7 @@ module _ (can : Bool) (old : Record) (history : History) (earlier : List Executi
   from_one = executed can old earlier one (meanwhile ++ two ∷ later) new leads
 
   module _ (first second : AcceptedCommand) (at_first : IsAcceptedAt replay.buffer one first) (at_second : IsAcceptedAt replay.buffer two second) where
-    -- the history with both
+    -- the history with both events
     whole : history_after history (earlier ++ (one ∷ meanwhile ++ two ∷ later)) ≡ history_after [] later ++ (Done second ∷ between ++ Done first ∷ before)
     whole =
         history_joined history earlier (one ∷ meanwhile ++ two ∷ later)
@@ -107,7 +108,7 @@ module _ (can : Bool) (old : Record) (history : History) (earlier : List Executi
         ∙ ap (λ (h : History). history_after h later) (at_second.is (between ++ Done first ∷ before))
         ∙ history_apart later (Done second ∷ between ++ Done first ∷ before)
 
-    -- the events from the first to the second
+    -- the history of the events from the first to the second
     stretch : history_after [] (one ∷ meanwhile) ≡ between ++ Done first ∷ []
     stretch = ap (λ (h : History). history_after h meanwhile) (at_first.is []) ∙ history_apart meanwhile (Done first ∷ [])
 

@@ -19,7 +19,7 @@ use Rattle.tpm_history.specs.History.{History}
 use Rattle.tpm_history.specs.Pcrs.{digest_in, pcr_of, values_in}
 use Rattle.tpm_policy_meaning.proofs.Chains.{same_fronts}
 
--- ---- a select, and its three octets
+-- ---- the selection of a bank, and its three octets
 
 low_octets : (select : ℕ) → select_text select ≡ select_text (select % 2 ^ 24)
 low_octets select =

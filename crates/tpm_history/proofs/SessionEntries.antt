@@ -1,4 +1,4 @@
--- What follows a row does with sessions what a history says: new nonces are drawn, policies start
+-- The step does with sessions after a row what a history says: new nonces are drawn, policies start
 -- over, sessions end.
 use Rattle.std.proofs.Common.{◌≡◌, ℕ, Bool, true, false, cond, List, [], ◌∷◌, length, take, drop, Option, Some, None, refl, ap, sym, subst, ◌∙◌}
 use Rattle.std.specs.Prelude.{not, is_some}
@@ -32,7 +32,8 @@ size_same r e live are =
     of_both (λ found told. option_map_or (λ (s : Session). length s.nonce_tpm) found 0 ≡ nonce_size told)
     (λ s l same. ap (λ (f : SessionFacts). length f.nonce_tpm) same) refl (session_of r e) (live e.session) (are e.session)
 
--- The sessions after new nonces, and the random bytes that are left, are those that a history tells.
+-- The sessions after new nonces, and the random bytes that are left, are those that a history
+-- tells.
 abbrev RollAs : Record → List Entry → List ℕ → LiveSessions → List ℕ → Type 0
 RollAs r es left live told =
     AreLive (device.entries_rolled r es left).after.sessions (entries_rolled live es told).sessions

@@ -1,4 +1,4 @@
--- What a row does with sessions is what a history says.
+-- A row does with sessions what a history says.
 use Rattle.std.proofs.Common.{◌≡◌, ℕ, Bool, true, false, cond, List, [], ◌∷◌, length, take, map, Option, Some, None, option_map, Result, Ok, IfOk, slice_set, refl, ap, sym, subst, ◌∙◌}
 use Rattle.std.specs.Prelude.{◌==◌, not, ok_or}
 use Rattle.tpm_bytes.specs.Reading.{refused_if}
@@ -41,7 +41,7 @@ use Rattle.tpm_history.proofs.Asserted.{IsAsserted, asserted_as, is_asserted}
 use Rattle.tpm_history.proofs.LiveSessions.{ended_live, none_ended_live, policy_live, started_live}
 use Rattle.tpm_history.proofs.Views.{views_tell}
 
--- ---- what a session starts with
+-- ---- the parameters with which a session starts
 
 bound_is : (r : Record) (handles : List Handle) (bind : Handle) → second_handle handles ≡ Ok bind → bound_in handles (map (view_of r) handles) (map (auth_value_of r) handles) ≡ option_map bound_of (binding_of r bind)
 unfolding binding_of
@@ -63,7 +63,8 @@ unfolding start_key session_key
 start_told p None nonce = refl
 start_told p (Some binding) nonce = refl
 
--- The sessions after a success are those that a history tells of the command, if it is answered so.
+-- The sessions after a success are those that a history tells of the command, if that is its
+-- answer.
 abbrev pub IsTold : AcceptedCommand → History → LiveSessions → CommandCode → Success → Type 0
 IsTold c history live code s = c.answer ≡ s.answer → AreLive s.after.sessions (sessions_by code c history live)
 

@@ -1,4 +1,5 @@
--- What a view tells is what the record has, and the views of an accepted command are those before it.
+-- A view tells what the record has, and the views of an accepted command are those before the
+-- command.
 use Rattle.std.proofs.Common.{◌≡◌, ℕ, List, ◌∷◌, map, refl}
 use Rattle.tpm_types.specs.declared.handle.Handle.{Handle}
 use Rattle.tpm_types.specs.declared.nv_use.NvUse.{NvUse}

@@ -1,4 +1,4 @@
--- Which accepted command asserted what stands on a policy session, and on what ground. TPM 2.0
+-- Which accepted command made an assertion of a policy session, and on what ground. TPM 2.0
 -- Library, Part 1, section 19.7 (enhanced authorization), and Part 3, sections 23.4
 -- (TPM2_PolicySecret) and 23.9 (TPM2_PolicyNV).
 use Rattle.std.specs.Prelude.{◌≡◌, ℕ, List, [], ◌∷◌, ◌++◌, Some, Ok, slice_get}
@@ -17,21 +17,22 @@ use Rattle.tpm_history.specs.Policies.{assertion_by}
 use Rattle.tpm_history.specs.Sessions.{LiveSession, sessions_of}
 use Rattle.tpm_history.specs.View.{name_in}
 
--- ---- what stands on a session
+-- ---- the assertions of a session
 
--- An assertion stands on the session of a handle.
+-- An assertion is among those of the session of a handle, after a history.
 abbrev pub Stands : Assertion → Handle → History → Type 0
 Stands one handle history =
     (s : LiveSession) × (sessions_of history handle ≡ Some s) × IsAmong one s.assertions
 
--- And it stands there after each of these events, the latest first. None of them starts, restarts,
--- ends or uses that session: after such an event nothing stands on it.
+-- An assertion is among those of a session after each of these events too, the latest first. None
+-- of them starts, restarts, ends or uses that session: such an event leaves it no assertion.
 abbrev pub StandsThrough : Assertion → Handle → (events before : History) → Type 0
 StandsThrough one handle [] before = Unit {0}
 StandsThrough one handle (event ∷ events) before =
     Stands one handle (event ∷ events ++ before) × StandsThrough one handle events before
 
--- An accepted command asserted it on the session of a handle, and it stands there since then.
+-- An accepted command made an assertion on the session of a handle, and the session has it since
+-- then.
 pub record IsAssertedBy (history : History) (handle : Handle) (one : Assertion) : Type 0 where
   pub command : AcceptedCommand
   pub before : History
@@ -44,7 +45,7 @@ pub record IsAssertedBy (history : History) (handle : Handle) (one : Assertion) 
       ≡ Ok one
   pub stands : StandsThrough one handle (since ++ Done command ∷ []) before
 
--- What the first handle of a command names was authorized, on a ground of its own.
+-- The first handle of a command was authorized by the command's first entry, on this ground.
 pub record IsFirstAuthorized (history : History) (c : AcceptedCommand) : Type 0 where
   pub handle : Handle
   pub used : used_in c.command 0 ≡ Some handle
@@ -55,7 +56,7 @@ pub record IsFirstAuthorized (history : History) (c : AcceptedCommand) : Type 0 
 -- ---- TPM2_PolicySecret and TPM2_PolicyNV
 
 -- TPM2_PolicySecret was accepted for a policyRef and the entity of this Name, which was authorized,
--- and it stands on the session of a handle since then.
+-- and the session of a handle has that assertion since then.
 pub record ShowsSecret (history : History) (handle : Handle) (name reference : List ℕ) : Type 0
   where
     pub parts : SecretParts
@@ -66,8 +67,9 @@ pub record ShowsSecret (history : History) (handle : Handle) (name reference : L
     pub for_reference : parts.reference ≡ reference
 
 -- TPM2_PolicyNV was accepted for the NV index of this Name, an operand, an offset and an operation:
--- it is refused unless the bytes of the index from the offset on stand so to the operand. What lets
--- it read the index was authorized, and it stands on the session of a handle since then.
+-- it is refused unless the comparison of the index, from the offset on, with the operand holds.
+-- What lets it read the index was authorized, and the session of a handle has that assertion since
+-- then.
 pub record ComparesIndex (history : History) (handle : Handle) (name operand : List ℕ) (offset : ℕ)
     (operation : Operation) : Type 0
   where

@@ -41,14 +41,15 @@ defined_value q = do
   p ← definition.parameters_in q.parameters
   Ok (p.public.nv_index, p.auth_value)
 
--- TPM2_CreatePrimary: userAuth without these zeros, for the handle that it answers
+-- TPM2_CreatePrimary: userAuth without the zeros at its end, for the handle that it answers
 abbrev pub created_value : Request → (made : Option Handle) → Result (Handle × List ℕ) Refused
 created_value q made = do
   handle ← ok_or made handle_refusal
   p ← creation.parameters_in q.parameters
   Ok (handle, trimmed p.given.user_auth)
 
--- TPM2_Load: that of the sensitive area without them, for the handle that it answers
+-- TPM2_Load: the authorization value of the sensitive area, without the zeros at its end, for the
+-- handle that it answers
 abbrev pub loaded_value : Option Sensitive → (made : Option Handle)
     → Result (Handle × List ℕ) Refused
 loaded_value area made = do
@@ -56,7 +57,7 @@ loaded_value area made = do
   sensitive ← ok_or area handle_refusal
   Ok (handle, trimmed sensitive.auth_value)
 
--- TPM2_EvictControl: for persistentHandle that of objectHandle. Where a persistent object is
+-- TPM2_EvictControl: the value of objectHandle, for persistentHandle. Where a persistent object is
 -- removed the two are one handle, and nothing changes
 abbrev pub copied_value : Request → AuthValues → Result (Handle × List ℕ) Refused
 copied_value q values = do
@@ -68,22 +69,22 @@ abbrev pub with_value : Result (Handle × List ℕ) Refused → AuthValues → A
 with_value (Ok set) values = with_at set.0 set.1 values
 with_value (Err e) values = values
 
--- TPM2_Startup: with CLEAR platformAuth is empty
+-- the values after TPM2_Startup: with CLEAR platformAuth is empty
 abbrev pub started_values : Result StartupType Refused → AuthValues → AuthValues
 started_values (Ok type.Clear) values = with_at platform_handle [] values
 started_values (Ok type.State) values = values
 started_values (Err e) values = values
 
--- TPM2_Clear: and so are ownerAuth, endorsementAuth and lockoutAuth
+-- the values after TPM2_Clear: ownerAuth, endorsementAuth and lockoutAuth are empty
 abbrev pub cleared_values : AuthValues → AuthValues
 cleared_values values =
     with_at owner_handle [] (with_at endorsement_handle [] (with_at lockout_handle [] values))
 
--- ---- a history
+-- ---- the values after a history
 
 -- the values after an accepted command, by what it asked, the handle that it answered, and the
 -- sensitive area that it loaded. What removes an object or an index need say nothing: the value of
--- the handle is nobody's then, and whatever comes under the handle next has its own set
+-- its handle then belongs to nobody, and whatever comes under the handle next has its own set
 abbrev pub values_by : CommandCode → Request → (made : Option Handle) → Option Sensitive
     → AuthValues → AuthValues
 values_by command.HierarchyChangeAuth q made area values = with_value (changed_value q) values
@@ -97,7 +98,7 @@ values_by command.Startup q made area values =
 values_by command.Clear q made area values = cleared_values values
 values_by _ q made area values = values
 
--- the authorization value of each handle after a history: at first they are empty, and power
+-- the authorization value of each handle after a history: at first all are empty, and a power cycle
 -- changes none
 abbrev pub auth_of : History → AuthValues
 auth_of [] handle = []

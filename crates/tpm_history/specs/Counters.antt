@@ -12,8 +12,8 @@ use Rattle.tpm_nvactions.specs.NvDefineSpace.{parameters_in}
 use Rattle.tpm_history.specs.HandleMap.{by_handle, with_at}
 use Rattle.tpm_history.specs.History.{AcceptedCommand, Done, History, PastEvent, PowerCycled}
 
--- the value of the counter at each handle since its definition, none before its first increment;
--- and all values that any counter ever had, the latest first
+-- the value of the counter at each handle since its definition, which it has from its first
+-- increment on; and all values that any counter ever had, the latest first
 pub record Counters : Type 0 where
   pub at : Handle → Option ℕ
   pub all : List ℕ
@@ -26,20 +26,21 @@ abbrev pub largest : List ℕ → ℕ
 largest [] = 0
 largest (n ∷ ns) = max (largest ns) n
 
--- a counter becomes one more than it was, and at first one more than any counter ever was
+-- the value to which a counter rises: one more than it was, and at first one more than any counter
+-- ever was
 abbrev pub next_count : (most : ℕ) → Option ℕ → ℕ
 next_count most None = most + 1
 next_count most (Some n) = n + 1
 
 -- ---- what a command does to the counter of a handle
 
--- TPM2_NV_Increment: it has one value more
+-- TPM2_NV_Increment: the counter of its handle has one value more
 abbrev pub counted_at : Handle → Counters → Counters
 counted_at handle c =
     let n : ℕ = next_count (largest c.all) (c.at handle) in
     record { at = with_at handle (Some n) c.at; all = n ∷ c.all }
 
--- TPM2_NV_DefineSpace: it begins anew
+-- TPM2_NV_DefineSpace: the counter of its handle begins anew
 abbrev pub begun_at : Handle → Counters → Counters
 begun_at handle c = record { at = with_at handle None c.at; all = c.all }
 
@@ -69,9 +70,9 @@ counts_of history = (counters_of history).all
 abbrev pub count_at : History → Handle → Option ℕ
 count_at history handle = (counters_of history).at handle
 
--- ---- what is said of histories alone
+-- ---- definitions of indices in a history
 
--- whether a handle is the one that is named
+-- whether a handle is the one that a command names
 abbrev pub is_named : Result Handle Refused → Handle → Bool
 is_named (Ok named) handle = named.number == handle.number
 is_named (Err e) handle = false
@@ -114,7 +115,8 @@ pub record CountLaws : Type 0 where
       → count_at old handle ≡ None
       → count_at (new ++ old) handle ≡ Some n
       → AllBelow n (counts_of old)
-  -- and one that was defined exceeds all that any counter had before its definition
+  -- a counter that was defined, once it has a value, exceeds all that any counter had before its
+  -- definition
   pub defined_exceeds : (old new : History) (definition : PastEvent) (handle : Handle) (n : ℕ)
       → defines definition handle ≡ true
       → count_at (new ++ definition ∷ old) handle ≡ Some n
@@ -124,7 +126,7 @@ pub record CountLaws : Type 0 where
       → count_at old handle ≡ Some n
       → HasNoDefinition handle new
       → (m : ℕ) × (count_at (new ++ old) handle ≡ Some m) × (n ≤ m)
-  -- and its value is at most the largest that any had
+  -- the value of a counter is at most the largest that any counter had
   pub within : (history : History) (handle : Handle) (n : ℕ)
       → count_at history handle ≡ Some n
       → n ≤ largest (counts_of history)

@@ -9,12 +9,13 @@ use Rattle.tpm_laws.specs.IndexChanges.{IsCounter, stored_count}
 use Rattle.tpm_history.specs.Counters.{AllBelow, Counters, HasNoDefinition, counters_of, counts_of, defines, largest}
 use Rattle.tpm_history.specs.History.{History, PastEvent}
 
--- A counter has this value, and no startup takes it away.
+-- An NV index that is a counter has this value, and no startup takes it away.
 pub record IsCounted (index : NvIndex) (count : Option ℕ) : Type 0 where
   pub stays : index_has index attribute.ClearStClear ≡ false
   pub value : stored_count index ≡ count
 
--- The largest value that any counter ever had is that of these, and each counter has its value.
+-- The largest value that any counter of the device ever had is the largest of these, and each
+-- counter has its value.
 pub record AreCounted (contents : NvContents) (c : Counters) : Type 0 where
   pub most : contents.max_count ≡ largest c.all
   pub each : (handle : Handle) (index : NvIndex)
@@ -40,8 +41,8 @@ KeepsCounter old new meanwhile handle before after =
     → stored_count before ≡ Some n
     → (m : ℕ) × (stored_count after ≡ Some m) × (n ≤ m)
 
--- One that had no value when a stretch of events began exceeds, once it has one, all that any counter
--- had before the stretch.
+-- A counter that had no value when a stretch of events began exceeds, once it has one, all that any
+-- counter had before the stretch.
 abbrev pub BeginsAbove : (old new : Record) → (history : History) → Handle
     → NvIndex → NvIndex → Type 0
 BeginsAbove old new history handle before after =
@@ -54,8 +55,8 @@ BeginsAbove old new history handle before after =
     → stored_count after ≡ Some n
     → AllBelow n (counts_of history)
 
--- And one that was defined in the stretch exceeds all that any counter had before its definition,
--- in the stretch and before it.
+-- A counter that was defined in a stretch of events exceeds all that any counter had before its
+-- definition, in the stretch and before it.
 abbrev pub ExceedsEarlier : (new : Record) → (history meanwhile : History) → Handle → NvIndex
     → Type 0
 ExceedsEarlier new history meanwhile handle after =

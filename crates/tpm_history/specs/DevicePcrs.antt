@@ -10,18 +10,18 @@ use Rattle.tpm_record.specs.Saved.{Clear, Nothing, SavedState, State}
 use Rattle.tpm_history.specs.History.{History}
 use Rattle.tpm_history.specs.Pcrs.{pcr_of, pcrs_after, updates_of}
 
--- what is saved of a bank
+-- the values of a bank that a shutdown saved
 abbrev pub saved_in : SavedValues → HashAlg → List (List ℕ)
 saved_in saved alg.Sha1 = saved.sha1
 saved_in saved alg.Sha256 = saved.sha256
 
--- What is saved of PCR 0 to 15 are these values.
+-- The values of PCR 0 to 15 that a shutdown saved are these.
 pub record AreSaved (saved : SavedValues) (values : PcrValues) : Type 0 where
   pub sixteen : (bank : HashAlg) → length (saved_in saved bank) ≡ 16
   pub each : (bank : HashAlg) (pcr : ℕ) → pcr < 16
       → slice_index_or (saved_in saved bank) pcr [] ≡ values bank pcr
 
--- And so it is where a state is saved.
+-- Where a state is saved, its values of PCR 0 to 15 are these.
 abbrev pub IsSavedAs : SavedState → PcrValues → Type 0
 IsSavedAs Nothing values = Unit {0}
 IsSavedAs Clear values = Unit {0}

@@ -9,7 +9,8 @@ use Rattle.tpm_record.specs.Record.{Record}
 use Rattle.tpm_history.specs.History.{History}
 use Rattle.tpm_history.specs.Sessions.{Bound, LiveSession, LiveSessions, Start, key_of, nonce_of, policy_in, policy_of, sessions_of, start_in, start_of}
 
--- what can be told of a session: its start, its key, its latest nonceTPM, and its policy
+-- the facts of a session that a history tells: its start, its key, its latest nonceTPM, and its
+-- policy
 pub record SessionFacts : Type 0 where
   pub start : Start
   pub key : List ℕ
@@ -27,7 +28,7 @@ facts_of s = record {
 abbrev pub bound_of : Binding → Bound
 bound_of b = record { name = b.name; auth_value = b.auth_value; protection = b.protection }
 
--- and of a session of the device
+-- the start of a session of the device
 abbrev pub session_start : Session → Start
 session_start s = record {
   kind = s.kind;
@@ -44,13 +45,14 @@ session_facts s = record {
   policy = s.policy;
 }
 
--- Under each handle there is a session of which the same is told, or there is none.
+-- Under each handle the device and the history have a session with the same facts, or neither has
+-- one.
 abbrev pub AreLive : List (Option Session) → LiveSessions → Type 0
 AreLive places live =
     (handle : Handle) → option_map session_facts (session_at places handle)
     ≡ option_map facts_of (live handle)
 
--- The sessions of a device are those of a history; and before a startup there is none.
+-- The sessions of a device are those of a history; and as long as it is not started it has none.
 pub record AreSessions (places : List (Option Session)) (is_started : Bool) (history : History)
     : Type 0
   where

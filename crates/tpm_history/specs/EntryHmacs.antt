@@ -31,21 +31,22 @@ used_in c place = slice_get (authorized c) place
 
 -- ---- a password
 
--- The hmac field of an entry is the authValue of the handle that it is to authorize. Zeros at its end
--- do not count, and no value of a history has any.
+-- The hmac field of an entry is the authValue of the handle that it is to authorize. Zeros at its
+-- end do not count, and no value of a history has zeros at its end.
 abbrev pub HasPassword : History → AcceptedCommand → ℕ → Entry → Type 0
 HasPassword history c place e =
     trimmed e.hmac ≡ option_map_or (auth_of history) (used_in c.command place) []
 
 -- ---- the key of an HMAC
 
--- whether a session is bound to what has this Name and this authorization value
+-- whether a session is bound to an entity that has this Name and this authorization value
 abbrev pub is_bound_to : LiveSession → (name auth_value : List ℕ) → Bool
 is_bound_to s name auth_value =
     option_map_or (λ (b : Bound). bytes_eq b.name name && bytes_eq b.auth_value auth_value) s.bound
     false
 
--- the authorization value in the key of the entry in a place, by the handle that it is to authorize
+-- the authorization value in the HMAC key of the entry in a place, by the handle that it is to
+-- authorize
 abbrev pub value_in_key : History → AcceptedCommand → ℕ → LiveSession → Option Handle → List ℕ
 value_in_key history c place s None = []
 value_in_key history c place s (Some handle) =
@@ -53,13 +54,13 @@ value_in_key history c place s (Some handle) =
     let is_bound : Bool = is_bound_to s (name_in c.views place) value in
     if has_value_in_key s.kind is_bound (policy_in s).demand then value else []
 
--- sessionKey || authValue
+-- the HMAC key of the entry in a place: sessionKey || authValue
 abbrev pub key_in : History → AcceptedCommand → ℕ → LiveSession → List ℕ
 key_in history c place s = s.key ++ value_in_key history c place s (used_in c.command place)
 
--- ---- its text
+-- ---- the text of an HMAC
 
--- H(commandCode || Names of the handles || parameters as they were sent)
+-- cpHash: H(commandCode || Names of the handles || parameters as they were sent)
 abbrev pub cp_hash_in : AcceptedCommand → HashAlg → List ℕ
 cp_hash_in c hash =
     command_hash_of hash (code_number c.command.code) (map view_name c.views) c.command.parameters
@@ -69,19 +70,19 @@ abbrev pub entry_nonce : History → Entry → List ℕ
 entry_nonce history e =
     option_map_or (λ (s : LiveSession). s.nonce_tpm) (sessions_of history e.session) []
 
--- and of that of the first entry that passes a test
+-- the nonceTPM of the session of the first entry that passes a test
 abbrev pub nonce_where : History → (Entry → Bool) → List Entry → List ℕ
 nonce_where history test entries = option_map_or (entry_nonce history) (find test entries) []
 
--- cpHash || nonceCaller || nonceTPM || nonceTPM of the decrypt session || nonceTPM of the encrypt
--- session || sessionAttributes
+-- the HMAC text of an entry: cpHash || nonceCaller || nonceTPM || nonceTPM of the decrypt session
+-- || nonceTPM of the encrypt session || sessionAttributes
 unfoldable pub text_in : History → AcceptedCommand → ℕ → Entry → LiveSession → List ℕ
 text_in history c place e s =
     let others : List Entry = other_entries c.command (place + 1) in
     entry_text (cp_hash_in c s.hash) e.nonce s.nonce_tpm (nonce_where history decrypts others)
     (nonce_where history only_encrypts others) e.attributes
 
--- ---- the HMAC
+-- ---- the HMAC of an entry
 
 abbrev pub hmac_in : History → AcceptedCommand → ℕ → Entry → LiveSession → List ℕ
 hmac_in history c place e s =
@@ -93,18 +94,18 @@ HasHmac history c place e s =
     (e.hmac ≡ hmac_in history c place e s)
     ⊎ ((key_in history c place s ≡ []) × (e.hmac ≡ []))
 
--- ---- every command
+-- ---- every command of a history
 
 -- Each entry of a command that names an HMAC session, whether it authorizes something or not, has
--- its HMAC. A command is given 256 random bytes, of which at most 192 are drawn: so 64 are left after
--- all new nonces, and none was cut short.
+-- its HMAC. A command is given 256 random bytes, of which at most 192 are drawn: so 64 are left
+-- after all new nonces, and none was cut short.
 pub record ShowsHmacs (history : History) (c : AcceptedCommand) : Type 0 where
   pub hmacs : (place : ℕ) (e : Entry) (s : LiveSession)
       → slice_get c.command.entries place ≡ Some e → session_kind e.session ≡ kind.Session
       → sessions_of history e.session ≡ Some s → s.kind ≡ type.Hmac → HasHmac history c place e s
   pub left : 64 ≤ length (rolled_by c history (sessions_of history)).left
 
--- And so it was at each command of a history.
+-- Each command of a history shows the HMACs of its entries, by the history before it.
 abbrev pub AllShowHmacs : History → Type 0
 AllShowHmacs [] = Unit {0}
 AllShowHmacs (Done c ∷ history) = ShowsHmacs history c × AllShowHmacs history

@@ -1,5 +1,5 @@
--- A worked run that fails as many tries as may fail. TPM 2.0 Library, Part 1, section 19.8 (dictionary
--- attacks).
+-- An example of a run in which as many tries fail as may fail. TPM 2.0 Library, Part 1, section
+-- 19.8 (dictionary attacks).
 use Rattle.std.specs.Prelude.{◌≡◌, ◌≢◌, ℕ, true, false, List, [], ◌∷◌, replicate}
 use Rattle.tpm_lockout.specs.Lockout.{LockoutState, new_lockout}
 use Rattle.tpm_mac.specs.declared.algorithm.HashAlg.TheVariants as alg
@@ -14,7 +14,7 @@ use Rattle.tpm_history.specs.Tries.{HasNoReset, failures_in, tries_within}
 abbrev pub zeros : List ℕ
 zeros = replicate 256 0
 
--- an index of eight bytes with the attributes TPMA_NV_AUTHWRITE and TPMA_NV_AUTHREAD, and the
+-- an NV index of eight bytes with the attributes TPMA_NV_AUTHWRITE and TPMA_NV_AUTHREAD, and the
 -- authorization value "a"
 abbrev pub protected_index : NvIndex
 protected_index = record {
@@ -29,9 +29,9 @@ protected_index = record {
   bytes = [];
 }
 
--- a device that has started with this index, after this many failed tries. As many milliseconds as
--- the second number says have passed for the next try to be forgiven, and the third is the device's
--- time. Its maxTries is 3, and its recoveryTime 1,000 seconds.
+-- a device that has started and has this index, after this many failed tries; this many
+-- milliseconds have passed towards forgiving the next, and this is the device's time. Its maxTries
+-- is 3, and its recoveryTime 1,000 seconds.
 abbrev pub tried : (failed forgiving time : ℕ) → Record
 tried failed forgiving time =
     let r : Record = manufactured zeros in
@@ -63,8 +63,8 @@ wrong_after elapsed = Given wrong_read 0 elapsed zeros
 abbrev pub stepped_at : Record → PlainEvent → Execution
 stepped_at r event = record { before = r; event = event; seen = step r event }
 
--- three tries at once; one more 999,999 milliseconds later, which is locked out; and one another
--- millisecond later, when a try is forgiven
+-- three wrong tries at once; one more 999,999 milliseconds later, which is locked out; and another
+-- one millisecond later, when a try is forgiven
 abbrev pub failed_run : List Execution
 failed_run =
     stepped_at (tried 0 0 0) (wrong_after 0)
@@ -74,8 +74,8 @@ failed_run =
     ∷ stepped_at (tried 3 999999 999999) (wrong_after 1)
     ∷ []
 
--- It is a stretch of events without a reset, in which tries are counted; four fail, and that is as
--- many as may fail in it.
+-- The failed run is a stretch of events without a reset, in which tries are counted; four fail, and
+-- that is as many as may fail in it.
 pub record IsFailedRun : Type 0 where
   pub leads : Leads false (tried 0 0 0) failed_run (tried 3 0 1000000)
   pub quiet : HasNoReset (history_after [] failed_run)

@@ -30,8 +30,8 @@ use Rattle.tpm_history.specs.History.{History, recorded}
 use Rattle.tpm_history.specs.Potential.{IsForgiving}
 use Rattle.tpm_history.specs.Tries.{FailsFew, FailsWithin}
 
--- a place for each session and transient object that there can be; and persistent objects and NV
--- indices in the order of their handles
+-- The record has a place for each session and transient object that there can be, and its
+-- persistent objects and NV indices are in the order of their handles.
 pub record Shape (sessions : List (Option Session)) (objects : List (Option Object))
     (persistent : Entries Object) (indices : Entries NvIndex) : Type 0 where
   pub sessions_many : length sessions ≡ session_limit
@@ -41,10 +41,11 @@ pub record Shape (sessions : List (Option Session)) (objects : List (Option Obje
 
 -- A device follows a history: its counters, its PCRs, its authorization values and its sessions are
 -- those of the history. In the history each entry of an HMAC session had its HMAC, and so every
--- replay repeats; the update counters that policies record hold, and each use had its grounds. What
--- stands on policy sessions was accepted, and so each use by one met every policy that has the
--- authPolicy of what it used, or the hash is broken. No forgiving of a try is overdue; and the
--- record has the shape and the sizes of every record, and NV indices of their sizes.
+-- replay repeats a nonce or an HMAC; the update counters that policies record hold, and each use of
+-- a handle had its grounds. The assertions of policy sessions were accepted, and so each use by
+-- such a session met every policy that has the authPolicy of what it used, or the hash is broken.
+-- No forgiving of a try is overdue; and the record has the shape and the sizes of every record, and
+-- NV indices of their sizes.
 pub record Follows (r : Record) (history : History) : Type 0 where
   pub counters : HasCounters r history
   pub forgiving : IsForgiving r.fixed.lockout
@@ -62,7 +63,7 @@ pub record Follows (r : Record) (history : History) : Type 0 where
   pub sized : AreSized r
   pub indices : AreIndices r.nv.indices
 
--- ---- one event
+-- ---- one event, on a device that follows a history
 
 -- An event that was executed leads a device that follows a history to one of which this holds, with
 -- the history after the event.
@@ -71,11 +72,12 @@ After Holds old event x =
     (history : History) → Follows old history
     → Holds x.after (recorded old event x.row.check history)
 
--- ---- a stretch of events
+-- ---- a stretch of events, on a device that follows a history
 
--- Executions led from a device that follows a history to one that follows the history after them. No
--- counter went down under whose handle none was defined anew; one that had no value, or was defined,
--- begins above all values before; few tries failed; and every replay repeats a nonce or an HMAC.
+-- Executions led from a device that follows a history to one that follows the history after them. A
+-- counter did not go down unless an index was defined anew under its handle; a counter that had no
+-- value, or was defined, begins above all values before; few tries failed; and every replay repeats
+-- a nonce or an HMAC.
 pub record StretchFollows (can : Bool) (old : Record) (executions : List Execution) (new : Record)
     (history : History) : Type 0
   where
@@ -91,7 +93,7 @@ pub record StretchFollows (can : Bool) (old : Record) (executions : List Executi
     pub fail_within : FailsWithin can old executions new
     pub replays : RunReplaysRepeat history executions
 
--- ---- a run
+-- ---- a run, on a device that follows a history
 
 -- The outcomes of these executions were told to a closure in state p, in order, once each, which
 -- left it in state q.

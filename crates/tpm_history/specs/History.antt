@@ -36,9 +36,9 @@ sensitive_in command.Load r q = if_ok (loaded_sensitive r q)
 sensitive_in _ r q = None
 
 -- an accepted command: as it was sent, with its handles and entries; what each entry authorizes;
--- what it asked of its row, with its parameters in plain, its locality and the event's random
--- bytes; what it was answered, and how many of the random bytes its row drew; what everybody could
--- read of its handles before it; and for a TPM2_Load the sensitive area
+-- its request, with its parameters in plain, its locality and the event's random bytes; what it was
+-- answered, and how many of the random bytes its row drew; what everybody could read of its handles
+-- before it; and for a TPM2_Load the sensitive area
 pub record AcceptedCommand : Type 0 where
   pub command : Whole
   pub grants : List (Option Grant)
@@ -59,7 +59,7 @@ command_on r command grants q answer = record {
   sensitive = sensitive_in command.code r q;
 }
 
--- and of one that it accepted
+-- what is recorded of a command that this record accepted
 abbrev pub command_of : Record → Accepted → AcceptedCommand
 command_of r a = command_on r a.command a.grants a.request a.success.answer
 
@@ -72,15 +72,15 @@ pub data PastEvent : Type 0 where
 abbrev pub History : Type 0
 History = List PastEvent
 
--- with a command more, where its row reports check 0: neither a refusal is recorded, nor MEMORY in
--- place of a success
+-- the history with one command more, where its row reports check 0: a refusal is not recorded, nor
+-- MEMORY in place of a success
 abbrev pub with_command : Record → Result Accepted RefusedCommand → (check : ℕ)
     → History → History
 with_command r (Ok a) zero history = Done (command_of r a) ∷ history
 with_command r (Ok a) (suc check) history = history
 with_command r (Err e) check history = history
 
--- with an event more, that happened to this record, and whose row reported this check
+-- the history with one event more, that happened to this record, and whose row reported this check
 abbrev pub recorded : Record → PlainEvent → (check : ℕ) → History → History
 recorded r (Given buffer locality elapsed random) check history =
     let t = ticked r elapsed in

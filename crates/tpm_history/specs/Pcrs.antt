@@ -23,7 +23,7 @@ use Rattle.tpm_actions_base.specs.Request.{Request}
 use Rattle.tpm_actions_base.specs.Rows.{only}
 use Rattle.tpm_history.specs.History.{Done, History, PowerCycled}
 
--- the values, and those that the last TPM2_Shutdown found
+-- the values of all PCRs, and those that the last TPM2_Shutdown found
 pub record Pcrs : Type 0 where
   pub values : PcrValues
   pub saved : PcrValues
@@ -35,12 +35,12 @@ names_pcr (handle ∷ handles) pcr = handle.number == pcr
 
 -- ---- what a command makes of the value of a PCR in a bank
 
--- extended by each digest of its bank in turn
+-- the value of a PCR extended by each digest of its bank in turn
 abbrev pub extended_by_all : HashAlg → Result (List DigestValue) Refused → List ℕ → List ℕ
 extended_by_all bank (Ok digests) old = fold (value_extended bank) old digests
 extended_by_all bank (Err e) old = old
 
--- H(old || H(event))
+-- the value of a PCR after TPM2_PCR_Event: H(old || H(event))
 abbrev pub measured_by : HashAlg → Result (List ℕ) Refused → List ℕ → List ℕ
 measured_by bank (Ok event) old = hash_of bank (old ++ hash_of bank event)
 measured_by bank (Err e) old = old
@@ -86,7 +86,7 @@ pcrs_after (PowerCycled ∷ history) =
 abbrev pub pcr_of : History → PcrValues
 pcr_of history bank pcr = (pcrs_after history).values bank pcr
 
--- the history before the last shutdown, whose values are the saved ones
+-- the history before the last shutdown, at which the saved values were those of the PCRs
 abbrev pub shutdown_or : CommandCode → (here further : History) → History
 shutdown_or command.Shutdown here further = here
 shutdown_or _ here further = further
@@ -104,9 +104,9 @@ values_in history bank = map (pcr_of history bank.hash) (selected_pcrs bank)
 abbrev pub digest_in : History → HashAlg → List BankSelection → List ℕ
 digest_in history hash selection = hash_of hash (concat (flat_map (values_in history) selection))
 
--- ---- updates
+-- ---- updates of PCRs
 
--- this count where the first handle of a command is a PCR's, and 0 for TPM_RH_NULL
+-- this count where the first handle of a command is a PCR's, and 0 where it is TPM_RH_NULL
 abbrev pub if_pcr : List Handle → ℕ → ℕ
 if_pcr [] count = 0
 if_pcr (handle ∷ handles) count = if nat_lt handle.number 24 then count else 0

@@ -5,8 +5,6 @@ use Rattle.std.specs.Int.{w8, w32}
 use Rattle.tpm_bytes.specs.Reading.{◌>>=◌, number_at, or_fault}
 use Rattle.tpm_mac.specs.declared.algorithm.HashAlg.{HashAlg}
 use Rattle.tpm_policy.specs.Assertion.{Assertion, Pcr, Or, AuthValue, Password, CommandCode, CpHash, NvWritten, Locality, Secret, Nv, PcrParts}
-use Rattle.tpm_policy.specs.Made.{policy_with}
-use Rattle.tpm_policy.specs.State.{Policy, starting}
 use Rattle.tpm_types.specs.Buffer.{buffer_at}
 use Rattle.tpm_types.specs.DigestList.{digest_list_at}
 use Rattle.tpm_types.specs.PcrSelection.{selection_text}
@@ -25,17 +23,9 @@ use Rattle.tpm_history.specs.History.{AcceptedCommand, History}
 use Rattle.tpm_history.specs.Pcrs.{digest_in, updates_of}
 use Rattle.tpm_history.specs.View.{name_in}
 
--- ---- what assertions make
-
--- the policy that these make, the latest first, from the one with which a session starts
-abbrev pub evaluated : HashAlg → (trial : Bool) → List Assertion → Policy
-evaluated hash trial [] = starting hash
-evaluated hash trial (assertion ∷ assertions) =
-    policy_with hash trial assertion (evaluated hash trial assertions)
-
 -- ---- what a command asserts
 
--- the PCRs of a selection, as they were before the command
+-- the assertion of TPM2_PolicyPCR: the selected PCRs, as they were before the command
 abbrev pub pcr_parts_in : History → HashAlg → Parameters → PcrParts
 pcr_parts_in history hash p = record {
   given = p.given;
@@ -45,8 +35,9 @@ pcr_parts_in history hash p = record {
 }
 
 -- what a command asserts after a history, on a session of this hash and with this nonceTPM. Of an
--- index that TPM2_PolicyNV compares a policy has the Name, and nothing of what was compared, which no
--- history tells: `compared` is left without bytes, and what is made of the assertion does not read it
+-- index that TPM2_PolicyNV compares a policy has the Name, and nothing of what was compared, which
+-- no history tells: `compared` is left without bytes, and what is made of the assertion does not
+-- read it
 abbrev pub assertion_by : Code → AcceptedCommand → History → HashAlg → (nonce_tpm : List ℕ)
     → Result Assertion Refused
 assertion_by command.PolicyPcr c history hash nonce_tpm = do
@@ -90,7 +81,7 @@ assertion_by command.PolicyNv c history hash nonce_tpm = do
   }))
 assertion_by _ c history hash nonce_tpm = Err handle_refusal
 
--- with it, before those that were asserted earlier
+-- the assertions with one more, before those that were asserted earlier
 abbrev pub with_assertion : Result Assertion Refused → List Assertion → List Assertion
 with_assertion (Ok assertion) assertions = assertion ∷ assertions
 with_assertion (Err e) assertions = assertions

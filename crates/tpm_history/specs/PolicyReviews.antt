@@ -1,7 +1,7 @@
--- What an authPolicy says of the uses of what has it, for policies that are often reviewed. TPM 2.0
--- Library, Part 1, section 19.7 (enhanced authorization), and Part 3, sections 23.4
--- (TPM2_PolicySecret), 23.6 (TPM2_PolicyOR), 23.7 (TPM2_PolicyPCR), 23.9 (TPM2_PolicyNV), 23.17
--- (TPM2_PolicyAuthValue) and 23.20 (TPM2_PolicyNvWritten).
+-- What an authPolicy says of each use of an entity that has it, for policies that are often
+-- reviewed. TPM 2.0 Library, Part 1, section 19.7 (enhanced authorization), and Part 3, sections
+-- 23.4 (TPM2_PolicySecret), 23.6 (TPM2_PolicyOR), 23.7 (TPM2_PolicyPCR), 23.9 (TPM2_PolicyNV),
+-- 23.17 (TPM2_PolicyAuthValue) and 23.20 (TPM2_PolicyNvWritten).
 use Rattle.std.specs.Prelude.{◌≡◌, ◌≢◌, ◌⊎◌, ℕ, Bool, false, List, [], ◌∷◌, ◌++◌, Some, slice_get}
 use Rattle.std.specs.List.{concat, flat_map}
 use Rattle.tpm_mac.specs.Digest.{hash_of}
@@ -68,7 +68,7 @@ pub record WritesIndex (c : AcceptedCommand) (place : ℕ) (public : NvPublic)
     pub no_auth_write : index_has public.attributes mark.AuthWrite ≡ false
     pub auth_policy : public.auth_policy ≡ policy_digest public.name_alg policy
 
--- The entry in a place of a command named a policy session of this hash, and this held of the use;
+-- The entry in a place of a command names a policy session of this hash, and this holds of the use;
 -- or the hash is broken, by texts that a policy and the session spell.
 pub record IsUsedBySession (history : History) (c : AcceptedCommand) (place : ℕ) (hash : HashAlg)
     (policy : PolicyExpression) (Holds : PolicyUse → Type 0) : Type 0
@@ -101,7 +101,7 @@ NeedsItsPolicy history c =
 
 -- ---- PCRs
 
--- the selected PCRs have these values, joined
+-- the written policy that the selected PCRs have these values, joined
 abbrev pub by_pcrs : HashAlg → List BankSelection → (values : List ℕ) → PolicyExpression
 by_pcrs hash selection values = Then Nothing (PolicyPcr selection (hash_of hash values))
 
@@ -121,7 +121,8 @@ NeedsPcrs history c =
     → IsUsedBySession history c place public.name_alg policy
     (λ u. HavePcrValues history public.name_alg selection values)
 
--- And if the authorization value, a PIN, is asked for too, only by who has it.
+-- An object whose policy is that PCRs have these values, and that the authorization value, a PIN,
+-- is given, is used only while they have them, and only with the PIN.
 abbrev pub NeedsPcrsAndPin : History → AcceptedCommand → Type 0
 NeedsPcrsAndPin history c =
     (place : ℕ) (public : Public) (selection : List BankSelection) (values : List ℕ)
@@ -133,7 +134,7 @@ NeedsPcrsAndPin history c =
 
 -- ---- a PIN, or a recovery secret
 
--- the authorization value, or that of the entity of this Name
+-- the written policy that asks for the authorization value, or for that of the entity of this Name
 abbrev pub by_pin_or_secret : (name reference : List ℕ) → PolicyExpression
 by_pin_or_secret name reference =
     PolicyOr (Branch (Then Nothing PolicyAuthValue)

@@ -1,5 +1,5 @@
--- What failed tries and time come to, as one sum. TPM 2.0 Library, Part 1, section 19.8
--- (failedTries, maxTries, recoveryTime).
+-- Failed tries and the time that has passed towards forgiving the next, as one sum. TPM 2.0
+-- Library, Part 1, section 19.8 (failedTries, maxTries, recoveryTime).
 use Rattle.std.specs.Prelude.{◌≡◌, ◌≢◌, ◌⊎◌, ◌≤◌, ◌<◌, ◌+◌, ◌*◌, ◌==◌, ℕ, if◌then◌else◌}
 use Rattle.tpm_lockout.specs.Lockout.{LockoutState, milliseconds}
 
@@ -7,18 +7,18 @@ use Rattle.tpm_lockout.specs.Lockout.{LockoutState, milliseconds}
 abbrev pub period : LockoutState → ℕ
 period s = milliseconds s.fields.recovery_time
 
--- those of them that have passed already for the next try to be forgiven, if there is one
+-- the milliseconds that have passed towards forgiving the next try, if there is one to forgive
 abbrev pub credit : LockoutState → ℕ
 credit s = if s.fields.failed_tries == 0 then 0 else s.forgiving_time
 
--- Where tries are counted, the time since one was counted or forgiven does not forgive another yet.
+-- Where tries are counted, the time since one was counted or forgiven does not yet forgive another.
 abbrev pub IsForgiving : LockoutState → Type 0
 IsForgiving s = s.fields.recovery_time ≢ 0 → s.forgiving_time < period s
 
--- From the old state to the new one this number of tries failed, this number of milliseconds passed,
--- and the parameters stayed. Each try that was counted before, or failed since, is still counted or
--- was forgiven, and forgiving took from the time that had passed before and from these milliseconds.
--- And where a try failed, no more than maxTries are counted now.
+-- From the old state to the new one this number of tries failed, this number of milliseconds
+-- passed, and the parameters stayed. Each try that was counted before, or failed since, is still
+-- counted or was forgiven, and forgiving used up the time that had passed before and these
+-- milliseconds. Where a try failed, no more than maxTries are counted now.
 pub record Pays (old new : LockoutState) (failed elapsed : ℕ) : Type 0 where
   pub recovery_time : new.fields.recovery_time ≡ old.fields.recovery_time
   pub max_tries : new.fields.max_tries ≡ old.fields.max_tries

@@ -1,5 +1,5 @@
--- PCRs that stayed as they were since TPM2_PolicyPCR. TPM 2.0 Library, Part 3, section 23.7, where
--- the update counter of PCRs is recorded, and section 24.6 (TPM2_Clear counts as an update).
+-- PCRs that did not change since TPM2_PolicyPCR. TPM 2.0 Library, Part 3, section 23.7, where the
+-- update counter of PCRs is recorded, and section 24.6 (TPM2_Clear counts as an update).
 use Rattle.std.specs.Prelude.{◌≡◌, ◌≤◌, ℕ, Bool, true, false, List, [], ◌∷◌, ◌++◌, Some, Ok}
 use Rattle.std.specs.List.{AllByRecursion, list_any}
 use Rattle.std.specs.Option.{option_map_or}
@@ -16,7 +16,7 @@ use Rattle.tpm_history.specs.History.{AcceptedCommand, Done, History, PastEvent,
 use Rattle.tpm_history.specs.Pcrs.{digest_in, updates_of, writes}
 use Rattle.tpm_history.specs.Sessions.{LiveSession, policy_in, sessions_of}
 
--- whether TPM2_PolicyPCR is among what was asserted on a session
+-- whether an assertion of a session is one of TPM2_PolicyPCR, and whether one among them is
 abbrev pub is_pcr : Assertion → Bool
 is_pcr (Pcr parts) = true
 is_pcr _ = false
@@ -24,7 +24,7 @@ is_pcr _ = false
 abbrev pub asserts_pcrs : LiveSession → Bool
 asserts_pcrs s = list_any is_pcr s.assertions
 
--- and on that of a handle, if one lives
+-- whether TPM2_PolicyPCR is among the assertions of the session of a handle, if one lives
 abbrev pub has_pcrs : History → Handle → Bool
 has_pcrs history handle = option_map_or asserts_pcrs (sessions_of history handle) false
 
@@ -41,8 +41,8 @@ KeepsPcrs handle [] before = Unit {0}
 KeepsPcrs handle (event ∷ events) before =
     (has_pcrs (event ∷ events ++ before) handle ≡ true) × KeepsPcrs handle events before
 
--- A history ends in the first TPM2_PolicyPCR that is asserted on the session of a handle, and in quiet
--- events alone after it; since then some TPM2_PolicyPCR is asserted on that session.
+-- A history ends in the first TPM2_PolicyPCR that is asserted on the session of a handle, and in
+-- quiet events alone after it; since then some TPM2_PolicyPCR is asserted on that session.
 pub record AreQuietSince (handle : Handle) (history : History) : Type 0 where
   pub since : History
   pub first : AcceptedCommand
@@ -62,22 +62,23 @@ HoldsOf history hash (Pcr parts) =
     × (parts.digest ≡ digest_in history hash selection)
 HoldsOf history hash _ = Unit {0}
 
--- PCRs are quiet since the first TPM2_PolicyPCR on the session of a handle, and so all that was
--- asserted of them holds.
+-- No PCR was updated since the first TPM2_PolicyPCR on the session of a handle, and so all that was
+-- asserted of PCRs holds.
 pub record HoldsPcrs (handle : Handle) (history : History) (s : LiveSession) : Type 0 where
   pub quiet : AreQuietSince handle history
   pub hold : AllByRecursion (HoldsOf history s.hash) s.assertions
 
 -- ---- the update counter that a policy records
 
--- It is not above that of the history; and where it is the same, PCRs hold.
+-- The update counter that a session records is not above that of the history; and where the two are
+-- the same, what the session asserts of PCRs holds.
 pub record RecordsUpdates (handle : Handle) (history : History) (s : LiveSession) : Type 0 where
   pub count : ℕ
   pub recorded : (policy_in s).update_count ≡ Some count
   pub within : count ≤ updates_of history
   pub hold : count ≡ updates_of history → HoldsPcrs handle history s
 
--- And so it is with each live policy session on which PCRs are asserted.
+-- Each live policy session on which PCRs are asserted records such an update counter.
 abbrev pub AllRecordUpdates : History → Type 0
 AllRecordUpdates history =
     (handle : Handle) (s : LiveSession) → sessions_of history handle ≡ Some s

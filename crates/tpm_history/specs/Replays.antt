@@ -8,13 +8,14 @@ use Rattle.tpm_types_command.specs.AuthEntry.{Entry}
 use Rattle.tpm_types_command.specs.Command.{command_at}
 use Rattle.tpm_types_command.specs.declared.command_code.CommandCode.{CommandCode}
 use Rattle.tpm_types_command.specs.declared.command_code.CommandCode.TheVariants as command
+use Rattle.tpm_policy_meaning.specs.Asserted.{IsAmong}
 use Rattle.tpm_history.specs.EntryHmacs.{hmac_in, text_in}
 use Rattle.tpm_history.specs.History.{AcceptedCommand, Done, History, PastEvent, PowerCycled}
 use Rattle.tpm_history.specs.Sessions.{LiveSession, sessions_of}
 
 -- ---- a session that lives on
 
--- whether a command of this code that answers this handle starts a session under a handle
+-- whether a command of this code whose answer has this handle starts a session under a handle
 abbrev pub starts_under : CommandCode → Option Handle → Handle → Bool
 starts_under command.StartAuthSession (Some made) handle = handle.number == made.number
 starts_under _ made handle = false
@@ -24,7 +25,7 @@ starts (Done c) handle = starts_under c.command.code c.answer.handle handle
 starts PowerCycled handle = false
 
 -- The session of a handle lives on through these events, the latest first, after this history: none
--- of them starts one there, and after each of them one lives there.
+-- of them starts a session under the handle, and after each of them a session lives there.
 abbrev pub LivesThrough : Handle → (events before : History) → Type 0
 LivesThrough handle [] before = Unit {0}
 LivesThrough handle (event ∷ events) before =
@@ -33,9 +34,8 @@ LivesThrough handle (event ∷ events) before =
 
 -- ---- a replay
 
--- One buffer spells the command that was accepted after one history, and the one that was after a
--- later. Its entry in a place, from 0, has an HMAC, and names an HMAC session that lives all the
--- while.
+-- One buffer spells two commands, the one accepted after a history and the other after a later one.
+-- Their entry in a place, from 0, has an HMAC, and names an HMAC session that lives all the while.
 pub record IsReplay (buffer : List ℕ) (before : History) (first : AcceptedCommand)
     (between : History) (second : AcceptedCommand) (place : ℕ) (e : Entry) (s : LiveSession)
     : Type 0
@@ -49,27 +49,22 @@ pub record IsReplay (buffer : List ℕ) (before : History) (first : AcceptedComm
     pub is_hmac : s.kind ≡ type.Hmac
     pub lives_on : LivesThrough e.session (between ++ Done first ∷ []) before
 
--- It is one of these.
-abbrev pub IsAmong : {X : Type 0} → X → List X → Type 0
-IsAmong x [] = ⊥
-IsAmong x (y ∷ ys) = (x ≡ y) ⊎ IsAmong x ys
-
--- The nonceTPM that a session has now is the one that it had at an earlier time, and stands among those
+-- The nonceTPM that a session has now is the one that it had at an earlier time, and is among those
 -- that it had before.
 abbrev pub HasNonceAgain : (earlier now : LiveSession) → Type 0
 HasNonceAgain earlier now =
     (now.nonce_tpm ≡ earlier.nonce_tpm) × IsAmong now.nonce_tpm now.earlier_nonces
 
--- The texts of an entry at two events differ, and the entry's HMAC is that of each, under the key of
--- its event.
+-- The texts of an entry at two events differ, and the entry's HMAC is that of each, under the key
+-- of its event.
 abbrev pub HaveOneHmac : (before : History) (first : AcceptedCommand) (after : History)
     (second : AcceptedCommand) (place : ℕ) (e : Entry) (s t : LiveSession) → Type 0
 HaveOneHmac before first after second place e s t =
     (text_in before first place e s ≢ text_in after second place e t)
     × (e.hmac ≡ hmac_in before first place e s) × (e.hmac ≡ hmac_in after second place e t)
 
--- At the second event the session, of the same hash, has the nonce of the first event again; or two
--- texts have one HMAC.
+-- At the second event of a replay the session, of the same hash, has the nonce of the first event
+-- again; or two texts have one HMAC.
 pub record Repeats (before : History) (first : AcceptedCommand) (between : History)
     (second : AcceptedCommand) (place : ℕ) (e : Entry) (s : LiveSession) : Type 0 where
   pub now : LiveSession
@@ -78,7 +73,7 @@ pub record Repeats (before : History) (first : AcceptedCommand) (between : Histo
   pub repeats : HasNonceAgain s now
       ⊎ HaveOneHmac before first (between ++ Done first ∷ before) second place e s now
 
--- And so it is with every replay in a history.
+-- Every replay in a history repeats a nonce or an HMAC.
 abbrev pub ReplaysRepeat : History → Type 0
 ReplaysRepeat history =
     (buffer : List ℕ) (before : History) (first : AcceptedCommand) (between : History)

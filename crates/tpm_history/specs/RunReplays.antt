@@ -14,21 +14,21 @@ use Rattle.tpm_history.specs.History.{AcceptedCommand, Done, History, recorded}
 use Rattle.tpm_history.specs.Replays.{LivesThrough, Repeats}
 use Rattle.tpm_history.specs.Sessions.{LiveSession, sessions_of}
 
--- An event is recorded as an accepted command, after whatever was before it; and its buffer spells
--- that command.
+-- An event is recorded as an accepted command, whatever history was before it; and its buffer
+-- spells that command.
 pub record IsRecorded (old : Record) (event : PlainEvent) (x : Stepped) (buffer : List ℕ) : Type 0 where
   pub command : AcceptedCommand
   pub spelled : command_at buffer ≡ Ok (command.command, [])
   pub recorded : (history : History) → recorded old event x.row.check history ≡ Done command ∷ history
 
--- An event gives this buffer.
+-- The event is a command of this buffer.
 abbrev pub Gives : List ℕ → PlainEvent → Type 0
 Gives buffer (Given given locality elapsed random) = given ≡ buffer
 Gives buffer Cycled = ⊥
 
--- Two events, after these earlier ones and with others between them, give one buffer, and both are
--- accepted. An entry of the command that it spells has an HMAC, and names an HMAC session that lives
--- from the first event to the second.
+-- Two events, after these earlier ones and with others between them, have one buffer, and both are
+-- accepted. An entry of the command that the buffer spells has an HMAC, and names an HMAC session
+-- that lives from the first event to the second.
 pub record IsRunReplay (history : History) (earlier : List Execution) (one : Execution)
     (meanwhile : List Execution) (two : Execution) (place : ℕ) (e : Entry) (s : LiveSession) : Type 0
   where
@@ -47,8 +47,7 @@ pub record IsRunReplay (history : History) (earlier : List Execution) (one : Exe
     pub lives_on : LivesThrough e.session (history_after [] (one ∷ meanwhile))
         (history_after history earlier)
 
--- Then this is what was accepted at the two events, and it repeats a nonce, or two texts have one
--- HMAC.
+-- What was accepted at the two events of a replay repeats a nonce, or two texts have one HMAC.
 pub record RunRepeats (history : History) (earlier : List Execution) (one : Execution)
     (meanwhile : List Execution) (two : Execution) (place : ℕ) (e : Entry) (s : LiveSession) : Type 0
   where
@@ -59,7 +58,7 @@ pub record RunRepeats (history : History) (earlier : List Execution) (one : Exec
     pub repeats : Repeats (history_after history earlier) first (history_after [] meanwhile) second
         place e s
 
--- And so it is with every replay among these events.
+-- Every replay among these events repeats a nonce or an HMAC.
 abbrev pub RunReplaysRepeat : History → List Execution → Type 0
 RunReplaysRepeat history executions =
     (earlier : List Execution) (one : Execution) (meanwhile : List Execution) (two : Execution)

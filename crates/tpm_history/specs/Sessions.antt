@@ -28,24 +28,25 @@ use Rattle.tpm_actions_device.specs.FlushContext.{flushed_handle}
 use Rattle.tpm_actions_device.specs.StartAuthSession.{Parameters, parameters_in}
 use Rattle.tpm_actions_policy.specs.Assertions.{session_handle}
 use Rattle.tpm_laws.specs.Draws.{draws_of}
+use Rattle.tpm_policy_meaning.specs.Asserted.{evaluated}
 use Rattle.tpm_history.specs.AuthValues.{auth_of}
 use Rattle.tpm_history.specs.HandleMap.{by_handle, changed_at, with_at}
 use Rattle.tpm_history.specs.History.{AcceptedCommand, Done, History, PowerCycled}
-use Rattle.tpm_history.specs.Policies.{assertion_by, evaluated, with_assertion}
+use Rattle.tpm_history.specs.Policies.{assertion_by, with_assertion}
 use Rattle.tpm_history.specs.View.{View, view_name}
 use Rattle.tpm_history.specs.Views.{view_protection}
 
--- what a session is bound to, as it was at the start: its Name, its authorization value, and how
--- these were protected against dictionary attacks
+-- what a session is bound to, as it was at the start: the entity's Name, its authorization value,
+-- and how it was protected against dictionary attacks
 pub record Bound : Type 0 where
   pub name : List ℕ
   pub auth_value : List ℕ
   pub protection : Protection
 
 -- a session that lives: of its start the type, the hash, the symmetric algorithm, what it is bound
--- to, and its key; its latest nonceTPM, and those that it had before, the latest first; and what was
--- asserted on it, the latest first, since the latest of its start, a TPM2_PolicyRestart, and a use for
--- authorization
+-- to, and its key; its latest nonceTPM, and those that it had before, the latest first; and its
+-- assertions, the latest first, since its start, its latest TPM2_PolicyRestart or its latest use
+-- for authorization, whichever came last
 pub record LiveSession : Type 0 where
   pub kind : SessionType
   pub hash : HashAlg
@@ -56,7 +57,7 @@ pub record LiveSession : Type 0 where
   pub earlier_nonces : List (List ℕ)
   pub assertions : List Assertion
 
--- its policy: the digest, and what is compared when it authorizes
+-- the policy of a live session: the digest, and what is compared when it authorizes
 abbrev pub policy_in : LiveSession → Policy
 policy_in s = evaluated s.hash (is_trial s.kind) s.assertions
 
@@ -64,7 +65,7 @@ policy_in s = evaluated s.hash (is_trial s.kind) s.assertions
 abbrev pub LiveSessions : Type 0
 LiveSessions = Handle → Option LiveSession
 
--- with the one of a handle changed, if one lives
+-- the live sessions with that of a handle changed, if one lives
 abbrev pub changed_session : (LiveSession → LiveSession) → Handle → LiveSessions → LiveSessions
 changed_session change handle live = changed_at handle (option_map change) live
 
@@ -73,7 +74,7 @@ without_session handle live = with_at handle None live
 
 -- ---- a session starts
 
--- the second of a command's handles is what is bound to, unless it is TPM_RH_NULL
+-- what a new session is bound to: the second of the command's handles, unless that is TPM_RH_NULL
 abbrev pub bound_in : List Handle → List View → (auth_values : List (List ℕ)) → Option Bound
 bound_in (key ∷ bind ∷ handles) (key_view ∷ view ∷ views) (key_value ∷ value ∷ values) =
     if bind.number == null_handle.number then None
@@ -84,8 +85,8 @@ bound_in (key ∷ bind ∷ handles) (key_view ∷ view ∷ views) (key_value ∷
     })
 bound_in handles views values = None
 
--- KDFa(authHash, bind.authValue, "ATH", nonceTPM, nonceCaller, bits of a digest), and the empty key
--- without a binding
+-- the session key: KDFa(authHash, bind.authValue, "ATH", nonceTPM, nonceCaller, bits of a digest),
+-- or empty without a binding
 unfoldable pub start_key : HashAlg → Option Bound → (nonce_tpm nonce_caller : List ℕ) → List ℕ
 start_key hash None nonce_tpm nonce_caller = []
 start_key hash (Some bound) nonce_tpm nonce_caller =
@@ -103,31 +104,32 @@ started_with p bound nonce_tpm = record {
   assertions = [];
 }
 
--- A session has had no nonceTPM before, and nothing is asserted on it.
+-- A new session has had no nonceTPM before, and no assertion.
 pub record IsNewSession (s : LiveSession) : Type 0 where
   pub no_earlier : s.earlier_nonces ≡ []
   pub no_assertion : s.assertions ≡ []
 
--- its first nonceTPM is drawn first, and as long as nonceCaller
+-- the session that TPM2_StartAuthSession starts: its nonceTPM is the front of the random bytes, and
+-- as long as nonceCaller
 abbrev pub started_by : Result Parameters Refused → Option Bound → (random : List ℕ)
     → Option LiveSession
 started_by (Ok p) bound random = Some (started_with p bound (take (length p.nonce_caller) random))
 started_by (Err e) bound random = None
 
--- what a command starts, by the authorization values of its handles before it
+-- the session that a command starts, by the authorization values of its handles before it
 unfoldable pub started : AcceptedCommand → (auth_values : List (List ℕ)) → Option LiveSession
 started c auth_values = started_by (parameters_in c.request.parameters)
     (bound_in c.request.handles c.views auth_values) c.request.random
 
--- ---- what a command does with sessions, its entries apart
+-- ---- what a command does with sessions, apart from its entries
 
--- TPM2_StartAuthSession starts one under the handle that it answers
+-- the live sessions after TPM2_StartAuthSession: it starts one under the handle that it answers
 abbrev pub with_started : AcceptedCommand → History → LiveSessions → LiveSessions
 with_started c history live =
     by_handle (ok_or c.answer.handle handle_refusal)
     (λ handle. with_at handle (started c (map (auth_of history) c.request.handles))) live
 
--- an assertion
+-- a live session after a command that asserts something on it
 abbrev pub asserted_by : CommandCode → AcceptedCommand → History → LiveSession → LiveSession
 asserted_by code c history s = record s {
   assertions = with_assertion (assertion_by code c history s.hash s.nonce_tpm) s.assertions;
@@ -138,12 +140,13 @@ with_asserted code c history live =
     by_handle (session_handle code c.request.handles)
     (changed_session (asserted_by code c history)) live
 
--- nothing is asserted on it any more
+-- a live session without its assertions
 abbrev pub restarted : LiveSession → LiveSession
 restarted s = record s { assertions = [] }
 
--- TPM2_FlushContext ends one, TPM2_PolicyRestart takes its assertions away, and no command but
--- these and assertions changes any
+-- the live sessions after a command of this code: TPM2_FlushContext ends one, TPM2_PolicyRestart
+-- takes away the assertions of one, and no command but these two, TPM2_StartAuthSession and those
+-- that assert something changes any
 abbrev pub sessions_by : CommandCode → AcceptedCommand → History → LiveSessions → LiveSessions
 sessions_by command.StartAuthSession c history live = with_started c history live
 sessions_by command.FlushContext c history live =
@@ -167,9 +170,9 @@ sessions_by command.PolicySecret c history live = with_asserted command.PolicySe
 sessions_by command.PolicyNv c history live = with_asserted command.PolicyNv c history live
 sessions_by _ c history live = live
 
--- ---- an entry names a session
+-- ---- entries that name sessions
 
--- sessions, and the random bytes that are left
+-- live sessions with their new nonces, and the random bytes that are left
 pub record Rolled : Type 0 where
   pub sessions : LiveSessions
   pub left : List ℕ
@@ -178,7 +181,8 @@ abbrev pub with_nonce : List ℕ → LiveSession → LiveSession
 with_nonce nonce s =
     record s { nonce_tpm = nonce; earlier_nonces = s.nonce_tpm ∷ s.earlier_nonces }
 
--- its next nonceTPM has as many bytes as the latest one; where no session lives none is drawn
+-- the size of a session's next nonceTPM: that of the latest one; where no session lives none is
+-- drawn
 abbrev pub nonce_size : Option LiveSession → ℕ
 nonce_size session = option_map_or (λ (s : LiveSession). length s.nonce_tpm) session 0
 
@@ -195,7 +199,8 @@ entries_rolled live [] left = record { sessions = live; left = left }
 entries_rolled live (e ∷ es) left =
     let first = entry_rolled live e left in entries_rolled first.sessions es first.left
 
--- a policy session, no trial one, that authorized something begins its policy anew
+-- a session that authorized something: if it is a policy session, and no trial one, it begins its
+-- policy anew
 abbrev pub used_by : SessionType → LiveSession → LiveSession
 used_by type.Hmac s = s
 used_by type.Policy s = restarted s
@@ -204,7 +209,7 @@ used_by type.Trial s = s
 abbrev pub used : LiveSession → LiveSession
 used s = used_by s.kind s
 
--- without continueSession a session ends
+-- the live sessions after an entry: its session ends where the entry has no continueSession
 abbrev pub entry_ended : LiveSessions → Entry → Option Grant → LiveSessions
 entry_ended live e grant =
     if continues_session e.attributes
@@ -214,10 +219,10 @@ entry_ended live e grant =
 abbrev pub entries_ended : LiveSessions → List (Entry × Option Grant) → LiveSessions
 entries_ended live granted = fold (λ live g. entry_ended live g.0 g.1) live granted
 
--- ---- a history
+-- ---- the sessions after a history
 
--- new nonces come from the event's random bytes after those that the command itself draws, in the
--- order of the entries
+-- the live sessions with the new nonces of a command's entries: these come from the event's random
+-- bytes after those that the command itself draws, in the order of the entries
 abbrev pub rolled_by : AcceptedCommand → History → LiveSessions → Rolled
 rolled_by c history live =
     entries_rolled (sessions_by c.command.code c history live) c.command.entries
@@ -232,7 +237,7 @@ sessions_of (Done c ∷ history) handle =
     (zip c.command.entries c.grants) handle
 sessions_of (PowerCycled ∷ history) handle = None
 
--- the latest nonceTPM of a session, its key, and its policy
+-- of the session of a handle the latest nonceTPM, the key and the policy
 abbrev pub nonce_of : History → Handle → Option (List ℕ)
 nonce_of history handle = option_map (λ (s : LiveSession). s.nonce_tpm) (sessions_of history handle)
 
@@ -242,7 +247,7 @@ key_of history handle = option_map (λ (s : LiveSession). s.key) (sessions_of hi
 abbrev pub policy_of : History → Handle → Option Policy
 policy_of history handle = option_map policy_in (sessions_of history handle)
 
--- its start: the type, the hash, the symmetric algorithm, and what it is bound to
+-- the start of a session: the type, the hash, the symmetric algorithm, and what it is bound to
 pub record Start : Type 0 where
   pub kind : SessionType
   pub hash : HashAlg

@@ -41,43 +41,44 @@ use Rattle.tpm_history.specs.Potential.{period}
 
 -- ---- an event that fails a try
 
--- whether what a refusal counts is a failed try, at a protected entity other than LOCKOUT
+-- whether a refusal counts a failed try, at a protected entity other than LOCKOUT
 abbrev pub is_try : Counted → Bool
 is_try counted.None = false
 is_try counted.Try = true
 is_try counted.Lockout = false
 
--- whether a command is refused, and that counts as one
+-- whether a command is refused, and the refusal counts a failed try
 abbrev pub counts_try : Result Accepted RefusedCommand → Bool
 counts_try (Ok a) = false
 counts_try (Err e) = is_try e.refused.counted
 
--- whether an event fails a try
+-- whether an event is a command whose refusal counts a failed try
 abbrev pub fails_try : Record → PlainEvent → Bool
 fails_try r (Given buffer locality elapsed random) =
     counts_try (accepted (ticked r elapsed) buffer locality random)
 fails_try r Cycled = false
 
--- What an entry touches is what its comparison uses: the authorization value of the entity that it is
--- to authorize, where the password is compared with it or it is part of the HMAC's key; and else that
--- of the entity to which its session was bound at the start. Where a session may not authorize the
--- entity nothing is compared, and so nothing touched.
+-- What an entry touches is what its comparison uses: the authorization value of the entity that it
+-- is to authorize, where the password is compared with it or it is part of the HMAC's key; and else
+-- that of the entity to which the entry's session was bound at the start. Where a session may not
+-- authorize the entity, nothing is compared, and nothing is touched.
 
--- how that is protected which a session's entry touches, where it is to authorize this handle, by what
--- the session demands for that, or by why it may not
+-- the protection of the entity that a session's entry touches, where the entry is to authorize this
+-- handle, by what the session demands for that, or by why it may not
 abbrev pub touched_where : Record → Session → Handle → Result Demand Refused → Protection
 touched_where r s handle (Ok demand) =
     entry_protection r s (Some (record { handle = handle; demand = demand }))
 touched_where r s handle (Err e) = protection.None
 
--- the same of entry n, which is to authorize this handle, or none
+-- the protection of the entity that entry n touches, of a session, which is to authorize this
+-- handle or none
 abbrev pub touched_of_session : Record → Whole → (locality n : ℕ) → Option Handle → Session
     → Protection
 touched_of_session r c locality n (Some handle) s =
     touched_where r s handle (demanded r c locality n handle s)
 touched_of_session r c locality n None s = entry_protection r s None
 
--- and of any entry: a password touches what it is to authorize
+-- the protection of the entity that any entry touches: a password touches what it is to authorize
 abbrev pub touched_by : SessionKind → Record → Whole → (locality n : ℕ) → Option Handle → Entry
     → Protection
 touched_by kind.Password r c locality n used e = used_protection r used
@@ -102,15 +103,16 @@ pub record FailsTry (r : Record) (locality : ℕ) (buffer : List ℕ) : Type 0 w
   pub is : authorize r command locality ≡ Err refused
   pub fails : refused.rc ≡ entry_fault (place + 1) code.AuthFail
 
--- An event is such a command.
+-- An event is a command that fails a try.
 abbrev pub IsRefusedTry : Record → PlainEvent → Type 0
 IsRefusedTry r (Given buffer locality elapsed random) =
     FailsTry (ticked r elapsed) locality buffer
 IsRefusedTry r Cycled = ⊥
 
--- ---- how it is answered
+-- ---- how a failed try is answered
 
--- what refuses an entry whose comparison fails: G9 where it is to authorize a handle, else G10
+-- the check by which an entry whose comparison fails is refused: G9 where the entry is to authorize
+-- a handle, else G10
 abbrev pub check_for : Option Handle → Check
 check_for (Some handle) = check.Authorization
 check_for None = check.Others
@@ -119,12 +121,12 @@ check_for None = check.Others
 abbrev pub try_refusal : Whole → (place : ℕ) → Refused
 try_refusal c place = failure (check_for (used_in c place)) (place + 1) protection.Tries
 
--- What is answered is this refusal.
+-- The response and the row of an event are those of this refusal.
 pub record IsAnsweredFailure (e : Refused) (x : Stepped) : Type 0 where
   pub response : x.response ≡ refusal_text e
   pub check : x.row.check ≡ check_number e.check
 
--- An event is such a command, and is answered so for its entry.
+-- An event is a command that fails a try, and is answered with that refusal for its entry.
 abbrev pub IsAnsweredTry : Record → PlainEvent → Stepped → Type 0
 IsAnsweredTry r (Given buffer locality elapsed random) x =
     (fails : FailsTry (ticked r elapsed) locality buffer)
@@ -137,14 +139,14 @@ abbrev pub elapsed_of : PlainEvent → ℕ
 elapsed_of (Given buffer locality elapsed random) = elapsed
 elapsed_of Cycled = 0
 
--- the milliseconds that pass in it, and how many of its events fail a try
+-- the milliseconds that pass in a stretch of events, and how many of its events fail a try
 abbrev pub elapsed_in : List Execution → ℕ
 elapsed_in executions = sum_by (λ (one : Execution). elapsed_of one.event) executions
 
 abbrev pub failures_in : List Execution → ℕ
 failures_in executions = count_by (λ (one : Execution). fails_try one.before one.event) executions
 
--- what takes tries back, or sets their parameters
+-- whether a command takes failed tries back, or sets their parameters
 abbrev pub resets_tries : CommandCode → Bool
 resets_tries command.DictionaryAttackLockReset = true
 resets_tries command.DictionaryAttackParameters = true
@@ -155,16 +157,18 @@ abbrev pub is_reset : PastEvent → Bool
 is_reset (Done c) = resets_tries c.command.code
 is_reset PowerCycled = false
 
--- No such command is accepted.
+-- No command of a history takes failed tries back, or sets their parameters.
 abbrev pub HasNoReset : History → Type 0
 HasNoReset history = AllByRecursion (λ (one : PastEvent). is_reset one ≡ false) history
 
--- the tries that may fail in it: maxTries, and one for each recoveryTime that passes
+-- how many tries may fail in a stretch of events: maxTries, and one for each recoveryTime that
+-- passes
 abbrev pub tries_within : Record → List Execution → ℕ
 tries_within old executions =
     old.fixed.lockout.fields.max_tries + elapsed_in executions / period old.fixed.lockout
 
--- In a stretch of events without a reset, where tries are counted, no more tries fail than these.
+-- In a stretch of events without a reset, where tries are counted, no more tries fail than
+-- `tries_within` allows.
 abbrev pub FailsWithin : Bool → Record → List Execution → Record → Type 0
 FailsWithin can old executions new =
     Leads can old executions new
@@ -172,7 +176,8 @@ FailsWithin can old executions new =
     → old.fixed.lockout.fields.recovery_time ≢ 0
     → failures_in executions ≤ tries_within old executions
 
--- So they are at most maxTries, one more, and one for each recoveryTime that passes.
+-- the bound on the tries that may fail in a stretch of events: maxTries, one more, and one for each
+-- recoveryTime that passes
 abbrev pub tries_at_most : Record → List Execution → ℕ
 tries_at_most old executions =
     old.fixed.lockout.fields.max_tries + 1
@@ -185,7 +190,7 @@ FailsFew can old executions new =
     → old.fixed.lockout.fields.recovery_time ≢ 0
     → failures_in executions ≤ tries_at_most old executions
 
--- An event is an accepted command that takes tries back, or sets their parameters.
+-- An event is an accepted command that takes failed tries back, or sets their parameters.
 pub record IsReset (one : PastEvent) : Type 0 where
   pub accepted : AcceptedCommand
   pub is : one ≡ Done accepted

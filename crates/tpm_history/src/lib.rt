@@ -1,13 +1,13 @@
 #![tactic(auto)]
 
-//! What a device has accepted, and that this decides what the device is: its PCRs, its sessions
-//! and their policies, its authorization values and its counters. On what it let itself be used,
-//! what a replay repeats, and how many tries may fail.
+//! What a device has accepted, and that this decides what the device is: its PCRs, its sessions and
+//! their policies, its authorization values and its counters. It also says on what grounds the
+//! device let itself be used, what a replay repeats, and how many tries may fail.
 //!
-//! Each law stands on the contract of a function that does nothing. They stand on the definitions
-//! of tpm_step and on the laws over rows of tpm_laws, and open no row but those that
-//! set what a history tells. The calls of tpm_machine, and of tpm_image and tpm_wire above it, carry
-//! them.
+//! Each law is the contract of a function that does nothing. The laws follow from the definitions
+//! of tpm_step and from the laws over rows of tpm_laws; only the rows are opened that set what a
+//! history tells. The contracts of the calls of tpm_machine, and of tpm_image and tpm_wire above
+//! it, have them.
 
 ghost use Rattle.std.specs.Prelude.{◌≡◌, ◌↔◌, ◌+◌, ◌++◌, ℕ, Bool, true, false, List, [], ◌∷◌, None, Some, map};
 ghost use Rattle.tpm_mac.specs.declared.algorithm.HashAlg.{HashAlg};
@@ -68,9 +68,9 @@ pub fn following_laws()
         → Follows r history → Follows (cycled r) (PowerCycled ∷ history) }
 {}
 
-/// Power going off and on again, and the opening of what was saved, is one execution more of a stretch
-/// of events; two stretches, of which the second begins where the first ended, are one; and a stretch
-/// in which no memory can be refused is one in which it may be.
+/// A power cycle, and the opening of what was saved, is one execution more of a stretch of events;
+/// two stretches, of which the second begins where the first ended, are one; and a stretch in which
+/// no memory can be refused is one in which it may be.
 #[inline(always)]
 pub fn stretch_laws()
     ensures power_cycle { (can : Bool) (r : Record)
@@ -82,8 +82,8 @@ pub fn stretch_laws()
         → Leads false old executions new → Leads can old executions new }
 {}
 
-/// A stretch of events leads a device that follows a history to one that follows the history with all
-/// of them that were accepted; and what else holds of such a stretch.
+/// A stretch of events leads a device that follows a history to one that follows the history with
+/// all of the events that were accepted; and what else holds of such a stretch.
 #[inline(always)]
 pub fn stretch_history_laws()
     ensures { (can : Bool) (old : Record) (executions : List Execution) (new : Record)
@@ -91,8 +91,8 @@ pub fn stretch_history_laws()
         → StretchFollows can old executions new history }
 {}
 
-/// A run executes its events one after another, and leads to the history with all of them that
-/// were accepted. And executions that lead so, each outcome of which was told, are a run.
+/// A run executes its events one after another, and leads to the history with all of them that were
+/// accepted. Executions that lead so, each outcome of which was told, are a run.
 #[inline(always)]
 pub fn run_history_laws<F: FnMut(&Outcome)>()
     ensures follows { (can : Bool) (old : Record) (p : F) (events : List PlainEvent) (new : Record)
@@ -104,7 +104,8 @@ pub fn run_history_laws<F: FnMut(&Outcome)>()
 {}
 
 /// What everybody may read of a handle tells what the record has: the Name, the policy, the
-/// protection, and what authorizes it; and what is recorded of a command is what was so before it.
+/// protection, and what authorizes it; and the record of a command is of what was so before the
+/// command.
 #[inline(always)]
 pub fn view_laws()
     ensures tell { (r : Record) (handle : Handle) → TellsOf (view_of r handle) r handle }
@@ -113,7 +114,7 @@ pub fn view_laws()
         → c.views ≡ map (view_of r) c.command.handles }
 {}
 
-/// What a startup restores is what the PCRs were at the last shutdown.
+/// A TPM Resume restores the values that the PCRs had at the last shutdown.
 #[inline(always)]
 #[tactic(auto, using(crate::proofs::DevicePcrs::saved_are))]
 pub fn shutdown_laws()
@@ -131,9 +132,9 @@ pub fn live_session_laws()
         → IsLive history handle s }
 {}
 
-/// What is there has the authorization value that the history gives its handle. What is neither a
-/// hierarchy nor lockout, nor an NV index or an object, has the empty one: a PCR and TPM_RH_NULL.
-/// And no value ends in a zero.
+/// What a handle names, if it is there, has the authorization value that the history gives the
+/// handle. What is neither a hierarchy nor lockout, nor an NV index or an object, has the empty
+/// one: a PCR and TPM_RH_NULL. No authorization value ends in a zero.
 #[inline(always)]
 #[tactic(auto, using(crate::proofs::DeviceAuthValues::present_auth_value, crate::proofs::TrimmedValues::told_values_are_trimmed))]
 pub fn auth_value_laws()
@@ -154,7 +155,7 @@ pub fn count_laws()
     ensures { CountLaws }
 {}
 
-/// So no counter of a device goes down as long as no index is defined anew under its handle; one
+/// No counter of a device goes down as long as no index is defined anew under its handle; a counter
 /// that has no value yet begins above all that any counter had; and so does one that is defined
 /// meanwhile.
 #[inline(always)]
@@ -172,7 +173,7 @@ pub fn counter_laws()
         → ExceedsEarlier new history meanwhile handle after }
 {}
 
-/// What an execution with check 0 accepted is recorded, and the event's buffer spells it.
+/// A command that an execution with check 0 accepted is recorded, and the event's buffer spells it.
 #[inline(always)]
 pub fn recorded_laws()
     ensures { (can : Bool) (old : Record) (buffer : List ℕ) (locality elapsed : ℕ)
@@ -181,7 +182,7 @@ pub fn recorded_laws()
         → IsRecorded old (Given buffer locality elapsed random) x buffer }
 {}
 
-/// In every history of a device each use of what it has was authorized on one of three grounds, by
+/// In every history of a device each use of an entity was authorized on one of three grounds, by
 /// the history before the use: a password, an HMAC session, or a policy session each of whose
 /// conditions is true.
 #[inline(always)]
@@ -191,19 +192,20 @@ pub fn grounds_laws()
         → AllHaveGrounds (history_after [] executions) }
 {}
 
-/// And a buffer that is accepted twice, with an HMAC for an HMAC session that lives all the while,
-/// finds the nonceTPM of the first event again; or two texts have one HMAC, each under the key of its
-/// event.
+/// A buffer that is accepted twice, with an HMAC for an HMAC session that lives all the while,
+/// finds the nonceTPM of the first event again; or two texts have one HMAC, each under the key of
+/// its event.
 #[inline(always)]
 pub fn replay_laws()
     ensures { (can : Bool) (random : List ℕ) (executions : List Execution) (new : Record)
         → Leads can (manufactured random) executions new → RunReplaysRepeat [] executions }
 {}
 
-/// What is used by a policy session of which TPM2_PolicyPCR alone is asserted has the policy of PCRs
-/// with the values that they have at the use; they had them since the first TPM2_PolicyPCR. By one of
-/// which TPM2_PolicyCommandCode alone is asserted it has the policy of the command that uses it; by one
-/// of which TPM2_PolicyNvWritten alone is asserted it is an NV index, written or not as that says.
+/// An entity that is used by a policy session with TPM2_PolicyPCR as its only assertion has the
+/// policy of PCRs with the values that they have at the use; they had them since the first
+/// TPM2_PolicyPCR. If TPM2_PolicyCommandCode is the only assertion, the entity has the policy of
+/// the command that uses it; if TPM2_PolicyNvWritten is, the entity is an NV index, written or not
+/// as that says.
 #[inline(always)]
 pub fn policy_laws()
     ensures pcrs { UsesPcrsAsTheyAre }
@@ -213,7 +215,7 @@ pub fn policy_laws()
 {}
 
 /// An event fails a try exactly where its authorization is refused with AUTH_FAIL for an entry that
-/// touches a protected entity other than LOCKOUT; and it is answered so.
+/// touches a protected entity other than LOCKOUT; and AUTH_FAIL for that entry is its answer.
 #[inline(always)]
 pub fn failed_try_laws()
     ensures exactly { (old : Record) (event : PlainEvent)
@@ -222,31 +224,31 @@ pub fn failed_try_laws()
         → Executes can old event x → fails_try old event ≡ true → IsAnsweredTry old event x }
 {}
 
-/// A session that starts has had no nonceTPM before, and nothing is asserted on it.
+/// A session that starts has had no nonceTPM before, and no assertion.
 #[inline(always)]
 pub fn session_start_laws()
     ensures { (c : AcceptedCommand) (auth_values : List (List ℕ)) (s : LiveSession)
         → started c auth_values ≡ Some s → IsNewSession s }
 {}
 
-/// What takes tries back, or sets their parameters, is an accepted TPM2_DictionaryAttackLockReset,
-/// TPM2_DictionaryAttackParameters or TPM2_Clear, and nothing else.
+/// Only an accepted TPM2_DictionaryAttackLockReset, TPM2_DictionaryAttackParameters or TPM2_Clear
+/// takes failed tries back, or sets their parameters.
 #[inline(always)]
 pub fn reset_laws()
     ensures { (one : PastEvent) → (is_reset one ≡ true ↔ IsReset one) }
 {}
 
-/// As many tries can fail as the sharper bound says: a run of reads of an NV index with a wrong password,
-/// worked out.
+/// As many tries can fail as the sharper bound says: an example is a run of reads of an NV index
+/// with a wrong password.
 #[inline(always)]
 pub fn failed_run_laws()
     ensures { IsFailedRun }
 {}
 
 /// In a stretch of events in which no TPM2_DictionaryAttackLockReset, no
-/// TPM2_DictionaryAttackParameters and no TPM2_Clear is accepted, where recoveryTime is not 0, at
-/// most maxTries tries fail, and one for each recoveryTime that passes; so at most one more than
-/// these.
+/// TPM2_DictionaryAttackParameters and no TPM2_Clear is accepted, where recoveryTime is not 0, no
+/// more tries fail than maxTries and one for each whole recoveryTime that passes. The bound
+/// `tries_at_most` is one higher.
 #[inline(always)]
 pub fn few_tries_laws()
     ensures sharply { (can : Bool) (old : Record) (executions : List Execution) (new : Record)
@@ -257,16 +259,16 @@ pub fn few_tries_laws()
         → tries_at_most old executions ≡ tries_within old executions + 1 }
 {}
 
-/// Two devices that follow one history, and of which everybody may read the same, with the same
-/// failed tries, authorize each command alike: with the same grants, or with the same refusal.
+/// Two devices that follow one history, and of whose handles everybody may read the same, with the
+/// same failed tries, authorize each command alike: with the same grants, or with the same refusal.
 #[inline(always)]
 pub fn alike_laws()
     ensures { AuthorizeAlike }
 {}
 
 /// In every history of a device each use has a ground, and each use by a policy session meets every
-/// policy whose digest is the authPolicy of what is used, along one branch at each TPM2_PolicyOR;
-/// or the hash is broken, by texts that the policy and the session spell.
+/// policy whose digest is the authPolicy of the entity that is used, along one branch at each
+/// TPM2_PolicyOR; or the hash is broken, by texts that the policy and the session spell.
 #[inline(always)]
 pub fn auth_policy_laws()
     ensures { (can : Bool) (random : List ℕ) (executions : List Execution) (new : Record)
@@ -274,12 +276,13 @@ pub fn auth_policy_laws()
         → AllMeetPolicies (history_after [] executions) }
 {}
 
-/// Since a device was manufactured, an object without userWithAuth was used by policy sessions alone,
-/// and each use met its policy. With a policy of PCRs it was used only while they had the values of
-/// the policy, and with one that asks for a PIN too only by who had it; with a policy of a PIN or a
-/// recovery secret only by who had one of them; with one that compares a counter only where
-/// TPM2_PolicyNV was accepted. And an NV index without AUTHWRITE, whose policy is that it is not
-/// written, was written only while it was not. Or else the hash is broken.
+/// Since a device was manufactured, an object without userWithAuth was used by policy sessions
+/// alone, and each use met its policy. With a policy of PCRs the object was used only while they
+/// had the values of the policy, and if the policy asks for a PIN too, only by who had it; with a
+/// policy of a PIN or a recovery secret, only by who had one of them; with a policy that compares a
+/// counter, only where TPM2_PolicyNV was accepted. An NV index without AUTHWRITE, whose policy is
+/// that it is not written, was written only while it was not. All this is so, or the hash is
+/// broken.
 #[inline(always)]
 pub fn policy_review_laws()
     ensures every { OfEachAccepted NeedsItsPolicy }

@@ -1,5 +1,5 @@
--- The body of an image: what is read was spelled so, and what is spelled so is read; and how long
--- it is at most.
+-- The body of an image: what it keeps is read only from its text, and from every such text; and how
+-- long it is at most.
 use Rattle.tpm_image.specs.Sizes.{body_size}
 use Rattle.std.proofs.Common.{◌≡◌, ℕ, ◌≤◌, true, List, [], ◌∷◌, ◌++◌, length, Result, Ok, refl, ap, subst, ◌∙◌, append-nil, arith, length-append}
 use Rattle.std.specs.Prelude.{◌==◌, not}
@@ -26,15 +26,15 @@ use Rattle.tpm_image.proofs.VersionLaws.{indices_within, limits_small, limits_sp
 
 -- ---- text and reading
 
--- the indices that a device has are stored, within the limits of a version
+-- the indices of a device are stored so, if they are within the limits of a version
 stored : (version : Version) (kept : NonVolatile) → IsNonVolatile kept → IsWithin version kept → AreStored version kept.indices
 stored version kept is within = record { ascends = is.nv.ascends; few = within.few; small = within.small; each = is.nv.indices }
 
--- and always within those of version 2
+-- the indices of a device are always within the limits of version 2
 pub within_device : (kept : NonVolatile) → IsNonVolatile kept → IsWithin Two kept
 within_device kept is = record { few = is.nv.few; small = is.nv.small }
 
--- where nothing is left, all was taken
+-- where nothing of a text is left, all was taken
 all_taken : (text front left : List ℕ) → text ≡ front ++ left → (length left == 0) ≡ true → text ≡ front
 all_taken text front [] parts none = parts ∙ append-nil front
 all_taken text front (byte ∷ left) parts none = absurd (omega (arith, eqb-true _ _ none))
@@ -78,7 +78,7 @@ body_again version kept is within =
     let third = (indices_spelled version).again kept.indices [] (stored version kept is within) in
     ap (body_of version) (four_texts limits state objects indices) ∙ rw (front, first, second, third) refl
 
--- ---- the text's length
+-- ---- the length of the body's text
 
 pub body_small : (version : Version) (kept : NonVolatile) → IsNonVolatile kept → length (image_body_text version kept) ≤ body_size
 unfolding image_body_text

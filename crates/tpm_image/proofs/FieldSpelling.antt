@@ -1,5 +1,5 @@
--- The fields of an image: what is read was spelled so, and what is spelled so is read; and the same of readings that
--- are made of others.
+-- The fields of an image: a field is read only from its text, and from every such text; and so is a
+-- field whose reading is made of others.
 use Rattle.std.proofs.Common.{◌≡◌, ℕ, ◌^◌, ◌<◌, ◌≤◌, Bool, true, false, cond, List, [], ◌++◌, length, Option, Some, Result, Ok, Err, refl, sym, ap, subst, ◌∙◌, append_assoc, append-nil, arith}
 use Rattle.std.specs.Prelude.{nat_lt, not, ok_or}
 use Rattle.std.specs.Int.{Width, w8, w16, w64, to_be_bytes}
@@ -22,23 +22,23 @@ use Rattle.tpm_types.proofs.Spelled.{Behind, Spelled, first, for_each, respelled
 use Rattle.tpm_image.specs.Fields.{auth_value_in, buffer_in, bytes_in, counted_in, counted_text, in_body, is_trimmed, malformed, number_in, passing, yes_no_in, yes_no_number, yes_no_text}
 use Rattle.tpm_image.specs.declared.fault.Malformed.{Malformed}
 
--- ---- readings of other readings
+-- ---- readings made of other readings
 
--- with another fault
+-- a reading with another fault
 pub in_body_spelled : {A E : Type 0} {text : A → List ℕ} {Is : A → Type 0} {at : List ℕ → Result (A × List ℕ) E} → Spelled text Is at → Spelled text Is (in_body at)
 in_body_spelled {A} {E} {text} {Is} {at} law = record {
   taken = λ bytes x fits e. law.taken bytes x fits (or_fault_ok (at bytes) malformed x e);
   again = λ x rest is. ap (λ (r : Result (A × List ℕ) E). or_fault r malformed) (law.again x rest is);
 }
 
--- the same reading, said otherwise
+-- the same reading, defined otherwise
 pub same_reading : {A E : Type 0} {text : A → List ℕ} {Is : A → Type 0} {at other : List ℕ → Result (A × List ℕ) E} → ((bytes : List ℕ) → other bytes ≡ at bytes) → Spelled text Is at → Spelled text Is other
 same_reading same law = record {
   taken = λ bytes x fits e. law.taken bytes x fits (sym (same bytes) ∙ e);
   again = λ x rest is. same _ ∙ law.again x rest is;
 }
 
--- after a test of what is known before
+-- a reading after a test of what is known before it
 pub behind_test : {A E : Type 0} {text : A → List ℕ} {Is Are : A → Type 0} {at : List ℕ → Result (A × List ℕ) E} (refuses : Bool) (fault : E) → ((x : A) → refuses ≡ false → Is x → Are x) → ((x : A) → Are x → (refuses ≡ false) × Is x) → Spelled text Is at → Spelled text Are (λ bytes. refused_if refuses fault >>= λ passed. at bytes)
 behind_test {A} {E} {text} {Is} {Are} {at} refuses fault to from law = record {
   taken = λ bytes x fits e.
@@ -52,7 +52,7 @@ pub not_false : (b : Bool) → not b ≡ false → b ≡ true
 not_false true e = refl
 not_false false e = absurd cc
 
--- of what passes a test, as another value
+-- a reading of what passes a test, as another value
 pub tested : {A B E : Type 0} {text : A → List ℕ} {Is : A → Type 0} {at : List ℕ → Result (A × List ℕ) E} (test : A → Bool) (refusal : E) (made : A → B) (given : B → A) → ((x : A) → given (made x) ≡ x) → ((y : B) → made (given y) ≡ y) → Spelled text Is at → Spelled (λ y. text (given y)) (λ y. Is (given y) × (test (given y) ≡ true)) (λ bytes. at bytes >>= λ x. refused_if (not (test x.0)) refusal >>= λ passed. Ok (made x.0, x.1))
 tested {A} {B} {E} {text} {Is} {at} test refusal made given same whole law = record {
   taken = λ bytes y fits e.
@@ -69,7 +69,7 @@ tested {A} {B} {E} {text} {Is} {at} test refusal made given same whole law = rec
 pub passing_spelled : {A : Type 0} {text : A → List ℕ} {Is : A → Type 0} {at : List ℕ → Result (A × List ℕ) Malformed} (test : A → Bool) → Spelled text Is at → Spelled text (λ x. Is x × (test x ≡ true)) (passing test at)
 passing_spelled test law = tested test malformed (λ x. x) (λ x. x) (λ _. refl) (λ _. refl) law
 
--- of another value, which is made of the one that is read and gives it back
+-- a reading of another value, which is made of the one that is read and gives it back
 pub made_of : {A B E : Type 0} {text : A → List ℕ} {Is : A → Type 0} {at : List ℕ → Result (A × List ℕ) E} (made : A → B) (given : B → A) {Are : B → Type 0} → ((x : A) → Is x → (given (made x) ≡ x) × Are (made x)) → ((y : B) → Are y → (made (given y) ≡ y) × Is (given y)) → Spelled text Is at → Spelled (λ y. text (given y)) Are (λ bytes. at bytes >>= λ x. Ok (made x.0, x.1))
 made_of {A} {B} {E} {text} {Is} {at} made given {Are} to from law = record {
   taken = λ bytes y fits e.
@@ -82,23 +82,23 @@ made_of {A} {B} {E} {text} {Is} {at} made given {Are} to from law = record {
   again = λ y rest are. let f = from y are in rw (law.again (given y) rest f.1, f.0) refl;
 }
 
--- ---- a reading by a test
+-- ---- a reading chosen by a test
 
--- nothing is read, for there is one such value
+-- a reading that takes no bytes, since there is only one such value
 pub only : {A E : Type 0} {text : A → List ℕ} {Is : A → Type 0} (one : A) → text one ≡ [] → Is one → ((x : A) → Is x → x ≡ one) → Spelled {E = E} text Is (λ bytes. Ok (one, bytes))
 only {A} {E} {text} {Is} one empty is same = record {
   taken = λ bytes x fits e. subst (λ (y : A × List ℕ). Takes bytes (text y.0) y.1 × Is y.0) (ok_is {E = E} (one, bytes) x e) (record { parts = rw empty refl; rest_fits = fits }, is);
   again = λ x rest are. rw (same x are, empty) refl;
 }
 
--- there is no such value
+-- a reading that always fails, since there is no such value
 pub never : {A E : Type 0} {text : A → List ℕ} {Is : A → Type 0} (fault : E) → ((x : A) → Is x → ⊥) → Spelled text Is (λ bytes. Err fault)
 never fault none = record {
   taken = λ bytes x fits e. absurd cc;
   again = λ x rest is. absurd (none x is);
 }
 
--- one reading where the test holds, and else another
+-- one reading where the test holds, and another where it does not
 pub either : {A E : Type 0} {text : A → List ℕ} {Is : A → Type 0} {at other : List ℕ → Result (A × List ℕ) E} (test : Bool) → (test ≡ true → Spelled text Is at) → (test ≡ false → Spelled text Is other) → Spelled text Is (λ bytes. cond test (at bytes) (other bytes))
 either true law _ = let l = law refl in record { taken = l.taken; again = l.again }
 either false _ law = let l = law refl in record { taken = l.taken; again = l.again }
@@ -108,9 +108,9 @@ either false _ law = let l = law refl in record { taken = l.taken; again = l.aga
 pub three_texts : (a b c : List ℕ) → a ++ b ++ c ≡ a ++ (b ++ (c ++ []))
 three_texts a b c = simp (append_assoc, append-nil) refl
 
--- ---- one field more
+-- ---- a reading of one field more
 
--- one field more that is always the same
+-- a reading of one field more that always has the same value
 pub then_always : {A B C E : Type 0} {text : A → List ℕ} {Is : A → Type 0} {at : List ℕ → Result (A × List ℕ) E} {seen : B → C} {others : B → List ℕ} {Are : B → Type 0} {behind : C → List ℕ → Result (B × List ℕ) E} (one : A) → Is one → ((x : A) → Is x → x ≡ one) → Spelled text Is at → Behind seen others Are behind → Behind seen (λ x. text one ++ others x) Are (λ c bytes. at bytes >>= λ a. behind c a.1)
 then_always {A} {B} {C} {E} {text} {Is} {at} {seen} {others} {Are} {behind} one is same field next = record {
   taken = λ before bytes x fits e.
@@ -141,7 +141,7 @@ number_in_spelled w limit wide = record {
   again = λ n rest small. number_or_again w limit wide malformed n rest small;
 }
 
--- a number that names something
+-- a reading of a number that names something
 pub names_spelled : {A E : Type 0} (w : Width) (limit : ℕ) → IsWide w limit → (number_of : A → ℕ) (named : ℕ → Option A) (cut unknown : E) → ((n : ℕ) (x : A) → named n ≡ Some x → n ≡ number_of x) → ((x : A) → named (number_of x) ≡ Some x) → ((x : A) → number_of x < limit) → Spelled (λ x. to_be_bytes w (number_of x)) (λ x. Unit {0}) (λ text. or_fault (number_at w text) cut >>= λ number. ok_or (named number.0) unknown >>= λ one. Ok (one, number.1))
 names_spelled {A} {E} w limit wide number_of named cut unknown is found small = record {
   taken = λ bytes x fits e.
@@ -197,7 +197,7 @@ auth_value_spelled =
     (λ value is. (is.0, (bytes_eq-Decides _ _).0 is.1))
     (λ value is. (is.0, (bytes_eq-Decides _ _).1 is.1))
 
--- ---- things one after another
+-- ---- lists of things
 
 pub many_spelled : {A E : Type 0} {text : A → List ℕ} {Is : A → Type 0} {at : List ℕ → Result (A × List ℕ) E} (count : ℕ) → Spelled text Is at → Spelled (flat_map text) (λ xs. (length xs ≡ count) × AllByRecursion Is xs) (many_at at count)
 many_spelled {A} {E} {text} {Is} {at} count law = record {

@@ -1,4 +1,5 @@
--- The frame of an image: its body is read from it, and nothing else that has a body is there.
+-- The frame of an image: a body is read from its frame, and every text that has a body is its
+-- frame.
 use Rattle.std.proofs.Common.{◌≡◌, ℕ, ◌+◌, ◌-◌, ◌^◌, ◌<◌, ◌≤◌, false, Some, List, ◌++◌, length, take, drop, Result, Ok, Err, refl, sym, ap, subst, ◌∙◌, append_assoc, arith, length-append}
 use Rattle.std.specs.Prelude.{◌==◌, nat_lt, not, ok_or}
 use Rattle.std.specs.Int.{w16, w32, to_be_bytes}
@@ -82,7 +83,7 @@ length-framed_text version body =
     let front = head_of version body ++ body in
     omega (arith, length-append (head_of version body) body, length-append front (hash_of Sha256 front), length-hash_of Sha256 front)
 
--- the head says the version and the length, whatever is after it
+-- the head says the version and the length, whatever comes after it
 version_said : (version : Version) (whole : ℕ) (rest : List ℕ) → version_numbered (number_of (head_text version whole ++ rest)) ≡ Some version
 version_said version whole rest = ap version_numbered (wide16.again (version_number version) (number_small version)) ∙ numbered-again version
 
@@ -149,7 +150,7 @@ pub cut_short : (text : List ℕ) → length text < head_bytes + digest_bytes �
 unfolding framed_body
 cut_short text short = rw (lt-ltb (length text) (head_bytes + digest_bytes) short) refl
 
--- its head says another length
+-- the head of a text that was cut says another length
 other_length : (version : Version) (whole : ℕ) (rest : List ℕ) → whole < 2 ^ 32 → (let text = head_text version whole ++ rest in head_bytes + digest_bytes ≤ length text → length text < whole → framed_body text ≡ Err fault.Length)
 unfolding framed_body
 other_length version whole rest small long less =

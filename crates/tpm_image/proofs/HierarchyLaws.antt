@@ -1,4 +1,4 @@
--- The hierarchies of an image: what is read was spelled so, and what is spelled so is read.
+-- The hierarchies of an image: they are read only from their text, and from every such text.
 use Rattle.std.proofs.Common.{◌≡◌, ℕ, ◌≤◌, List, [], ◌∷◌, ◌++◌, length, refl, arith, length-append}
 use Rattle.tpm_bytes.specs.Writing.{sized_text}
 use Rattle.tpm_types.proofs.Spelled.{Spelled, all_read, first, respelled, six_texts, then, two_texts}
@@ -39,7 +39,7 @@ hierarchy_spelled =
     (λ h is. record { auth_value = is.0; secrets = is.1.0 })
     (λ h is. (is.auth_value, (is.secrets, tt)))
 
--- ---- all of them
+-- ---- all hierarchies
 
 abbrev Fields : Type 0
 Fields = (((Hierarchy × Hierarchy) × Hierarchy) × Secrets) × List ℕ
@@ -65,7 +65,7 @@ hierarchies_spelled =
     (λ h is. record { owner = is.0; endorsement = is.1.0; platform = is.1.1.0; null = is.1.1.1.0; lockout_auth = is.1.1.1.1.0 })
     (λ h is. (is.owner, (is.endorsement, (is.platform, (is.null, (is.lockout_auth, tt))))))
 
--- ---- the text's length
+-- ---- the length of the hierarchies' text
 
 secrets_small : (s : Secrets) → IsSecrets s → length (secrets_text s) ≤ 64
 secrets_small s is = omega (arith, is.seed, is.proof, length-append s.seed s.proof)

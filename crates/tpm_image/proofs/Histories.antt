@@ -1,4 +1,5 @@
--- What is opened from an image of a device follows the device's history, and one power cycle.
+-- A device that is opened from an image of a device follows the latter's history, and one power
+-- cycle.
 use Rattle.std.proofs.Common.{◌≡◌, Bool, ◌∷◌, Result, Ok, Err, IfOk, sym, subst}
 use Rattle.tpm_record.specs.Cycle.{cycled}
 use Rattle.tpm_record.specs.Record.{Record}

@@ -1,5 +1,5 @@
--- Images: what is read was spelled so, what is spelled so is read, and no shorter front of an image
--- is one.
+-- Images: what a device keeps is read only from its image, and from every such image, and no
+-- shorter front of an image is an image.
 use Rattle.std.proofs.Common.{◌≡◌, ℕ, ◌+◌, ◌<◌, ◌≤◌, List, length, take, Result, Ok, Err, refl, ap, ◌∙◌, arith}
 use Rattle.std.specs.Prelude.{◌↔◌}
 use Rattle.std.proofs.lemmas.List.{length-take}
@@ -19,7 +19,7 @@ use Rattle.tpm_image.specs.declared.version.Version.{Version}
 use Rattle.tpm_image.proofs.BodyLaws.{body_again, body_small, body_taken}
 use Rattle.tpm_image.proofs.FrameLaws.{cut_behind, cut_short, framed_again, framed_taken, length-framed_text}
 
--- ---- text and reading
+-- ---- the text of an image and its reading
 
 -- what a body keeps, if the frame has one
 abbrev kept_by : Result (Version × List ℕ) ImageFault → Result NonVolatile ImageFault
@@ -39,11 +39,11 @@ image_taken text kept fits e =
     let body = body_taken a.0.0 a.0.1 kept frame.1 (or_fault_ok (body_of a.0.0 a.0.1) fault.Body kept a.2) in
     (a.0.0, body.1, (body.2, frame.0 ∙ ap (framed_text a.0.0) body.0))
 
--- a text of bytes is the image of what is kept exactly where it is the text of that in a version
+-- a text of bytes is the image of what is kept exactly where it is that image's text in a version
 pub image_is : (text : List ℕ) (kept : NonVolatile) → AreBytes text → (image_of text ≡ Ok kept) ↔ ((version : Version) × IsNonVolatile kept × IsImage version kept text)
 image_is text kept fits = (image_taken text kept fits, λ is. ap image_of is.2.1 ∙ image_again is.0 kept is.1 is.2.0)
 
--- ---- the text's length
+-- ---- the length of an image's text
 
 pub length-image_text : (version : Version) (kept : NonVolatile) → length (image_text version kept) ≡ head_bytes + length (image_body_text version kept) + digest_bytes
 unfolding image_text
@@ -54,7 +54,7 @@ image_small version kept is = omega (arith, length-image_text version kept, body
 
 -- ---- a front of an image
 
--- too few bytes of anything
+-- a text with too few bytes is no image
 pub front_short : (text : List ℕ) (n : ℕ) → n < head_bytes + digest_bytes → image_of (take n text) ≡ Err fault.Short
 front_short text n few = ap kept_by (cut_short (take n text) (omega (arith, few, length-take n text)))
 
@@ -66,7 +66,7 @@ front_cut version kept n is long less =
 
 -- ---- records
 
--- a device that is opened from what was kept is the one whose power went off and on
+-- a device that is opened from what was kept is the one after a power cycle
 pub powered_again : (r : Record) → powered_on (kept_of r) ≡ cycled r
 powered_again r = refl
 

@@ -1,4 +1,4 @@
--- The NV indices of an image: what is read was spelled so, and what is spelled so is read.
+-- The NV indices of an image: they are read only from their text, and from every such text.
 use Rattle.tpm_image.specs.Sizes.{indices_size}
 use Rattle.tpm_types.specs.Limits.{nv_data_limit}
 use Rattle.std.proofs.Common.{◌≡◌, ℕ, ◌+◌, ◌*◌, ◌≤◌, Bool, true, false, cond, List, [], ◌∷◌, ◌++◌, length, Option, Some, None, refl, sym, ap, arith, length-append}
@@ -54,7 +54,7 @@ data_within p = if_written (has p.attributes attribute.Written)
     if_written true = omega arith
     if_written false = omega arith
 
--- ---- an index
+-- ---- one NV index
 
 abbrev Fields : Type 0
 Fields = (NvPublic × List ℕ) × List ℕ
@@ -68,7 +68,7 @@ index_of f = record { public = f.0.0; auth_value = f.0.1; bytes = f.1 }
 abbrev keyed : NvIndex → ℕ × NvIndex
 keyed index = (index.public.nv_index.number, index)
 
--- the widths of its fields
+-- The fields of an NV index have their widths.
 record HasFields (index : NvIndex) : Type 0 where
   public : IsNvPublic index.public
   auth_value : IsAuthValue index.auth_value
@@ -103,9 +103,9 @@ index_spelled = made_of keyed (λ e. e.1) to from (passing_spelled is_index fiel
         let tests = both (has_type_size e.1.public) (length e.1.bytes == data_size e.1.public) is.sized ((Decides-eqb _ _).1 is.data_size) in
         (ap (λ (key : ℕ). (key, e.1)) (sym is.named), (record { public = is.public; auth_value = is.auth_value; bytes = few }, tests))
 
--- ---- all of them
+-- ---- all NV indices
 
--- what holds of the indices in an image of a version
+-- This holds of the NV indices in an image of a version.
 pub record AreStored (version : Version) (indices : Entries NvIndex) : Type 0 where
   pub ascends : Ascends indices
   pub few : length indices ≤ index_limit version
@@ -127,7 +127,7 @@ indices_spelled version =
     (λ es is. record { ascends = ascends 0 es is.0.1; few = is.0.0.0; small = leb-true _ _ is.1; each = are_each es is.0.0.1 })
     (λ es are. (((are.few, are_each-again es are.each), ascends-again es are.ascends), le-leb _ _ are.small))
 
--- ---- the text's length
+-- ---- the length of the indices' text
 
 nv_public_short : (p : NvPublic) → IsNvPublic p → length (nv_public_text p) ≤ 46
 unfolding nv_public_text

@@ -1,4 +1,4 @@
--- The persistent objects of an image: what is read was spelled so, and what is spelled so is read.
+-- The persistent objects of an image: a value is read only from its text, and from every such text.
 use Rattle.tpm_image.specs.Sizes.{objects_size}
 use Rattle.std.proofs.Common.{◌≡◌, ℕ, ◌*◌, ◌^◌, ◌<◌, ◌≤◌, true, List, [], ◌∷◌, ◌++◌, length, Some, None, Result, Ok, Err, refl, sym, ap, subst, ◌∙◌, append_assoc, arith, length-append}
 use Rattle.std.specs.Prelude.{◌==◌, not, ok_or}
@@ -69,7 +69,7 @@ owner_small hierarchy.Endorsement = omega arith
 owner_small hierarchy.Platform = omega arith
 owner_small hierarchy.Null = omega arith
 
--- a step after two, or after the second of them
+-- a step after two steps is a step after the second of them
 steps : {A B C E : Type 0} (r : Result A E) (f : A → Result B E) (g : B → Result C E) → (r >>= λ x. f x >>= g) ≡ (r >>= f >>= g)
 steps (Ok x) f g = refl
 steps (Err fault) f g = refl
@@ -98,7 +98,7 @@ same_type a b same =
     let some : Some a ≡ Some b = sym (object_type_named-again a) ∙ ap object_type_named same ∙ object_type_named-again b in
     cc
 
--- the fields before the sensitive area
+-- the fields of a persistent object before its sensitive area
 abbrev Fields : Type 0
 Fields = ((Handle × HierarchyHandle) × List ℕ) × Public
 
@@ -108,13 +108,13 @@ fields_of e = (((numbered e.0, e.1.hierarchy), e.1.qualified_name), e.1.public)
 abbrev object_of : Fields → Sensitive → ℕ × Object
 object_of f s = (f.0.0.0.number, record { hierarchy = f.0.0.1; public = f.1; auth_value = s.auth_value; seed_value = s.seed_value; sensitive = s.sensitive; qualified_name = f.0.1 })
 
--- the widths of what the sensitive area has of an object
+-- The fields that the sensitive area has of an object have their widths.
 record HasValues (e : ℕ × Object) : Type 0 where
   auth_value : IsAuthValue e.1.auth_value
   seed_value : length e.1.seed_value ≤ 32
   sensitive : length e.1.sensitive ≤ 128
 
--- a sensitive area of the public area before it
+-- A sensitive area is one of the public area before it.
 abbrev IsOf : Fields → Sensitive → Type 0
 IsOf f s = IsSensitive s × (is_sensitive_of f.1 s ≡ true)
 
@@ -136,7 +136,7 @@ values_spelled f = made_of (object_of f) (λ e. sensitive_of e.1) to from (sensi
         let is : IsSensitive (sensitive_of e.1) = record { auth_value = has.0.auth_value.0; seed_value = has.0.seed_value; sensitive = has.0.sensitive } in
         subst (λ (g : Fields). (object_of g (sensitive_of e.1) ≡ e) × IsOf g (sensitive_of e.1)) has.1 (refl, (is, both _ _ type trimmed))
 
--- ---- an object
+-- ---- one persistent object
 
 five_texts : (a b c d e : List ℕ) → a ++ b ++ c ++ d ++ e ≡ a ++ (b ++ (c ++ (d ++ e)))
 five_texts a b c d e = simp append_assoc refl
@@ -156,7 +156,7 @@ object_spelled =
     let values : HasValues e = record { auth_value = is.sized.auth_value; seed_value = is.sized.seed_value; sensitive = is.sized.sensitive } in
     (is.named, (is.owned, (is.sized.qualified_name, (is.sized.public, values)))))
 
--- ---- all of them
+-- ---- all persistent objects
 
 pub objects_spelled : Spelled objects_text ArePersistent objects_in
 unfolding objects_in objects_text
@@ -165,7 +165,7 @@ objects_spelled =
     (λ es is. record { ascends = ascends 0 es is.1; few = is.0.0; each = are_each IsPersistent es is.0.1 })
     (λ es are. ((are.few, are_each-again IsPersistent es are.each), ascends-again es are.ascends))
 
--- ---- the text's length
+-- ---- the length of the objects' text
 
 public_short : (p : Public) → IsPublic p → length (public_text p) ≤ 82
 unfolding public_text

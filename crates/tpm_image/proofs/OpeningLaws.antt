@@ -1,4 +1,4 @@
--- What opening answers, from the frame and the body of a text.
+-- The answers of opening an image, from the frame and the body of a text.
 use Rattle.std.proofs.Common.{◌≡◌, ℕ, Bool, true, false, List, length, Option, Some, None, Result, Ok, Err, refl}
 use Rattle.std.specs.Prelude.{◌==◌, is_ok, nat_lt, not, ok_or, take}
 use Rattle.std.specs.Str.{bytes_eq}
@@ -17,7 +17,7 @@ use Rattle.tpm_image.specs.declared.fault.ImageFault.TheVariants as fault
 use Rattle.tpm_image.specs.declared.fault.Malformed.{Malformed}
 use Rattle.tpm_image.specs.declared.version.Version.{Version}
 
--- the frame is not refused for want of memory
+-- no fault of the frame is a want of memory
 frame_fits : (text : List ℕ) → framed_body text ≡ Err fault.NoMemory → ⊥
 unfolding framed_body
 frame_fits text is =

@@ -1,4 +1,4 @@
--- The record that a body spells, from the keep that was just made.
+-- The record that a body spells, in a `Keep` that was just made.
 use Rattle.std.proofs.Common.{◌≡◌, ℕ, true, List, length, Ok, refl}
 use Rattle.std.specs.Prelude.{◌==◌, replicate}
 use Rattle.tpm_containers.specs.SortedMap.{Entries}

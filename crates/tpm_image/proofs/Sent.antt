@@ -1,4 +1,4 @@
--- What was appended in two turns, and where the first or the second was cut off.
+-- A text that was appended in two parts, of which the first or the second was cut off.
 use Rattle.std.proofs.Common.{ℕ, List, ◌++◌, Option, Some, None, ap, ◌∙◌, append_assoc, sym}
 use Rattle.std.specs.Io.KnownBytes.{Appends}
 use Rattle.tpm_bytes.specs.Tap.{AppendsFront}

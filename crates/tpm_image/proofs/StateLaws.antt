@@ -1,4 +1,5 @@
--- What does not grow of what a device keeps, in an image: what is read was spelled so, and what is spelled so is read.
+-- The part of an image that does not grow: a value is read only from its text, and from every such
+-- text.
 use Rattle.tpm_image.specs.Sizes.{state_size}
 use Rattle.std.proofs.Common.{◌≡◌, ◌≢◌, ℕ, ◌^◌, ◌<◌, ◌≤◌, Bool, true, List, [], ◌∷◌, ◌++◌, length, Result, Ok, refl, sym, subst, append_assoc, append-nil, arith, length-append}
 use Rattle.std.specs.Prelude.{◌==◌, ◌*◌}
@@ -75,14 +76,14 @@ values_spelled =
     (λ values is. record { sha1 = is.0; sha256 = is.1.0 })
     (λ values is. (is.sha1, (is.sha256, tt)))
 
--- ---- what was saved
+-- ---- what a shutdown saved
 
 kind_number : SavedState → ℕ
 kind_number Nothing = 0
 kind_number Clear = 1
 kind_number (State values) = 2
 
--- what stands after the byte
+-- what stands after the byte for the kind of what was saved
 behind_kind : SavedState → List ℕ
 behind_kind Nothing = []
 behind_kind Clear = []
@@ -159,7 +160,7 @@ saved_spelled =
     respelled (first (number_in_spelled w8 (2 ^ 8) wide8) (for_each kind_number behind_kind IsSavedState saved_by_kind by_kind_spelled))
     kind_text (λ saved is. is.1) (λ saved is. (kind_small saved, is))
 
--- ---- all of the state
+-- ---- the whole part that does not grow
 
 abbrev Parts : Type 0
 Parts = ((((((Hierarchies × Bool) × LockoutFields) × ℕ) × ℕ) × ℕ) × ℕ) × SavedState
@@ -182,7 +183,7 @@ state_of p = record {
 eight_texts : (a b c d e f g h : List ℕ) → a ++ b ++ c ++ d ++ e ++ f ++ g ++ h ≡ a ++ (b ++ (c ++ (d ++ (e ++ (f ++ (g ++ (h ++ [])))))))
 eight_texts a b c d e f g h = simp (append_assoc, append-nil) refl
 
--- a kept state whose count has a text
+-- What is kept has a text: its counts fit their fields.
 abbrev pub HasText : KeptState → Type 0
 HasText s = IsKeptState s × (s.max_count < 2 ^ 64)
 
@@ -201,7 +202,7 @@ state_spelled =
     (state, numbers.1.1.1.0))
     (λ s has. let is = has.0 in (is.hierarchies, (tt, (is.lockout, (is.clock, (is.reset_count, (is.restart_count, (has.1, (is.saved, tt)))))))))
 
--- ---- the text's length
+-- ---- the length of the text
 
 length-values : (size : ℕ) (values : List (List ℕ)) → AllByRecursion (λ value. length value ≡ size) values → length (values_text_of values) ≡ length values * size
 length-values size [] each = omega arith

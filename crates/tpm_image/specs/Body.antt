@@ -41,13 +41,13 @@ use Rattle.tpm_image.specs.declared.version.Version.TheVariants.{One, Two}
 
 -- ---- the limits
 
--- version 1 does not say them; version 2 says how many NV indices there may be, and the most bytes
--- of their data
+-- the text of the limits: version 1 does not say them; version 2 says how many NV indices there may
+-- be, and the most bytes of their data
 unfoldable pub limits_text : Version → List ℕ
 limits_text One = []
 limits_text Two = to_be_bytes w16 (index_limit Two) ++ to_be_bytes w32 (space_limit Two)
 
--- no others than those of the version
+-- whether these limits are those of the version
 abbrev pub are_limits_of : Version → (indices space : ℕ) → Bool
 are_limits_of version indices space =
     indices == index_limit version && space == space_limit version
@@ -62,7 +62,7 @@ limits_in Two text = do
 
 -- ---- the hierarchies
 
--- a seed and a proof, of 32 bytes each
+-- the text of a seed and a proof, of 32 bytes each
 abbrev pub secrets_text : Secrets → List ℕ
 secrets_text s = s.seed ++ s.proof
 
@@ -72,7 +72,7 @@ secrets_in text = do
   proof ← bytes_in 32 seed.1
   Ok (record { seed = seed.0; proof = proof.0 }, proof.1)
 
--- the authorization value, the seed and the proof
+-- the text of a hierarchy: its authorization value, its seed and its proof
 abbrev pub hierarchy_text : Hierarchy → List ℕ
 hierarchy_text h = sized_text h.auth_value ++ secrets_text h.secrets
 
@@ -82,8 +82,8 @@ hierarchy_in text = do
   secrets ← secrets_in auth_value.1
   Ok (record { auth_value = auth_value.0; secrets = secrets.0 }, secrets.1)
 
--- the owner's, the endorsement, the platform and the null hierarchy, of which the last has the
--- empty authorization value; and lockoutAuth
+-- the text of all hierarchies: the owner's, the endorsement, the platform and the null hierarchy,
+-- of which the last has the empty authorization value; and lockoutAuth
 unfoldable pub hierarchies_text : Hierarchies → List ℕ
 hierarchies_text h =
     hierarchy_text h.owner ++ hierarchy_text h.endorsement ++ hierarchy_text h.platform
@@ -110,7 +110,8 @@ hierarchies_in text = do
 
 -- ---- lockout
 
--- failedTries, maxTries, recoveryTime, lockoutRecovery, and whether lockoutAuth is closed
+-- the text of lockout: failedTries, maxTries, recoveryTime, lockoutRecovery, and whether
+-- lockoutAuth is closed
 unfoldable pub lockout_text : LockoutFields → List ℕ
 lockout_text l =
     to_be_bytes w32 l.failed_tries ++ to_be_bytes w32 l.max_tries
@@ -137,7 +138,7 @@ lockout_in text = do
 
 -- ---- what a TPM2_Shutdown saved
 
--- the values of the PCRs 0 to 15 by SHA-1, and then by SHA-256
+-- the text of the values of the PCRs 0 to 15 by SHA-1, and then by SHA-256
 abbrev pub values_text : SavedValues → List ℕ
 values_text values =
     flat_map (λ value. value) values.sha1 ++ flat_map (λ value. value) values.sha256
@@ -152,7 +153,8 @@ values_in text = do
   sha256 ← bank_in 32 sha1.1
   Ok (record { sha1 = sha1.0; sha256 = sha256.0 }, sha256.1)
 
--- a byte: 0 for nothing, 1 for CLEAR, 2 for STATE; and the values that the last saves
+-- the text of what a TPM2_Shutdown saved: a byte, 0 for nothing, 1 for CLEAR, 2 for STATE; and the
+-- values that STATE saves
 unfoldable pub saved_text : SavedState → List ℕ
 saved_text Nothing = to_be_bytes w8 0
 saved_text Clear = to_be_bytes w8 1
@@ -163,7 +165,7 @@ saved_values_in text = do
   values ← values_in text
   Ok (State values.0, values.1)
 
--- what stands after that byte
+-- what a text says of what was saved, after the byte of this kind
 abbrev pub saved_by_kind : ℕ → List ℕ → Result (SavedState × List ℕ) Malformed
 saved_by_kind kind text =
     if kind == 0 then Ok (Nothing, text)
@@ -186,8 +188,8 @@ sensitive_of o = record {
   sensitive = o.sensitive;
 }
 
--- the handle, the hierarchy, the qualified Name, and the public and the sensitive area, each of the
--- three in a sized buffer
+-- the text of a persistent object: its handle, its hierarchy, its qualified Name, and its public
+-- and its sensitive area, each of these three in a sized buffer
 unfoldable pub object_text : ℕ × Object → List ℕ
 object_text e =
     to_be_bytes w32 e.0 ++ to_be_bytes w32 (hierarchy_handle e.1.hierarchy).number
@@ -201,7 +203,7 @@ handle_in text = do
   named ← refused_if (not (is_persistent (numbered number.0))) malformed
   Ok (numbered number.0, number.1)
 
--- a hierarchy that has persistent objects
+-- the hierarchy of a persistent object, as it is read
 unfoldable pub object_hierarchy_in : List ℕ → Result (HierarchyHandle × List ℕ) Malformed
 object_hierarchy_in text = do
   number ← number_in w32 text
@@ -209,7 +211,8 @@ object_hierarchy_in text = do
   owned ← refused_if (not (can_persist hierarchy)) malformed
   Ok (hierarchy, number.1)
 
--- a sensitive area of this type, whose authorization value has no zero at its end
+-- whether a sensitive area is of the type of this public area, and its authorization value has no
+-- zero at its end
 abbrev pub is_sensitive_of : Public → Sensitive → Bool
 is_sensitive_of p s =
     object_type_number s.object_type == object_type_number (object_type p)
@@ -245,7 +248,8 @@ abbrev pub ascend_from : {X : Type 0} → ℕ → Entries X → Bool
 ascend_from low [] = true
 ascend_from low (e ∷ es) = nat_le low e.0 && ascend_from (e.0 + 1) es
 
--- in ascending order of their handles, within the limit on their number
+-- the text of the persistent objects, in ascending order of their handles, within the limit on
+-- their number
 unfoldable pub objects_text : Entries Object → List ℕ
 objects_text objects = counted_text object_text objects
 
@@ -254,17 +258,18 @@ objects_in text = passing (ascend_from 0) (counted_in persistent_limit object_in
 
 -- ---- NV indices
 
--- the public area, which names the handle, the authorization value and the data, each in a sized
--- buffer
+-- the text of an NV index: its public area, which names the handle, its authorization value and its
+-- data, each in a sized buffer
 unfoldable pub index_text : ℕ × NvIndex → List ℕ
 index_text e =
     sized_text (nv_public_text e.1.public) ++ sized_text e.1.auth_value ++ sized_text e.1.bytes
 
--- how many bytes of data it has: as many as it says where it is written, else none
+-- how many bytes of data an NV index has: as many as its public area says where it is written, else
+-- none
 abbrev pub data_size : NvPublic → ℕ
 data_size p = if has p.attributes attribute.Written then p.data_size else 0
 
--- of the size of its type, and with this many bytes of data
+-- whether an NV index has the size of its type, and as many bytes of data as it is to have
 abbrev pub is_index : NvIndex → Bool
 is_index index =
     has_type_size index.public && length index.bytes == data_size index.public
@@ -284,14 +289,15 @@ index_in text = do
   index ← passing is_index fields_of_index_in text
   Ok ((index.0.public.nv_index.number, index.0), index.1)
 
--- how many bytes of data they have or will have, and whether there is space for them
+-- how many bytes of data these NV indices have or will have, and whether there is space for them
 abbrev pub bytes_of : Entries NvIndex → ℕ
 bytes_of indices = sum_by (λ e. e.1.public.data_size) indices
 
 abbrev pub have_space : (limit : ℕ) → Entries NvIndex → Bool
 have_space limit indices = nat_le (bytes_of indices) limit
 
--- in ascending order of their handles, within the version's limits on their number and their data
+-- the text of the NV indices, in ascending order of their handles, within the version's limits on
+-- their number and their data
 unfoldable pub indices_text : Entries NvIndex → List ℕ
 indices_text indices = counted_text index_text indices
 
@@ -302,8 +308,9 @@ indices_in version text =
 
 -- ---- the whole body
 
--- the hierarchies, whether TPM2_Clear is refused, lockout, Clock, the counts of TPM Resets and TPM
--- Restarts, the largest value that a counter ever had, and what was saved
+-- the text of what does not grow: the hierarchies, whether TPM2_Clear is refused, lockout, Clock,
+-- the counts of TPM Resets and TPM Restarts, the largest value that a counter ever had, and what
+-- was saved
 unfoldable pub state_text : KeptState → List ℕ
 state_text s =
     hierarchies_text s.hierarchies ++ yes_no_text s.disable_clear ++ lockout_text s.lockout
@@ -336,13 +343,13 @@ state_in text = do
     saved.1,
   )
 
--- the limits, these, the persistent objects and the NV indices
+-- the text of a body: the limits, what does not grow, the persistent objects and the NV indices
 unfoldable pub image_body_text : Version → NonVolatile → List ℕ
 image_body_text version kept =
     limits_text version ++ state_text kept.state ++ objects_text kept.persistent
     ++ indices_text kept.indices
 
--- what a body of these bytes, and of no more, keeps
+-- what a body keeps that has these bytes, and no more
 unfoldable pub body_of : Version → List ℕ → Result NonVolatile Malformed
 body_of version text = do
   limits ← limits_in version text

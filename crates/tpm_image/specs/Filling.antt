@@ -11,7 +11,7 @@ use Rattle.tpm_image.specs.declared.fault.FillFault.TheVariants as unfilled
 use Rattle.tpm_image.specs.declared.fault.Malformed.{Malformed}
 
 -- Something was filled with what a text spells; or the text is malformed; or memory was refused,
--- and nothing is said of the text.
+-- and then nothing is said of the text.
 abbrev pub Fills : {X : Type 0}
     → Bool → Result (X × List ℕ) Malformed → X
     → Result (Unit {0}) FillFault → List ℕ → Type 0
@@ -24,9 +24,9 @@ abbrev pub AllBelow : {X : Type 0} → ℕ → Entries X → Type 0
 AllBelow key [] = Unit {0}
 AllBelow key (e ∷ es) = (e.0 < key) × AllBelow key es
 
--- One entry was read and put after the others, whose keys are below the lowest that it may have,
--- and the next has to be above it; or what is read is malformed or misplaced, which is what Misfits
--- says of it; or memory was refused.
+-- One entry was read and put after the others, its key is not below the lowest that it may have,
+-- and the next key has to be above it; or what is read is malformed or misplaced, which is what
+-- Misfits says of it; or memory was refused.
 abbrev pub Appends : {X : Type 0}
     → Bool → Result ((ℕ × X) × List ℕ) Malformed → (lowest : ℕ) → (ℕ × X → Type 0)
     → (old : Entries X) → Result ℕ FillFault → (new : Entries X) → List ℕ → Type 0
@@ -36,8 +36,8 @@ Appends {X} can read lowest Misfits old (Ok next) new rest =
 Appends can read lowest Misfits old (Err unfilled.Malformed) new rest = IfOk read (λ x. Misfits x.0)
 Appends can read lowest Misfits old (Err unfilled.NoMemory) new rest = can ≡ true
 
--- the part of a record that does not grow, with what was kept of it, and both times of lockout at
--- their beginning
+-- the fixed part of a record, with what was kept of it, and both times of lockout at their
+-- beginning
 abbrev pub with_state : Fixed → KeptState → Fixed
 with_state fixed state = record fixed {
   saved = state.saved;
@@ -49,8 +49,8 @@ with_state fixed state = record fixed {
   restart_count = state.restart_count;
 }
 
--- What was kept was put into the part that does not grow, and the largest value that a counter ever
--- had was told; or the text is malformed.
+-- What was kept was put into the fixed part of a record, and the largest value that a counter ever
+-- had was answered; or the text is malformed.
 abbrev pub Restores : Result (KeptState × List ℕ) Malformed
     → Fixed → Result ℕ Malformed → Fixed → List ℕ → Type 0
 Restores read old (Ok max_count) new rest =
@@ -59,7 +59,7 @@ Restores read old (Ok max_count) new rest =
 Restores read old (Err fault) new rest = read ≡ Err fault
 
 -- A record became that of the device that kept what the text spells; or the text is malformed; or
--- memory was refused, and nothing is said of the text.
+-- memory was refused, and then nothing is said of the text.
 abbrev pub PowersOn : Bool → Result NonVolatile Malformed → Result (Unit {0}) FillFault
     → Record → Type 0
 PowersOn can read (Ok done) new = (kept : NonVolatile) × (read ≡ Ok kept) × (new ≡ powered_on kept)

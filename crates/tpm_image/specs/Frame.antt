@@ -12,11 +12,11 @@ use Rattle.tpm_image.specs.declared.fault.ImageFault.{ImageFault}
 use Rattle.tpm_image.specs.declared.fault.ImageFault.TheVariants as fault
 use Rattle.tpm_image.specs.declared.version.Version.{Version}
 
--- TPMI
+-- the word with which an image begins: TPMI
 abbrev pub magic : List ℕ
 magic = 0x54 ∷ 0x50 ∷ 0x4d ∷ 0x49 ∷ []
 
--- the word TPMI, the number of the version, and the length of the whole
+-- the head of an image: the word TPMI, the number of the version, and the length of the whole image
 abbrev pub head_text : Version → (whole : ℕ) → List ℕ
 head_text version whole =
     magic ++ to_be_bytes w16 (version_number version) ++ to_be_bytes w32 whole
@@ -27,25 +27,25 @@ head_bytes = 10
 abbrev pub digest_bytes : ℕ
 digest_bytes = 32
 
--- a text with the digest of it after it
+-- a text, and after it the digest of the text
 abbrev pub digested_text : List ℕ → List ℕ
 digested_text text = text ++ hash_of Sha256 text
 
--- a body in its frame: the head before it, and the digest of both after it
+-- a body in its frame: the head before it, and after both their digest
 abbrev pub framed_text : Version → List ℕ → List ℕ
 framed_text version body =
     digested_text (head_text version (head_bytes + length body + digest_bytes) ++ body)
 
--- ---- its parts, by their places
+-- ---- the parts of a framed text, by their places
 
--- the number of the version
+-- the number of the version in the head of a text
 abbrev pub number_of : List ℕ → ℕ
 number_of text = from_be_bytes w16 (take 2 (drop 4 text))
 
 abbrev pub length_of : List ℕ → ℕ
 length_of text = from_be_bytes w32 (take 4 (drop 6 text))
 
--- what is before the digest, and the digest
+-- what is before the digest in a text, and the digest
 abbrev pub before_digest : List ℕ → List ℕ
 before_digest text = take (length text - digest_bytes) text
 

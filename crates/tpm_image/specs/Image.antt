@@ -15,18 +15,18 @@ use Rattle.tpm_image.specs.declared.version.Version.{Version}
 unfoldable pub image_text : Version → NonVolatile → List ℕ
 image_text version kept = framed_text version (image_body_text version kept)
 
--- within the limits of a version
+-- What a device keeps is within the limits of a version.
 pub record IsWithin (version : Version) (kept : NonVolatile) : Type 0 where
   pub few : length kept.indices ≤ index_limit version
   pub small : bytes_of kept.indices ≤ space_limit version
 
--- The relation of what a device keeps and its image, one for each version: it is within the limits
--- of the version, and the text is its image.
+-- The relation of what a device keeps and its image, one for each version: what is kept is within
+-- the limits of the version, and the text is its image.
 abbrev pub IsImage : Version → NonVolatile → List ℕ → Type 0
 IsImage version kept text = IsWithin version kept × (text ≡ image_text version kept)
 
--- what the device of an image keeps; or the first fault: Short, Magic, Version, Length, Digest,
--- Body
+-- what the device of an image keeps; or the first fault of the text: Short, Magic, Version, Length,
+-- Digest, Body
 abbrev pub image_of : List ℕ → Result NonVolatile ImageFault
 image_of text = do
   framed ← framed_body text

@@ -7,6 +7,7 @@ pub mod Image
 pub mod KeptText
 pub mod Filling
 pub mod Opening
+pub mod Saving
 pub use Rattle.tpm_record.specs.Record
 pub use Rattle.tpm_record.specs.Cycle
 pub use Rattle.tpm_record.specs.IsRecord

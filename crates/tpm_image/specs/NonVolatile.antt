@@ -14,9 +14,10 @@ use Rattle.tpm_record.specs.Record.{Record, no_objects, no_sessions}
 use Rattle.tpm_record.specs.Saved.{IsSavedState, SavedState}
 use Rattle.tpm_record.specs.declared.hierarchy.Hierarchies.{Hierarchies}
 
--- the hierarchies; whether TPM2_Clear is refused; tries, parameters and whether lockoutAuth is
--- closed; Clock and the counts of TPM Resets and TPM Restarts; the largest value that a counter
--- ever had; and what the last TPM2_Shutdown saved
+-- what is kept of the part that does not grow: the hierarchies; whether TPM2_Clear is refused;
+-- failed tries, their parameters and whether lockoutAuth is closed; Clock and the counts of TPM
+-- Resets and TPM Restarts; the largest value that a counter ever had; and what the last
+-- TPM2_Shutdown saved
 pub record KeptState : Type 0 where
   pub hierarchies : Hierarchies
   pub disable_clear : Bool
@@ -27,13 +28,13 @@ pub record KeptState : Type 0 where
   pub max_count : ℕ
   pub saved : SavedState
 
--- these, the persistent objects and the NV indices
+-- what a device keeps: the part that does not grow, the persistent objects and the NV indices
 pub record NonVolatile : Type 0 where
   pub state : KeptState
   pub persistent : Entries Object
   pub indices : Entries NvIndex
 
--- what of a record is kept
+-- what of a record is kept without power
 abbrev pub kept_of : Record → NonVolatile
 kept_of r = record {
   state = record {
@@ -75,7 +76,7 @@ powered_on kept = record {
   nv = nv_of kept;
 }
 
--- what is kept of a record: what holds of its parts in every record, within their limits
+-- What is kept of a record is within the limits that hold of its parts in every record.
 pub record IsKeptState (state : KeptState) : Type 0 where
   pub hierarchies : IsHierarchies state.hierarchies
   pub lockout : IsLockout (restored state.lockout)

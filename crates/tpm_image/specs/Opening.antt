@@ -7,8 +7,9 @@ use Rattle.tpm_image.specs.NonVolatile.{NonVolatile, powered_on}
 use Rattle.tpm_image.specs.declared.fault.ImageFault.{ImageFault}
 use Rattle.tpm_image.specs.declared.fault.ImageFault.TheVariants.{NoMemory}
 
--- The record of the device that kept what the image says, as power comes on; or the fault of the
--- text; or memory was refused, which stands only in place of a record.
+-- An image was opened: the result is a machine with the record of the device that kept what the
+-- image says, as power comes on; or the fault of the text; or memory was refused, which stands only
+-- in place of a machine.
 abbrev pub Opens : {M : Type 0} → (M → Record) → Bool → List ℕ → Result M ImageFault → Type 0
 Opens record_of can text (Ok machine) =
     (kept : NonVolatile) × (image_of text ≡ Ok kept) × (record_of machine ≡ powered_on kept)

@@ -2,22 +2,24 @@
 use Rattle.std.specs.Prelude.{ℕ, ◌+◌, ◌*◌}
 use Rattle.tpm_types.specs.Limits.{nv_index_limit, nv_space_limit, persistent_limit}
 
--- the limits that version 2 says
+-- the most bytes of the limits, which version 2 says
 abbrev pub limits_size : ℕ
 limits_size = 6
 
--- what does not grow: hierarchies, lockout, clock, counts, and what a shutdown saved
+-- the most bytes of what does not grow: hierarchies, lockout, clock, counts, and what a shutdown
+-- saved
 abbrev pub state_size : ℕ
 state_size = 1269
 
--- a persistent object with its handle, and all of them with their number
+-- the most bytes of a persistent object with its handle, and of all of them with their number
 abbrev pub object_size : ℕ
 object_size = 330
 
 abbrev pub objects_size : ℕ
 objects_size = 2 + persistent_limit * object_size
 
--- an NV index without its data, all of them with their data, and with their number
+-- the most bytes of an NV index without its data, of all of them with their data, and with their
+-- number
 abbrev pub index_size : ℕ
 index_size = 84
 
@@ -30,7 +32,7 @@ indices_size = 2 + entries_size
 abbrev pub body_size : ℕ
 body_size = limits_size + (state_size + (objects_size + indices_size))
 
--- a body, with the digest after it, and the image, whose head has 10 bytes
+-- the most bytes of a body with the digest after it, and of the image, whose head has 10 bytes
 abbrev pub text_size : ℕ
 text_size = body_size + 32
 

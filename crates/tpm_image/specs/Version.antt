@@ -13,12 +13,13 @@ unfoldable pub version_numbered : ℕ → Option Version
 version_numbered number =
     if number == 1 then Some One else (if number == 2 then Some Two else None)
 
--- how many NV indices there may be: in version 2 as many as in the device
+-- how many NV indices an image may have: in version 2 as many as the device
 abbrev pub index_limit : Version → ℕ
 index_limit One = 32
 index_limit Two = nv_index_limit
 
--- the most bytes of data that they have together: in version 2 as many as in the device
+-- the most bytes of data that the NV indices of an image have together: in version 2 as many as in
+-- the device
 abbrev pub space_limit : Version → ℕ
 space_limit One = 8192
 space_limit Two = nv_space_limit

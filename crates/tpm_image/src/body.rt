@@ -22,7 +22,8 @@ use tpm_lockout::Lockout;
 use tpm_nv::Indices;
 use tpm_record::{Fixed, Keep};
 
-/// Reads what does not grow, and gives the largest value that a counter ever had.
+/// Reads the part of a body that does not grow, and gives the largest value that a counter ever
+/// had.
 #[tactic(auto, unfolding(crate::specs::Body::state_in))]
 fn read_state(fixed: &mut Fixed, text: &mut Cursor) -> Result<u64, Malformed>
     ensures { Restores (state_in text.old) fixed.old result fixed.new text.new }
@@ -38,7 +39,7 @@ fn read_state(fixed: &mut Fixed, text: &mut Cursor) -> Result<u64, Malformed>
     Ok(max_count)
 }
 
-/// Reads a whole body of a version into a keep that was just made.
+/// Reads a whole body of a version into a `Keep` that was just made.
 #[tactic(auto, unfolding(crate::specs::Body::body_of))]
 pub(crate) fn read_body<K: Keep>(
     version: Version,
@@ -64,7 +65,7 @@ pub(crate) fn read_body<K: Keep>(
     Ok(())
 }
 
-/// Writes what does not grow, with this clock.
+/// Writes the part of a body that does not grow, with this clock.
 #[tactic(auto, unfolding(crate::specs::Body::state_text))]
 fn write_state<K: Keep>(keep: &K, clock: u64, text: &mut Text)
     requires { length text.old + state_size ≤ text_size }

@@ -1,25 +1,25 @@
-//! Why bytes are no image, and why an image is not saved.
+//! Why bytes are not an image, and why an image is not saved.
 
-/// Why bytes are no image, in the order in which it is looked for.
+/// Why bytes are not an image, in the order of the checks.
 #[derive(Clone, Copy, Debug, PartialEq, Eq)]
 pub enum ImageFault {
-    /// Fewer bytes than the head and the digest have: 42.
+    /// The text has fewer bytes than the head and the digest have: 42.
     Short,
-    /// They do not begin with TPMI.
+    /// The text does not begin with TPMI.
     Magic,
-    /// Another version than 1 and 2.
+    /// The text has another version than 1 and 2.
     Version,
     /// The text is not as long as its head says.
     Length,
-    /// Its last 32 bytes are not the SHA-256 of those before them.
+    /// The last 32 bytes are not the SHA-256 of those before them.
     Digest,
-    /// What is between head and digest spells no state within the limits of the version.
+    /// The bytes between head and digest spell no state within the limits of the version.
     Body,
-    /// It is an image, and memory was refused.
+    /// The text is an image, and memory was refused.
     NoMemory,
 }
 
-/// A part of an image is cut, or is not as it has to be.
+/// A part of an image is cut short, or has a value that it may not have.
 #[derive(Clone, Copy, Debug, PartialEq, Eq)]
 pub struct Malformed;
 

@@ -1,4 +1,4 @@
-//! The fields of an image.
+//! The fields of an image: their sizes, how they are read, and how they are written.
 
 ghost use Rattle.tpm_image.specs.Sizes.{text_size};
 ghost use Rattle.tpm_types.specs.Limits.{nv_space_limit};
@@ -17,8 +17,8 @@ use tpm_types::{
     read_yes_no, trimmed,
 };
 
-/// How many bytes the limits have; and the most bytes of what does not grow, of the persistent
-/// objects, and of the NV indices.
+/// How many bytes the limits have; and the most bytes of the part that does not grow, of the
+/// persistent objects, and of the NV indices.
 const LIMITS_SIZE: usize = 6;
 
 const STATE_SIZE: usize = 1_269;
@@ -27,7 +27,7 @@ const OBJECTS_SIZE: usize = 2 + PERSISTENT_LIMIT * 330;
 
 const INDICES_SIZE: usize = 2 + NV_INDEX_LIMIT * 84 + NV_SPACE_LIMIT;
 
-/// The most bytes of a body, with the digest after it.
+/// The most bytes of a body, together with the digest after it.
 pub(crate) const TEXT_LIMIT: usize = LIMITS_SIZE + STATE_SIZE + OBJECTS_SIZE + INDICES_SIZE + 32;
 
 /// A body that is being written.
@@ -109,7 +109,7 @@ pub(crate) fn read_sized<'a>(text: &mut Cursor<'a>, most: usize) -> Result<&'a [
     }
 }
 
-/// Whether bytes are an authorization value as it is kept: no zero is at their end.
+/// Whether bytes are an authorization value as it is kept: they do not end in a zero.
 pub(crate) fn is_trimmed(bytes: &[u8]) -> bool
     ensures value { result ≡ is_trimmed bytes.now }
     ensures same { result ≡ true → trimmed bytes.now ≡ bytes.now }

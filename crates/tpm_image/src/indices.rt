@@ -1,4 +1,4 @@
-//! NV indices in an image.
+//! NV indices in an image: how they are read, and how they are written.
 
 ghost use Rattle.tpm_image.specs.Sizes.{entries_size, index_size, indices_size, text_size};
 ghost use Rattle.tpm_types.specs.Limits.{nv_index_limit, nv_space_limit};
@@ -24,7 +24,7 @@ use tpm_nv::{Head, Indices, RestoreFault, has_type_size};
 use tpm_types::{AuthValue, NV_DATA_LIMIT};
 use tpm_types_nv::{NvAttribute, NvPublic};
 
-/// What an image says of an index.
+/// What an image says of an NV index.
 #[derive(Drop)]
 struct Index<'a> {
     public: NvPublic,
@@ -55,7 +55,7 @@ fn read_public(text: &mut Cursor) -> Result<NvPublic, Malformed>
     }
 }
 
-/// Reads an index.
+/// Reads an NV index: its public area, its authorization value, and its data.
 #[tactic(auto, unfolding(crate::specs::Body::index_in))]
 fn read_index<'a>(text: &mut Cursor<'a>) -> Result<Index<'a>, Malformed>
     ensures exact { Reads
@@ -88,7 +88,8 @@ fn read_index<'a>(text: &mut Cursor<'a>) -> Result<Index<'a>, Malformed>
 }
 
 /// Reads an index and adds it to those that are there, if the NV memory has room for it. Handles
-/// ascend: its handle is `lowest` or more. Gives the lowest handle that the next index may have.
+/// ascend: the handle of the index is `lowest` or more. Gives the lowest handle that the next index
+/// may have.
 #[tactic(auto, using(crate::proofs::Appending::appended, crate::proofs::IndicesLaws::no_space))]
 fn add_index<N: Indices>(indices: &mut N, lowest: u64, text: &mut Cursor) -> Result<u64, FillFault>
     requires below { AllBelow lowest (N.contents indices.old).indices }
@@ -161,7 +162,7 @@ pub(crate) fn read_indices<N: Indices>(
     add_indices(version, indices, count, text)
 }
 
-/// Writes an index that has these bytes.
+/// Writes an NV index with these bytes of data.
 #[tactic(auto, unfolding(crate::specs::Body::index_text))]
 fn write_index(entry: &(u32, Head), bytes: &[u8], text: &mut Text)
     requires few { length bytes.now ≤ nv_space_limit }

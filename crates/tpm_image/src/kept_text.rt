@@ -1,5 +1,5 @@
-//! What a device keeps without power but for its clock, as a text: by it a change is told from time
-//! that passed.
+//! What a device keeps without power, without its clock, as a text: two such texts differ where
+//! more changed than the time.
 
 ghost use Rattle.std.specs.Prelude.{◌≡◌, List, [], not, ℕ};
 ghost use Rattle.std.specs.Str.{bytes_eq};
@@ -12,7 +12,7 @@ use std::marker::Model;
 use tpm_machine::Machine;
 use tpm_record::Keep;
 
-/// What a device keeps but for its clock. Contracts see it as its text.
+/// What a device keeps, without its clock. Contracts see it as its text.
 #[derive(Drop)]
 pub struct KeptText {
     text: Text,
@@ -25,14 +25,14 @@ impl Model for KeptText {
 }
 
 impl KeptText {
-    /// That of no device: every device keeps something.
+    /// The text of no device: every device keeps something.
     pub fn none() -> KeptText
         ensures { result ≡ [] }
     {
         KeptText { text: Text::new() }
     }
 
-    /// Becomes that of this device, and tells whether it is another than before.
+    /// Becomes the text of this device, and tells whether it is another than before.
     pub fn renew<K: Keep>(&mut self, machine: &Machine<K>) -> bool
         ensures text { self.new ≡ kept_text (state_of K.record_of machine.now) }
         ensures told { result ≡ not (bytes_eq self.old

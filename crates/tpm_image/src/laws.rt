@@ -1,4 +1,4 @@
-//! What holds of images by their definition.
+//! The laws of images.
 
 ghost use Rattle.std.specs.Prelude.{◌≡◌, ◌≤◌, ◌<◌, ℕ, List, Ok, Err, length, take};
 ghost use Rattle.tpm_image.specs.Image.{IsImage, IsWithin, image_of, image_text};
@@ -27,7 +27,7 @@ pub fn image_laws()
     ensures cycled { (r : Record) → powered_on (kept_of r) ≡ cycled r }
 {}
 
-/// Records of one kept text keep the same, but for the clock.
+/// Two records with one kept text keep the same, without the clock.
 #[inline(always)]
 #[tactic(auto, using(crate::proofs::RecordLaws::kept_alike))]
 pub fn kept_text_laws()
@@ -35,8 +35,8 @@ pub fn kept_text_laws()
         → kept_but_clock r ≡ kept_but_clock s }
 {}
 
-/// No proper prefix of an image, of either version, is one: below 42 bytes it is Short, and else it
-/// is refused by Length.
+/// No proper prefix of an image, of either version, is an image: below 42 bytes it is Short, and
+/// else it is refused by Length.
 #[inline(always)]
 #[tactic(auto, using(crate::proofs::ImageLaws::front_short, crate::proofs::RecordLaws::record_cut))]
 pub fn prefix_laws()

@@ -30,7 +30,7 @@ pub(crate) fn read_lockout(text: &mut Cursor) -> Result<LockoutFields, Malformed
     })
 }
 
-/// Writes what outlasts a power cycle: 17 bytes.
+/// Writes what outlasts a power cycle of the protection against dictionary attacks: 17 bytes.
 #[tactic(auto, unfolding(crate::specs::Body::lockout_text))]
 pub(crate) fn write_lockout(fields: LockoutFields, text: &mut Text)
     requires { length text.old + 17 ≤ text_size }

@@ -1,4 +1,4 @@
-//! Persistent objects in an image.
+//! Persistent objects in an image: how they are read, and how they are written.
 
 ghost use Rattle.tpm_types.specs.Limits.{persistent_limit};
 ghost use Rattle.tpm_image.specs.Sizes.{object_size, objects_size, text_size};
@@ -74,7 +74,7 @@ fn read_handle(text: &mut Cursor) -> Result<Handle, Malformed>
     Ok(handle)
 }
 
-/// Whether this is a sensitive area of an object with this public area, as it is kept.
+/// Whether this sensitive area can be kept for an object with this public area.
 fn is_sensitive_of(public: &Public, sensitive: &Sensitive) -> bool
     ensures value { result ≡ is_sensitive_of public.now sensitive.now }
     ensures same { result ≡ true
@@ -125,8 +125,8 @@ fn read_object(text: &mut Cursor) -> Result<(Handle, Object), Malformed>
     Ok((handle, object))
 }
 
-/// Reads an object and adds it to those that are there. Handles ascend: its handle is `lowest` or
-/// more. Gives the lowest handle that the next object may have.
+/// Reads an object and adds it to those that are there. Handles ascend: the handle of the object is
+/// `lowest` or more. Gives the lowest handle that the next object may have.
 #[tactic(auto, using(crate::proofs::Appending::appended))]
 fn add_object<P: PersistentObjects>(
     objects: &mut P,

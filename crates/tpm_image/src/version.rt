@@ -16,14 +16,15 @@ use tpm_types::{NV_INDEX_LIMIT, NV_SPACE_LIMIT};
 /// A version of an image.
 #[derive(Clone, Copy, Debug, PartialEq, Eq)]
 pub enum Version {
-    /// It is read, and no longer written. It has at most 32 NV indices, with 8,192 bytes.
+    /// Version 1 is read, and no longer written. Its images have at most 32 NV indices, with 8,192
+    /// bytes.
     One,
-    /// It says how many NV indices and how many bytes a device has at most.
+    /// Version 2 says how many NV indices and how many bytes of data a device has at most.
     Two,
 }
 
 impl Version {
-    /// The number by which an image names it.
+    /// The number by which an image names the version.
     pub(crate) fn number(self) -> u16
         ensures { result ≡ version_number self }
     {
@@ -33,7 +34,7 @@ impl Version {
         }
     }
 
-    /// The version of a number, if it is that of one.
+    /// The version of a number, if it is the number of one.
     #[tactic(auto, unfolding(crate::specs::Version::version_numbered))]
     pub(crate) fn numbered(number: u16) -> Option<Version>
         ensures { result ≡ version_numbered number }
@@ -56,7 +57,7 @@ impl Version {
         }
     }
 
-    /// The most bytes of data that they have together.
+    /// The most bytes of data that the NV indices of an image have together.
     pub(crate) fn space_limit(self) -> usize
         ensures value { result ≡ space_limit self }
         ensures small { result ≤ nv_space_limit }

@@ -12,8 +12,8 @@ use tpm_image::{open, save};
 use tpm_machine::Machine;
 use tpm_record::Keep;
 
-/// How an image of version 2 begins: TPMI and the version, and, behind the length of the whole, the
-/// limits on NV indices and on their bytes.
+/// How an image of version 2 begins: TPMI and the version. After the length of the whole image come
+/// the limits on NV indices and on their bytes.
 const HEAD: &[u8] = b"TPMI\0\x02";
 
 const LIMITS: &[u8] = b"\0\x40\0\0\x40\0";
@@ -25,7 +25,7 @@ const END_OF_SAVED: &[u8] = b"74d085775466e709ccf0786426970dc598ccb919d58fc201ae
 
 const END_OF_LOCKED: &[u8] = b"2b944a06c335fa346da58f70f7faa98e071c36e665bbd4a0e689c03d36f417fa";
 
-/// The bytes that lines of hex write.
+/// The bytes that these lines of hex write.
 pub fn bytes_of(alloc: Global, lines: &[&[u8]]) -> Result<Vec<u8>, Fail> {
     let mut text = Vec::new(alloc);
     for line in lines {
@@ -35,7 +35,7 @@ pub fn bytes_of(alloc: Global, lines: &[&[u8]]) -> Result<Vec<u8>, Fail> {
     Ok(text)
 }
 
-/// The device that an image of version 1 tells.
+/// The device that is opened from an image of version 1.
 pub fn opened<K: Keep>(alloc: Global, lines: &[&[u8]]) -> Result<Machine<K>, Fail> {
     let text = bytes_of(alloc, lines)?;
     Ok(open(alloc, text.as_slice())?)
@@ -54,7 +54,8 @@ fn reopened<K: Keep>(alloc: Global, text: &[u8]) -> Result<Vec<u8>, Fail> {
     image_of(alloc, &machine)
 }
 
-/// What an image of version 1 is saved as, which is opened as it is.
+/// Checks that a device opened from an image of version 1 is saved in version 2, and that the new
+/// image is opened and saved as it is.
 fn check_image<K: Keep, R: Abort>(
     rt: &R,
     alloc: Global,

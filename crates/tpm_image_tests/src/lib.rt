@@ -4,7 +4,7 @@
 //! version 1, kept as bytes, are opened and saved in version 2, with digests that were computed
 //! outside, and that each write of a save may fail.
 //!
-//! It stands on `tpm_image`, and nothing stands on it.
+//! The crate uses `tpm_image`, and no crate uses it.
 
 #[cfg(test)]
 mod comparison;

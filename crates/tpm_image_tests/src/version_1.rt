@@ -1,7 +1,7 @@
 //! Three images of version 1, which a program of that version saved: their lines of hex, as in
 //! tests/version_1.
 
-/// A new device, of the random bytes 00 to ff.
+/// An image of a new device, made of the random bytes 00 to ff.
 pub const NEW: &[&[u8]] = &[
     b"54504d490001000001630000000102030405060708090a0b0c0d0e0f10111213",
     b"1415161718191a1b1c1d1e1f808182838485868788898a8b8c8d8e8f90919293",
@@ -17,8 +17,8 @@ pub const NEW: &[&[u8]] = &[
     b"4d7a31",
 ];
 
-/// A device whose TPM2_Shutdown(STATE) saved the PCRs 0 to 15, of which PCR 3 has a value; PCR 16 had
-/// one, too, and there was a session.
+/// An image of a device whose TPM2_Shutdown(STATE) saved the PCRs 0 to 15, of which PCR 3 has a
+/// value; PCR 16 had a value too, and there was a session.
 pub const SAVED: &[&[u8]] = &[
     b"54504d490001000004a30000000102030405060708090a0b0c0d0e0f10111213",
     b"1415161718191a1b1c1d1e1f808182838485868788898a8b8c8d8e8f90919293",
@@ -60,7 +60,7 @@ pub const SAVED: &[&[u8]] = &[
     b"0a4f4e",
 ];
 
-/// A device with an index, a persistent object and authorization values.
+/// An image of a device with an index, a persistent object and authorization values.
 pub const LOCKED: &[&[u8]] = &[
     b"54504d4900010000021f0000a9ece8b34613b9a9ece8b34613b9a9ece8b34613",
     b"b9a9ece8b34613b9a9ece8b34613b9a9ece8b34613b9a9ece8b34613b9a9ece8",

@@ -14,7 +14,7 @@ use tpm_image::{SaveFault, save};
 use tpm_machine::Machine;
 use tpm_record::Keep;
 
-/// Takes at most 64 bytes a write, while writes are left, and then fails.
+/// A writer that takes at most 64 bytes at each write, while writes are left, and then fails.
 #[derive(Drop)]
 struct Narrow {
     taken: Vec<u8>,
@@ -37,7 +37,7 @@ impl Write for Narrow {
     }
 }
 
-/// What became of a save.
+/// The outcome of a save: how it ended, and what was written.
 #[derive(Drop)]
 struct Saved {
     ended: Result<(), SaveFault>,

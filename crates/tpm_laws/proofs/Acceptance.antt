@@ -1,4 +1,4 @@
--- What is accepted is due, fits its shape, is granted, and is a success of its row.
+-- A command that is accepted is due, fits its shape, is authorized, and its row succeeds.
 use Rattle.std.proofs.Common.{◌≡◌, ℕ, Bool, true, false, List, [], Result, Ok, Err, IfOk, refl}
 use Rattle.tpm_bytes.proofs.Fields.{passed}
 use Rattle.tpm_bytes.specs.Reading.{refused_if}
@@ -52,7 +52,7 @@ general_due r buffer =
     ok_bind _ (in_header (header_at buffer)) _ (λ header.
     ok_in_command _ header.0.code (body_of r header.0 header.1) (body_due r header.0 header.1))
 
--- a command whose shape forbids sessions has no entries
+-- A command whose shape forbids sessions has no entries.
 abbrev IsAlone : Whole → Type 0
 IsAlone c = (shape_of c.code).forbids_sessions ≡ true → c.entries ≡ []
 

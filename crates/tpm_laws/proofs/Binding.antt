@@ -16,12 +16,13 @@ pub ok_bind : {A B E : Type 0} (Q : B → Type 0) (x : Result A E) (f : A → Re
 ok_bind Q (Ok a) f h = h a
 ok_bind Q (Err e) f h = tt
 
--- the same, where it matters what the step gave
+-- what holds of each success after a step holds of each success, by what the step gave
 pub ok_bind_is : {A B E : Type 0} (Q : B → Type 0) (x : Result A E) (f : A → Result B E) → ((a : A) → x ≡ Ok a → IfOk (f a) Q) → IfOk (x >>= f) Q
 ok_bind_is Q (Ok a) f h = h a refl
 ok_bind_is Q (Err e) f h = tt
 
--- the same, of what is known of each success of the step
+-- what holds of each success after a step holds of each success, by what holds of each success of
+-- the step
 pub ok_then : {A B E : Type 0} (P : A → Type 0) (Q : B → Type 0) (x : Result A E) (f : A → Result B E) → IfOk x P → ((a : A) → P a → IfOk (f a) Q) → IfOk (x >>= f) Q
 ok_then P Q (Ok a) f k h = h a k
 ok_then P Q (Err e) f k h = tt
@@ -31,7 +32,7 @@ pub ok_weaker : {A E : Type 0} (P Q : A → Type 0) (x : Result A E) → IfOk x 
 ok_weaker P Q (Ok a) k h = h a k
 ok_weaker P Q (Err e) k h = tt
 
--- and so of the success that there is
+-- what holds of each success holds of the success that there is
 pub ok_at : {A E : Type 0} (P : A → Type 0) (x : Result A E) (a : A) → IfOk x P → x ≡ Ok a → P a
 ok_at P (Ok b) a holds is = subst P (ok_is b a is) holds
 ok_at P (Err e) a holds is = absurd cc
@@ -41,12 +42,12 @@ pub err_bind : {A B E : Type 0} (Q : E → Type 0) (x : Result A E) (f : A → R
 err_bind Q (Ok a) f k h = h a
 err_bind Q (Err e) f k h = k
 
--- the same, where it matters what the step gave
+-- what holds of each refusal of a step, and of each after it, by what the step gave
 pub err_bind_is : {A B E : Type 0} (Q : E → Type 0) (x : Result A E) (f : A → Result B E) → IfErr x Q → ((a : A) → x ≡ Ok a → IfErr (f a) Q) → IfErr (x >>= f) Q
 err_bind_is Q (Ok a) f k h = h a refl
 err_bind_is Q (Err e) f k h = k
 
--- what holds of the one refusal of a step
+-- what holds of the only refusal of a step that tests something
 pub err_if : {E : Type 0} (Q : E → Type 0) (b : Bool) (e : E) → Q e → IfErr (refused_if b e) Q
 err_if Q true e h = h
 err_if Q false e h = tt
@@ -63,7 +64,7 @@ pub err_checked : {X : Type 0} (Q : Refused → Type 0) (check : Check) (x : Res
 err_checked Q check (Ok x) h = tt
 err_checked Q check (Err rc) h = h rc
 
--- what was there where a step asked for it
+-- where a step asked for something and succeeded, it was there
 pub some_is : {X E : Type 0} (o : Option X) (e : E) (x : X) → ok_or o e ≡ Ok x → o ≡ Some x
 some_is None e x is = absurd (let never : ⊥ = cc in never)
 some_is (Some y) e x is = cc
@@ -77,11 +78,11 @@ pub ok_in_command : {X : Type 0} (P : X → Type 0) (c : CommandCode) (x : Resul
 ok_in_command P c (Ok x) h = h
 ok_in_command P c (Err e) h = tt
 
--- what was asked for holds where a step did not refuse for want of it
+-- where a step that tests a condition did not refuse, the condition holds
 pub asked : {E : Type 0} (b : Bool) (fault : E) (u : Unit {0}) → refused_if (not b) fault ≡ Ok u → b ≡ true
 asked b fault u is = not-false b (passed (not b) fault u is)
 
--- two steps and what stands after them
+-- two steps and a third are a step and the two others
 pub bind_assoc : {A B C E : Type 0} (x : Result A E) (f : A → Result B E) (g : B → Result C E) → ((x >>= f) >>= g) ≡ (x >>= λ a. f a >>= g)
 bind_assoc (Ok a) f g = refl
 bind_assoc (Err e) f g = refl

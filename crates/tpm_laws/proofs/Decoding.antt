@@ -1,4 +1,5 @@
--- What the general checks let through is what the whole buffer spells, whatever the record.
+-- A command that the general checks let through is the one that the whole buffer spells, whatever
+-- the record.
 use Rattle.std.proofs.Common.{◌≡◌, ℕ, ◌+◌, List, [], ◌∷◌, length, Result, Ok, Err, IfOk, refl, ap, sym, ◌∙◌}
 use Rattle.std.specs.Prelude.{not}
 use Rattle.std.specs.Int.{w32}
@@ -25,7 +26,7 @@ use Rattle.tpm_step.specs.General.{both_or_neither, body_of, general, in_header,
 use Rattle.tpm_laws.proofs.Accepted.{checked_ok}
 use Rattle.tpm_laws.proofs.Binding.{ok_at, ok_bind, ok_bind_is, ok_checked, ok_in_command, ok_then}
 
--- a handle that its rule allows, and that is present too, is the number that stands there
+-- A handle that its rule allows, and that is present, is the number that stands there.
 abbrev IsNumber : ℕ → List ℕ → Handle × List ℕ → Type 0
 IsNumber n text x = or_fault (number_at w32 text) (handle_fault n code.Insufficient) ≡ Ok (x.0.number, x.1)
 
@@ -41,7 +42,7 @@ present_reads r n rule text =
     ok_then _ _ (allowed_handle_at n rule text) _ (allowed_reads n rule text) (λ handle is.
     ok_bind _ (refused_if (not (is_present r handle.0)) _) _ (λ present. is))
 
--- and so they are as many numbers as there are rules
+-- the handles are as many numbers as there are rules
 each_reads : (r : Record) (n : ℕ) (rules : List HandleRule) (text : List ℕ) → IfOk (each_at (present_handle_at r) n rules text) (λ x. handles_at n (length rules) text ≡ Ok x)
 each_reads r n [] text = refl
 each_reads r n (rule ∷ rules) text =
@@ -53,7 +54,7 @@ header_reads : (x : Result (Header × List ℕ) HeaderFault) → IfOk (in_header
 header_reads (Ok header) = refl
 header_reads (Err fault) = tt
 
--- what passes the general checks is the command that the buffer spells, to its end
+-- a command that passes the general checks is the one that the buffer spells, to its end
 pub general_reads : (r : Record) (buffer : List ℕ) → IfOk (general r buffer) (λ c. command_at buffer ≡ Ok (c, []))
 unfolding general body_of command_at
 general_reads r buffer =

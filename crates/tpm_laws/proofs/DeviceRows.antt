@@ -85,7 +85,7 @@ use Rattle.tpm_laws.proofs.Binding.{ok_then}
 
 -- ---- a startup and a shutdown
 
--- a startup sets what it begins
+-- a startup touches only what it begins
 start_touches : (r : Record) (start : Start) (random : List ℕ)
     → Touches Beginning r (started_record start r random)
 unfolding with_hierarchy_auth
@@ -242,7 +242,7 @@ more_sessions : (r : Record) (place : ℕ) (s : Session) → session_place r.ses
     → taken_in (record r { sessions = slice_set r.sessions place (Some s) }) ≡ taken_in r + 1
 more_sessions r place s is = let more = put_taken session_byte r.sessions place s (some_is _ _ place is) in omega (arith, more)
 
--- the nonce of the caller has its size where the parameters pass
+-- where the parameters pass, nonceCaller has a size that it may have
 caller_sized : (p : Parameters) (x : Unit {0}) → parameters_pass p ≡ Ok x
     → is_nonce_size p.hash (length p.nonce_caller) ≡ true
 unfolding parameters_pass
@@ -338,7 +338,7 @@ late_counted : (Fit : Type 0) (x : Result BankValues ChangeFault)
     → Late Fit (or_refusal (λ fault. action_refusal action.Second (plain code.Failure)) x)
 late_counted Fit x = grind arith
 
--- a clear counts an update of the PCRs, or is refused
+-- TPM2_Clear counts an update of the PCRs, or is refused
 clear_counts : (refusal : ChangeFault → Refused) (banks : BankValues)
     → IfOk (or_refusal refusal (clear_counted banks))
     (λ new. new ≡ record banks { update_count = banks.update_count + 1 })

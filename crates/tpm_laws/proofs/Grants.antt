@@ -31,7 +31,7 @@ use Rattle.tpm_laws.specs.Sessions.{HasSession, HaveSessions}
 use Rattle.tpm_laws.proofs.Binding.{err_bind, err_checked, err_if, ok_at, ok_bind, ok_weaker}
 use Rattle.tpm_laws.proofs.Sessions.{entries_have}
 
--- ---- what refuses
+-- ---- by which checks entries are refused
 
 abbrev IsAuthorization : Refused → Type 0
 IsAuthorization e = (e.check ≡ check.Authorization) ⊎ (e.check ≡ check.Others)
@@ -52,7 +52,7 @@ unfolding session_grant demanded
 session_refuses r c locality n None e s = search (rules, err_bind, err_if, failure_is)
 session_refuses r c locality n (Some handle) e s = search (rules, err_bind, err_if, failure_is, demand_refuses)
 
--- an entry's session is there, and so it is asked what it authorizes
+-- an entry whose session is there is refused by G9 or G10, if it is
 there_refuses : (r : Record) (c : Whole) (locality n : ℕ) (used : Option Handle) (e : Entry) (o : Option Session) → is_some o ≡ true → RefusesAuthorization (session_grant_if r c locality n used e o)
 there_refuses r c locality n used e None there = absurd (false≢true there)
 there_refuses r c locality n used e (Some s) there = session_refuses r c locality n used e s
@@ -66,7 +66,7 @@ grant_refuses : (r : Record) (c : Whole) (locality n : ℕ) (used : Option Handl
 unfolding grant
 grant_refuses r c locality n used e has = kind_refuses (session_kind e.session) r c locality n used e has
 
--- the walk over entries whose sessions are there
+-- the walk over entries whose sessions are there refuses by G9 or G10
 walk_refuses : (r : Record) (c : Whole) (locality : ℕ) (before : List (Option Grant)) (es : List Entry) → HaveSessions r es → RefusesAuthorization (grants_pass r c locality before es)
 walk_refuses r c locality before [] have = tt
 walk_refuses r c locality before (e ∷ es) have =
@@ -77,9 +77,9 @@ walk_refuses r c locality before (e ∷ es) have =
 pub grants_refuse : (r : Record) (c : Whole) (locality : ℕ) → entries_pass r c.code [] c.entries ≡ Ok tt → RefusesAuthorization (grants_pass r c locality [] c.entries)
 grants_refuse r c locality is = walk_refuses r c locality [] c.entries (entries_have r c.code [] c.entries tt is)
 
--- ---- what is granted
+-- ---- what an entry is granted
 
--- an entry is granted the handle that it is to authorize, or none
+-- An entry is granted the handle that it is to authorize, or none.
 abbrev Grants : Option Handle → Result (Option Grant) Refused → Type 0
 Grants used result = IfOk result (λ granted. handle_in granted ≡ used)
 
@@ -108,7 +108,7 @@ grant_grants : (r : Record) (c : Whole) (locality n : ℕ) (used : Option Handle
 unfolding grant
 grant_grants r c locality n used e = kind_grants (session_kind e.session) r c locality n used e
 
--- ---- and all of them
+-- ---- what all entries are granted
 
 -- The handles that need authorization are no more than the entries, so after the entries there is
 -- neither a grant nor such a handle.

@@ -1,4 +1,5 @@
--- After the general checks the handles of a command fit its shape, and none is refused any more.
+-- After the general checks the handles of a command fit its shape, and the command is not refused
+-- for a handle any more.
 use Rattle.std.proofs.Common.{arith, rules, ◌≡◌, ◌⊎◌, ◌+◌, ℕ, true, List, [], ◌∷◌, Ok, IfOk}
 use Rattle.std.proofs.lemmas.Result.{IfErr-weaker, IfOk-at_ok}
 use Rattle.std.specs.Prelude.{not}
@@ -29,9 +30,9 @@ use Rattle.tpm_laws.proofs.Binding.{asked, ok_checked, ok_in_command, err_bind, 
 use Rattle.tpm_laws.proofs.Grants.{grants_refuse}
 use Rattle.tpm_laws.proofs.Table.{row_passes}
 
--- ---- what the general checks let through
+-- ---- handles that the general checks let through
 
--- one that its rule allows, and one that is present too
+-- a handle that its rule allows, and one that is present too, fits the rule
 allowed_fits : (n : ℕ) (rule : HandleRule) (text : List ℕ) → IfOk (allowed_handle_at n rule text) (λ x. is_of_kind rule.kind x.0 ≡ true)
 unfolding allowed_handle_at
 allowed_fits n rule text =
@@ -44,7 +45,7 @@ present_fits r n rule text =
     ok_then (λ x. is_of_kind rule.kind x.0 ≡ true) _ (allowed_handle_at n rule text) _ (allowed_fits n rule text) (λ handle kind.
     ok_bind_is _ (refused_if (not (is_present r handle.0)) _) _ (λ u is. (kind, asked _ _ u is)))
 
--- a handle for each rule
+-- the handles of a command fit its rules
 each_fits : (r : Record) (n : ℕ) (rules : List HandleRule) (text : List ℕ) → IfOk (each_at (present_handle_at r) n rules text) (λ x. HandlesFit r rules x.0)
 each_fits r n [] text = tt
 each_fits r n (rule ∷ rules) text =
@@ -66,9 +67,9 @@ general_fits r buffer =
     ok_bind _ (in_header (header_at buffer)) _ (λ header.
     ok_in_command _ header.0.code (body_of r header.0 header.1) (body_fits r header.0 header.1))
 
--- ---- what is refused after them
+-- ---- refusals after the general checks
 
--- an authorization refuses by checks of its own
+-- an authorization never refuses by the check of handles
 authorize_passes : (r : Record) (c : Whole) (locality : ℕ) → Passes check.Handles (authorize r c locality)
 unfolding authorize
 authorize_passes r c locality =

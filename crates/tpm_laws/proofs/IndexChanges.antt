@@ -1,4 +1,4 @@
--- What each change makes of the NV indices.
+-- The effects of each change on the NV indices.
 use Rattle.std.specs.Int.{from_be_bytes, to_be_bytes, w64}
 use Rattle.std.specs.List.{list_any}
 use Rattle.std.specs.Prelude.{◌&&◌, ◌==◌, ◌||◌, bit_or, is_some, nat_lt, not}
@@ -46,7 +46,7 @@ use Rattle.tpm_laws.proofs.Parts.{SameCount}
 
 -- ---- an index is written or locked
 
--- the type that a command may write
+-- an index that a command may write has the command's type
 pub writable_type : (t : NvType) (index : NvIndex) → writable t index ≡ Ok tt
     → index_type index.public.attributes ≡ Some t
 writable_type type.Ordinary index may = rw (eqb-true _ 0 (type_of_writable type.Ordinary index may)) refl
@@ -54,7 +54,7 @@ writable_type type.Counter index may = rw (eqb-true _ 1 (type_of_writable type.C
 writable_type type.Bits index may = rw (eqb-true _ 2 (type_of_writable type.Bits index may)) refl
 writable_type type.Extend index may = rw (eqb-true _ 4 (type_of_writable type.Extend index may)) refl
 
--- data of another type than a counter's
+-- a write of data to an index that is no counter
 writes_data : (contents : NvContents) (handle : Handle) (index : NvIndex) (t : NvType)
     (bytes : List ℕ) → index_or_fault contents handle write_fault.Undefined ≡ Ok index
     → writable t index ≡ Ok tt
@@ -70,7 +70,7 @@ writes_data contents handle index t bytes is may other = record {
   is = refl;
 }
 
--- an attribute that has nothing to do with the count
+-- an attribute is set that has nothing to do with the count
 marks : (contents : NvContents) (handle : Handle) (index : NvIndex) (one : NvAttribute)
     → index_or_fault contents handle lock_fault.Undefined ≡ Ok index
     → attribute_bit attribute.Written ≢ attribute_bit one
@@ -152,16 +152,16 @@ auth_changes contents handle value =
     ok_bind_is _ (index_or_fault contents handle undefined) _ (λ index is.
     record { handle = handle; index = index; value = value; found = some_is _ _ index is; is = refl })
 
--- ---- their number
+-- ---- the number of indices
 
--- whether the indices are as many after a change of this part
+-- whether there are as many indices after a change of this part
 abbrev pub keeps_count : Part → Bool
 keeps_count NvData = true
 keeps_count NvCounter = true
 keeps_count NvAuthValue = true
 keeps_count _ = false
 
--- as many as there were, however one is changed
+-- there are as many indices as there were, however one is changed
 changed_count : (old new : NvContents) (handle : Handle) (index : NvIndex)
     → new ≡ changed_index old handle index → SameCount old new
 changed_count old new handle index is =
@@ -191,7 +191,7 @@ target_names r q =
     ok_bind_is _ (second_handle q.handles) _ (λ handle is.
     ok_bind _ (attributes_of r handle) _ (λ attributes. is)))
 
--- what hands on faults as refusals changes no success
+-- a refusal in place of a part's fault changes no success
 ok_or_refusal : {X F : Type 0} (P : X → Type 0) (refusal : F → Refused) (x : Result X F) → IfOk x P
     → IfOk (or_refusal refusal x) P
 ok_or_refusal P refusal (Ok x) holds = holds
@@ -201,7 +201,7 @@ pub none_is : (o : Option NvIndex) → is_some o ≡ false → o ≡ None
 none_is None is = refl
 none_is (Some index) is = absurd (false≢true (sym is))
 
--- what passes the checks of a definition has no attribute that is wrong
+-- an index that passes the checks of a definition has no wrong attribute
 no_conflict : (by_platform : Bool) (p : NvPublic) (size : ℕ)
     → IfOk (definition_passes by_platform p size) (λ u. HasNoConflict by_platform p)
 unfolding definition_passes

@@ -72,9 +72,9 @@ use Rattle.tpm_laws.proofs.Readings.{read_one, trimmed_read}
 use Rattle.tpm_laws.proofs.Successes.{GrowsNothing, beside_sessions, in_place_steps}
 use Rattle.tpm_laws.proofs.Successes.{none_drawn}
 
--- ---- how they refuse
+-- ---- how the rows of NV indices refuse
 
--- a step of a change, whose faults are refused so
+-- a step of a change whose faults are late refusals
 late_step : {A B F : Type 0} (Fit : Type 0) (refusal : F → Refused) (x : Result A F)
     (f : A → Result B F) → Late Fit (or_refusal refusal x)
     → ((a : A) → Late Fit (or_refusal refusal (f a))) → Late Fit (or_refusal refusal (x >>= f))
@@ -86,7 +86,7 @@ late_if : {F : Type 0} (Fit : Type 0) (refusal : F → Refused) (b : Bool) (faul
 late_if Fit refusal true fault late = late
 late_if Fit refusal false fault late = tt
 
--- the index that is changed, which is there where the handles fit
+-- the index that is changed is there where the handles fit
 late_index : {X F : Type 0} (Fit : Type 0) (refusal : F → Refused) (nv : NvContents) (h : Handle)
     (absence : F) (f : NvIndex → Result X F) → refusal absence ≡ handle_refusal
     → (Fit → is_some (index_at nv h) ≡ true) → ((i : NvIndex) → Late Fit (or_refusal refusal (f i)))
@@ -135,7 +135,7 @@ late_read_locked : (Fit : Type 0) (nv : NvContents) (h : Handle)
 unfolding read_locked
 late_read_locked Fit nv h there = search changes
 
--- of a command whose only handle is the index
+-- the change of the authorization value of the index that is a command's only handle
 late_auth_value : (Fit : Type 0) (r : Record) (role : Option Role) (h : Handle) (value : List ℕ)
     → (Fit → FitsRule r (record { kind = handle_kind.NvIndex; role = role }) h)
     → Late Fit (or_refusal (λ absence. handle_refusal) (with_auth_value r.nv h value))
@@ -172,7 +172,8 @@ defined_grows : (r : Record) (h : Handle) (i : NvIndex)
     → Grows true r (record r { nv = with_index r.nv h i })
 defined_grows r h i = let more = put_length r.nv.indices h.number i in omega (arith, more)
 
--- the parameters of TPM2_NV_DefineSpace: a value without trailing zeros is read as a buffer is
+-- TPM2_NV_DefineSpace reads its parameters as spelled: an authorization value without trailing
+-- zeros is read where a buffer is
 define_reads : (text : List ℕ)
     → outcome (parameters_in text) ≡ spelled 1 (kind.Buffer 32 ∷ kind.NvPublic ∷ []) text
 unfolding parameters_in
@@ -225,7 +226,7 @@ nv_undefine_space_laws = record {
 
 -- ---- an index is changed
 
--- a change that leaves the number of indices, and what it refuses
+-- a change that leaves the number of indices, or is refused
 changed_success : {F : Type 0} (c : CommandCode) (r : Record) (q : Request)
     (refusal : F → Refused) (x : Result NvContents F) → leaves_sessions (part_of c) ≡ true
     → keeps_count (part_of c) ≡ true
@@ -293,7 +294,7 @@ nv_increment_laws = record {
   plain = λ r q. search index_plain depth 16;
 }
 
--- nvIndex is its only handle
+-- the row of TPM2_NV_ChangeAuth, whose only handle is nvIndex, refuses in order
 change_auth_orders : (r : Record) (q : Request)
     → Orders r (admin handle_kind.NvIndex ∷ []) q.handles (kind.Buffer 32 ∷ []) q.parameters (nv_change_auth_row r q)
 unfolding nv_change_auth_row

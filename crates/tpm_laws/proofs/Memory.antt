@@ -89,9 +89,9 @@ accepted_wants r buffer locality random =
     err_bind _ (general r buffer) _ (general_wants r buffer) (λ c.
     command_wants c.code (acceptance r c locality random) (acceptance_wants r c locality random))
 
--- ---- what is reported
+-- ---- the check that is reported
 
--- M alone has its number
+-- no check but M has the number 255
 below : (c : Check) → c ≢ check.Memory → check_number c < 255
 below check.Length other = omega arith
 below check.Tag other = omega arith

@@ -74,9 +74,9 @@ use Rattle.tpm_laws.proofs.SizedParts.{digest_few}
 use Rattle.tpm_laws.proofs.Successes.{GrowsByOne, beside_sessions, drawn_as_read, in_place}
 use Rattle.tpm_laws.proofs.Successes.{in_place_steps, none_drawn}
 
--- ---- how they refuse
+-- ---- how the rows of objects refuse
 
--- what is present under a handle of an object's type is the object
+-- an object's handle that is present names an object
 object_there : (type : ℕ) (session : Bool) (index : Entity) (o : Option Object)
     → (type == 0x80 || type == 0x81) ≡ true
     → IsThere type session (if type == 0x01 then index else option_map_or AnObject o Permanent)

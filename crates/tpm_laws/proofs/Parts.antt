@@ -1,4 +1,5 @@
--- What the part that a success touches says of the places that it takes, and of sessions.
+-- The part of the state that a success touches says which places it takes, and what it does to
+-- sessions.
 use Rattle.std.specs.Prelude.{is_some}
 use Rattle.std.proofs.Common.{◌∙◌, ◌≡◌, ◌≤◌, Bool, List, Option, ap, arith, false, inl, inr, length}
 use Rattle.std.proofs.Common.{true}
@@ -20,9 +21,9 @@ use Rattle.tpm_types_command.specs.Part.{Saved, Sessions, SessionsAndObjects}
 use Rattle.tpm_laws.specs.Sessions.{SessionsStay}
 use Rattle.tpm_laws.specs.Shapes.{Grows, taken_in}
 
--- ---- places
+-- ---- places that are taken
 
--- As many indices are defined.
+-- There are as many indices as before.
 abbrev pub SameCount : NvContents → NvContents → Type 0
 SameCount old new = length new.indices ≡ length old.indices
 
@@ -47,8 +48,8 @@ pub same_sessions : (r : Record) (sessions : List (Option Session))
     → Grows false r (record r { sessions = sessions })
 same_sessions r sessions same = omega (arith, same)
 
--- whether a success that touches a part takes no place more of the sessions, the objects, transient
--- or persistent, and the NV indices, whatever it makes of the part
+-- whether a success that touches this part takes no place more of the sessions, the objects,
+-- transient or persistent, and the NV indices, whatever it makes of the part
 abbrev pub keeps_places : Part → Bool
 keeps_places Nothing = true
 keeps_places AuthValues = true
@@ -60,7 +61,7 @@ keeps_places DisableClear = true
 keeps_places Cleared = true
 keeps_places _ = false
 
--- what takes as many places takes none more
+-- a record with as many places taken has no place more taken
 same_places : (old new : Record) → taken_in new ≡ taken_in old → Grows false old new
 same_places old new same = omega (arith, same)
 

@@ -50,9 +50,9 @@ use Rattle.tpm_laws.proofs.SessionPlaces.{policy_all, policy_same, policy_stays}
 use Rattle.tpm_laws.proofs.SizedParts.{asserted_sized, starting_sized}
 use Rattle.tpm_laws.proofs.Successes.{GrowsNothing, in_place_steps, none_drawn}
 
--- ---- how they refuse
+-- ---- how the rows of policies refuse
 
--- what is present under a handle of a policy session's type is the session
+-- a policy session's handle that is present names a session
 session_there : (type : ℕ) (session other : Bool) → (type == 0x03) ≡ true
     → (if (type == 0x02 || type == 0x03) then session else other) ≡ true → session ≡ true
 session_there type session other kind present = grind (arith, nat_tests)
@@ -78,7 +78,7 @@ checked_assertion hash trial assertion policy = by (asserted hash trial assertio
     by (Ok new) is = is
     by (Err fault) is = tt
 
--- Sessions are as many as they were, whichever there were are there, and all are sized.
+-- There are as many sessions as before, each that was there is there, and all have their sizes.
 record KeepsSessions (r : Record) (sessions : List (Option Session)) : Type 0 where
   count : taken_count sessions ≡ taken_count r.sessions
   stay : SessionsStay r (record r { sessions = sessions })
@@ -112,7 +112,7 @@ keeping_success c r q answer sessions part nothing answers draws keeps =
 
 -- ---- the row of all assertions
 
--- What an assertion answers, before it changes its session.
+-- the success of a command that asserts something, before it changes its session
 abbrev made : CommandCode → Record → Success
 made c r = record { answer = answer_of (body_of c); after = r }
 

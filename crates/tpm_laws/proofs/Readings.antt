@@ -11,7 +11,7 @@ use Rattle.tpm_laws.specs.Shapes.{behind, behind_kind, spelled}
 
 -- ---- readings
 
--- whether a reading went well, or its fault
+-- whether a reading succeeded, or its fault
 abbrev pub outcome : {P : Type 0} → Result P Refused → Result (Unit {0}) Refused
 outcome (Ok p) = Ok tt
 outcome (Err e) = Err e

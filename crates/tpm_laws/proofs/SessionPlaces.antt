@@ -1,4 +1,4 @@
--- What stays of sessions where one starts, changes its policy, or is flushed.
+-- Sessions stay, with their sizes, where one starts, changes its policy, or is flushed.
 use Rattle.std.specs.Prelude.{IfSome, is_some, option_and_then}
 use Rattle.std.proofs.Common.{◌∙◌, ◌≡◌, List, None, Option, Some, ap, inl, inr, length, refl}
 use Rattle.std.proofs.Common.{slice_set, subst, sym, true, ℕ}
@@ -18,9 +18,9 @@ use Rattle.tpm_laws.specs.Sessions.{SessionsStay}
 use Rattle.tpm_laws.specs.Sizes.{IsSized}
 use Rattle.tpm_laws.proofs.AllPlaces.{all_changed, all_found, all_without}
 
--- ---- which sessions there are
+-- ---- the sessions that there are
 
--- a session that was there stands in another place than one that was free
+-- a session that was there is in another place than the one that was free
 pub stays_put : (sessions : List (Option Session)) (place : ℕ) (s : Session) (h : Handle)
     → lowest_free sessions ≡ Some place → is_some (session_at sessions h) ≡ true
     → is_some (session_at (slice_set sessions place (Some s)) h) ≡ true
@@ -63,9 +63,9 @@ pub policy_same : (sessions : List (Option Session)) (handle : Handle) (policy :
 unfolding with_session_policy
 policy_same sessions handle policy = changed_taken session_byte (λ s. with_policy s policy) sessions handle.number
 
--- ---- their sizes
+-- ---- the sizes of sessions
 
--- a session with a policy whose digest has its size
+-- a session with another policy, whose digest has its size, keeps its sizes
 policy_sized : (s : Session) (policy : Policy) → length policy.digest ≡ digest_size s.hash
     → IsSized s → IsSized (with_policy s policy)
 policy_sized s policy digest sized = record { digest = digest; key = sized.key; nonce_tpm = sized.nonce_tpm }

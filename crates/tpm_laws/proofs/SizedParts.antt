@@ -1,4 +1,4 @@
--- The sizes of what sessions are made of.
+-- The sizes of the parts of a session.
 use Rattle.std.proofs.Common.{rules, arith, ◌≡◌, ◌⊎◌, ℕ, Bool, List, [], ◌++◌, length, take, Option, Some, None, IfOk, refl, inl, inr, append-nil, ◌≤◌, true, false, subst, sym}
 use Rattle.std.proofs.lemmas.List.{length-replicate, length-take, length-take-le}
 use Rattle.std.specs.Prelude.{◌&&◌, nat_le}
@@ -15,12 +15,12 @@ use Rattle.tpm_session.specs.Key.{is_nonce_size, session_key}
 use Rattle.tpm_session.specs.declared.session.Binding.{Binding}
 use Rattle.tpm_laws.proofs.Binding.{ok_bind}
 
--- ---- keys
+-- ---- session keys
 
 front : (n : ℕ) (block : List ℕ) → length block ≡ n → length (take n (block ++ [])) ≡ n
 front n block is = rw append-nil (omega (arith, is, length-take n block))
 
--- KDFa makes as many bytes as a digest has of one block
+-- KDFa makes the bytes of a session key, as many as a digest has, of one block
 derived : (hash : HashAlg) (key label context_u context_v : List ℕ) → length (kdfa_of hash key label context_u context_v (digest_size hash)) ≡ digest_size hash
 unfolding kdfa_of
 derived Sha1 key label context_u context_v = front 20 (hmac_of Sha1 key _) (length-hmac_of Sha1 key _)
@@ -36,7 +36,7 @@ key_sized hash (Some binding) nonce_tpm nonce_caller = inr (derived hash binding
 pub starting_sized : (hash : HashAlg) → length (starting hash).digest ≡ digest_size hash
 starting_sized hash = length-replicate (digest_size hash) 0
 
--- every assertion makes a digest
+-- every assertion makes a policy digest of the session's size
 pub asserted_sized : (hash : HashAlg) (trial : Bool) (assertion : Assertion) (policy : Policy) → IfOk (asserted hash trial assertion policy) (λ new. length new.digest ≡ digest_size hash)
 unfolding pcr_asserted or_asserted or_digest auth_value_asserted password_asserted command_code_asserted cp_hash_asserted nv_written_asserted locality_asserted secret_asserted nv_asserted
 asserted_sized hash trial (Pcr pcr) policy = search (rules, ok_bind, length-hash_of)
@@ -65,7 +65,7 @@ nonce_few hash size is =
     let most = leb-true size (digest_size hash) (both (nat_le 16 size) (nat_le size (digest_size hash)) is).1 in
     omega (arith, most, digest_few hash)
 
--- a number of the bytes, where there are enough, are a nonce of that size
+-- the front of enough bytes is a nonce of the size that is wanted
 pub nonce_taken : (hash : HashAlg) (size : ℕ) (bytes : List ℕ) → is_nonce_size hash size ≡ true → 32 ≤ length bytes → is_nonce_size hash (length (take size bytes)) ≡ true
 nonce_taken hash size bytes is enough =
     subst (λ (n : ℕ). is_nonce_size hash n ≡ true) (sym (length-take-le size bytes (omega (arith, nonce_few hash size is, enough)))) is

@@ -44,7 +44,7 @@ use Rattle.tpm_laws.proofs.SizedParts.{starting_sized, nonce_few, nonce_taken}
 use Rattle.tpm_laws.proofs.SessionPlaces.{flushed_all, policy_all}
 use Rattle.tpm_laws.proofs.Table.{row_draws, row_sized}
 
--- ---- no session
+-- ---- where there is no session
 
 pub manufactured_sized : (random : List ℕ) → AreSized (manufactured random)
 manufactured_sized random = all_free IsSized 16
@@ -127,8 +127,8 @@ answer_sized c grants a effect random enough sized =
 
 -- ---- steps
 
--- what a command that is accepted has: a record of these sizes, and enough of 256 random bytes for
--- new nonces
+-- An accepted command leaves a record whose sessions have their sizes, and enough of 256 random
+-- bytes for new nonces.
 abbrev Fits : Accepted → Type 0
 Fits a = AreSized a.success.after × (a.success.answer.drawn + 32 * length a.command.entries ≤ 256)
 
@@ -153,7 +153,7 @@ accepted_fits r buffer locality random enough sized =
     ok_then _ _ (general r buffer) _ (general_few r buffer) (λ c few.
     ok_in_command Fits c.code (acceptance r c locality random) (acceptance_fits r c locality random few enough sized))
 
--- what was saved, which a success may cancel, is no session
+-- sessions keep their sizes where a success cancels what was saved
 settled_sized : (keeps : Bool) (r : Record) → AreSized r → AreSized (cond keeps r (with_saved r Nothing))
 settled_sized true r sized = sized
 settled_sized false r sized = sized
@@ -196,7 +196,7 @@ after_all_sized r (event ∷ events) happen sized = after_all_sized (step r even
 pub histories_sized : (random : List ℕ) (events : List PlainEvent) → AllByRecursion IsEvent events → AreSized (after_all (manufactured random) events)
 histories_sized random events happen = after_all_sized (manufactured random) events happen (manufactured_sized random)
 
--- the same of events that ran, where memory can be refused
+-- every run of events keeps the sizes of sessions, whether memory can be refused or not
 pub run_sized : {F : Type 0} (g : Mut F (Bor Outcome × Unit {0}) (Unit {0})) (can : Bool) (old : Record) (p : F) (events : List PlainEvent) (new : Record) (q : F) → Runs g can old p events new q → AreSized old → AreSized new
 run_sized g can old p [] new q run sized = subst AreSized (sym run.0) sized
 run_sized g can old p (event ∷ events) new q run sized =

@@ -20,7 +20,7 @@ use Rattle.tpm_laws.proofs.Binding.{ok_at, ok_bind, ok_weaker}
 use Rattle.tpm_laws.proofs.Table.{row_touches}
 use Rattle.tpm_laws.proofs.Leaving.{success_leaves}
 
--- whether a device can be started by what touches this part
+-- whether a success that touches this part can start a device
 abbrev begins : Part → Bool
 begins Beginning = true
 begins _ = false

@@ -1,4 +1,4 @@
--- All that holds of a success, from the part that it touches.
+-- The laws of a success, from the part of the state that it touches.
 use Rattle.std.proofs.Common.{◌≡◌, ◌≤◌, Ok, Result, ap, arith, false, rules, subst, sym, true, ℕ}
 use Rattle.tpm_types.specs.declared.refused.Refused.{Refused}
 use Rattle.tpm_types_command.specs.declared.command_code.CommandCode.{CommandCode}
@@ -17,14 +17,14 @@ use Rattle.tpm_laws.proofs.Binding.{ok_bind}
 use Rattle.tpm_laws.proofs.Parts.{keeps_places, leaves_sessions, sessions_same}
 use Rattle.tpm_laws.proofs.Parts.{touched_grows, touched_same}
 
--- A command whose success takes no place more, or takes one: so it grows as its shape says.
+-- A command grows as its shape says, if its successes take no place more, or one.
 abbrev pub GrowsNothing : CommandCode → Type 0
 GrowsNothing c = (old new : Record) → Grows false old new → GrowsAsShaped c old new
 
 abbrev pub GrowsByOne : CommandCode → Type 0
 GrowsByOne c = (old new : Record) → Grows true old new → GrowsAsShaped c old new
 
--- a success that leaves the sessions alone
+-- the laws of a success that leaves the sessions alone
 pub beside_sessions : (c : CommandCode) (r : Record) (q : Request) (s : Success)
     → leaves_sessions (part_of c) ≡ true → Touches (part_of c) r s.after → GrowsAsShaped c r s.after
     → ChangesIndices (part_of c) q r.nv s.after.nv → AnswersItsShape c s → DrawsAsSaid c q s → SuccessLaws c r q s
@@ -41,7 +41,7 @@ beside_sessions c r q s leaves touches grows changes answers draws = record {
     same : s.after.sessions ≡ r.sessions
     same = touched_same (part_of c) r s.after leaves touches
 
--- and one whose part takes no place more either
+-- the laws of a success whose part takes no place more
 pub in_place : (c : CommandCode) (r : Record) (q : Request) (s : Success)
     → leaves_sessions (part_of c) ≡ true → keeps_places (part_of c) ≡ true → GrowsNothing c
     → Touches (part_of c) r s.after → ChangesIndices (part_of c) q r.nv s.after.nv
@@ -49,14 +49,14 @@ pub in_place : (c : CommandCode) (r : Record) (q : Request) (s : Success)
 in_place c r q s leaves keeps nothing touches changes answers draws =
     beside_sessions c r q s leaves touches (nothing r s.after (touched_grows (part_of c) r s.after keeps touches)) changes answers draws
 
--- what draws no random bytes draws few
+-- a success that draws no random bytes draws no more than the limit
 pub none_drawn : 0 ≤ 96
 none_drawn = omega arith
 
--- what was read of the parameters is drawn, as is said
+-- where a command draws what its parameters say, it draws as is said of it
 pub drawn_as_read : {P : Type 0} (count : P → ℕ) (x : Result P Refused) (p : P)
     → x ≡ Ok p → count p ≡ read_or_none count x
 drawn_as_read count x p is = sym (ap (read_or_none count) is)
 
--- the steps of a row with such a success
+-- the steps of a row whose part takes no place more
 pub ruleset in_place_steps = (rules, ok_bind, in_place, none_drawn)

@@ -80,7 +80,7 @@ laws_of command.PcrExtend = device.pcr_extend_laws
 laws_of command.PolicyGetDigest = policy.policy_get_digest_laws
 laws_of command.PolicyPassword = policy.policy_password_laws
 
--- ---- what each success has
+-- ---- the laws of each success
 
 pub of_success : (P : Success → Type 0) (r : Record) (c : CommandCode) (q : Request)
     → ((s : Success) → SuccessLaws c r q s → P s) → IfOk (row_of r c q) P
@@ -90,7 +90,7 @@ pub row_touches : (r : Record) (c : CommandCode) (q : Request)
     → IfOk (row_of r c q) (λ s. Touches (part_of c) r s.after)
 row_touches r c q = of_success _ r c q (λ s laws. laws.touches)
 
--- what a success makes of the NV indices
+-- a success makes of the NV indices what is said of its command's part
 pub row_changes : (r : Record) (c : CommandCode) (q : Request)
     → IfOk (row_of r c q) (λ s. ChangesIndices (part_of c) q r.nv s.after.nv)
 row_changes r c q = of_success _ r c q (λ s laws. laws.changes)
@@ -119,7 +119,7 @@ pub row_sized : (r : Record) (c : CommandCode) (q : Request) → 32 ≤ length q
     → IfOk (row_of r c q) (λ s. AreSized s.after)
 row_sized r c q enough sized = of_success _ r c q (λ s laws. laws.sized enough sized)
 
--- after a success that touches such a part the sessions are as they were
+-- after a success that touches a part without sessions, the sessions are as they were
 pub row_same : (r : Record) (c : CommandCode) (q : Request) → leaves_sessions (part_of c) ≡ true
     → IfOk (row_of r c q) (λ s. s.after.sessions ≡ r.sessions)
 row_same r c q leaves =

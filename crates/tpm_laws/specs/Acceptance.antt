@@ -1,4 +1,4 @@
--- What an accepted command is, and what follows its row.
+-- What an accepted command is, and what happens to sessions after its row.
 use Rattle.std.specs.Prelude.{◌≡◌, ℕ, true, false, List, [], Ok}
 use Rattle.tpm_types_command.specs.CommandCode.{shape_of}
 use Rattle.tpm_types_command.specs.declared.command_code.CommandCode.{CommandCode}
@@ -9,7 +9,8 @@ use Rattle.tpm_step.specs.Step.{Accepted, request_in}
 use Rattle.tpm_step.specs.Table.{row_of}
 use Rattle.tpm_laws.specs.Handles.{HandlesFit}
 
--- TPM2_Startup comes to a device that is not started, and every other command to one that is.
+-- A command is due: TPM2_Startup on a device that is not started, and every other command on one
+-- that is.
 abbrev pub IsDue : CommandCode → Record → Type 0
 IsDue command.Startup r = r.fixed.started ≡ false
 IsDue _ r = r.fixed.started ≡ true
@@ -29,7 +30,7 @@ pub record IsAcceptance (r : Record) (locality : ℕ) (random : List ℕ) (a : A
 abbrev pub OnlySessions : Record → Record → Type 0
 OnlySessions old new = new ≡ record old { sessions = new.sessions }
 
--- Nothing changes but its sessions and what a shutdown saved.
+-- Nothing of a record changes but its sessions and what a shutdown saved.
 abbrev pub LeavesEffect : Record → Record → Type 0
 LeavesEffect old new =
     new ≡ record old {

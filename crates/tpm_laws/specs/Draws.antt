@@ -1,5 +1,5 @@
--- How many of an event's random bytes a command draws for itself, by its code and its parameters. The
--- nonces of its entries are drawn after these. TPM 2.0 Library, Part 3, sections 11.1
+-- How many of an event's random bytes a command draws for itself, by its code and its parameters.
+-- The nonces of its entries are drawn after these. TPM 2.0 Library, Part 3, sections 11.1
 -- (TPM2_StartAuthSession), 12.1 (TPM2_Create), 16.1 (TPM2_GetRandom) and 24.6 (TPM2_Clear).
 use Rattle.std.specs.Prelude.{ℕ, ◌≡◌, ◌≤◌, ◌+◌, ◌*◌, min, length, false, List, Result, Ok, Err}
 use Rattle.std.specs.Int.{w16}
@@ -17,20 +17,21 @@ use Rattle.tpm_actions_device.specs.StartAuthSession.{parameters_in as session_p
 use Rattle.tpm_actions_object.specs.Creation.{parameters_in as creation_parameters}
 use Rattle.tpm_step.specs.General.{is_startup}
 
--- what the parameters that are read say, and 0 where there are none
+-- the count that the parameters give where they were read, and 0 where they were not
 abbrev pub read_or_none : {P : Type 0} → (P → ℕ) → Result P Refused → ℕ
 read_or_none count (Ok p) = count p
 read_or_none count (Err e) = 0
 
--- the bytes that TPM2_GetRandom is asked for
+-- how many bytes TPM2_GetRandom is asked for
 abbrev pub bytes_requested : List ℕ → Result ℕ Refused
 bytes_requested parameters =
     only (or_fault (number_at w16 parameters) (plain code.Insufficient))
 
--- TPM2_GetRandom draws the bytes that it answers, at most 32; TPM2_StartAuthSession a nonceTPM as
--- long as nonceCaller; TPM2_Create a key and a seedValue, and the 16 bytes of an initial vector;
--- TPM2_Clear a seed and two proofs of 32 bytes. TPM2_Startup, which may draw a seed and a proof, is
--- said to draw none, since it has no entries for whose nonces that would count
+-- how many random bytes a command draws. TPM2_GetRandom draws the bytes that it answers, at most
+-- 32; TPM2_StartAuthSession a nonceTPM as long as nonceCaller; TPM2_Create a key and a seedValue,
+-- and the 16 bytes of an initial vector; TPM2_Clear a seed and two proofs of 32 bytes.
+-- TPM2_Startup, which may draw a seed and a proof, is said to draw none, since it has no entries
+-- for whose nonces that would count
 abbrev pub draws_of : CommandCode → Request → ℕ
 draws_of command.GetRandom q =
     read_or_none (λ requested. min requested 32) (bytes_requested q.parameters)
@@ -41,8 +42,8 @@ draws_of command.Create q =
 draws_of command.Clear q = 3 * 32
 draws_of _ q = 0
 
--- A success draws no more of the event's 256 random bytes than the limit, 96, and as many as are said of its command,
--- but for TPM2_Startup.
+-- A success draws no more than 96, the limit, of the event's 256 random bytes, and as many as are
+-- said of its command, but for TPM2_Startup.
 abbrev pub DrawsAsSaid : CommandCode → Request → Success → Type 0
 DrawsAsSaid c q s =
     (s.answer.drawn ≤ draw_limit) × (is_startup c ≡ false → s.answer.drawn ≡ draws_of c q)

@@ -18,9 +18,9 @@ use Rattle.tpm_types_command.specs.Part.{Beginning, Saved, DisableClear, Cleared
 abbrev pub KeepsSecrets : Hierarchies → Hierarchies → Type 0
 KeepsSecrets old new = (h : HierarchyHandle) → secrets_of new h ≡ secrets_of old h
 
--- f with the fields that a startup sets, as they are after it: whether it is started, the counts,
--- platformAuth and the null hierarchy, whether lockoutAuth is closed, and the PCRs, of which no
--- changes are counted yet
+-- the fixed part f with the fields that a startup sets as they are after it: whether it is started,
+-- the counts, platformAuth and the null hierarchy, whether lockoutAuth is closed, and the PCRs, of
+-- which no changes are counted yet
 abbrev pub begun : Fixed → Fixed → Fixed
 begun f after = record f {
   started = after.started;
@@ -42,9 +42,9 @@ begun f after = record f {
 abbrev pub StartsNv : NvContents → NvContents → Type 0
 StartsNv old new = (new ≡ old) ⊎ (new ≡ started old)
 
--- f as TPM2_Clear leaves it: the owner's new seed and proof and the endorsement hierarchy's new
--- proof are as they are after it; no authorization value is set but platformAuth; lockout is
--- cleared, the PCRs count an update, and Clock and the counts begin at 0
+-- the fixed part f as TPM2_Clear leaves it: the owner's new seed and proof and the endorsement
+-- hierarchy's new proof are as they are after it; no authorization value is set but platformAuth;
+-- lockout is cleared, the PCRs count an update, and Clock and the counts begin at 0
 abbrev pub emptied : Fixed → Fixed → Fixed
 emptied f after = record f {
   hierarchies = record f.hierarchies {
@@ -64,7 +64,7 @@ emptied f after = record f {
   restart_count = 0;
 }
 
--- A record differs from an older one in this part alone.
+-- A record differs from an older one in this part of the device's state alone.
 abbrev pub Touches : Part → Record → Record → Type 0
 Touches Nothing old new = new ≡ old
 Touches Sessions old new = new ≡ record old { sessions = new.sessions }

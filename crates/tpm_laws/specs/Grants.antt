@@ -13,8 +13,9 @@ handle_in grant = option_map (λ (g : Grant). g.handle) grant
 abbrev pub granted_handle : List (Option Grant) → ℕ → Option Handle
 granted_handle grants place = option_and_then handle_in (slice_get grants place)
 
--- These grants are as many as the command's entries; and the entry in each place is granted the
--- handle in the same place among those that need authorization, or none where there is none.
+-- The grants are as many as the command's entries; and the entry in each place is granted the
+-- handle in the same place among those that need authorization, or nothing where no handle is
+-- there.
 pub record GrantsFit (c : Whole) (grants : List (Option Grant)) : Type 0 where
   pub entries : length grants ≡ length c.entries
   pub handles : (place : ℕ) → granted_handle grants place ≡ slice_get (authorized c) place

@@ -7,10 +7,10 @@ use Rattle.tpm_types_command.specs.Shape.{is_of_kind}
 use Rattle.tpm_record.specs.Entity.{is_present}
 use Rattle.tpm_record.specs.Record.{Record}
 
--- A handle is of its rule's kind, and what it names is there.
+-- A handle is of its rule's kind, and what the handle names is there.
 abbrev pub FitsRule : Record → HandleRule → Handle → Type 0
 FitsRule r rule handle = (is_of_kind rule.kind handle ≡ true) × (is_present r handle ≡ true)
 
--- The handles are as many as these rules, and each fits its own.
+-- The handles are as many as these rules, and each handle fits its own rule.
 abbrev pub HandlesFit : Record → List HandleRule → List Handle → Type 0
 HandlesFit r rules handles = AllZip (FitsRule r) rules handles

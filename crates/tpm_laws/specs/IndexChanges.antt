@@ -22,13 +22,13 @@ use Rattle.tpm_types_command.specs.Part.{Cleared}
 abbrev pub IsCounter : NvIndex → Type 0
 IsCounter index = index_type index.public.attributes ≡ Some type.Counter
 
--- the value of a counter, once it is WRITTEN
+-- the value of a counter, from its first increment on
 abbrev pub stored_count : NvIndex → Option ℕ
 stored_count index =
     if index_has index attribute.Written then Some (from_be_bytes w64 index.bytes) else None
 
--- An index has become another. If that is a counter, it was one, it has the value that it had, and a
--- startup takes that away, or does not, as before.
+-- An index has become another. If that is a counter, the index was one before, with the same value,
+-- and a startup takes the value away, or does not, as before.
 abbrev pub KeepsCount : NvIndex → NvIndex → Type 0
 KeepsCount old new =
     IsCounter new
@@ -36,8 +36,8 @@ KeepsCount old new =
     × (stored_count new ≡ stored_count old)
     × (index_has new attribute.ClearStClear ≡ index_has old attribute.ClearStClear)
 
--- An index is locked, or written that is no counter: it keeps its value as a counter, and its
--- authorization value.
+-- An index is locked, or one that is no counter is written: it keeps its value as a counter, and
+-- its authorization value.
 pub record Writes (old new : NvContents) : Type 0 where
   pub handle : Handle
   pub before : NvIndex
@@ -47,13 +47,13 @@ pub record Writes (old new : NvContents) : Type 0 where
   pub auth_value : after.auth_value ≡ before.auth_value
   pub is : new ≡ changed_index old handle after
 
--- The counter that the second handle names counts.
+-- The counter that the second handle names is incremented.
 pub record Increments (q : Request) (old new : NvContents) : Type 0 where
   pub handle : Handle
   pub named : second_handle q.handles ≡ Ok handle
   pub is : incremented old handle ≡ Ok new
 
--- An index has an authorization value, and is as it was but for that.
+-- An index has another authorization value, and is as it was but for that.
 pub record ChangesAuth (old new : NvContents) : Type 0 where
   pub handle : Handle
   pub index : NvIndex
@@ -61,12 +61,14 @@ pub record ChangesAuth (old new : NvContents) : Type 0 where
   pub found : index_at old handle ≡ Some index
   pub is : new ≡ changed_index old handle (record index { auth_value = value })
 
--- None of the attributes that an index is to have is wrong, by whom it is defined.
+-- None of the attributes that an index is to have is wrong, where the platform, or else the owner,
+-- defines it.
 abbrev pub HasNoConflict : (by_platform : Bool) → NvPublic → Type 0
 HasNoConflict by_platform p =
     list_any (λ wrong. wrong) (index_attribute_conflicts by_platform p.attributes) ≡ false
 
--- The index that the parameters define comes where none was, and none of its attributes is wrong.
+-- The index that the parameters define comes where no index was, and none of its attributes is
+-- wrong.
 pub record Defines (q : Request) (old new : NvContents) : Type 0 where
   pub by_platform : Bool
   pub parameters : Parameters
@@ -83,7 +85,8 @@ pub record Undefines (q : Request) (old new : NvContents) : Type 0 where
   pub named : second_handle q.handles ≡ Ok handle
   pub is : new ≡ without_index old handle
 
--- what a success that touches this part makes of them; every other leaves them as they were
+-- what a success that touches this part makes of the NV indices; every other success leaves them as
+-- they were
 abbrev pub ChangesIndices : Part → Request → NvContents → NvContents → Type 0
 ChangesIndices NvData q = Writes
 ChangesIndices NvCounter q = Increments q

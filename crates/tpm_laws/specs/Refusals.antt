@@ -4,12 +4,12 @@ use Rattle.tpm_types.specs.declared.check.Check.{Check}
 use Rattle.tpm_types.specs.declared.check.Check.TheVariants as check
 use Rattle.tpm_types.specs.declared.refused.Refused.{Refused}
 
--- Whatever is refused, this check does not refuse it.
+-- If something is refused, it is not by this check.
 abbrev pub Passes : {X : Type 0} → Check → Result X Refused → Type 0
 Passes check result = IfErr result (λ e. e.check ≢ check)
 
--- Whatever is refused, one of these two checks refuses it: what authorizes the handles (G9), or the
--- other entries (G10).
+-- If something is refused, it is by one of two checks: of what authorizes the handles (G9), or of
+-- the other entries (G10).
 abbrev pub RefusesAuthorization : {X : Type 0} → Result X Refused → Type 0
 RefusesAuthorization result =
     IfErr result (λ e. (e.check ≡ check.Authorization) ⊎ (e.check ≡ check.Others))

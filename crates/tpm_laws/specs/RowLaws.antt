@@ -14,9 +14,10 @@ use Rattle.tpm_laws.specs.Sessions.{SessionsStay}
 use Rattle.tpm_laws.specs.Shapes.{AnswersItsShape, GrowsAsShaped}
 use Rattle.tpm_laws.specs.Sizes.{AreSized}
 
--- A success touches the part of its command alone, and makes of the NV indices what is said of that;
--- it takes as many places, and answers what, its shape says, and draws as many random bytes as are
--- said of it; where the command may have sessions they all stay, and they keep their sizes.
+-- A success touches its command's part of the state alone, and makes of the NV indices what is said
+-- of that part; it takes as many places, and answers what, its shape says, and draws as many random
+-- bytes as are said of its command; where the command may have sessions they all stay, and keep
+-- their sizes.
 pub record SuccessLaws (c : CommandCode) (r : Record) (q : Request) (s : Success) : Type 0 where
   pub touches : Touches (part_of c) r s.after
   pub changes : ChangesIndices (part_of c) q r.nv s.after.nv
@@ -26,7 +27,8 @@ pub record SuccessLaws (c : CommandCode) (r : Record) (q : Request) (s : Success
   pub stays : (shape_of c).forbids_sessions ≡ false → SessionsStay r s.after
   pub sized : 32 ≤ length q.random → AreSized r → AreSized s.after
 
--- This holds of each success of a row; and its refusals come in order, and count nothing.
+-- Each success of a row has these laws; and its refusals come in order, and count nothing against
+-- dictionary attacks.
 pub record RowLaws (c : CommandCode) (row : Record → Request → Result Success Refused)
     : Type 0 where
   pub success : (r : Record) (q : Request) → IfOk (row r q) (SuccessLaws c r q)

@@ -20,7 +20,7 @@ abbrev pub HaveSessions : Record → List Entry → Type 0
 HaveSessions r [] = Unit {0}
 HaveSessions r (e ∷ es) = HasSession (session_kind e.session) r e × HaveSessions r es
 
--- Whatever session there was is there still.
+-- Each session that was there is there still.
 abbrev pub SessionsStay : Record → Record → Type 0
 SessionsStay old new =
     (handle : Handle) → is_some (session_at old.sessions handle) ≡ true

@@ -40,12 +40,13 @@ AnswersItsShape c s =
     (is_some s.answer.handle ≡ (shape_of c).answers_handle)
     × (begins_sized s.answer.body ≡ (shape_of c).sized_answer)
 
--- how many places are taken, by sessions, by objects, transient and persistent, and by NV indices
+-- how many places of a record are taken, by sessions, by objects, transient and persistent, and by
+-- NV indices
 abbrev pub taken_in : Record → ℕ
 taken_in r =
     taken_count r.sessions + taken_count r.objects + length r.persistent + length r.nv.indices
 
--- One place more is taken where a command grows; else no more are.
+-- One place more is taken where a command grows something; else no more are taken.
 abbrev pub Grows : Bool → Record → Record → Type 0
 Grows true old new = taken_in new ≡ taken_in old + 1
 Grows false old new = taken_in new ≤ taken_in old
@@ -56,12 +57,12 @@ abbrev pub GrowsAsShaped : CommandCode → Record → Record → Type 0
 GrowsAsShaped command.EvictControl old new = Grows true old new ⊎ Grows true new old
 GrowsAsShaped c old new = Grows (shape_of c).grows old new
 
--- what stands after a parameter, or its fault
+-- what stands in a text after a parameter that was read, or the parameter's fault
 abbrev pub behind : {X : Type 0} → Result (X × List ℕ) Rc → Result (List ℕ) Rc
 behind (Ok p) = Ok p.1
 behind (Err rc) = Err rc
 
--- what stands after a parameter of this kind
+-- what stands in a text after a parameter of this kind, or the parameter's fault
 abbrev pub behind_kind : ParameterKind → List ℕ → Result (List ℕ) Rc
 behind_kind kind.StartupType text = behind (startup_type_at text)
 behind_kind kind.SessionType text = behind (session_type_at text)
@@ -83,8 +84,8 @@ behind_kind kind.Operation text = behind (operation_at text)
 behind_kind kind.YesNo text = behind (yes_no_at text)
 behind_kind kind.PersistentHandle text = behind (persistent_handle_at text)
 
--- parameters of these kinds, the first of them of this number, and nothing after them; or the
--- first fault
+-- whether a text has parameters of these kinds, the first of them with this number, and nothing
+-- after them; or the first fault
 abbrev pub spelled : ℕ → List ParameterKind → List ℕ → Result (Unit {0}) Refused
 spelled n [] text = all_read text
 spelled n (kind ∷ kinds) text = do
@@ -96,7 +97,8 @@ abbrev pub ParametersFail : {X : Type 0} → Refused → Result X Refused → Ty
 ParametersFail fault (Ok s) = ⊥
 ParametersFail fault (Err e) = (e ≡ fault) ⊎ (e.check ≡ check.Handles)
 
--- A row refuses parameters exactly where they are not spelled so, and then with the first fault.
+-- A row refuses parameters exactly where the text does not have parameters of their kinds, and then
+-- with the first fault.
 abbrev pub ReadsParameters : {X : Type 0} → Result (Unit {0}) Refused → Result X Refused → Type 0
 ReadsParameters (Ok done) row = Passes check.Parameters row
 ReadsParameters (Err fault) row = ParametersFail fault row

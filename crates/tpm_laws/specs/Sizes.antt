@@ -1,4 +1,4 @@
--- Sizes that sessions have by how they are made, and that no type of the code says.
+-- Sizes of sessions, which follow from how sessions are made, and which no type of the code says.
 use Rattle.std.specs.Prelude.{◌≡◌, ◌⊎◌, true, [], length}
 use Rattle.tpm_mac.specs.Digest.{digest_size}
 use Rattle.tpm_containers.specs.Slots.{AreAll}
@@ -7,12 +7,12 @@ use Rattle.tpm_session.specs.declared.session.Session.{Session}
 use Rattle.tpm_record.specs.Record.{Record}
 
 -- A session's policy digest has the size of its hash, its key that size or no byte, and its
--- nonceTPM one that nonces may have: from 16 bytes to the size of its hash.
+-- nonceTPM from 16 bytes to the size of its hash.
 pub record IsSized (session : Session) : Type 0 where
   pub digest : length session.policy.digest ≡ digest_size session.hash
   pub key : (session.key ≡ []) ⊎ (length session.key ≡ digest_size session.hash)
   pub nonce_tpm : is_nonce_size session.hash (length session.nonce_tpm) ≡ true
 
--- Every session is sized.
+-- Every session of a record has these sizes.
 abbrev pub AreSized : Record → Type 0
 AreSized r = AreAll IsSized r.sessions

@@ -1,13 +1,13 @@
 #![tactic(auto)]
 
-//! Laws over the rows of all commands, each on the contract of a function that does nothing: what
-//! of the record a row's success touches, what a command's shape says of it, that sessions in use
-//! stay, and what is never refused. After a row, sessions are rolled and end, which is the step's
-//! and no row's; the sizes of sessions stay through all of a step.
+//! Laws over the rows of all commands, each the contract of a function that does nothing: what of
+//! the record a row's success touches, what a command's shape says of it, that sessions in use
+//! stay, and what is never refused. After a row the step, and no row, rolls and ends sessions; the
+//! sizes of sessions stay through all of a step.
 //!
-//! It stands on the definitions of tpm_step. What holds of a row is one record, proved where
-//! the row is opened, so that theorems over histories need not open any; each law over all commands
-//! is a part of these records.
+//! The laws are about the definitions of tpm_step. What holds of a row is one record, proved where
+//! the row is opened, so that theorems over histories need not open any row; each law over all
+//! commands is a part of these records.
 
 ghost use Rattle.std.specs.Prelude.{◌≡◌, ◌≢◌, ℕ, ◌+◌, ◌*◌, ◌≤◌, Bool, IfOk, List, [], ◌∷◌, Ok, Option};
 ghost use Rattle.std.specs.Prelude.{IfErr, false, length, true};
@@ -56,9 +56,9 @@ pub fn footprint_laws()
         → IfOk (row_of r c q) (λ s. Touches (part_of c) r s.after) }
 {}
 
-/// A success makes of the NV indices what is said of the part that it touches: one is written or
-/// locked, a counter counts, one has another authorization value, comes or goes; a startup and a
-/// clear have their effects on all; and every other success leaves them as they were.
+/// A success makes of the NV indices what is said of the part that it touches: an index is written
+/// or locked, a counter counts, an index has another authorization value, comes or goes; a startup
+/// and TPM2_Clear have their effects on all; and every other success leaves them as they were.
 #[inline(always)]
 #[tactic(auto, using(crate::proofs::Table::row_changes))]
 pub fn index_change_laws()
@@ -74,8 +74,8 @@ pub fn answer_shape_laws()
         → IfOk (row_of r c q) (AnswersItsShape c) }
 {}
 
-/// A success of a command that grows takes one place more, and of any other no more; but that of
-/// TPM2_EvictControl, by which an object may be removed too, one more or one less.
+/// A success of a command that grows takes one place more, and a success of any other no more; but
+/// TPM2_EvictControl, which may also remove an object, takes one more or one less.
 #[inline(always)]
 #[tactic(auto, using(crate::proofs::Table::row_grows))]
 pub fn growth_laws()
@@ -101,7 +101,7 @@ pub fn row_session_laws()
         → IfOk (row_of r c q) (λ s. SessionsStay r s.after) }
 {}
 
-/// After the row of a command that may have sessions, that of each entry is still there.
+/// After the row of a command that may have sessions, the session of each entry is still there.
 #[inline(always)]
 #[tactic(auto, using(crate::proofs::Accepted::accepted_has))]
 pub fn used_session_laws()
@@ -140,8 +140,8 @@ pub fn handle_fit_laws()
         → IfOk (general r buffer) (λ c. HandlesFit r (shape_of c.code).handles c.handles) }
 {}
 
-/// So what the general checks let through is refused for no handle: neither by the authorization
-/// nor by the row.
+/// A command that the general checks let through is not refused for a handle: neither by the
+/// authorization nor by the row.
 #[inline(always)]
 #[tactic(auto, using(crate::proofs::Handles::acceptance_passes))]
 pub fn later_handle_laws()
@@ -149,8 +149,8 @@ pub fn later_handle_laws()
         → general r buffer ≡ Ok c → Passes check.Handles (acceptance r c locality random) }
 {}
 
-/// What the general checks let through is the command that the whole buffer spells: so one buffer
-/// decodes to one command, whatever the record.
+/// A command that the general checks let through is the one that the whole buffer spells: so one
+/// buffer decodes to one command, whatever the record.
 #[inline(always)]
 #[tactic(auto, using(crate::proofs::Decoding::general_reads, crate::proofs::Decoding::one_command))]
 pub fn decoding_laws()
@@ -167,7 +167,8 @@ pub fn row_memory_laws()
     ensures { (r : Record) (c : CommandCode) (q : Request) → Passes check.Memory (row_of r c q) }
 {}
 
-/// So no step to which memory is not refused reports M, and no execution where it cannot be.
+/// No step to which memory is not refused reports M, and no execution where memory cannot be
+/// refused.
 #[inline(always)]
 #[tactic(auto, using(crate::proofs::Memory::step_wants, crate::proofs::Memory::execution_wants))]
 pub fn step_memory_laws()
@@ -196,8 +197,8 @@ pub fn grant_laws()
         → IfOk (authorize r c locality) (GrantsFit c) }
 {}
 
-/// What is accepted is due, its handles fit, its entries authorize what they are granted, and it is
-/// a success of its row.
+/// A command that is accepted is due, its handles fit, its entries authorize what they are granted,
+/// and its row succeeds.
 #[inline(always)]
 #[tactic(auto, using(crate::proofs::Acceptance::accepted_is))]
 pub fn acceptance_laws()
@@ -205,7 +206,7 @@ pub fn acceptance_laws()
         → IfOk (accepted r buffer locality random) (IsAcceptance r locality random) }
 {}
 
-/// What follows a row changes nothing of its effect but sessions, and what a shutdown saved.
+/// The step changes nothing of a row's effect but sessions, and what a shutdown saved.
 #[inline(always)]
 #[tactic(auto, using(crate::proofs::Leaving::answered_only, crate::proofs::Leaving::success_leaves))]
 pub fn effect_laws()
@@ -235,8 +236,8 @@ pub fn uncounted_laws()
         → IfErr (general r buffer) (λ e. e.refused.counted ≡ counted.None) }
 {}
 
-/// A device as it is manufactured has no session, and so all of them have their sizes; and so it is
-/// after a power cycle.
+/// A device as it is manufactured has no session, and so all of its sessions have their sizes; and
+/// so do those of a device after a power cycle, which has none either.
 #[inline(always)]
 #[tactic(auto, using(crate::proofs::SizedSteps::manufactured_sized, crate::proofs::SizedSteps::cycled_sized))]
 pub fn new_device_size_laws()
@@ -244,9 +245,9 @@ pub fn new_device_size_laws()
     ensures cycled { (r : Record) → AreSized (cycled r) }
 {}
 
-/// A success draws no more of the event's 256 random bytes than a command may; and as many as its
-/// command's code and parameters say, but for TPM2_Startup, which has no entries for whose nonces it
-/// would count.
+/// A success draws no more of the event's 256 random bytes than a command may, and as many as its
+/// command's code and parameters say. TPM2_Startup is said to draw none: it has no entries for
+/// whose nonces its draws would count.
 #[inline(always)]
 #[tactic(auto, using(crate::proofs::Table::row_draws, crate::proofs::Table::row_draws_so))]
 pub fn draw_laws()
@@ -258,7 +259,8 @@ pub fn draw_laws()
         → ((shape_of c).forbids_sessions ≡ true) × (draws_of c q ≡ 0) }
 {}
 
-/// A success leaves sessions of their sizes, where there are random bytes enough for a nonce.
+/// A success of a row leaves sessions of their sizes, where there are random bytes enough for a
+/// nonce.
 #[inline(always)]
 #[tactic(auto, using(crate::proofs::Table::row_sized))]
 pub fn row_size_laws()
@@ -266,8 +268,8 @@ pub fn row_size_laws()
         → 32 ≤ length q.random → AreSized r → IfOk (row_of r c q) (λ s. AreSized s.after) }
 {}
 
-/// What follows it leaves them too, where there are random bytes enough for a nonce of each entry:
-/// sessions take new nonces, policies start over, sessions end.
+/// The answer to a success leaves sessions of their sizes, where there are random bytes enough for
+/// a nonce of each entry: sessions take new nonces, policies start over, sessions end.
 #[inline(always)]
 pub fn answer_size_laws()
     ensures { (c : Whole) (grants : List (Option Grant)) (a : Written) (effect : Record)
@@ -275,22 +277,22 @@ pub fn answer_size_laws()
         → AreSized (answer_to c grants a effect random).after }
 {}
 
-/// So every event leaves them, whether memory is refused or not: 256 random bytes are enough for
-/// each command.
+/// Every event leaves sessions of their sizes, whether memory is refused or not: 256 random bytes
+/// are enough for each command.
 #[inline(always)]
 pub fn step_size_laws()
     ensures { (refused : Bool) (r : Record) (event : PlainEvent)
         → IsEvent event → AreSized r → AreSized (step_where refused r event).after }
 {}
 
-/// Every execution of an event leaves them.
+/// Every execution of an event leaves sessions of their sizes.
 #[inline(always)]
 pub fn execution_size_laws()
     ensures { (can : Bool) (old : Record) (event : PlainEvent) (x : Stepped)
         → Executes can old event x → AreSized old → AreSized x.after }
 {}
 
-/// Every run of events leaves them too.
+/// Every run of events leaves sessions of their sizes.
 #[inline(always)]
 pub fn run_size_laws<F: FnMut(&Outcome)>()
     ensures { (can : Bool) (old : Record) (p : F) (events : List PlainEvent) (new : Record) (q : F)

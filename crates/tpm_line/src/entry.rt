@@ -11,7 +11,7 @@ use tpm_types_command::AuthEntry;
 /// How many entries a line may have.
 const ENTRIES: u8 = 3;
 
-/// Adds a handle: the name of a permanent entity, or eight hex digits.
+/// Adds a handle to the line: the name of a permanent entity, or eight hex digits.
 fn put_handle(handle: Handle, line: &mut String) -> Result<(), AllocError> {
     if handle == Handle::OWNER {
         line.push_str("OWNER")
@@ -29,7 +29,7 @@ fn put_handle(handle: Handle, line: &mut String) -> Result<(), AllocError> {
     }
 }
 
-/// Adds this many handles.
+/// Adds this many handles to the line.
 pub fn put_handles(count: usize, fields: &mut Cursor, line: &mut String) -> Result<(), SpellFault> {
     for _ in 0..count {
         let number = fields.u32()?;
@@ -39,7 +39,7 @@ pub fn put_handles(count: usize, fields: &mut Cursor, line: &mut String) -> Resu
     Ok(())
 }
 
-/// Adds the entries of an authorization area.
+/// Adds the entries of an authorization area to the line.
 pub fn put_area(fields: &mut Cursor, line: &mut String) -> Result<(), SpellFault> {
     let size = fields.u32()?;
     let mut area = Cursor::new(fields.take(size as usize)?);
@@ -52,7 +52,7 @@ pub fn put_area(fields: &mut Cursor, line: &mut String) -> Result<(), SpellFault
     Ok(())
 }
 
-/// Adds an entry: of a password, in the one form that a password has, or of a session.
+/// Adds an entry to the line: of a password, in the one form that a password has, or of a session.
 fn put_entry(entry: &AuthEntry, line: &mut String) -> Result<(), AllocError> {
     let attributes = entry.attributes.octet;
     if entry.session == Handle::PASSWORD && entry.nonce.is_empty() && attributes == 1 {

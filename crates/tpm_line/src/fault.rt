@@ -6,10 +6,10 @@ use std::alloc::AllocError;
 use tpm_bytes::{Short, SizedFault};
 use tpm_types::Rc;
 
-/// Why there is no line of a buffer.
+/// The reason why there is no line of a buffer.
 #[derive(Clone, Copy, Debug, PartialEq, Eq)]
 pub enum SpellFault {
-    /// None was found.
+    /// No line was found that spells the buffer.
     NoLine,
     NoMemory,
 }

@@ -5,9 +5,9 @@
 //! [`line::line_of`] reads a buffer by the shape of its command and writes a word for each of its
 //! parts: handles and entries ([`entry`]), parameters ([`parameter`]), which are numbers
 //! ([`number`]), algorithms, bytes in hex ([`word`]) and lists ([`list`]). Then the line is
-//! assembled, and given only where that makes the buffer again. So what is proved of it rests on
-//! `tpm_text` alone, and the parts that write words promise nothing. That there is a line of each
-//! buffer that a line spells is tested.
+//! assembled, and given only where it makes the buffer again. So what is proved of the line rests
+//! on `tpm_text` alone, and the parts that write words promise nothing. Tests show that a line is
+//! found for each buffer that some line spells.
 
 mod entry;
 pub mod fault;

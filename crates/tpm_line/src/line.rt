@@ -1,4 +1,4 @@
-//! The line of a buffer: it is written by what the buffer says, and held against the buffer.
+//! The line of a buffer: it is written by what the buffer says, and compared with the buffer.
 
 ghost use Rattle.std.specs.Prelude.{◌≡◌, IfOk, Ok, true};
 ghost use Rattle.std.specs.String.{string_bytes};
@@ -12,8 +12,8 @@ use tpm_bytes::Cursor;
 use tpm_text::{Draft, assemble_in};
 use tpm_types_command::{CommandCode, Tag};
 
-/// A line that spells this buffer. Where NoLine is answered, none was found; nothing is said of
-/// that.
+/// A line that spells this buffer. NoLine says that none was found, and the contract does not say
+/// when.
 pub fn line_of(alloc: Global, buffer: &[u8]) -> Result<String, SpellFault>
     ensures { IfOk result (λ line. assembled (string_bytes line) ≡ Ok buffer.now) }
 {
@@ -35,7 +35,7 @@ fn is_spelled(line: &[u8], buffer: &[u8]) -> bool
     }
 }
 
-/// The words for the parts of a buffer. What is left over is not looked at.
+/// The line of the words for the parts of a buffer. Bytes that are left over are not looked at.
 fn spell(alloc: Global, buffer: &[u8]) -> Result<String, SpellFault> {
     let fields = &mut Cursor::new(buffer);
     let tag = fields.u16()?;

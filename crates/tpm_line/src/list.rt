@@ -6,18 +6,18 @@ use std::fmt::Write;
 use tpm_bytes::Cursor;
 use tpm_types::{PCR_COUNT, read_hash};
 
-/// What the elements of a list are.
+/// The kind of a list's elements.
 #[derive(Clone, Copy, Debug, PartialEq, Eq)]
 pub enum Element {
-    /// TPMS_PCR_SELECTION.
+    /// A selection of a bank: TPMS_PCR_SELECTION.
     Bank,
-    /// TPMT_HA.
+    /// A digest with its algorithm: TPMT_HA.
     Digest,
-    /// TPM2B_DIGEST.
+    /// A digest in a sized buffer: TPM2B_DIGEST.
     Buffer,
 }
 
-/// Adds the elements of a list, joined by `+`, or `-` for none.
+/// Adds the elements of a list to the line, joined by `+`, or `-` for none.
 pub fn put_list(
     element: Element,
     fields: &mut Cursor,
@@ -40,7 +40,7 @@ pub fn put_list(
     Ok(())
 }
 
-/// Adds the PCRs that are selected in a bank.
+/// Adds the PCRs that are selected in a bank to the line.
 fn put_bank(fields: &mut Cursor, line: &mut String) -> Result<(), SpellFault> {
     let hash = read_hash(fields)?;
     let _size = fields.u8()?;
@@ -56,7 +56,7 @@ fn put_bank(fields: &mut Cursor, line: &mut String) -> Result<(), SpellFault> {
     Ok(())
 }
 
-/// Adds a digest with its hash algorithm.
+/// Adds a digest with its hash algorithm to the line.
 fn put_digest(fields: &mut Cursor, line: &mut String) -> Result<(), SpellFault> {
     let hash = read_hash(fields)?;
     line.push_str(hash_word(hash))?;

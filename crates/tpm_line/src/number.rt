@@ -4,17 +4,18 @@ use std::alloc::AllocError;
 use std::fmt::Write;
 use tpm_types_command::CommandCode;
 
-/// In what a number is written.
+/// The form in which a number is written.
 #[derive(Clone, Copy, Debug, PartialEq, Eq)]
 pub enum Form {
     Decimal,
     Hexadecimal,
-    /// With all digits of a handle.
+    /// Hexadecimal, with all digits of a handle.
     Handle,
 }
 
 impl Form {
-    /// That of the number at this place among a command's parameters, where it has not eight bytes.
+    /// The form of the number in this place among a command's parameters, if it has fewer than
+    /// eight bytes.
     pub fn of(code: CommandCode, place: usize) -> Form {
         match code {
             CommandCode::FlushContext | CommandCode::EvictControl => Form::Handle,
@@ -25,7 +26,7 @@ impl Form {
     }
 }
 
-/// Adds a number.
+/// Adds a number to the line.
 pub fn put_number(number: u64, form: Form, line: &mut String) -> Result<(), AllocError> {
     match form {
         Form::Decimal => write!(line, "{number}"),

@@ -7,7 +7,7 @@ use crate::word::{put_buffer, put_hash, put_symmetric};
 use tpm_bytes::Cursor;
 use tpm_types_command::{CommandCode, ParameterKind};
 
-/// Adds the parameters of a command.
+/// Adds the parameters of a command to the line.
 pub fn put_parameters(
     code: CommandCode,
     fields: &mut Cursor,
@@ -21,7 +21,8 @@ pub fn put_parameters(
     Ok(())
 }
 
-/// Adds a parameter of a kind, in this form where it is a number of four bytes or fewer.
+/// Adds a parameter of a kind to the line, in this form where it is a number of four bytes or
+/// fewer.
 fn put_parameter(
     kind: ParameterKind,
     form: Form,
@@ -38,7 +39,7 @@ fn put_parameter(
         ParameterKind::U32 | ParameterKind::PersistentHandle => {
             put_number(u64::from(fields.u32()?), form, line)?;
         }
-        // Eight bytes are a set of bits.
+        // A number of eight bytes is a set of bits.
         ParameterKind::U64 => put_number(fields.u64()?, Form::Hexadecimal, line)?,
         ParameterKind::Hash | ParameterKind::HashOrNull => put_hash(fields, line)?,
         ParameterKind::Symmetric => put_symmetric(fields, line)?,

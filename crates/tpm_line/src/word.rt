@@ -7,7 +7,7 @@ use tpm_bytes::Cursor;
 use tpm_mac::HashAlg;
 use tpm_types::{SymmetricDefinition, read_hash_or_null};
 
-/// Adds the digits of bytes.
+/// Adds the hex digits of bytes to the line.
 pub fn put_digits(bytes: &[u8], line: &mut String) -> Result<(), AllocError> {
     for byte in bytes {
         let byte = *byte;
@@ -16,7 +16,7 @@ pub fn put_digits(bytes: &[u8], line: &mut String) -> Result<(), AllocError> {
     Ok(())
 }
 
-/// Adds bytes in hex, or `-` for none.
+/// Adds bytes in hex to the line, or `-` for none.
 pub fn put_bytes(bytes: &[u8], line: &mut String) -> Result<(), AllocError> {
     if bytes.is_empty() {
         line.push_str("-")
@@ -25,7 +25,7 @@ pub fn put_bytes(bytes: &[u8], line: &mut String) -> Result<(), AllocError> {
     }
 }
 
-/// Adds the bytes of a sized buffer.
+/// Adds the bytes of a sized buffer to the line.
 pub fn put_buffer(fields: &mut Cursor, line: &mut String) -> Result<(), SpellFault> {
     put_bytes(fields.sized(0xffff)?, line)?;
     Ok(())
@@ -39,7 +39,7 @@ pub fn hash_word(hash: HashAlg) -> &'static str {
     }
 }
 
-/// Adds the word for a hash algorithm, or for none.
+/// Adds the word for a hash algorithm to the line, or that for none.
 pub fn put_hash(fields: &mut Cursor, line: &mut String) -> Result<(), SpellFault> {
     let word = match read_hash_or_null(fields)? {
         Some(hash) => hash_word(hash),
@@ -49,7 +49,7 @@ pub fn put_hash(fields: &mut Cursor, line: &mut String) -> Result<(), SpellFault
     Ok(())
 }
 
-/// Adds the word for a symmetric definition.
+/// Adds the word for a symmetric definition to the line.
 pub fn put_symmetric(fields: &mut Cursor, line: &mut String) -> Result<(), SpellFault> {
     let word = match SymmetricDefinition::read(fields)? {
         SymmetricDefinition::Null => "null",

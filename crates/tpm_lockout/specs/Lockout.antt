@@ -2,18 +2,20 @@
 use Rattle.std.specs.Prelude.{ℕ, ◌<◌, ◌*◌, ◌^◌, false}
 use Rattle.tpm_lockout.specs.declared.fields.LockoutFields.{LockoutFields}
 
--- tries, parameters and whether lockoutAuth is closed, which are kept over a power cycle; and two
--- times in milliseconds: since the latest try was counted or forgiven, and since lockoutAuth closed
+-- the state of lockout: failed tries, their parameters and whether lockoutAuth is closed, which are
+-- kept over a power cycle; and two times in milliseconds, since the latest try was counted or
+-- forgiven, and since lockoutAuth closed
 pub record LockoutState : Type 0 where
   pub fields : LockoutFields
   pub forgiving_time : ℕ
   pub closed_time : ℕ
 
--- seconds, in milliseconds
+-- the milliseconds of so many seconds
 abbrev pub milliseconds : ℕ → ℕ
 milliseconds seconds = 1000 * seconds
 
--- as it is manufactured: three tries, and a thousand seconds for each time
+-- lockout of a device as it is manufactured: maxTries is 3, and both recovery times are 1,000
+-- seconds
 abbrev pub new_lockout : LockoutState
 new_lockout = record {
   fields = record {
@@ -27,15 +29,15 @@ new_lockout = record {
   closed_time = 0;
 }
 
--- both times begin anew
+-- lockout with both times at their beginning
 abbrev pub times_restarted : LockoutState → LockoutState
 times_restarted s = record s { forgiving_time = 0; closed_time = 0 }
 
--- what is kept, with both times at their beginning
+-- lockout as power comes on: what was kept, with both times at their beginning
 abbrev pub restored : LockoutFields → LockoutState
 restored fields = record { fields = fields; forgiving_time = 0; closed_time = 0 }
 
--- TPM2_DictionaryAttackParameters: other parameters, and both times begin anew
+-- lockout after TPM2_DictionaryAttackParameters: other parameters, and both times begin anew
 abbrev pub with_parameters : (max_tries recovery_time lockout_recovery : ℕ)
     → LockoutState → LockoutState
 with_parameters max_tries recovery_time lockout_recovery s = restored (record s.fields {
@@ -44,8 +46,8 @@ with_parameters max_tries recovery_time lockout_recovery s = restored (record s.
   lockout_recovery = lockout_recovery;
 })
 
--- what holds of every state: numbers of their widths, and times in milliseconds of no more seconds
--- than a number of 32 bits counts
+-- what holds of every state of lockout: numbers of their widths, and times in milliseconds of no
+-- more seconds than a number of 32 bits counts
 pub record IsLockout (s : LockoutState) : Type 0 where
   pub failed_tries : s.fields.failed_tries < 2 ^ 32
   pub max_tries : s.fields.max_tries < 2 ^ 32

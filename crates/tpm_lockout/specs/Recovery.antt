@@ -8,28 +8,31 @@ use Rattle.tpm_lockout.specs.declared.fields.LockoutFields.{LockoutFields}
 abbrev pub with_closed : Bool → LockoutState → LockoutState
 with_closed closed s = record s { fields = record s.fields { closed = closed } }
 
--- a wrong try closes it, from now on; while it is closed nothing more
+-- lockout after a wrong try at lockoutAuth, which closes it from now on; where it is closed already
+-- nothing changes
 abbrev pub closed_by_failure : LockoutState → LockoutState
 closed_by_failure s =
     if s.fields.closed then s else record (with_closed true s) { closed_time = 0 }
 
--- whether time opens it: only where it is closed, and not until a TPM Reset
+-- whether time opens lockoutAuth: only where it is closed, and not where lockoutRecovery is 0, when
+-- a TPM Reset opens it
 abbrev pub opens_by_time : LockoutFields → Bool
 opens_by_time f = f.closed && not (f.lockout_recovery == 0)
 
--- it opens as soon as it was closed for so long
+-- lockout after lockoutAuth was closed for this time: it opens as soon as lockoutRecovery has
+-- passed
 abbrev pub opened_at : (time : ℕ) → LockoutState → LockoutState
 opened_at time s =
     if nat_le (milliseconds s.fields.lockout_recovery) time
     then record (with_closed false s) { closed_time = 0 }
     else record s { closed_time = time }
 
--- some milliseconds later
+-- lockoutAuth some milliseconds later
 unfoldable pub opened_after : (elapsed : ℕ) → LockoutState → LockoutState
 opened_after elapsed s =
     if opens_by_time s.fields then opened_at (s.closed_time + elapsed) s
     else record s { closed_time = 0 }
 
--- what some milliseconds do: tries are forgiven, and lockoutAuth opens
+-- lockout some milliseconds later: tries are forgiven, and lockoutAuth opens
 abbrev pub lockout_ticked : (elapsed : ℕ) → LockoutState → LockoutState
 lockout_ticked elapsed s = opened_after elapsed (forgiven_after elapsed s)

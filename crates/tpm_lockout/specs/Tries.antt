@@ -6,30 +6,32 @@ use Rattle.std.specs.Prelude.{ℕ, ◌+◌, ◌-◌, ◌/◌, ◌%◌, ◌==◌,
 use Rattle.tpm_lockout.specs.Lockout.{LockoutState, milliseconds}
 use Rattle.tpm_lockout.specs.declared.fields.LockoutFields.{LockoutFields}
 
--- whether tries are counted at all
+-- whether failed tries are counted at all
 abbrev pub counts_tries : LockoutFields → Bool
 counts_tries f = not (f.recovery_time == 0)
 
--- whether what tries protect is locked out
+-- whether entities that are protected by failed tries are locked out
 abbrev pub is_locked : LockoutFields → Bool
 is_locked f = counts_tries f && nat_le f.max_tries f.failed_tries
 
 abbrev pub with_tries : ℕ → LockoutState → LockoutState
 with_tries tries s = record s { fields = record s.fields { failed_tries = tries } }
 
--- a try that failed counts, and the time after which one is forgiven begins anew; while all is
--- locked out it does not
+-- lockout after a failed try, which counts; the time after which one is forgiven begins anew, but
+-- not while all is locked out
 unfoldable pub after_failure : LockoutState → LockoutState
 after_failure s =
     if counts_tries s.fields && not (is_locked s.fields)
     then record (with_tries (s.fields.failed_tries + 1) s) { forgiving_time = 0 }
     else s
 
--- how many tries are left at a time: each whole recoveryTime forgives one, until none is left
+-- how many failed tries are left at a time: each whole recoveryTime forgives one, until none is
+-- left
 abbrev pub tries_left : LockoutFields → (time : ℕ) → ℕ
 tries_left f time = f.failed_tries - time / milliseconds f.recovery_time
 
--- at a time: what is left of that after the tries that it forgave goes on, while there are tries
+-- lockout at a time since a try was counted or forgiven: the rest of that time, after the tries
+-- that it forgave, goes on while there are tries
 abbrev pub forgiven_at : (time : ℕ) → LockoutState → LockoutState
 forgiven_at time s =
     let left = tries_left s.fields time in
@@ -37,7 +39,7 @@ forgiven_at time s =
       forgiving_time = if left == 0 then 0 else time % milliseconds s.fields.recovery_time;
     }
 
--- some milliseconds later
+-- lockout some milliseconds later, of which each whole recoveryTime forgives a try
 unfoldable pub forgiven_after : (elapsed : ℕ) → LockoutState → LockoutState
 forgiven_after elapsed s =
     if counts_tries s.fields then forgiven_at (s.forgiving_time + elapsed) s

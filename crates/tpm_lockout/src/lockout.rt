@@ -11,8 +11,8 @@ ghost use Rattle.tpm_lockout.specs.Tries.{after_failure, forgiven_after, is_lock
 use crate::fields::LockoutFields;
 use std::marker::Model;
 
-/// The protection against dictionary attacks, with its two times. Contracts see it as its fields
-/// and these.
+/// The protection against dictionary attacks, with its two times. Contracts see its fields and the
+/// times.
 #[derive(Drop)]
 pub struct Lockout {
     fields: LockoutFields,
@@ -36,14 +36,14 @@ impl Model for Lockout {
     } };
 }
 
-/// Seconds, in milliseconds.
+/// The milliseconds of so many seconds.
 fn milliseconds(seconds: u32) -> u64
     ensures { result ≡ milliseconds seconds }
 {
     1000 * u64::from(seconds)
 }
 
-/// How many tries are left after this many are forgiven.
+/// How many failed tries are left after this many are forgiven.
 fn tries_left(tries: u32, forgiven: u64) -> u32
     ensures { result ≡ tries - forgiven }
 {
@@ -51,7 +51,8 @@ fn tries_left(tries: u32, forgiven: u64) -> u32
 }
 
 impl Lockout {
-    /// As it is manufactured: three tries, and a thousand seconds for each time.
+    /// Lockout of a device as it is manufactured: maxTries is 3, and both recovery times are 1,000
+    /// seconds.
     pub fn new() -> Lockout
         ensures { result ≡ new_lockout }
     {
@@ -64,7 +65,7 @@ impl Lockout {
         })
     }
 
-    /// What was kept, with both times at their beginning.
+    /// Lockout as power comes on: what was kept, with both times at their beginning.
     pub fn restore(fields: LockoutFields) -> Lockout
         ensures { result ≡ restored fields }
     {
@@ -75,10 +76,10 @@ impl Lockout {
         }
     }
 
-    /// What outlasts a power cycle.
+    /// The part that outlasts a power cycle.
     pub fn fields(&self) -> LockoutFields
         ensures value { result ≡ self.now.fields }
-        // Its numbers are of their widths, and so are its times.
+        // The numbers have their widths, and so do the times.
         ensures is_lockout { IsLockout self.now }
     {
         let _failed_tries = self.fields.failed_tries;
@@ -129,14 +130,14 @@ impl Lockout {
         }
     }
 
-    /// Whether what tries protect is locked out.
+    /// Whether the entities that failed tries protect are locked out.
     pub fn is_locked(&self) -> bool
         ensures { result ≡ is_locked self.now.fields }
     {
         self.fields.recovery_time != 0 && self.fields.failed_tries >= self.fields.max_tries
     }
 
-    /// A try at a protected entity failed: it counts, unless all is locked out or no try counts.
+    /// Counts a failed try at a protected entity, unless all is locked out or no try counts.
     #[tactic(auto, unfolding(crate::specs::Tries::after_failure))]
     pub fn failed(&mut self)
         ensures { self.new ≡ after_failure self.old }
@@ -155,7 +156,7 @@ impl Lockout {
         self.fields.failed_tries = 0;
     }
 
-    /// Takes other parameters (TPM2_DictionaryAttackParameters), and both times begin anew.
+    /// Takes other parameters (TPM2_DictionaryAttackParameters), and begins both times anew.
     pub fn set_parameters(&mut self, max_tries: u32, recovery_time: u32, lockout_recovery: u32)
         ensures { self.new ≡ with_parameters max_tries recovery_time lockout_recovery self.old }
     {
@@ -165,7 +166,7 @@ impl Lockout {
         self.power_cycle();
     }
 
-    /// A try at lockoutAuth failed, which closes it; while it is closed nothing more.
+    /// Closes lockoutAuth after a failed try at it; where it is closed already nothing changes.
     pub fn lockout_failed(&mut self)
         ensures { self.new ≡ closed_by_failure self.old }
     {
@@ -189,7 +190,7 @@ impl Lockout {
         self.fields.closed = false;
     }
 
-    /// Power goes off and on again: both times begin anew.
+    /// Begins both times anew, as power goes off and on again.
     pub fn power_cycle(&mut self)
         ensures { self.new ≡ times_restarted self.old }
     {

@@ -1,4 +1,4 @@
--- The blocks of KDFa up to one of them.
+-- Blocks 1 to n of KDFa, joined.
 use Rattle.std.proofs.Common.{◌≡◌, ℕ, zero, suc, ◌+◌, ◌-◌, ◌*◌, ◌<◌, ◌≤◌, List, ◌∷◌, [], ◌++◌, add-one, ap, arith, drop, length, length-append, sym, take, ◌∙◌}
 use Rattle.std.proofs.lemmas.Grind.{div_ceil_times, flat_map-append}
 use Rattle.std.proofs.lemmas.List.{append-nil, take_all}
@@ -21,14 +21,14 @@ abbrev pub blocks_to : HashAlg → (key label context_u context_v : List ℕ) (s
 blocks_to alg key label context_u context_v size n =
     pieces_to (λ i. hmac_of alg key (kdfa_text label context_u context_v (size * 8) i)) n
 
--- one more block
+-- the first blocks, and one more, joined
 pieces_to-suc : (piece : ℕ → List ℕ) (n : ℕ) → pieces_to piece (suc n) ≡ pieces_to piece n ++ piece (1 + n)
 pieces_to-suc piece n =
     ap (flat_map piece) (range_with_len-suc 1 n)
     ∙ flat_map-append piece (range_with_len 1 n) ((1 + n) ∷ [])
     ∙ ap (λ (xs : List ℕ). pieces_to piece n ++ xs) (append-nil (piece (1 + n)))
 
--- blocks of one size
+-- blocks of one size, joined, have n times that size
 length-pieces_to : (piece : ℕ → List ℕ) (size : ℕ) → ((i : ℕ) → length (piece i) ≡ size)
     → (n : ℕ) → length (pieces_to piece n) ≡ n * size
 length-pieces_to piece size each zero = omega arith
@@ -53,7 +53,7 @@ take-piece_written piece size each old new block n fits so_far same after =
     ∙ ap (λ (xs : List ℕ). before ++ xs) (ap piece (omega arith) ∙ sym same) in
     rw (seam, last, after, front, ← at) (take-block_written old before block (omega arith))
 
--- one more block of KDFa, written after those that stand already
+-- one more block of KDFa is written after those that are there already
 pub kdfa_block_written : (alg : HashAlg) (key label context_u context_v old new block : List ℕ) (size n : ℕ)
     → size ≡ digest_size alg → n * size ≤ length old
     → take (n * size) old ≡ take (length old) (blocks_to alg key label context_u context_v (length old) n)
@@ -78,12 +78,12 @@ last-piece_written piece size (suc m) n new room last so_far =
     let covers : length new ≤ (n + 1) * size = rw at room in
     sym (take_all ((n + 1) * size) new covers) ∙ so_far ∙ ap (λ (k : ℕ). take (length new) (pieces_to piece k)) at
 
--- a digest has bytes
+-- every digest has at least one byte
 digest_size-positive : (alg : HashAlg) → 0 < digest_size alg
 digest_size-positive Sha1 = omega arith
 digest_size-positive Sha256 = omega arith
 
--- all bytes of KDFa stand, once the last block is written
+-- all bytes of KDFa are there, once the last block is written
 pub kdfa_written : (alg : HashAlg) (key label context_u context_v new : List ℕ) (size n : ℕ)
     → size ≡ digest_size alg → n ≡ div_ceil (length new) size - 1
     → take ((n + 1) * size) new ≡ take (length new) (blocks_to alg key label context_u context_v (length new) (n + 1))

@@ -8,7 +8,7 @@ use Rattle.std.proofs.Math.Seq.{take-append-add}
 use Rattle.std.specs.List.{range_with_len}
 use Rattle.tpm_mac.specs.Hmac.{masked_key}
 
--- a front that is written over zeros
+-- bytes that are written over the front of zeros
 pub zeros_overwritten : (zeros bytes written : List ℕ) → zeros ≡ replicate 64 0 → written ≡ bytes
     → written ++ drop (length bytes) zeros ≡ bytes ++ replicate (64 - length bytes) 0
 zeros_overwritten zeros bytes written blank same =
@@ -26,7 +26,7 @@ masked_more key bytes pad i within so_far =
     map_over_more (λ (x : ℕ). bit_xor x pad) key bytes i byte within so_far
     (sym (get_or_default_zero bytes i byte (omega arith)))
 
--- the front of a block with what follows it, where nothing follows a block that was cut
+-- the front of a block and the text after it, where nothing comes after a block that was cut
 take-cut_block : (block rest : List ℕ) (room : ℕ) → (room < length block → rest ≡ [])
     → take (length block) (take room block ++ rest) ≡ take room block
 take-cut_block block rest room none =
@@ -35,7 +35,8 @@ take-cut_block block rest room none =
       | inr fits ↦ rw (take_all room block fits) (take_at block rest (length block) refl)
     ]
 
--- the front of a list, once a block is written after what stands there, as much as there is room for
+-- the front of a list, once a block is written after the bytes before it, as much as there is room
+-- for
 pub take-block_written : (old before block : List ℕ) → length before ≤ length old
     → take (length before + length block)
     (before ++ take (length old - length before) block ++ drop (length before + length block) old)
@@ -51,7 +52,7 @@ take-block_written old before block fits =
     ∙ ap (λ (xs : List ℕ). before ++ xs) (take-cut_block block rest room none)
     ∙ sym (ap (λ (k : ℕ). take k (before ++ block)) all ∙ take-append-add before block room)
 
--- one more number at the end
+-- a range with one more number at the end
 pub range_with_len-suc : (a n : ℕ) → range_with_len a (suc n) ≡ range_with_len a n ++ (a + n) ∷ []
 range_with_len-suc a zero = rw (add-zero a) refl
 range_with_len-suc a (suc n) =

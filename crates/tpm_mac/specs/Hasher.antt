@@ -8,18 +8,18 @@ use Rattle.tpm_mac.specs.declared.hasher.Hasher.{Hasher}
 use Rattle.tpm_mac.specs.declared.hasher.State.{State}
 use Rattle.tpm_mac.specs.declared.hasher.State.TheVariants.{Sha1, Sha256}
 
--- the state is that of a hash by this algorithm, after this message
+-- The state is that of a hash by this algorithm, after this message.
 abbrev pub StateHolds : State → HashAlg → List ℕ → Type 0
 StateHolds (Sha1 hasher) alg.Sha1 message = S1.Holds hasher message
 StateHolds (Sha1 hasher) alg.Sha256 message = ⊥
 StateHolds (Sha256 hasher) alg.Sha1 message = ⊥
 StateHolds (Sha256 hasher) alg.Sha256 message = Holds256 hasher message
 
--- the hasher is one of this algorithm and has taken this message
+-- The hasher is one of this algorithm and has taken this message.
 unfoldable pub Holds : Hasher → HashAlg → List ℕ → Type 0
 Holds hasher algorithm message = StateHolds hasher.state algorithm message
 
--- the hasher has taken this text after whatever it had taken before
+-- The hasher has taken this text after whatever it had taken before.
 abbrev pub Takes : (old : Hasher) → List ℕ → (new : Hasher) → Type 0
 Takes old text new = (algorithm : HashAlg) (message : List ℕ)
     → Holds old algorithm message → Holds new algorithm (message ++ text)

@@ -4,8 +4,8 @@ use Rattle.std.specs.Prelude.{List, ◌++◌, length, map, replicate}
 use Rattle.tpm_mac.specs.Digest.{hash_of}
 use Rattle.tpm_mac.specs.declared.algorithm.HashAlg.{HashAlg}
 
--- the key with zeros to the 64 bytes of a block; a key of more bytes is hashed first
--- (FIPS 198-1, 4, steps 1 to 3: K0)
+-- K0: the key with zeros to the 64 bytes of a block; a key of more bytes is hashed first (FIPS
+-- 198-1, 4, steps 1 to 3)
 abbrev pub padded_key : HashAlg → List ℕ → List ℕ
 padded_key alg key =
     let short = if nat_lt 64 (length key) then hash_of alg key else key in

@@ -6,18 +6,18 @@ use Rattle.tpm_mac.specs.Hmac.{masked_key, padded_key}
 use Rattle.tpm_mac.specs.declared.algorithm.HashAlg.{HashAlg}
 use Rattle.tpm_mac.specs.declared.mac.Mac.{Mac}
 
--- the Mac is one of this algorithm and this key, and has taken this text: its inner hash holds
--- (K0 xor ipad) ++ text (steps 4 and 5), and its outer hash K0 xor opad (step 7)
+-- The Mac is one of this algorithm and this key, and has taken this text: its inner hash holds (K0
+-- xor ipad) ++ text (steps 4 and 5), and its outer hash K0 xor opad (step 7).
 unfoldable pub MacHolds : Mac → HashAlg → (key text : List ℕ) → Type 0
 MacHolds mac algorithm key text =
     Holds mac.inner algorithm (masked_key 0x36 (padded_key algorithm key) ++ text)
     × Holds mac.outer algorithm (masked_key 0x5c (padded_key algorithm key))
 
--- the Mac is one of this algorithm, whose two hashes have taken nothing
+-- The Mac is one of this algorithm, whose two hashes have taken nothing.
 unfoldable pub IsUnkeyed : Mac → HashAlg → Type 0
 IsUnkeyed mac algorithm = Holds mac.inner algorithm [] × Holds mac.outer algorithm []
 
--- the Mac has taken this text after whatever it had taken before
+-- The Mac has taken this text after whatever it had taken before.
 abbrev pub MacTakes : (old : Mac) → List ℕ → (new : Mac) → Type 0
 MacTakes old text new = (algorithm : HashAlg) (key taken : List ℕ)
     → MacHolds old algorithm key taken → MacHolds new algorithm key (taken ++ text)

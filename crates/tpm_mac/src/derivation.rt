@@ -64,7 +64,7 @@ fn take_text(
     mac.update(bits);
 }
 
-/// Writes the block at `start`, as much of it as there is room for.
+/// Writes the block at `start`, as much of the block as there is room for.
 fn write_front(out: &mut [u8], start: usize, block: &[u8])
     requires { start ≤ length out.old }
     ensures { out.new ≡ take start out.old ++ take (length out.old - start) block.now

@@ -11,8 +11,8 @@ use arrayvec::ArrayVec;
 use sha1::Sha1;
 use sha2::{Digest as _, Sha256};
 
-/// A hash under way: what it holds of its message is the hash crate's own state, so it copies
-/// nothing of what it is fed but the begun block.
+/// A hash under way: its state is the hash crate's own, so that it copies nothing of the message
+/// that it is fed but the begun block.
 #[derive(Drop)]
 pub struct Hasher {
     state: State,
@@ -69,7 +69,7 @@ impl Hasher {
             → Holds self alg message → length result.items ≡ digest_size alg }
     {
         let mut digest = ArrayVec::new();
-        // Either digest fits into 32 bytes.
+        // The digest of either algorithm fits into 32 bytes.
         let _ = match self.state {
             State::Sha1(hasher) => digest.try_extend_from_slice(&hasher.finalize()),
             State::Sha256(hasher) => digest.try_extend_from_slice(&hasher.finalize()),

@@ -10,9 +10,9 @@ use crate::mac::Mac;
 use arrayvec::ArrayVec;
 use std::marker::Model;
 
-/// An HMAC of no text yet, and the key that it has taken. What it makes under that key again, it
-/// makes of a copy, which spares both blocks of the key. Contracts see nothing of it, since its key
-/// decides no HMAC.
+/// An HMAC of no text yet, and the key that it has taken. An HMAC under that key again is made of a
+/// copy, which spares both blocks of the key. Contracts see nothing of this, since the key that is
+/// kept decides no HMAC.
 #[derive(Drop)]
 pub struct KeyedMac {
     alg: HashAlg,
@@ -32,7 +32,7 @@ impl Model for KeyedMac {
 }
 
 impl KeyedMac {
-    /// Under the empty key.
+    /// An HMAC under the empty key.
     pub fn new() -> KeyedMac {
         KeyedMac {
             alg: HashAlg::Sha256,

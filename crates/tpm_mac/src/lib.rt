@@ -2,9 +2,10 @@
 //! handed over piece by piece, and the key derivation KDFa (SP 800-108 in counter mode; TCG TPM 2.0
 //! Library Part 1, 11.4.10.2).
 //!
-//! It stands on the hash crates `sha1` and `sha2`, whose definitions of the hashes (FIPS 180-4) its
-//! own definitions cite, and on `arrayvec` for a digest of either size. Each call equals its
-//! definition over whole texts, however the text is cut into parts. None takes memory or refuses.
+//! The crate uses the hash crates `sha1` and `sha2`, whose definitions of the hashes (FIPS 180-4)
+//! its own definitions cite, and `arrayvec` for a digest of either size. Each call equals its
+//! definition over whole texts, however the text is cut into parts. No call takes memory or
+//! refuses.
 
 #![tactic(auto)]
 

@@ -41,8 +41,8 @@ impl Mac {
         mac
     }
 
-    /// Two hashes that have taken nothing. A `Mac` on a hot path is keyed where it stands, since
-    /// each return of one copies it.
+    /// A `Mac` of two hashes that have taken nothing. Where time counts a `Mac` is keyed in its
+    /// place, since each return of one copies it.
     #[inline(always)]
     #[tactic(auto, unfolding(crate::specs::Mac::IsUnkeyed))]
     pub(crate) fn unkeyed(alg: HashAlg) -> Mac
@@ -54,7 +54,7 @@ impl Mac {
         }
     }
 
-    /// Feeds each hash with the key, masked for it.
+    /// Feeds each of the two hashes with the key, masked for it.
     #[inline(always)]
     #[tactic(auto, unfolding(crate::specs::Mac::MacHolds, crate::specs::Mac::IsUnkeyed))]
     pub(crate) fn take_key(&mut self, alg: HashAlg, key: &[u8])
@@ -130,7 +130,7 @@ fn block_key(alg: HashAlg, key: &[u8]) -> BlockKey
     }
 }
 
-/// The bytes, and zeros to the end of a block.
+/// The bytes, with zeros to the end of a block.
 fn zero_padded(bytes: &[u8]) -> BlockKey
     requires { length bytes.now ≤ BLOCK_SIZE }
     ensures { result ≡ bytes.now ++ replicate (64 - length bytes.now) 0 }

@@ -1,5 +1,6 @@
--- The header of a response that has nothing after it, and the response to a command that has entries.
-use Rattle.std.proofs.Common.{arith, length-drop, ◌+◌, ◌≡◌, ◌≤◌, ℕ, List, [], ◌∷◌, ◌++◌, drop, length, Option, ap, append-nil, refl, sym, ◌∙◌}
+-- The header of a response that has nothing after it, and the response to a command that has
+-- entries.
+use Rattle.std.proofs.Common.{arith, length-drop, ◌+◌, ◌-◌, ◌≡◌, ◌≤◌, ℕ, List, [], ◌∷◌, ◌++◌, drop, length, Option, ap, append-nil, refl, sym, ◌∙◌}
 use Rattle.std.specs.Int.{w16, w32, to_be_bytes}
 use Rattle.tpm_types.specs.declared.handle.Handle.{Handle}
 use Rattle.tpm_session.specs.ParameterHash.{OfResponse}
@@ -12,6 +13,7 @@ use Rattle.tpm_step.specs.Answer.{Written, answer_to, framed, handle_answer, suc
 use Rattle.tpm_step.specs.Entries.{Drawn, DrawsFew, entries_answer, entries_ended, entries_rolled}
 use Rattle.tpm_step.specs.Granted.{Granted, granted_entries}
 use Rattle.tpm_step.specs.Parameters.{encrypted_answer}
+use Rattle.tpm_machine.specs.Drawn.{bytes_drawn}
 
 pub framed_alone : (tag code : ℕ) → framed tag code [] ≡ to_be_bytes w16 tag ++ to_be_bytes w32 10 ++ to_be_bytes w32 code
 framed_alone tag code = ap (λ (l : List ℕ). to_be_bytes w16 tag ++ to_be_bytes w32 10 ++ l) (append-nil (to_be_bytes w32 code))
@@ -22,7 +24,7 @@ unfolding success_text
 success_some [] handle answer area some = absurd (let none : ⊥ = omega arith in none)
 success_some (entry ∷ entries) handle answer area some = refl
 
--- its three passes, and then its text
+-- an answer of its three passes, and then its text
 answered_by : (c : Whole) (grants : List (Option Grant)) (a : Written) (effect : Record) (random : List ℕ) (mid after : Record) (left parameters area text : List ℕ) → 1 ≤ length c.entries
     → entries_rolled effect c.entries (drop a.drawn random) ≡ record { after = mid; left = left }
     → parameters ≡ encrypted_answer mid (granted_entries c grants) a.parameters
@@ -35,7 +37,7 @@ answered_by c grants a effect random mid after left parameters area text some ro
     let texts : text ≡ success_text c.entries a.handle parameters area = spelled ∙ sym (success_some c.entries a.handle parameters area some) in
     rw (rolled, ← encrypted, ← answered) (λ i. record { response = texts i; after = ended i })
 
--- the same of what stands in its variables
+-- an answer of three passes, by the variables of the code
 pub answered_with : (c : Whole) (grants : List (Option Grant)) (a : Written) (effect : Record) (random : List ℕ) (mid after : Record) (entries : List Entry) (granted : List Granted) (draws left parameters sent area text : List ℕ) → 1 ≤ length c.entries
     → entries ≡ c.entries → granted ≡ granted_entries c grants → draws ≡ drop a.drawn random → sent ≡ parameters
     → entries_rolled effect entries draws ≡ record { after = mid; left = left }
@@ -52,10 +54,21 @@ answered_with c grants a effect random mid after entries granted draws left para
     spelled
     (rw (← paired) ended)
 
+-- what is left behind the row's bytes and the nonces
+left_behind : (r mid : Record) (entries sent : List Entry) (draws left random : List ℕ) (drawn : ℕ)
+    → entries ≡ sent → draws ≡ drop drawn random → entries_rolled r entries draws ≡ record { after = mid; left = left } → length left ≡ length (entries_rolled r sent (drop drawn random)).left
+left_behind r mid entries sent draws left random drawn same behind rolled =
+    sym (ap (λ (x : Drawn). length x.left) rolled) ∙ ap (λ (l : List Entry). length (entries_rolled r l draws).left) same ∙ ap (λ (l : List ℕ). length (entries_rolled r sent l).left) behind
+
 -- three nonces are drawn after the bytes of the row
 pub drawn_few : (r mid : Record) (entries sent : List Entry) (draws left random : List ℕ) (drawn : ℕ)
     → entries ≡ sent → draws ≡ drop drawn random → entries_rolled r entries draws ≡ record { after = mid; left = left } → length draws ≤ length left + 96 → drawn ≤ 96 → DrawsFew random r sent drawn
 drawn_few r mid entries sent draws left random drawn same behind rolled few row =
-    let is : length left ≡ length (entries_rolled r sent (drop drawn random)).left =
-    sym (ap (λ (x : Drawn). length x.left) rolled) ∙ ap (λ (l : List Entry). length (entries_rolled r l draws).left) same ∙ ap (λ (l : List ℕ). length (entries_rolled r sent l).left) behind in
+    let is = left_behind r mid entries sent draws left random drawn same behind rolled in
     omega (arith, is, ap length behind, length-drop drawn random)
+
+-- and how many bytes that is in all
+pub drawn_in_all : (r mid : Record) (entries sent : List Entry) (draws left random : List ℕ) (drawn : ℕ)
+    → entries ≡ sent → draws ≡ drop drawn random → entries_rolled r entries draws ≡ record { after = mid; left = left } → length random - length left ≡ bytes_drawn random r sent drawn
+drawn_in_all r mid entries sent draws left random drawn same behind rolled =
+    ap (λ (n : ℕ). length random - n) (left_behind r mid entries sent draws left random drawn same behind rolled)

@@ -1,4 +1,4 @@
--- What the general checks decode is what the whole buffer spells.
+-- A command that the general checks decode is the one that the whole buffer spells.
 use Rattle.tpm_types.specs.Limits.{buffer_limit}
 use Rattle.tpm_bytes.specs.Reading.{Gives}
 use Rattle.std.proofs.Common.{arith, refl, sym, Bool, true, false, ◌≤◌, ◌*◌, ◌≡◌, ℕ, List, [], ◌∷◌, ◌+◌, length, Result, Ok, Err, IfOk, Option, None}
@@ -19,7 +19,8 @@ use Rattle.tpm_step.specs.declared.refused_command.RefusedCommand.{RefusedComman
 use Rattle.tpm_laws.proofs.Binding.{ok_at}
 use Rattle.tpm_laws.proofs.Decoding.{general_reads}
 
--- the command that they let through is the one that is read, and nothing is left after it
+-- a command that the general checks let through is the one that is read, and nothing is left after
+-- it
 spells : (r : Record) (buffer : List ℕ) (c : Whole) → general r buffer ≡ Ok c → command_at buffer ≡ Ok (c, [])
 spells r buffer c is = ok_at (λ x. command_at buffer ≡ Ok (x, [])) (general r buffer) c (general_reads r buffer) is
 
@@ -33,13 +34,13 @@ short_of c small =
     let body : length (command_body_text c) ≡ 4 * length c.handles + length (sessions_text c.entries) + length c.parameters = length-body c in
     omega (arith, size, body)
 
--- and its parameters are no longer than a whole buffer
+-- the parameters of a decoded command are no longer than a whole buffer
 pub decodes_short : (r : Record) (buffer : List ℕ) (result : Result Command RefusedCommand) → AreBytes buffer → Gives whole_of (general r buffer) result → IfOk result (λ command. length command.parameters.now ≤ buffer_limit)
 decodes_short r buffer (Ok command) fits decoded =
     short_of (whole_of command) (command_takes buffer (whole_of command, []) fits (spells r buffer (whole_of command) decoded)).0.size
 decodes_short r buffer (Err e) fits decoded = tt
 
--- where nothing decrypts, the plain parameters are those that were sent
+-- ---- where no entry decrypts, the plain parameters are those that were sent
 
 neither : (a b : Bool) → (a || b) ≡ false → (a ≡ false) × (b ≡ false)
 neither true b e = absurd (false≢true (sym e))

@@ -1,4 +1,4 @@
--- What an execution and a run do to a device that follows a history.
+-- The history of a device after an execution and a run.
 use Rattle.std.proofs.Common.{◌≡◌, Bool, List, [], Bor, ℕ, subst, sym}
 use Rattle.std.specs.Fn.{Mut}
 use Rattle.tpm_record.specs.Record.{Record, manufactured}
@@ -21,7 +21,7 @@ use Rattle.tpm_history.proofs.Following.{execution_follows, manufactured_follows
 pub new_follows : (r : Record) (random : List ℕ) → r ≡ manufactured random → Follows r []
 new_follows r random is = subst (λ (x : Record). Follows x []) (sym is) (manufactured_follows random)
 
--- what is promised of an execution
+-- This is promised of an execution.
 pub record TellsHistory (old : Record) (event : PlainEvent) (x : Stepped) : Type 0 where
   pub history : After Follows old event x
   pub counters : After HasCounters old event x

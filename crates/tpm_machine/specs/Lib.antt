@@ -1,3 +1,4 @@
+pub mod Drawn
 pub mod State
 pub use Rattle.tpm_step.specs.Events
 pub use Rattle.tpm_step.specs.Step

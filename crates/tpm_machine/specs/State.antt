@@ -1,7 +1,16 @@
--- The record of a machine.
+-- The record of a machine, and what it tells beside.
+use Rattle.std.specs.Prelude.{ℕ}
 use Rattle.tpm_record.specs.Record.{Record}
 use Rattle.tpm_machine.specs.declared.machine.Machine.{Machine}
 
--- by the record of its keep
+-- the record of a machine: the one that its state stands for
 abbrev pub state_of : {K S O P N : Type 0} → (K → Record) → Machine K S O P N → Record
 state_of record_of machine = record_of machine.keep
+
+-- with another keep
+abbrev pub with_keep : {K S O P N : Type 0} → Machine K S O P N → K → Machine K S O P N
+with_keep machine keep = record machine { keep = keep }
+
+-- how many random bytes its latest event drew
+abbrev pub latest_drawn : {K S O P N : Type 0} → Machine K S O P N → ℕ
+latest_drawn machine = machine.drawn

@@ -1,5 +1,5 @@
-//! The decoding of a command's buffer, as far as the general checks go that come before
-//! authorization; the first that fails refuses it.
+//! The decoding of a command's buffer, by the general checks that come before authorization; the
+//! first that fails refuses it.
 
 ghost use Rattle.tpm_types.specs.Limits.{buffer_limit};
 ghost use Rattle.tpm_bytes.specs.Reading.{AreBytes, Gives};
@@ -7,7 +7,8 @@ ghost use Rattle.std.specs.Prelude.{◌≡◌, ◌≤◌, [], Ok, IfOk, length};
 ghost use Rattle.tpm_bytes.specs.Reading.{Reads};
 ghost use Rattle.tpm_types_command.specs.CommandCode.{code_number, handle_count};
 ghost use Rattle.tpm_types_command.specs.Command.{command_at, whole_of};
-ghost use Rattle.tpm_step.specs.General.{body_of, general, header_check, header_refusal, present_handle_at, present_handles_at, sessions_pass};
+ghost use Rattle.tpm_types.specs.Refused.{refusal};
+ghost use Rattle.tpm_step.specs.General.{body_of, general, header_check, header_refusal, in_command, present_handle_at, present_handles_at, sessions_pass};
 
 use arrayvec::ArrayVec;
 use tpm_bytes::{Cursor, ReadableBy};
@@ -38,7 +39,16 @@ fn header_refusal(fault: HeaderFault) -> RefusedCommand
     }
 }
 
-/// Refuses sessions where the command may have none, and none where it must have some.
+/// The refusal of a command by this check, with this response code.
+fn refusal_by(code: CommandCode, check: Check, rc: Rc) -> RefusedCommand
+    ensures { result
+        ≡ record { code = code_number code; refused = refusal check rc } }
+{
+    RefusedCommand::of(code, Refused::by(check, rc))
+}
+
+/// Refuses a command with sessions that may have none, and one without sessions that must have
+/// some.
 #[tactic(auto, unfolding(tpm_step::specs::General::sessions_pass))]
 fn check_tag(code: CommandCode, tag: Tag) -> Result<(), Refused>
     ensures { result ≡ sessions_pass code tag }
@@ -55,7 +65,8 @@ fn check_tag(code: CommandCode, tag: Tag) -> Result<(), Refused>
     Ok(())
 }
 
-/// Reads the handle of this number as its rule wants it, if there is what it names.
+/// Reads handle n of a command, which its rule has to accept, and which has to name something that
+/// is there.
 #[tactic(auto, unfolding(tpm_step::specs::General::present_handle_at))]
 fn read_handle<K: Keep>(
     keep: &K,
@@ -103,30 +114,32 @@ fn decode_body<'a, K: Keep>(
     keep: &K,
     header: Header,
     mut text: Cursor<'a>,
-) -> Result<Command<'a>, Refused>
-    ensures { Gives whole_of (body_of (K.record_of keep.now) header text.entry) result }
+) -> Result<Command<'a>, RefusedCommand>
+    ensures { Gives whole_of (in_command header.code
+        (body_of (K.record_of keep.now) header text.entry)) result }
 {
     let code = header.code;
     let is_startup = code.number() == CommandCode::Startup.number();
     if keep.fixed().started == is_startup {
         let rc = ResponseCode::Initialize.anywhere();
-        return Err(Refused::by(Check::Started, rc));
+        return Err(refusal_by(code, Check::Started, rc));
     }
-    let handles = read_handles(keep, code, &mut text).map_err(|rc| Refused::by(
-        Check::Handles,
-        rc,
-    ))?;
-    check_tag(code, header.tag)?;
-    let entries = read_sessions(&mut text, header.tag).map_err(|rc| Refused::by(
-        Check::Entries,
-        rc,
-    ))?;
-    Ok(Command {
-        code,
-        handles,
-        entries,
-        parameters: text.rest(),
-    })
+    let handles = match read_handles(keep, code, &mut text) {
+        Ok(handles) => handles,
+        Err(rc) => return Err(refusal_by(code, Check::Handles, rc)),
+    };
+    if let Err(refused) = check_tag(code, header.tag) {
+        return Err(RefusedCommand::of(code, refused));
+    }
+    match read_sessions(&mut text, header.tag) {
+        Ok(entries) => Ok(Command {
+            code,
+            handles,
+            entries,
+            parameters: text.rest(),
+        }),
+        Err(rc) => Err(refusal_by(code, Check::Entries, rc)),
+    }
 }
 
 #[inline(always)]
@@ -136,8 +149,10 @@ fn decode_whole<'a, K: Keep>(keep: &K, buffer: &'a [u8]) -> Result<Command<'a>, 
     ensures bytes { AreBytes buffer.now }
 {
     let mut text = Cursor::new(buffer);
-    let header = Header::read(&mut text).map_err(header_refusal)?;
-    decode_body(keep, header, text).map_err(|refused| RefusedCommand::of(header.code, refused))
+    match Header::read(&mut text) {
+        Ok(header) => decode_body(keep, header, text),
+        Err(fault) => Err(header_refusal(fault)),
+    }
 }
 
 /// Decodes a command's buffer, or gives the first general check that refuses it.
@@ -145,7 +160,7 @@ fn decode_whole<'a, K: Keep>(keep: &K, buffer: &'a [u8]) -> Result<Command<'a>, 
 pub fn decode<'a, K: Keep>(keep: &K, buffer: &'a [u8]) -> Result<Command<'a>, RefusedCommand>
     ensures decoded { Gives whole_of (general (K.record_of keep.now) buffer.now) result }
 
-    // It is the command that the whole buffer spells.
+    // The command that was decoded is the one that the whole buffer spells.
     ensures read { IfOk result (λ command. command_at buffer.now ≡ Ok (whole_of command, [])) }
     ensures short { IfOk result (λ command. length command.parameters.now ≤ buffer_limit) }
 {

@@ -24,7 +24,14 @@ impl<'a> Draws<'a> {
         Draws { left }
     }
 
-    /// A nonce of this many bytes, from the front.
+    /// How many random bytes are left.
+    pub fn len(&self) -> usize
+        ensures { result ≡ length self.now }
+    {
+        self.left.len()
+    }
+
+    /// Draws a nonce of this many bytes, from the front.
     pub fn nonce(&mut self, size: usize) -> Nonce
         requires small { size ≤ 32 }
         requires enough { size ≤ length self.old }

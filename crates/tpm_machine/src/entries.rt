@@ -1,5 +1,5 @@
 //! What a success does to the sessions of its entries: new nonces, an answer to each entry, and the
-//! end of those that do not continue.
+//! end of the sessions that do not continue.
 
 ghost use Rattle.std.specs.Prelude.{◌≡◌, ◌+◌, ◌*◌, ◌≤◌, ◌++◌, length, map};
 ghost use Rattle.std.specs.List.{zip};
@@ -42,6 +42,7 @@ fn roll_entry<K: Keep>(keep: &mut K, entry: &AuthEntry, draws: &mut Draws)
     ensures rolled { entry_rolled (K.record_of keep.old) (entry_of entry.now) draws.old
         ≡ record { after = K.record_of keep.new; left = draws.new } }
     ensures drawn { length draws.old ≤ length draws.new + 32 }
+    ensures left { length draws.new ≤ length draws.old }
 {
     let nonce = draws.nonce(draw_of(keep, entry));
     keep.sessions_mut().roll(entry.session, nonce);
@@ -54,6 +55,7 @@ pub fn roll_entries<K: Keep>(keep: &mut K, entries: &[AuthEntry], draws: &mut Dr
     ensures rolled { entries_rolled (K.record_of keep.old) (map entry_of entries.now) draws.old
         ≡ record { after = K.record_of keep.new; left = draws.new } }
     ensures drawn { length draws.old ≤ length draws.new + 3 * 32 }
+    ensures left { length draws.new ≤ length draws.old }
 {
     for entry in entries {
         roll_entry(keep, entry, draws);

@@ -3,6 +3,7 @@
 
 ghost use Rattle.tpm_types.specs.Limits.{buffer_limit, response_limit};
 ghost use Rattle.std.specs.Prelude.{◌≡◌, ◌≤◌, ◌<◌, ◌^◌, List, [], IfOk, OnErr, false, length, map, true};
+ghost use Rattle.std.specs.Borrow.{Lends, sem};
 ghost use Rattle.tpm_record.specs.IsRecord.{IsRecord};
 ghost use Rattle.tpm_record.specs.Record.{manufactured};
 ghost use Rattle.tpm_step.specs.Events.{IsEvent, plain_event};
@@ -35,27 +36,34 @@ use tpm_step::{Event, Outcome, RefusedCommand, Response, Row};
 use tpm_types::{Counted, Locality};
 use tpm_types_command::{Command, CommandCode};
 
-/// The device, by a way of keeping its state.
+/// The device, generic in the type that keeps its state.
 #[derive(Drop)]
 pub struct Machine<K: Keep> {
     keep: K,
-    /// What a command answers is written here. It is cleared for each, and no part of the state.
+    /// The answer of a command is written here. It is cleared for each command, and is no part of
+    /// the state.
     answer: Answer,
-    /// The key of the latest HMAC, which is no part of the state either.
+    /// The key of the latest HMAC, which is no part of the state.
     keyed: KeyedMac,
+    /// How many random bytes the latest event drew, which is none of it either.
+    drawn: usize,
 }
 
 impl<K: Keep> Machine<K> {
+    ghost use Rattle.tpm_machine.specs.Drawn.{drawn_by};
+    ghost use Rattle.tpm_machine.specs.State.{latest_drawn, with_keep};
+    ghost use Rattle.tpm_machine.specs.contracts.machine.Machine.{the_row as machine_row};
+
     /// A new device. Its memory comes from `alloc`, and its hierarchies' secrets are the random
     /// bytes.
     pub fn manufacture(alloc: Global, random: &[u8; 256]) -> Result<Machine<K>, NoMemory>
-        // Memory is refused only where it can be.
+        // Memory is refused only where the type of the state can be refused it.
         ensures refused { OnErr result (K.empty_can_refuse ≡ true) }
         ensures state { IfOk result (λ machine. state_of K.record_of machine
             ≡ manufactured random.now) }
         ensures is_record { IfOk result (λ machine. IsRecord (state_of K.record_of machine)) }
 
-        // It has accepted nothing yet.
+        // A new device has accepted nothing yet.
         ensures history { IfOk result (λ machine. Follows (state_of K.record_of machine) []) }
     {
         let mut keep = K::empty(alloc)?;
@@ -64,7 +72,7 @@ impl<K: Keep> Machine<K> {
         Ok(Machine::from_keep(keep))
     }
 
-    /// The device whose state is kept so.
+    /// The device with this state.
     pub fn from_keep(keep: K) -> Machine<K>
         ensures { state_of K.record_of result ≡ K.record_of keep }
     {
@@ -72,10 +80,11 @@ impl<K: Keep> Machine<K> {
             keep,
             answer: Answer::empty(),
             keyed: KeyedMac::new(),
+            drawn: 0,
         }
     }
 
-    /// What keeps the device's state.
+    /// The state of the device.
     pub fn keep(&self) -> &K
         ensures state { K.record_of result.now ≡ state_of K.record_of self.now }
         ensures is_record { IsRecord (state_of K.record_of self.now) }
@@ -84,17 +93,36 @@ impl<K: Keep> Machine<K> {
         &self.keep
     }
 
+    /// What keeps the device's state, to be filled where it lies.
+    pub fn keep_mut(&mut self) -> &mut K
+        ensures* writes_back { sem 𝓛 (Lends (machine_row K.row K.SessionSlots.row
+            K.ObjectSlots.row K.PersistentMap.row K.NvIndices.row) K.row self.entry result
+            (with_keep self.entry.now)) }
+        ensures value { K.record_of result.now ≡ state_of K.record_of self.old }
+    {
+        &mut self.keep
+    }
+
+    /// How many of its random bytes the latest event drew, from their front: those of the command
+    /// itself and of its sessions' new nonces. A refusal draws none, nor does a power cycle.
+    pub fn drawn(&self) -> usize
+        ensures { result ≡ latest_drawn self.now }
+    {
+        self.drawn
+    }
+
     /// Executes one event: its response, its row and the state after it are those of the table, or
-    /// of refused memory in place of a success of a command that grows something. `Executes` says
-    /// in addition what holds of every outcome and of every record.
+    /// of refused memory in place of a success of a command that grows something. `Executes` also
+    /// says what holds of every outcome and of every record.
     pub fn execute(&mut self, event: &Event) -> Outcome
         ensures executes { Executes K.can_refuse (state_of K.record_of self.old)
             (plain_event event.now) (outcome_step (state_of K.record_of self.new) result) }
 
         // Where the device followed a history, it follows the history with this event, if that was
-        // accepted: counters, PCRs, authorization values and sessions are what that tells. Every
-        // replay in it repeats a nonce or an HMAC, each use had its grounds, and each by a policy
-        // session met every policy that has the authPolicy of what was used, or the hash is broken.
+        // accepted: counters, PCRs, authorization values and sessions are those of the history.
+        // Every replay in it repeats a nonce or an HMAC, each use had its grounds, and each use by
+        // a policy session met every policy that has the authPolicy of the entity that was used, or
+        // the hash is broken.
         ensures history { After Follows (state_of K.record_of self.old) (plain_event event.now)
             (outcome_step (state_of K.record_of self.new) result) }
         ensures counters { After HasCounters (state_of K.record_of self.old)
@@ -123,10 +151,15 @@ impl<K: Keep> Machine<K> {
         ensures executes { Executes K.can_refuse (state_of K.record_of self.old)
             (plain_event event.now) (outcome_step (state_of K.record_of self.new) outcome.new) }
 
+        // So many of the event's random bytes were drawn.
+        ensures drawn { latest_drawn self.new ≡ drawn_by (state_of K.record_of self.old)
+            (plain_event event.now) outcome.new.row.check }
+
         // Where the device followed a history, it follows the history with this event, if that was
-        // accepted: counters, PCRs, authorization values and sessions are what that tells. Every
-        // replay in it repeats a nonce or an HMAC, each use had its grounds, and each by a policy
-        // session met every policy that has the authPolicy of what was used, or the hash is broken.
+        // accepted: counters, PCRs, authorization values and sessions are those of the history.
+        // Every replay in it repeats a nonce or an HMAC, each use had its grounds, and each use by
+        // a policy session met every policy that has the authPolicy of the entity that was used, or
+        // the hash is broken.
         ensures history { After Follows (state_of K.record_of self.old) (plain_event event.now)
             (outcome_step (state_of K.record_of self.new) outcome.new) }
         ensures counters { After HasCounters (state_of K.record_of self.old)
@@ -162,8 +195,11 @@ impl<K: Keep> Machine<K> {
         ensures modest { result.check ≡ 0
             → IsModestIfAccepted (state_of K.record_of self.old) (plain_event event.now) }
         ensures fits { length text.new.items ≤ response_limit }
+        ensures drawn { latest_drawn self.new ≡ drawn_by (state_of K.record_of self.old)
+            (plain_event event.now) result.check }
         ensures event { IsEvent (plain_event event.now) }
     {
+        self.drawn = 0;
         match event {
             Event::PowerCycle => {
                 power_cycle(&mut self.keep);
@@ -189,7 +225,8 @@ impl<K: Keep> Machine<K> {
         ensures runs { Runs F.FnMut K.can_refuse (state_of K.record_of self.old) tell.old
             (map plain_event events.now) (state_of K.record_of self.new) tell.new }
 
-        // Where no memory can be refused, the events lead where their steps lead.
+        // Where no memory can be refused, the record after the events is that to which their steps
+        // lead.
         ensures after { K.can_refuse ≡ false → state_of K.record_of self.new
             ≡ after_all (state_of K.record_of self.old) (map plain_event events.now) }
 
@@ -215,6 +252,7 @@ impl<K: Keep> Machine<K> {
         }
     }
 
+    ghost use Rattle.tpm_machine.specs.Drawn.{drawn_by_command};
     ghost use Rattle.tpm_types.specs.Locality.{locality_number};
     ghost use Rattle.tpm_step.specs.Safe.{IsModest};
     ghost use Rattle.tpm_step.specs.Step.{Answers, accepted};
@@ -229,7 +267,8 @@ impl<K: Keep> Machine<K> {
         random: &[u8; 256],
         text: &mut Response,
     ) -> Row
-        requires { text.old.items ≡ [] }
+        requires empty { text.old.items ≡ [] }
+        requires none { latest_drawn self.old ≡ 0 }
         ensures answer { Answers K.can_refuse (state_of K.record_of self.old) random.now
             (accepted (state_of K.record_of self.old) buffer.now
             (locality_number locality) random.now)
@@ -243,6 +282,9 @@ impl<K: Keep> Machine<K> {
             (locality_number locality) random.now)
             (IsModest random.now) }
         ensures fits { length text.new.items ≤ response_limit }
+        ensures drawn { latest_drawn self.new ≡ drawn_by_command random.now
+            (accepted (state_of K.record_of self.old) buffer.now
+            (locality_number locality) random.now) result.check }
     {
         let command = match decode(&self.keep, buffer) {
             Ok(command) => command,
@@ -264,7 +306,7 @@ impl<K: Keep> Machine<K> {
     ghost use Rattle.tpm_step.specs.General.{in_command};
     ghost use Rattle.tpm_step.specs.Step.{acceptance};
 
-    /// Does what a command asks for that its entries authorize so.
+    /// Does what a command asks for whose entries authorize these handles.
     #[inline(always)]
     #[tactic(auto, using(crate::proofs::Accepting::acting))]
     fn perform(
@@ -279,6 +321,7 @@ impl<K: Keep> Machine<K> {
         requires size { length command.now.parameters.now ≤ buffer_limit }
         requires granted { authorization (state_of K.record_of self.old) (whole_of command.now)
             (locality_number locality) ≡ Ok grants.now.grants.items }
+        requires none { latest_drawn self.old ≡ 0 }
         ensures answer { Answers K.can_refuse (state_of K.record_of self.old) random.now
             (in_command command.now.code (acceptance (state_of K.record_of self.old)
             (whole_of command.now) (locality_number locality) random.now))
@@ -290,13 +333,16 @@ impl<K: Keep> Machine<K> {
         ensures modest { result.check ≡ 0 → IfOk (acceptance (state_of K.record_of self.old)
             (whole_of command.now) (locality_number locality) random.now) (IsModest random.now) }
         ensures fits { length text.new.items ≤ response_limit }
+        ensures drawn { latest_drawn self.new ≡ drawn_by_command random.now
+            (in_command command.now.code (acceptance (state_of K.record_of self.old)
+            (whole_of command.now) (locality_number locality) random.now)) result.check }
     {
         self.answer.clear();
         let (keep, answer) = (&mut self.keep, &mut self.answer);
         let keyed = &mut self.keyed;
         match accept(keep, command, grants, locality, random, answer) {
             Ok(()) => {
-                write_success(keep, command, grants, answer, random, keyed, text);
+                self.drawn = write_success(keep, command, grants, answer, random, keyed, text);
                 settle(keep, command.code);
                 Row {
                     code: command.code.number(),
@@ -313,7 +359,8 @@ ghost use Rattle.tpm_step.specs.Step.{counted_in, settled};
 ghost use Rattle.tpm_step.specs.Answer.{refusal_text};
 ghost use Rattle.tpm_types.specs.Locality.{locality_number};
 
-/// Does nothing. What holds of every command's event is what the types of its parts say of them.
+/// Tells what the types of an event's parts say, and so what holds of every command's event. The
+/// function does nothing.
 #[inline(always)]
 fn read_command(locality: Locality, elapsed_ms: u32, random: &[u8; 256])
     ensures locality { locality_number locality ≤ 4 }

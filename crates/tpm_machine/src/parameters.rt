@@ -1,5 +1,5 @@
-//! The encryption of first parameters: those of a command are decrypted, those of its answer
-//! encrypted, by the session that asks for it.
+//! The encryption of first parameters: the first of a command's is decrypted, and the first of its
+//! answer's encrypted, by the session that asks for it.
 
 ghost use Rattle.std.specs.Prelude.{◌≡◌, ◌≤◌, length, map};
 ghost use Rattle.std.specs.List.{zip};
@@ -15,7 +15,7 @@ use tpm_session::{Session, first_size};
 use tpm_step::Direction;
 use tpm_types_command::AuthEntry;
 
-/// Decrypts the buffer at the front of a text.
+/// Decrypts the sized buffer at the front of a text.
 #[tactic(auto, unfolding(tpm_session::specs::FirstBuffer::with_first_buffer))]
 fn decrypt_first(session: &Session, value: &[u8], newer: &[u8], older: &[u8], text: &mut [u8])
     requires value { length value.now ≤ 32 }
@@ -28,7 +28,7 @@ fn decrypt_first(session: &Session, value: &[u8], newer: &[u8], older: &[u8], te
     }
 }
 
-/// Encrypts the buffer at the front of a text.
+/// Encrypts the sized buffer at the front of a text.
 #[tactic(auto, unfolding(tpm_session::specs::FirstBuffer::with_first_buffer))]
 fn encrypt_first(session: &Session, value: &[u8], newer: &[u8], older: &[u8], text: &mut [u8])
     requires value { length value.now ≤ 32 }
@@ -50,7 +50,8 @@ fn asks_for(direction: Direction, entry: &AuthEntry) -> bool
     }
 }
 
-/// Passes the buffer at the front of a text through a session that authorizes by this value.
+/// Decrypts or encrypts the sized buffer at the front of a text by a session, with this
+/// authorization value.
 fn pass_first(
     direction: Direction,
     session: &Session,
@@ -87,8 +88,8 @@ fn pass_by<K: Keep>(
     }
 }
 
-/// Passes parameters through the session of the first entry that asks for it: those of a command,
-/// each of whose entries authorizes this handle or none, or those of its answer.
+/// Decrypts or encrypts the first parameter by the session of the first entry that asks for it: of
+/// a command, each of whose entries authorizes this handle or none, or of its answer.
 pub fn pass_parameters<K: Keep>(
     direction: Direction,
     keep: &K,

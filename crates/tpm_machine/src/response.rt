@@ -6,6 +6,7 @@ ghost use Rattle.std.specs.Int.{w16, w32, to_be_bytes};
 ghost use Rattle.std.specs.List.{zip};
 ghost use Rattle.tpm_types_command.specs.AuthEntry.{entry_of};
 ghost use Rattle.tpm_types_command.specs.Command.{whole_of};
+ghost use Rattle.tpm_machine.specs.Drawn.{bytes_drawn};
 ghost use Rattle.tpm_step.specs.Answer.{answer_to, framed, handle_answer, refusal_tag, refusal_text, text_of};
 ghost use Rattle.tpm_step.specs.Entries.{DrawsFew};
 ghost use Rattle.tpm_step.specs.Parameters.{encrypted_answer};
@@ -80,7 +81,7 @@ fn write_handle(handle: Option<Handle>, text: &mut Response)
     }
 }
 
-/// Writes a success that has no entries.
+/// Writes the response to a success that has no entries.
 fn write_plain(handle: Option<Handle>, parameters: &[u8], text: &mut Response)
     requires empty { text.old.items ≡ [] }
     requires parameters { length parameters.now ≤ ANSWER_LIMIT }
@@ -93,7 +94,7 @@ fn write_plain(handle: Option<Handle>, parameters: &[u8], text: &mut Response)
     append(text, parameters);
 }
 
-/// Writes a success whose entries are answered so.
+/// Writes the response to a success whose entries have these answers.
 fn write_with_area(handle: Option<Handle>, parameters: &[u8], area: &[u8], text: &mut Response)
     requires empty { text.old.items ≡ [] }
     requires parameters { length parameters.now ≤ ANSWER_LIMIT }
@@ -117,17 +118,17 @@ fn encrypt_answer<K: Keep>(
     grants: &[Option<Grant>],
     parameters: &mut Parameters,
 )
-    ensures { parameters.new ≡ encrypted_answer (K.record_of keep.now)
+    ensures encrypted { parameters.new ≡ encrypted_answer (K.record_of keep.now)
         (zip (map entry_of entries.now) grants.now) parameters.old }
+    // The parameters have no room for more than an answer has.
+    ensures room { length parameters.old ≤ ANSWER_LIMIT }
 {
-    // They have no room for more than an answer has.
-    let _length = parameters.len();
     let text = parameters.as_mut_slice();
     pass_parameters(Direction::Encrypt, keep, entries, grants, text);
 }
 
-/// Writes the response to a command with entries that succeeded, and does what is to be done with
-/// their sessions.
+/// Writes the response to a command with entries that succeeded, rolls and ends their sessions,
+/// and gives how many random bytes the command drew.
 #[inline(never)]
 fn write_with_sessions<K: Keep>(
     keep: &mut K,
@@ -137,7 +138,7 @@ fn write_with_sessions<K: Keep>(
     random: &[u8; 256],
     keyed: &mut KeyedMac,
     text: &mut Response,
-)
+) -> usize
     requires empty { text.old.items ≡ [] }
     requires some { 1 ≤ length (map entry_of command.now.entries.items) }
     ensures answer { record { response = text.new.items; after = K.record_of keep.new }
@@ -145,12 +146,16 @@ fn write_with_sessions<K: Keep>(
         (text_of answer.old) (K.record_of keep.old) random.now }
     ensures drawn { DrawsFew random.now (K.record_of keep.old) (whole_of command.now).entries
         answer.old.drawn }
+    ensures count { result ≡ bytes_drawn random.now (K.record_of keep.old)
+        (whole_of command.now).entries answer.old.drawn }
+    ensures room { length answer.old.parameters ≤ ANSWER_LIMIT }
     ensures fits { length text.new.items ≤ response_limit }
 {
     let entries = command.entries.as_slice();
     let grants = grants.grants.as_slice();
     let mut draws = Draws::new(&random[answer.drawn..]);
     roll_entries(keep, entries, &mut draws);
+    let drawn = random.len() - draws.len();
     encrypt_answer(keep, entries, grants, &mut answer.parameters);
     let parameters = answer.parameters.as_slice();
     let hashed = HashedParameters::Response(command.code.number(), parameters);
@@ -159,9 +164,10 @@ fn write_with_sessions<K: Keep>(
     answer_entries(keep, &mut hashes, keyed, entries, grants, &mut area);
     write_with_area(answer.handle, parameters, area.as_slice(), text);
     end_entries(keep, entries, grants);
+    drawn
 }
 
-/// Writes the response to a command that succeeded.
+/// Writes the response to a command that succeeded, and gives how many random bytes it drew.
 #[tactic(auto, unfolding(tpm_step::specs::Answer::success_text, tpm_step::specs::Answer::answer_to))]
 pub fn write_success<K: Keep>(
     keep: &mut K,
@@ -171,21 +177,23 @@ pub fn write_success<K: Keep>(
     random: &[u8; 256],
     keyed: &mut KeyedMac,
     text: &mut Response,
-)
+) -> usize
     requires empty { text.old.items ≡ [] }
     ensures answer { record { response = text.new.items; after = K.record_of keep.new }
         ≡ answer_to (whole_of command.now) grants.now.grants.items
         (text_of answer.old) (K.record_of keep.old) random.now }
     ensures drawn { DrawsFew random.now (K.record_of keep.old) (whole_of command.now).entries
         answer.old.drawn }
-    // An answer has no room for more.
+    ensures count { result ≡ bytes_drawn random.now (K.record_of keep.old)
+        (whole_of command.now).entries answer.old.drawn }
+    // The parameters of an answer have no room for more.
     ensures room { length answer.old.parameters ≤ ANSWER_LIMIT }
     ensures fits { length text.new.items ≤ response_limit }
 {
-    let _length = answer.parameters.len();
     if command.entries.is_empty() {
         write_plain(answer.handle, answer.parameters.as_slice(), text);
+        answer.drawn
     } else {
-        write_with_sessions(keep, command, grants, answer, random, keyed, text);
+        write_with_sessions(keep, command, grants, answer, random, keyed, text)
     }
 }

@@ -1,5 +1,5 @@
-//! The table that gives each command its row, and runs it once its parameters are decrypted. A
-//! refusal leaves the record.
+//! The table that gives each command its row. The row is run once the command's parameters are
+//! decrypted. A refusal leaves the record.
 
 ghost use Rattle.tpm_types.specs.Limits.{buffer_limit};
 ghost use Rattle.std.specs.Prelude.{◌≡◌, ◌≤◌, ◌&&◌, Ok, length, map};
@@ -118,7 +118,7 @@ fn plain_parameters<K: Keep>(
     text
 }
 
-/// Does what the row of a command says whose first parameter is encrypted.
+/// Does what the row of a command says, whose first parameter is encrypted.
 #[inline(never)]
 fn act_decrypted<K: Keep>(
     keep: &mut K,
@@ -147,7 +147,8 @@ fn act_decrypted<K: Keep>(
     act(keep, code, &call, answer)
 }
 
-/// Does what the row of a command says that its entries authorize so; a refusal leaves the record.
+/// Does what the row of a command says, whose entries authorize these handles; a refusal leaves the
+/// record.
 #[tactic(auto, using(crate::proofs::DecodingLaws::plain_as_sent), unfolding(tpm_step::specs::Step::acceptance))]
 pub fn accept<K: Keep>(
     keep: &mut K,

@@ -1,4 +1,4 @@
-//! Time, Clock and resetCount at their ends, which no script waits for.
+//! Time, Clock and resetCount near their largest values, which no script waits for.
 
 use super::comparison::check;
 use super::keeps::{Trial, run_over_both};
@@ -10,7 +10,7 @@ use tpm_record::{Fixed, Keep};
 use tpm_step::Event;
 use tpm_types::Locality;
 
-/// TPM2_Startup(CLEAR).
+/// The buffer of TPM2_Startup(CLEAR).
 const STARTUP: &[u8] = b"\x80\x01\0\0\0\x0c\0\0\x01\x44\0\0";
 
 /// Executes TPM2_Startup(CLEAR), this number of milliseconds after the command before it.
@@ -19,7 +19,7 @@ fn start<K: Keep>(machine: &mut Machine<K>, elapsed_ms: u32) {
     machine.execute(&Event::of_command(STARTUP, here, elapsed_ms, [0; 256]));
 }
 
-/// Lets Time and Clock come close to their ends, and resetCount to its own.
+/// Sets Time and Clock close to their largest values, and resetCount to its own.
 fn set(fixed: &mut Fixed) {
     fixed.time = u64::MAX - 8;
     fixed.clock = u64::MAX - 6;

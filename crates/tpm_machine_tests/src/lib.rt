@@ -1,9 +1,9 @@
 #![tactic(auto)]
 
 //! Tests of the device for what no clause says and no script under `tests/` shows: what `run`
-//! tells, counters at their ends, and each call of objects once.
+//! tells, counters near their largest values, and each call of objects once.
 //!
-//! It stands on `tpm_machine`, and nothing stands on it.
+//! The crate uses `tpm_machine`, and no crate uses it.
 
 #[cfg(test)]
 mod comparison;

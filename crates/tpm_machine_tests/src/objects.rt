@@ -1,4 +1,4 @@
-//! Objects of a keep, transient and persistent: each call once, with memory to spare.
+//! Objects of a device's state, transient and persistent: each call once, with memory to spare.
 
 ghost use Rattle.std.specs.Prelude.{◌≡◌, ◌<◌, true};
 ghost use Rattle.tpm_record.specs.Persistent.{can_persist};
@@ -49,7 +49,7 @@ fn put<P: PersistentObjects>(objects: &mut P, place: u32) -> Result<(), KeyFault
     objects.add(persistent_handle(place), object())
 }
 
-/// What at most sixteen persistent objects answer, of which none is there yet.
+/// Makes each call on persistent objects, of which there is none at first, and checks the answers.
 fn exercise<P: PersistentObjects>(rt: &impl Abort, objects: &mut P) {
     check(rt, objects.len(), 0);
     check(rt, objects.next(persistent_handle(0)), None);

@@ -14,12 +14,12 @@ const STARTUP: u32 = 0x144;
 
 const GET_RANDOM: u32 = 0x17b;
 
-/// A command from locality 0 without time.
+/// The event of a command from locality 0, with no time elapsed and random bytes that are 0.
 fn event_of(buffer: &[u8]) -> Event {
     Event::of_command(buffer, Locality::new(0).unwrap(), 0, [0; 256])
 }
 
-/// TPM2_Startup(CLEAR), a power cycle, and TPM2_GetRandom before another start.
+/// The events TPM2_Startup(CLEAR), a power cycle, and TPM2_GetRandom before another startup.
 fn events() -> [Event<'static>; 3] {
     [
         event_of(b"\x80\x01\0\0\0\x0c\0\0\x01\x44\0\0"),
@@ -28,10 +28,10 @@ fn events() -> [Event<'static>; 3] {
     ]
 }
 
-/// The length of a response, and its row.
+/// What is told of an event: the length of its response, and its row.
 type Told = (usize, Row);
 
-/// What a run of events tells, one after another.
+/// What a run tells of these events, one after another.
 fn told_of<K: Keep>(
     alloc: Global,
     machine: &mut Machine<K>,
@@ -51,7 +51,7 @@ fn told_of<K: Keep>(
     Ok(told)
 }
 
-/// The row of a command's code, and the number of the check that refused it.
+/// The row with a command's code, and the number of the check that refused the command.
 fn row(code: u32, check: u8) -> Row {
     Row { code, check }
 }

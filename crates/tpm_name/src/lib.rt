@@ -3,9 +3,9 @@
 //! The Names of objects and of NV indices (TPM 2.0 Library, Part 1, section 16), which follow from
 //! their public areas.
 //!
-//! It stands on `tpm_types_object` and `tpm_types_nv` for public areas, and on `tpm_types_name` for
-//! what a Name is, which it passes on with the Names of other handles and qualified Names. No call
-//! here takes memory or refuses.
+//! The crate uses `tpm_types_object` and `tpm_types_nv` for public areas, and passes on what
+//! `tpm_types_name` has: the type of a Name, the Names of other handles, and qualified Names. No
+//! call here takes memory or refuses.
 
 mod nv_name;
 mod object_name;

@@ -1,4 +1,4 @@
--- What a call gives where no check refuses it.
+-- The result of a call that no check refuses.
 use Rattle.std.proofs.Common.{◌≡◌, ℕ, ◌+◌, ◌<◌, ◌≤◌, ◌^◌, false, true, List, ◌++◌, length, Ok, refl}
 use Rattle.std.specs.Prelude.{◌&&◌, ◌||◌, ◌==◌, not, bit_or}
 use Rattle.std.specs.Int.{w64, to_be_bytes}

@@ -1,4 +1,4 @@
--- A Clear of indices: which bytes are kept, and what they and the heads that stay show.
+-- TPM2_Clear on indices: which bytes are kept, and which indices they and the heads that stay show.
 use Rattle.std.proofs.Common.{◌≡◌, ℕ, ◌+◌, ◌-◌, ◌≤◌, Bool, true, false, cond, List, [], ◌∷◌, ◌++◌, length, take, drop, refl, sym, ap, ◌∙◌, arith, append_assoc, length-append, length-drop}
 use Rattle.std.proofs.lemmas.Bool.{cond_both}
 use Rattle.std.proofs.lemmas.List.{drop-drop, drop_at, length-take-le, take_at}
@@ -23,7 +23,7 @@ module _ (start size place : ℕ) (area : List ℕ) (inside : start + size ≤ l
   moved_back : drop (place + size) (moved_down start size place area) ≡ drop (place + size) area
   moved_back = rw in_two (drop_at (take place area ++ piece_of start size area) (drop (place + size) area) (place + size) front_long)
 
-  -- what is after the piece is as it was
+  -- the bytes after the piece are as they were
   pub moved_behind : drop (start + size) (moved_down start size place area) ≡ drop (start + size) area
   moved_behind =
       let far : start + size ≡ place + size + (start - place) = omega (arith, lower) in
@@ -33,7 +33,7 @@ module _ (start size place : ℕ) (area : List ℕ) (inside : start + size ≤ l
       ∙ drop-drop (start - place) (place + size) area
       )
 
--- ---- what is shown
+-- ---- the indices that are shown
 
 show_one : (b : Bool) (e : ℕ × Head) (es : Entries Head) (piece bytes : List ℕ) (shown : Entries NvIndex) → length piece ≡ size_of e.1 → indices_of es bytes ≡ shown → indices_of (cond b (e ∷ es) es) (cond b piece [] ++ bytes) ≡ cond b ((e.0, index_with e.1 piece) ∷ shown) shown
 show_one true e es piece bytes shown long is =
@@ -47,7 +47,7 @@ shown_kept (e ∷ es) area fits =
     let rest = shown_kept es (drop n area) (omega (arith, fits, length-drop n area)) in
     show_one (stays e.1) e (kept_entries stays es) (take n area) (kept_bytes es (drop n area)) _ (length-take-le n area (omega (arith, fits))) rest
 
--- ---- what is kept
+-- ---- the bytes that are kept
 
 long_one : (b : Bool) (e : ℕ × Head) (es : Entries Head) (piece bytes : List ℕ) → length piece ≡ size_of e.1 → length bytes ≡ total es → length (cond b piece [] ++ bytes) ≡ total (cond b (e ∷ es) es)
 long_one true e es piece bytes long is = omega (arith, length-append piece bytes, long, is)

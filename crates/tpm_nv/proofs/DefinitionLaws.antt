@@ -1,4 +1,4 @@
--- What passes the checks of a definition is not written.
+-- An index that passes the checks of a definition is not written.
 use Rattle.std.proofs.Common.{◌≡◌, Bool, true, false, refl}
 use Rattle.std.specs.Prelude.{◌||◌}
 use Rattle.std.specs.List.{list_any}

@@ -1,5 +1,5 @@
--- What is kept, head by head and byte by byte, after a change of one index: that it is still as it has to be, and
--- which indices it shows.
+-- Heads and bytes as they are kept, after a change of one index: they are still as they have to be,
+-- and show the indices after the change.
 use Rattle.tpm_types.specs.Limits.{nv_index_limit, nv_space_limit}
 use Rattle.std.proofs.Common.{◌≡◌, ◌≢◌, ℕ, ◌+◌, ◌-◌, ◌<◌, ◌≤◌, ◌^◌, Bool, true, false, cond, List, [], ◌∷◌, ◌++◌, length, take, drop, replicate, Option, Some, None, refl, sym, ap, subst, ◌∙◌, arith, length-append, length-drop}
 use Rattle.std.specs.Prelude.{◌&&◌, not, nat_lt, nat_le, Ok, IfNone, IfSome, IsSomeAnd, option_copied, option_map}
@@ -53,12 +53,12 @@ there_is es area count handle (Some h) kept is =
       },
     )
 
--- what is known of the index that is there is known of this one
+-- what is known of an index that is there is known of the one that was found
 pub known_of : (P : NvIndex → Type 0) (found : Option NvIndex) (x : NvIndex) → found ≡ Some x → IsSomeAnd found P → P x
 known_of P None x is known = absurd cc
 known_of P (Some y) x is known = let same : y ≡ x = cc in subst P same known
 
--- where the one index changes so, the contents do
+-- where one index changes, the contents do so too
 pub contents_changed : (es new : Entries Head) (area after : List ℕ) (count : ℕ) (handle : Handle) (shown : NvContents) (x : NvIndex) (f : NvIndex → NvIndex) → (let view : NvContents = record { indices = indices_of es area; max_count = count } in view ≡ shown) → at_key (indices_of es area) handle.number ≡ Some x → indices_of new after ≡ changed_key (indices_of es area) handle.number (f x) → (index : NvIndex) → index_at shown handle ≡ Some index → (let view : NvContents = record { indices = indices_of new after; max_count = count } in view ≡ changed_index shown handle (f index))
 contents_changed es new area after count handle shown x f view found seen index is =
     let there : at_key (indices_of es area) handle.number ≡ Some index = ap (λ (s : NvContents). index_at s handle) view ∙ is in
@@ -105,7 +105,7 @@ kept_changed es area after key h g kept there is same_size same_length =
       each = heads_changed es key g kept.each is;
     }
 
--- where its bytes stay
+-- a head that is changed, and whose bytes stay, shows the index changed
 pub seen_changed : (es : Entries Head) (area : List ℕ) (key : ℕ) (h g : Head) → AreKept es area → at_key es key ≡ Some h → size_of g ≡ size_of h → indices_of (changed_key es key g) area ≡ changed_key (indices_of es area) key (index_with g (piece_of (start_of es key) (size_of h) area))
 seen_changed es area key h g kept there same_size =
     let s = start_of es key in
@@ -135,7 +135,7 @@ length_filled true start size byte area fits = refl
 length_filled false start size byte area fits =
     length_put start (replicate size byte) area (omega (arith, fits, length-replicate {A = ℕ} size byte))
 
--- what then is put is put over the piece that was there or that was filled
+-- bytes that are put over the piece that was there or that was filled
 filled_put : (is_written : Bool) (start size offset byte : ℕ) (bytes area : List ℕ) → start + size ≤ length area → offset + length bytes ≤ size → put_over (start + offset) bytes (filled is_written start size byte area) ≡ put_over start (put_over offset bytes (cond is_written (piece_of start size area) (replicate size byte))) area
 filled_put true start size offset byte bytes area fits within = put_within start size offset bytes area fits within
 filled_put false start size offset byte bytes area fits within =
@@ -145,7 +145,7 @@ filled_put false start size offset byte bytes area fits within =
 abbrev pub written_head : Head → Head
 written_head h = with_attributes h (with_attribute h.public.attributes attribute.Written)
 
--- the data of an index whose head is this, or what is there before it is written
+-- the data of an index with this head, or before its first write this byte
 data_is : (h : Head) (bytes : List ℕ) (byte : ℕ) → data_or byte (index_with h bytes) ≡ cond (has h.public.attributes attribute.Written) bytes (replicate (size_of h) byte)
 data_is h bytes byte = by (has h.public.attributes attribute.Written)
   where
@@ -193,7 +193,7 @@ kept_put es area bytes key offset byte h kept there within =
     refl
     (length_put_filled es area bytes key offset byte h kept there within)
 
--- a piece that is known by other names
+-- a piece that is put, by the variables of the code
 pub put_is : (after bytes area : List ℕ) (is_written : Bool) (start size offset byte from many : ℕ) (b : Bool) → after ≡ put_over (from + offset) bytes (filled b from many byte area) → b ≡ is_written → from ≡ start → many ≡ size → after ≡ put_over (start + offset) bytes (filled is_written start size byte area)
 put_is after bytes area is_written start size offset byte from many b is written from_is size_is =
     is
@@ -216,7 +216,7 @@ pub seen_head : (es : Entries Head) (area : List ℕ) (key : ℕ) (found : Optio
 seen_head es area key None up is = rw (none_among es area key (sym is)) refl
 seen_head es area key (Some h) up is = rw (found_among es area key h.now up (sym is)) refl
 
--- the head of an index that is there, and what is known of the index
+-- the head of an index that is there, and what is known of that index
 pub head_of_index : (P : NvIndex → Type 0) (es : Entries Head) (area : List ℕ) (count : ℕ) (handle : Handle) (shown : NvContents) → (let view : NvContents = record { indices = indices_of es area; max_count = count } in view ≡ shown) → AreKept es area → IsSomeAnd (index_at shown handle) P → (h : Head) × (at_key es handle.number ≡ Some h) × P (index_with h (piece_of (start_of es handle.number) (size_of h) area))
 head_of_index P es area count handle shown view kept known = by (at_key es handle.number) refl
   where
@@ -226,7 +226,7 @@ head_of_index P es area count handle shown view kept known = by (at_key es handl
         let never : ⊥ = subst (λ (o : Option NvIndex). IsSomeAnd o P) (none_at es area count handle shown view is) known in
         absurd never
 
--- where its bytes begin, as the indices show it
+-- where the bytes of an index begin, by the indices that are shown
 pub start_is : (es : Entries Head) (area : List ℕ) (count : ℕ) (handle : Handle) (shown : NvContents) → (let view : NvContents = record { indices = indices_of es area; max_count = count } in view ≡ shown) → start_in shown handle ≡ start_of es handle.number
 start_is es area count handle shown view =
     ap (λ (s : NvContents). start_in s handle) (sym view) ∙ ap (λ (l : Entries Head). start_of l handle.number) (sym (heads_among es area))
@@ -234,7 +234,7 @@ start_is es area count handle shown view =
 pub known_some : (P : NvIndex → Type 0) (found : Option NvIndex) (x : NvIndex) → found ≡ Some x → P x → IsSomeAnd found P
 known_some P found x is known = subst (λ (o : Option NvIndex). IsSomeAnd o P) (sym is) known
 
--- what a walk over the heads found
+-- what a walk over the heads found of an index
 module _ (es : Entries Head) (area : List ℕ) (count : ℕ) (handle : Handle) (shown : NvContents) (view : (let kept : NvContents = record { indices = indices_of es area; max_count = count } in kept ≡ shown)) where
   pub found_none : (found : Option Found) → IfNone found (at_key es handle.number ≡ None) → IfNone found (index_at shown handle ≡ None)
   found_none None none = none_at es area count handle shown view none
@@ -253,7 +253,7 @@ bytes_of h bytes index same is =
     let first : bytes ≡ cond (has h.public.attributes attribute.Written) bytes [] = rw written refl in
     first ∙ ap (λ (i : NvIndex). i.bytes) same
 
--- ---- what holds of all of it
+-- ---- what holds of all heads and bytes
 
 data_many : (b : Bool) (bytes : List ℕ) (n : ℕ) → length bytes ≡ n → length (cond b bytes []) ≡ cond b n 0
 data_many true bytes n is = is
@@ -364,7 +364,7 @@ kept_more es area piece key h kept none few fits size is =
       each = heads_put es key h kept.each is;
     }
 
--- ---- what an index has as its type says
+-- ---- the size of an index by its type
 
 pub data_long : (h : Head) (bytes : List ℕ) (byte : ℕ) → length bytes ≡ size_of h → length (data_or byte (index_with h bytes)) ≡ size_of h
 data_long h bytes byte long = ap length (data_is h bytes byte) ∙ by (has h.public.attributes attribute.Written)
@@ -382,7 +382,7 @@ type_of_writable type index e =
     let a = bind_ok (refused_if (has index.public.attributes attribute.WriteLocked) Locked) (λ _. refused_if (not (is_of index.public.attributes type)) Attributes) tt e in
     not_false (is_of index.public.attributes type) (passed (not (is_of index.public.attributes type)) Attributes tt a.2)
 
--- the size of the data by the type
+-- the size of the data of an index by its type
 pub size_of_type : (p : NvPublic) (kind : NvType) → is_of p.attributes kind ≡ true → has_type_size p ≡ true → is_type_size p (Some kind) ≡ true
 size_of_type p kind is sized =
     let number : type_number p.attributes ≡ nv_type_number kind = eqb-true _ _ is in

@@ -1,4 +1,4 @@
--- A startup, head by head: what is done so far, and what it makes of the indices.
+-- A startup, head by head: the heads that have started so far, and the indices that they show.
 use Rattle.std.proofs.Common.{◌≡◌, ◌≢◌, ℕ, zero, suc, ◌+◌, ◌<◌, ◌≤◌, Bool, true, false, cond, List, [], ◌∷◌, ◌++◌, length, take, drop, get_or, Some, refl, sym, ap, subst, ◌∙◌, arith}
 use Rattle.std.specs.Prelude.{◌&&◌, map}
 use Rattle.std.proofs.lemmas.Bool.{cond_both, cond-true, cond-false, eq-eqb, ne_eqb}
@@ -18,7 +18,7 @@ use Rattle.tpm_nv.proofs.KeptLaws.{is_head_with}
 abbrev started_entry : ℕ × Head → ℕ × Head
 started_entry e = (e.0, started_head e.1)
 
--- the first ones have started
+-- the heads of which the first ones have started
 abbrev pub started_up_to : ℕ → Entries Head → Entries Head
 started_up_to count es = map started_entry (take count es) ++ drop count es
 
@@ -34,13 +34,13 @@ entry_there [] i inside = absurd (omega arith)
 entry_there (f ∷ es) zero inside = (f, refl)
 entry_there (f ∷ es) (suc i) inside = entry_there es i (omega arith)
 
--- it is as it was while those before it have started
+-- an entry is as it was while those before it have started
 pub same_in_turn : (es : Entries Head) (i : ℕ) (e : ℕ × Head) → i < length es → get_or (started_up_to i es) i e ≡ get_or es i e
 same_in_turn [] i e inside = absurd (omega arith)
 same_in_turn (f ∷ es) zero e inside = refl
 same_in_turn (f ∷ es) (suc i) e inside = same_in_turn es i e (omega arith)
 
--- it is found by its key while those before it have started
+-- an entry is found by its key while those before it have started
 pub found_in_turn : (es : Entries Head) (i : ℕ) (e : ℕ × Head) → Ascends es → i < length es → get_or es i e ≡ e → at_key (started_up_to i es) e.0 ≡ Some e.1
 found_in_turn [] i e up inside is = absurd (omega arith)
 found_in_turn (f ∷ es) zero e up inside is =
@@ -49,7 +49,7 @@ found_in_turn (f ∷ es) (suc i) e up inside is =
     let apart : f.0 ≢ e.0 = λ same. let above = key_above f.0 es i e up.0 (omega arith) is in omega arith in
     cond-false _ _ _ (ne_eqb f.0 e.0 apart) ∙ found_in_turn es i e up.1 (omega arith) is
 
--- and where it starts, one more has
+-- where the next entry starts, one more has started
 pub started_in_turn : (es : Entries Head) (i : ℕ) (e : ℕ × Head) → Ascends es → i < length es → get_or es i e ≡ e → changed_key (started_up_to i es) e.0 (started_head e.1) ≡ started_up_to (suc i) es
 started_in_turn [] i e up inside is = absurd (omega arith)
 started_in_turn (f ∷ es) zero e up inside is =
@@ -81,7 +81,7 @@ unlocked_written a =
     (λ _. first)
     (λ _. second ∙ first)
 
--- what is written after a startup was written before it
+-- an index that is written after a startup was written before it
 kept_bytes : (a : NvAttributes) (bytes : List ℕ) → cond (has (kept_written a) attribute.Written) bytes [] ≡ cond (has (kept_written a) attribute.Written) (cond (has a attribute.Written) bytes []) []
 kept_bytes a bytes =
     cond_both (has a attribute.ClearStClear) (without_attribute a attribute.Written) a (λ (b : NvAttributes). cond (has b attribute.Written) bytes [] ≡ cond (has b attribute.Written) (cond (has a attribute.Written) bytes []) [])
@@ -107,7 +107,7 @@ started_among (e ∷ es) area =
     ap (λ (i : NvIndex). (e.0, i) ∷ indices_of (map started_entry es) (drop n area)) first
     ∙ ap (λ (l : List (ℕ × NvIndex)). (e.0, started_index (index_with e.1 (take n area))) ∷ l) rest
 
--- ---- what is kept
+-- ---- heads and bytes as they are kept
 
 named_cleared : (a : NvAttributes) (one : NvAttribute) → IsNvAttributes a → IsNvAttributes (without_attribute a one)
 named_cleared = are_attributes.cleared_named

@@ -9,20 +9,21 @@ piece_of start size bytes = take size (drop start bytes)
 abbrev pub put_over : (start : ℕ) → (piece bytes : List ℕ) → List ℕ
 put_over start piece bytes = take start bytes ++ (piece ++ drop (start + length piece) bytes)
 
--- the bytes before some are written: where none was written so far, a piece is filled
+-- the bytes before a piece of them is written: where it was never written, each of its bytes is
+-- this one
 abbrev pub filled : (is_written : Bool) → (start size byte : ℕ) → List ℕ → List ℕ
 filled is_written start size byte bytes =
     if is_written then bytes else put_over start (replicate size byte) bytes
 
--- a number of zeros put between the bytes at a place
+-- the bytes with a number of zeros put between them at a place
 abbrev pub opened : (start size : ℕ) → List ℕ → List ℕ
 opened start size bytes = take start bytes ++ (replicate size 0 ++ drop start bytes)
 
--- without a number of bytes from a place on
+-- the bytes without a number of them from a place on
 abbrev pub closed_up : (start size : ℕ) → List ℕ → List ℕ
 closed_up start size bytes = take start bytes ++ drop (start + size) bytes
 
--- a number of bytes moved from the end to a place, and from a place to the end
+-- the bytes with a number of them moved from the end to a place, and from a place to the end
 unfoldable pub moved_from_end : (start size : ℕ) → List ℕ → List ℕ
 moved_from_end start size bytes =
     let behind : List ℕ = drop start bytes in
@@ -32,7 +33,7 @@ abbrev pub moved_to_end : (start size : ℕ) → List ℕ → List ℕ
 moved_to_end start size bytes =
     take start bytes ++ (drop (start + size) bytes ++ piece_of start size bytes)
 
--- a number of bytes from a place on, put over those from a lower place on
+-- the bytes with a number of them, from a place on, put over those from a lower place on
 abbrev pub moved_down : (start size place : ℕ) → List ℕ → List ℕ
 moved_down start size place bytes =
     take place bytes ++ (piece_of start size bytes ++ drop (place + size) bytes)

@@ -11,7 +11,8 @@ use Rattle.tpm_nv.specs.Index.{NvContents}
 abbrev pub is_by_platform : NvPublic → Bool
 is_by_platform public = has public.attributes attribute.PlatformCreate
 
--- such indices alone stay, and so does the largest value that a counter ever had
+-- the contents after TPM2_Clear: only indices that the platform defined stay, and so does the
+-- largest value that a counter ever had
 unfoldable pub cleared : NvContents → NvContents
 cleared contents =
     record contents {

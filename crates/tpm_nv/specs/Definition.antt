@@ -1,6 +1,6 @@
--- What may be defined as an NV index, and what a definition does. TPM 2.0 Library, Part 3, section
--- 31.3 (TPM2_NV_DefineSpace), and Part 2, section 13.4 (TPMA_NV). The order of the checks and the
--- limits are this device's own: no more data than `nv_data_limit`, and no attribute that it does
+-- The checks of a new NV index, and what its definition does. TPM 2.0 Library, Part 3, section 31.3
+-- (TPM2_NV_DefineSpace), and Part 2, section 13.4 (TPMA_NV). The order of the checks and the limits
+-- are this device's own: no more data than `nv_data_limit`, and no attribute that this device does
 -- not serve.
 use Rattle.tpm_types.specs.Algorithm.{is_policy_size}
 use Rattle.tpm_types.specs.Limits.{nv_data_limit}
@@ -25,13 +25,13 @@ use Rattle.tpm_nv.specs.declared.fault.RestoreFault.TheVariants.{Defined, Space,
 use Rattle.tpm_nv.specs.declared.definition.DefinitionFault.{DefinitionFault}
 use Rattle.tpm_nv.specs.declared.definition.DefinitionFault.TheVariants as fault
 
--- ---- the checks
+-- ---- the checks of a new index
 
--- one of these
+-- whether at least one of these attributes is set
 abbrev pub has_one : NvAttributes → List NvAttribute → Bool
 has_one attributes these = list_any (λ one. has attributes one) these
 
--- what says who may write, and who may read
+-- the attributes that say who may write, and those that say who may read
 abbrev pub write_attributes : List NvAttribute
 write_attributes =
     attribute.PpWrite ∷ attribute.OwnerWrite ∷ attribute.AuthWrite ∷ attribute.PolicyWrite ∷ []
@@ -40,16 +40,17 @@ abbrev pub read_attributes : List NvAttribute
 read_attributes =
     attribute.PpRead ∷ attribute.OwnerRead ∷ attribute.AuthRead ∷ attribute.PolicyRead ∷ []
 
--- what no index has as it is defined: its state (the first three), and what this device does not
--- serve
+-- the attributes that no index may have as it is defined: its state (the first three), and what
+-- this device does not serve
 abbrev pub undefinable_attributes : List NvAttribute
 undefinable_attributes =
     attribute.Written ∷ attribute.ReadLocked ∷ attribute.WriteLocked
     ∷ attribute.PolicyDelete ∷ attribute.GlobalLock ∷ attribute.Orderly ∷ []
 
--- each of these is wrong: a type that is not served; an attribute that no index has as it is
--- defined; an index that nobody may write, or that nobody may read; a counter that a startup
--- clears; PLATFORMCREATE where the owner defines the index, or none where the platform does
+-- which of these faults the attributes of a new index have: a type that is not served; an attribute
+-- that no index has as it is defined; an index that nobody may write, or that nobody may read; a
+-- counter that a startup clears; PLATFORMCREATE where the owner defines the index, or no
+-- PLATFORMCREATE where the platform does
 abbrev pub index_attribute_conflicts : (by_platform : Bool) → NvAttributes → List Bool
 index_attribute_conflicts by_platform a =
     not (is_some (index_type a))
@@ -59,7 +60,7 @@ index_attribute_conflicts by_platform a =
     ∷ (is_of a type.Counter && has a attribute.ClearStClear)
     ∷ not (beq (has a attribute.PlatformCreate) by_platform) ∷ []
 
--- the size that an index of its type has
+-- whether an index has a size that its type may have
 abbrev pub is_type_size : NvPublic → Option NvType → Bool
 is_type_size p (Some type.Ordinary) = nat_le p.data_size nv_data_limit
 is_type_size p (Some type.Counter) = p.data_size == 8
@@ -85,7 +86,7 @@ definition_passes by_platform p auth_size = do
       fault.Attributes
   refused_if (not (has_type_size p)) fault.DataSize
 
--- ---- the effect
+-- ---- what a definition does
 
 -- an index as it is defined: without data
 abbrev pub defined_index : NvPublic → List ℕ → NvIndex
@@ -100,8 +101,8 @@ HasRoomFor contents public (Err Space) =
     (index_at contents public.nv_index ≡ None) × (has_room contents public.data_size ≡ false)
 HasRoomFor contents public (Err NoMemory) = ⊥
 
--- An index was put under its handle, or nothing changed: the handle has an index, or there is no
--- room for it, or there was room and memory was refused.
+-- An index was put under its handle, or nothing changed: the handle has an index already, or there
+-- is no room for it, or there was room and memory was refused.
 abbrev pub Restores : Bool → NvContents → NvIndex → Result (Unit {0}) RestoreFault → NvContents
     → Type 0
 Restores can old index (Ok done) new =
@@ -120,12 +121,12 @@ Restores can old index (Err NoMemory) new =
     × (can ≡ true)
     × (new ≡ old)
 
--- what an index can have as it is defined: it is not written, and has the size of its type
+-- An index can be defined with this public area: it is not written, and has the size of its type.
 abbrev pub IsDefinable : NvPublic → Type 0
 IsDefinable public = (has public.attributes attribute.Written ≡ false) × (has_type_size public ≡ true)
 
--- An index was defined, or nothing changed: it is marked as written; or its size is not that of its
--- type; or else it was not put under its handle.
+-- An index was defined, or nothing changed: it is marked as written, or its size is not that of its
+-- type, or it could not be put under its handle.
 abbrev pub Defines : Bool → NvContents → NvIndex → Result (Unit {0}) DefineFault → NvContents
     → Type 0
 Defines can old index (Ok done) new = IsDefinable index.public × Restores can old index (Ok done) new

@@ -1,6 +1,6 @@
--- How NV indices are kept, which no rule of the standard says: their heads by their handles, and
--- the bytes of all in one area, in the order of the handles, as many of each as its head says,
--- whether it is written or not.
+-- How NV indices are kept in memory, of which the standard says nothing: their heads by their
+-- handles, and the bytes of all in one area, in the order of the handles, as many of each as its
+-- head says, whether it is written or not.
 use Rattle.tpm_types.specs.Limits.{nv_index_limit, nv_space_limit}
 use Rattle.std.specs.Prelude.{◌≡◌, ℕ, ◌+◌, ◌≤◌, nat_le, Bool, true, List, [], ◌∷◌, ◌++◌, length, take, drop, Some, if◌then◌else◌, map}
 use Rattle.tpm_containers.specs.SortedMap.{Ascends, Entries}
@@ -20,11 +20,11 @@ use Rattle.tpm_nv.specs.declared.head.Head.{Head}
 abbrev pub head_of : NvIndex → Head
 head_of index = record { public = index.public; auth_value = index.auth_value }
 
--- all of them, under their handles
+-- the heads of all indices, under their handles
 abbrev pub heads_of : NvContents → Entries Head
 heads_of contents = map (λ e. (e.0, head_of e.1)) contents.indices
 
--- the index of a head whose bytes these are: they are its data once it is written
+-- the index of this head and these bytes: they are its data where it is written
 abbrev pub index_with : Head → List ℕ → NvIndex
 index_with head bytes = record {
   public = head.public;
@@ -32,7 +32,7 @@ index_with head bytes = record {
   bytes = if has head.public.attributes attribute.Written then bytes else [];
 }
 
--- how many bytes a head has
+-- how many bytes of data an index with this head has, or will have
 abbrev pub size_of : Head → ℕ
 size_of head = head.public.data_size
 
@@ -42,7 +42,7 @@ indices_of [] area = []
 indices_of (e ∷ es) area =
     (e.0, index_with e.1 (take (size_of e.1) area)) ∷ indices_of es (drop (size_of e.1) area)
 
--- how many bytes all have, and how many those have whose keys are below this one
+-- how many bytes all these indices have, and how many those have whose keys are below this one
 abbrev pub total : Entries Head → ℕ
 total [] = 0
 total (e ∷ es) = size_of e.1 + total es
@@ -74,13 +74,13 @@ pub record AreKept (heads : Entries Head) (area : List ℕ) : Type 0 where
   pub small : total heads ≤ nv_space_limit
   pub each : AreHeads heads
 
--- with other attributes
+-- a head with other attributes
 abbrev pub with_attributes : Head → NvAttributes → Head
 with_attributes head attributes =
     record head { public = record head.public { attributes = attributes } }
 
--- what is seen of the index of a handle: its head, and bytes, as many as it says, that are its data
--- where it is written
+-- The index of a handle has this head and these bytes, as many as the head says; they are its data
+-- where it is written.
 pub record IsIndexOf (contents : NvContents) (handle : Handle) (head : Head) (bytes : List ℕ)
     : Type 0
   where
@@ -88,11 +88,11 @@ pub record IsIndexOf (contents : NvContents) (handle : Handle) (head : Head) (by
     pub sized : has_type_size head.public ≡ true
     pub found : index_at contents handle ≡ Some (index_with head bytes)
 
--- after a startup with CLEAR
+-- the head of an index after a startup with CLEAR
 abbrev pub started_head : Head → Head
 started_head head = with_attributes head (started_attributes head.public.attributes)
 
--- whether it stays when the others are cleared, and the bytes of those that do
+-- whether an index stays where TPM2_Clear removes others, and the bytes of those that stay
 abbrev pub stays : Head → Bool
 stays head = is_by_platform head.public
 

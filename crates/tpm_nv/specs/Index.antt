@@ -27,7 +27,7 @@ no_indices = record { indices = []; max_count = 0 }
 abbrev pub index_at : NvContents → Handle → Option NvIndex
 index_at contents handle = at_key contents.indices handle.number
 
--- with an index more, with another in the place of one, and without one
+-- the contents with one more index, with another index in the place of one, and without one
 abbrev pub with_index : NvContents → Handle → NvIndex → NvContents
 with_index contents handle index =
     record contents { indices = with_key contents.indices handle.number index }

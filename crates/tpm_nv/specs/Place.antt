@@ -22,13 +22,13 @@ piece_at_place place = record {
   is_written = has place.attributes attribute.Written;
 }
 
--- The index of a handle was found so.
+-- What the code found of a handle is the head of its index, and where the bytes of that begin.
 abbrev pub IsFound : NvContents → Handle → Found → Type 0
 IsFound contents handle found =
     (old : List ℕ) × IsIndexOf contents handle found.head.now old
     × (found.start ≡ start_in contents handle)
 
--- The index of a handle is there, and stands in this place.
+-- There is an index with this handle, and it is in this place.
 abbrev pub IsPlaceOf : NvContents → Handle → DataPlace → Type 0
 IsPlaceOf contents handle place =
     IsSomeAnd (index_at contents handle) (λ index.

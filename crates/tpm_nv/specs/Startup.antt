@@ -6,12 +6,13 @@ use Rattle.tpm_types_nv.specs.declared.nv_attributes.NvAttribute.TheVariants as 
 use Rattle.tpm_types_nv.specs.declared.nv_attributes.NvAttributes.{NvAttributes}
 use Rattle.tpm_nv.specs.Index.{NvContents, NvIndex}
 
--- CLEAR_STCLEAR clears WRITTEN
+-- the attributes of an index as CLEAR_STCLEAR clears WRITTEN
 abbrev pub kept_written : NvAttributes → NvAttributes
 kept_written a =
     if has a attribute.ClearStClear then without_attribute a attribute.Written else a
 
--- then READLOCKED is cleared, and WRITELOCKED unless the index has WRITEDEFINE and is still written
+-- the attributes with READLOCKED cleared, and with WRITELOCKED cleared unless the index has
+-- WRITEDEFINE and is still written
 abbrev pub unlocked : NvAttributes → NvAttributes
 unlocked a =
     let to_read : NvAttributes = without_attribute a attribute.ReadLocked in
@@ -21,7 +22,7 @@ unlocked a =
 abbrev pub started_attributes : NvAttributes → NvAttributes
 started_attributes a = unlocked (kept_written a)
 
--- an index that is written no more has no data
+-- an index after a startup with CLEAR: if it is no longer written it has no data
 abbrev pub started_index : NvIndex → NvIndex
 started_index index = record {
   public = record index.public { attributes = started_attributes index.public.attributes };
@@ -29,7 +30,7 @@ started_index index = record {
   bytes = if has (kept_written index.public.attributes) attribute.Written then index.bytes else [];
 }
 
--- so it is with every index
+-- the contents after a startup with CLEAR, which changes every index so
 unfoldable pub started : NvContents → NvContents
 started contents =
     record contents { indices = map (λ e. (e.0, started_index e.1)) contents.indices }

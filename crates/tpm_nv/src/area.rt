@@ -1,5 +1,5 @@
-//! The trait of the one area that holds the data of all NV indices, and how bytes are moved within
-//! it, which both areas share.
+//! The trait of the one area that holds the data of all NV indices, and the moves of bytes that
+//! both kinds of area share.
 
 ghost use Rattle.tpm_types.specs.Limits.{nv_space_limit};
 ghost use Rattle.std.specs.Prelude.{◌≡◌, ◌≤◌, ◌+◌, ℕ, [], Bool, List, length, replicate, take};
@@ -18,7 +18,7 @@ pub trait Area: Drop + Sized {
     /// Whether memory can be refused.
     ghost can_refuse: { Bool };
 
-    /// No byte; no memory is taken.
+    /// An area of no byte; no memory is taken.
     fn new(alloc: Global) -> Self
         ensures { bytes result ≡ [] };
 
@@ -31,12 +31,12 @@ pub trait Area: Drop + Sized {
         requires { start + length piece.now ≤ length (bytes self.old) }
         ensures { bytes self.new ≡ put_over start piece.now (bytes self.old) };
 
-    /// Puts one byte a number of times over those from a place on.
+    /// Puts one byte a number of times over the bytes from a place on.
     fn fill(&mut self, start: usize, size: usize, byte: u8)
         requires { start + size ≤ length (bytes self.old) }
         ensures { bytes self.new ≡ put_over start (replicate size byte) (bytes self.old) };
 
-    /// Puts a number of zeros between the bytes.
+    /// Puts a number of zeros between the bytes at a place.
     fn open(&mut self, start: usize, size: usize) -> Result<(), NoMemory>
         requires inside { start ≤ length (bytes self.old) }
         requires fits { length (bytes self.old) + size ≤ nv_space_limit }
@@ -44,7 +44,7 @@ pub trait Area: Drop + Sized {
         ensures unchanged { OnErr result (bytes self.new ≡ bytes self.old) }
         ensures refused { OnErr result (can_refuse ≡ true) };
 
-    /// Removes a number of bytes.
+    /// Removes a number of bytes from a place on.
     fn close_up(&mut self, start: usize, size: usize)
         requires { start + size ≤ length (bytes self.old) }
         ensures { bytes self.new ≡ closed_up start size (bytes self.old) };
@@ -69,7 +69,7 @@ pub(crate) fn put_piece(bytes: &mut [u8], start: usize, piece: &[u8])
     bytes[start..start + piece.len()].copy_from_slice(piece);
 }
 
-/// Puts one byte a number of times over those from a place on.
+/// Puts one byte a number of times over the bytes from a place on.
 pub(crate) fn fill_piece(bytes: &mut [u8], start: usize, size: usize, byte: u8)
     requires { start + size ≤ length bytes.old }
     ensures { bytes.new ≡ put_over start (replicate size byte) bytes.old }

@@ -1,4 +1,4 @@
-//! What a Clear keeps of the heads and of the area of bytes.
+//! What TPM2_Clear keeps of the heads and of the area of bytes.
 
 ghost use Rattle.tpm_types.specs.Limits.{nv_space_limit};
 ghost use Rattle.std.specs.Prelude.{◌≡◌, ◌≤◌, ◌+◌, ◌++◌, drop, length, take, if◌then◌else◌};
@@ -10,7 +10,7 @@ use crate::head::Head;
 use tpm_containers::Choice;
 use tpm_types_nv::NvAttribute;
 
-/// The indices that the platform defined.
+/// The choice of the indices that the platform defined.
 pub(crate) struct PlatformIndices;
 
 impl Choice<Head> for PlatformIndices {

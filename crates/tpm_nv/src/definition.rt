@@ -17,13 +17,13 @@ pub enum DefinitionFault {
     AuthValueSize,
     /// authPolicy is neither empty nor a digest of nameAlg.
     AuthPolicySize,
-    /// Attributes that no index has as it is defined, or that do not go together.
+    /// There are attributes that no index may have as it is defined, or that do not go together.
     Attributes,
-    /// Not a size that an index of its type has.
+    /// The size is not one that an index of its type may have.
     DataSize,
 }
 
-/// Whether it has a state, or what is not served.
+/// Whether the attributes have a state, or something that is not served.
 fn is_undefinable(attributes: NvAttributes) -> bool
     ensures { result ≡ has_one attributes undefinable_attributes }
 {
@@ -35,7 +35,7 @@ fn is_undefinable(attributes: NvAttributes) -> bool
         || attributes.has(NvAttribute::Orderly)
 }
 
-/// Whether somebody may write.
+/// Whether the attributes let somebody write.
 fn has_writer(attributes: NvAttributes) -> bool
     ensures { result ≡ has_one attributes write_attributes }
 {
@@ -45,7 +45,7 @@ fn has_writer(attributes: NvAttributes) -> bool
         || attributes.has(NvAttribute::PolicyWrite)
 }
 
-/// Whether somebody may read.
+/// Whether the attributes let somebody read.
 fn has_reader(attributes: NvAttributes) -> bool
     ensures { result ≡ has_one attributes read_attributes }
 {
@@ -81,7 +81,7 @@ pub fn has_type_size(public: &NvPublic) -> bool
 
 /// Whether an index may be defined with this public area and an authorization value of this size,
 /// by the platform or else by the owner (TPM 2.0 Library, Part 3, section 31.3). The first check
-/// that it fails refuses it.
+/// that fails refuses the definition.
 #[tactic(auto, unfolding(crate::specs::Definition::definition_passes), using(crate::proofs::DefinitionLaws::unwritten_is))]
 pub fn check_definition(
     public: &NvPublic,
@@ -89,7 +89,7 @@ pub fn check_definition(
     by_platform: bool,
 ) -> Result<(), DefinitionFault>
     ensures checked { result ≡ definition_passes by_platform public.now auth_size }
-    // What passes can be defined.
+    // An index that passes the checks can be defined.
     ensures sized { OnOk result (has_type_size public.now ≡ true) }
     ensures unwritten { OnOk result (has public.now.attributes attribute.Written ≡ false) }
 {

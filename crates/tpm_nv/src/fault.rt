@@ -1,6 +1,6 @@
-//! Why a call on an NV index is refused, or the definition of one, or its return from what was kept.
+//! Why a call on an NV index, its definition, or putting it back from what was kept, is refused.
 
-/// The handle has no index: all that refuses another authorization value.
+/// The handle has no index: no other fault can refuse another authorization value.
 #[derive(Clone, Copy, Debug, PartialEq, Eq)]
 pub struct Undefined;
 
@@ -46,11 +46,11 @@ pub enum LockFault {
 /// Why an index was not defined.
 #[derive(Clone, Copy, Debug, PartialEq, Eq)]
 pub enum DefineFault {
-    /// It is marked as written, which no index is as it is defined.
+    /// The index is marked as written, which no index is as it is defined.
     Written,
-    /// Its data have not the size that an index of its type has.
+    /// The size is not one that an index of its type may have.
     DataSize,
-    /// The handle has an index.
+    /// The handle has an index already.
     Defined,
     /// There are as many indices as there may be, or too few bytes are left.
     Space,
@@ -61,7 +61,7 @@ pub enum DefineFault {
 /// Why an index was not put back.
 #[derive(Clone, Copy, Debug, PartialEq, Eq)]
 pub enum RestoreFault {
-    /// The handle has an index.
+    /// The handle has an index already.
     Defined,
     /// There are as many indices as there may be, or too few bytes are left.
     Space,

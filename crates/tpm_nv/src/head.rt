@@ -14,7 +14,7 @@ pub struct Head {
 }
 
 impl Default for Head {
-    /// What stands in a free place.
+    /// The head in a place that is free.
     fn default() -> Head {
         Head {
             public: NvPublic {

@@ -1,4 +1,4 @@
-//! What is done to the heads alone.
+//! Changes and searches of the heads alone.
 
 ghost use Rattle.tpm_types.specs.Limits.{nv_index_limit, nv_space_limit};
 ghost use Rattle.std.specs.Prelude.{◌≡◌, ◌<◌, ◌≤◌, ℕ, IfNone, IfSome, None, OnErr, OnOk, Some, length};
@@ -15,7 +15,7 @@ use tpm_containers::{KeyFault, SortedMap};
 use tpm_types::{AuthValue, NV_INDEX_LIMIT};
 use tpm_types_nv::NvAttributes;
 
-/// Where the bytes of a key begin in the area of all.
+/// Where the bytes of the index with this key begin in the area of all.
 pub(crate) fn start_of(heads: &[(u32, Head)], key: u32) -> usize
     requires { total heads.now ≤ nv_space_limit }
     ensures { result ≡ start_of heads.now key }
@@ -30,7 +30,7 @@ pub(crate) fn start_of(heads: &[(u32, Head)], key: u32) -> usize
     start
 }
 
-/// The head of a key, and where its bytes begin in the area of all, found in one walk.
+/// The head of a key, and where the bytes of its index begin in the area of all, found in one walk.
 pub(crate) fn found_at(heads: &[(u32, Head)], key: u32) -> Option<Found<'_>>
     requires ascends { Ascends heads.now }
     requires small { total heads.now ≤ nv_space_limit }
@@ -82,7 +82,7 @@ pub(crate) fn set_auth_value<H: SortedMap<Head, NV_INDEX_LIMIT>>(
     }
 }
 
-/// Says of an authorization value what its type says.
+/// Says of an authorization value what its type says. The function does nothing.
 pub(crate) fn auth_value_fits(value: &AuthValue)
     ensures { IsAuthValue value.now }
 {

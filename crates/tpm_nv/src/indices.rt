@@ -22,7 +22,7 @@ use tpm_types::{AuthValue, Handle};
 use tpm_types_nv::NvPublic;
 
 /// The NV indices of a device by their handles, within the limits on their number and their data. A
-/// refused call changes nothing. Who may read or write is no matter of these calls.
+/// refused call changes nothing. These calls do not ask who may read or write.
 pub trait Indices: Drop + Sized {
     /// The indices, and the largest value that a counter ever had.
     ghost contents: { Self → NvContents };
@@ -30,7 +30,7 @@ pub trait Indices: Drop + Sized {
     /// Whether memory can be refused where an index is defined.
     ghost can_refuse: { Bool };
 
-    /// No index; no memory is taken.
+    /// No index is there at first; no memory is taken.
     fn new(alloc: Global) -> Self
         ensures { contents result ≡ no_indices };
 
@@ -54,8 +54,8 @@ pub trait Indices: Drop + Sized {
     fn next(&self, handle: Handle) -> Option<u32>
         ensures { result ≡ next_index (contents self.now) handle.number };
 
-    /// Defines an index, which has no data yet (TPM 2.0 Library, Part 3, section 31.3). What else its
-    /// definition is to pass, [`crate::definition::check_definition`] says.
+    /// Defines an index, which has no data yet (TPM 2.0 Library, Part 3, section 31.3). The other
+    /// checks of a definition are in [`crate::definition::check_definition`].
     fn define(&mut self, public: NvPublic, auth_value: AuthValue) -> Result<(), DefineFault>
         requires { IsNvPublic public }
         ensures { Defines can_refuse (contents self.old) (defined_index public auth_value) result
@@ -91,12 +91,12 @@ pub trait Indices: Drop + Sized {
         ensures { ChangesContents (incremented (contents self.old) handle) (contents self.old)
             result (contents self.new) };
 
-    /// Sets bits (Part 3, section 31.10).
+    /// Sets bits of a bit field (Part 3, section 31.10).
     fn set_bits(&mut self, handle: Handle, bits: u64) -> Result<(), WriteFault>
         ensures { ChangesContents (bits_set (contents self.old) handle bits) (contents self.old)
             result (contents self.new) };
 
-    /// Extends a digest (Part 3, section 31.9).
+    /// Extends the digest of an index (Part 3, section 31.9).
     fn extend(&mut self, handle: Handle, bytes: &[u8]) -> Result<(), WriteFault>
         ensures { ChangesContents (extended (contents self.old) handle bytes.now) (contents self.old)
             result (contents self.new) };
@@ -121,11 +121,11 @@ pub trait Indices: Drop + Sized {
         ensures { ChangesContents (with_auth_value (contents self.old) handle value) (contents self.old)
             result (contents self.new) };
 
-    /// What a startup with CLEAR does (Part 3, section 9.3).
+    /// Does to all indices what a startup with CLEAR does (Part 3, section 9.3).
     fn startup(&mut self)
         ensures { contents self.new ≡ started (contents self.old) };
 
-    /// Removes the indices that the platform did not define, as a Clear does (Part 3, section
+    /// Removes the indices that the platform did not define, as TPM2_Clear does (Part 3, section
     /// 24.6); the bytes of those that stay are moved at most once.
     fn clear(&mut self)
         ensures { contents self.new ≡ cleared (contents self.old) };
@@ -138,7 +138,7 @@ pub trait Indices: Drop + Sized {
     fn set_max_count(&mut self, count: u64)
         ensures { contents self.new ≡ record (contents self.old) { max_count = count } };
 
-    /// Says what holds of the indices whatever came before. It does nothing else.
+    /// Says what holds of the indices, whatever came before. The call does nothing.
     fn read_sizes(&self)
         ensures { IsContents (contents self.now) };
 }

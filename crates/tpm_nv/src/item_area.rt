@@ -42,16 +42,16 @@ impl ByteItems for ArrayVec<u8, NV_SPACE_LIMIT> {
     }
 }
 
-/// Bytes among items.
+/// An area of bytes that are items.
 #[derive(Drop)]
 pub struct ItemArea<B: ByteItems> {
     bytes: B,
 }
 
-/// Bytes in a list that grows.
+/// An area of bytes in a list that grows.
 pub type ListArea = ItemArea<Vec<u8>>;
 
-/// Bytes in one area; no memory is ever taken.
+/// An area of bytes of fixed size; no memory is ever taken.
 pub type SlotArea = ItemArea<ArrayVec<u8, NV_SPACE_LIMIT>>;
 
 impl<B: ByteItems> Area for ItemArea<B> {

@@ -4,14 +4,14 @@
 //! power cycle, each under a handle, that are written, counted up, whose bits are set, or that are
 //! extended.
 //!
-//! It stands on `tpm_types_nv` for their public areas, on `tpm_containers` for the map of their
-//! handles, on `tpm_mac` for the digest that extends one, and on `tpm_bytes` for the number that a
+//! The crate uses `tpm_types_nv` for their public areas, `tpm_containers` for the map of their
+//! handles, `tpm_mac` for the digest that extends one, and `tpm_bytes` for the number that a
 //! counter is. [`indices::Indices`] is what a device does with them: contracts see a finite map
 //! from handles to public area, authorization value and data, with the largest value that a counter
 //! ever had, and each call is one equation on it. [`stored_indices::StoredIndices`] keeps them, in
 //! lists that grow or in fixed places: the heads in an ascending map, the bytes of all in one area.
-//! A definition alone may take memory; a refused call changes nothing. [`check_definition`] is what
-//! may be defined. Who may read or write an index is no matter of this crate.
+//! Only a definition may take memory; a refused call changes nothing. [`check_definition`] says
+//! what may be defined. Who may read or write an index, other crates say.
 
 pub mod area;
 mod clear;

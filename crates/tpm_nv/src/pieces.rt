@@ -1,4 +1,4 @@
-//! What is done to the area of bytes, for the piece of one index.
+//! Changes of the area of bytes, for the piece of one index.
 
 ghost use Rattle.tpm_types.specs.Limits.{nv_space_limit};
 ghost use Rattle.std.specs.Prelude.{◌≡◌, ◌≤◌, ◌+◌, ◌-◌, ◌++◌, drop, length, replicate, take};
@@ -8,7 +8,7 @@ ghost use Rattle.tpm_nv.specs.Bytes.{filled, piece_of, put_over};
 use crate::area::Area;
 use tpm_bytes::NoMemory;
 
-/// The bytes of an index in the area of all.
+/// The piece of an index: where its bytes are in the area of all.
 #[derive(Clone, Copy)]
 pub(crate) struct Piece {
     pub(crate) start: usize,

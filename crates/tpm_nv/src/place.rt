@@ -1,4 +1,4 @@
-//! Where an index stands, which each call finds once.
+//! The place of an index in what is kept, which each call finds once.
 
 ghost use Rattle.std.specs.Prelude.{◌≡◌};
 ghost use Rattle.tpm_nv.specs.Place.{piece_at_place, place_of};
@@ -14,7 +14,7 @@ pub(crate) struct Found<'a> {
     pub(crate) start: usize,
 }
 
-/// What a change of its data needs of it.
+/// The place of an index, as a change of its data needs it.
 #[derive(Clone, Copy)]
 pub(crate) struct DataPlace {
     pub(crate) attributes: NvAttributes,
@@ -35,7 +35,7 @@ impl Found<'_> {
 }
 
 impl DataPlace {
-    /// Its bytes, and whether they are data.
+    /// The bytes of the index in the area, and whether they are data.
     pub(crate) fn piece(&self) -> Piece
         ensures { result ≡ piece_at_place self.now }
     {

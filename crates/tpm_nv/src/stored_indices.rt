@@ -1,5 +1,5 @@
 //! NV indices as they are kept: their heads in a map by handles, and the data of all in one area.
-//! Both kinds, in lists and in fixed places, are made of it.
+//! Both kinds are made of one type: in lists, and in fixed places.
 
 ghost use Rattle.std.specs.Prelude.{◌≡◌, ◌≢◌, ◌<◌, ◌≤◌, ◌+◌, ◌||◌, ℕ, List, ◌++◌, None, Some, Ok, Err};
 ghost use Rattle.std.specs.Prelude.{IfErr, IfNone, IfOk, IfSome, IsSomeAnd, OnErr, OnOk};
@@ -48,7 +48,8 @@ pub struct StoredIndices<H: SortedMap<Head, NV_INDEX_LIMIT>, R: Area> {
 pub type ListIndices = StoredIndices<ListMap<Head, NV_INDEX_LIMIT>, ListArea>;
 
 /// NV indices in as many places as there can be. No memory is ever taken, so none can be refused.
-/// They are some 23,600 bytes long, the data of all among them: they are made once, and lent.
+/// The type has some 23,600 bytes, the data of all indices among them: a value is made once, and
+/// lent.
 pub type SlotIndices = StoredIndices<SlotMap<Head, NV_INDEX_LIMIT>, SlotArea>;
 
 impl<H: SortedMap<Head, NV_INDEX_LIMIT>, R: Area> Model for StoredIndices<H, R> {
@@ -75,7 +76,7 @@ impl<H: SortedMap<Head, NV_INDEX_LIMIT>, R: Area> StoredIndices<H, R> {
         self.heads.get(handle.number)
     }
 
-    /// The head of an index, and where its bytes begin.
+    /// The head of an index, and where its bytes begin in the area of all.
     fn find(&self, handle: Handle) -> Option<Found<'_>>
         ensures absent { IfNone result (index_at self.now handle ≡ None) }
         ensures there { IfSome result (λ found. (old : List ℕ)
@@ -119,7 +120,7 @@ impl<H: SortedMap<Head, NV_INDEX_LIMIT>, R: Area> StoredIndices<H, R> {
         set_attributes(&mut self.heads, handle.number, written);
     }
 
-    /// Gives an index that has these attributes one more.
+    /// Sets one more attribute of an index that has these attributes.
     fn mark(&mut self, handle: Handle, of: NvAttributes, attribute: NvAttribute)
         requires there { IsSomeAnd (index_at self.old handle) (λ index.
             of ≡ index.public.attributes) }
@@ -130,7 +131,7 @@ impl<H: SortedMap<Head, NV_INDEX_LIMIT>, R: Area> StoredIndices<H, R> {
         set_attributes(&mut self.heads, handle.number, of.with(attribute));
     }
 
-    /// Puts other data in the place of all data of an index; it is written then.
+    /// Puts other data in the place of all data of an index, which is written then.
     fn set_data(&mut self, handle: Handle, place: DataPlace, bytes: &[u8])
         requires there { IsPlaceOf self.old handle place }
         requires whole { IsSomeAnd (index_at self.old handle) (λ index.
@@ -211,7 +212,7 @@ impl<H: SortedMap<Head, NV_INDEX_LIMIT>, R: Area> StoredIndices<H, R> {
         piece_at(self.area.as_slice(), found.start, size)
     }
 
-    /// The number that the data of an index are, or until it is written this one.
+    /// The number that the data of an index spells, or this one until the index is written.
     fn number(&self, found: Found, first: u64) -> u64
         requires { (handle : Handle) × IsFound self.now handle found }
         ensures { let head = found.entry.head.now in (handle : Handle) (old : List ℕ)
@@ -224,7 +225,8 @@ impl<H: SortedMap<Head, NV_INDEX_LIMIT>, R: Area> StoredIndices<H, R> {
         first
     }
 
-    /// The digest of the data of an index, or of zeros until it is written, and of these bytes.
+    /// The digest of two parts: the data of an index, or zeros until it is written, and these
+    /// bytes.
     fn extended_digest(&self, found: Found, bytes: &[u8]) -> Digest
         requires { (handle : Handle) × IsFound self.now handle found }
         ensures value { let head = found.entry.head.now in (handle : Handle) (old : List ℕ)

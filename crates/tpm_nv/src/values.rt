@@ -1,4 +1,4 @@
-//! What is computed and asked of an index's attributes, sizes and data.
+//! What follows from an index's attributes, sizes and data.
 
 ghost use Rattle.tpm_types.specs.Limits.{nv_index_limit, nv_space_limit};
 ghost use Rattle.std.specs.Prelude.{◌≡◌, ◌==◌, ◌<◌, ◌≤◌, ◌+◌, ◌||◌, ◌&&◌, not, nat_lt, nat_le};
@@ -20,7 +20,7 @@ pub(crate) fn is_write_lockable(of: NvAttributes) -> bool
     of.has(NvAttribute::WriteDefine) || of.has(NvAttribute::WriteStClear)
 }
 
-/// Whether a write of this many bytes leaves some that are to be written with it.
+/// Whether a write of this many bytes is only a part of the data of an index that has WRITEALL.
 pub(crate) fn is_part(of: NvAttributes, count: usize, size: usize) -> bool
     ensures { result ≡ (has of attributes.WriteAll && not (count == size)) }
 {
@@ -36,7 +36,7 @@ pub(crate) fn is_room(count: usize, bytes: usize, size: usize) -> bool
     count < NV_INDEX_LIMIT && bytes + size <= NV_SPACE_LIMIT
 }
 
-/// The number that eight bytes are.
+/// The number that eight bytes spell, the highest first.
 pub(crate) fn number_of(bytes: &[u8]) -> u64
     ensures { length bytes.now ≡ 8 → result ≡ from_be_bytes w64 bytes.now }
 {
@@ -46,7 +46,7 @@ pub(crate) fn number_of(bytes: &[u8]) -> u64
     }
 }
 
-/// The digest of two parts.
+/// The digest of two parts, joined.
 pub(crate) fn digest_of(name_alg: HashAlg, first: &[u8], second: &[u8]) -> Digest
     ensures value { result.items ≡ hash_of name_alg (first.now ++ second.now) }
     ensures size { length result.items ≡ digest_size name_alg }

@@ -1,4 +1,4 @@
--- What is read of an NV index has no more bytes than are asked for.
+-- The bytes that are read of an NV index are no more than are asked for.
 use Rattle.std.proofs.Common.{arith, ◌≡◌, ◌≤◌, ◌+◌, ℕ, List, length, take, drop, Ok, subst}
 use Rattle.std.proofs.lemmas.List.{length-take}
 use Rattle.std.specs.Prelude.{nat_lt}

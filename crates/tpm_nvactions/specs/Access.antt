@@ -22,20 +22,20 @@ use Rattle.tpm_actions_base.specs.Rows.{Success}
 use Rattle.tpm_actions_base.specs.Target.{may_read, may_write, target_of}
 use Rattle.tpm_actions_base.specs.declared.target.Target.{Target}
 
--- A1 of the commands that write, and of TPM2_NV_WriteLock
+-- A1 of the commands that write, and of TPM2_NV_WriteLock: authHandle may not write the index
 abbrev pub writer_passes : Target → Result (Unit {0}) Refused
 writer_passes target =
     refused_if (not (may_write target)) (action_refusal action.First (plain code.NvAuthorization))
 
--- A1 of TPM2_NV_ReadLock
+-- A1 of TPM2_NV_ReadLock: authHandle may not read the index
 abbrev pub reader_passes : Target → Result (Unit {0}) Refused
 reader_passes target =
     refused_if (not (may_read target)) (action_refusal action.First (plain code.NvAuthorization))
 
--- what refuses a write after that. A2: the index is locked against writing; A3: it is not of the
+-- the refusal of a write after A1. A2: the index is locked against writing; A3: it is not of the
 -- command's type; A4: what would be written goes past the data, or is not all of them where
--- WRITEALL is set, or the counter has the largest number that there is. That there is no index does
--- not occur
+-- WRITEALL is set, or the counter has the largest number that there is. A missing index does not
+-- occur here
 abbrev pub writing_refusal : WriteFault → Refused
 writing_refusal write_fault.Locked = action_refusal action.Second (plain code.NvLocked)
 writing_refusal write_fault.Attributes =
@@ -45,18 +45,19 @@ writing_refusal write_fault.Partial = action_refusal action.Fourth (plain code.N
 writing_refusal write_fault.Exhausted = action_refusal action.Fourth (plain code.NvRange)
 writing_refusal write_fault.Undefined = handle_refusal
 
--- what refuses a lock after A1. A2: the index has no attribute that lets it be locked so. That
--- there is no index does not occur
+-- the refusal of a lock after A1. A2: the index has no attribute that lets it be locked so. A
+-- missing index does not occur here
 abbrev pub lock_refusal : LockFault → Refused
 lock_refusal lock_fault.Attributes =
     action_refusal action.Second (at (place.Handle 2) (plain code.Attributes))
 lock_refusal lock_fault.Undefined = handle_refusal
 
--- a command that changed NV indices alone
+-- the success of a command that changes NV indices alone
 abbrev pub changed_nv : Record → NvContents → Success
 changed_nv r nv = record { answer = nothing; after = record r { nv = nv } }
 
--- a command that writes what it reads from its parameters so: A1, and then what the change refuses
+-- the row of a command that changes an index by the parameters that it reads: A1, and then what the
+-- change refuses
 abbrev pub write_row : {P : Type 0} → Record → Request → Result P Refused
     → (P → Handle → Result NvContents WriteFault) → Result Success Refused
 write_row r q read change = do

@@ -14,8 +14,8 @@ use Rattle.tpm_actions_base.specs.Rows.{Success, only}
 use Rattle.tpm_actions_base.specs.Target.{index_or_refusal}
 use Rattle.tpm_nvactions.specs.Access.{changed_nv}
 
--- nvIndex, authorized in the role ADMIN; newAuth, at most 32 bytes, whose trailing
--- zeros do not count. A1: it has more bytes than a digest of nameAlg
+-- nvIndex is authorized in the role ADMIN; parameter newAuth, at most 32 bytes, whose trailing
+-- zeros do not count. A1: newAuth has more bytes than a digest of nameAlg
 unfoldable pub nv_change_auth_row : Record → Request → Result Success Refused
 nv_change_auth_row r q = do
   handle ← first_handle q.handles

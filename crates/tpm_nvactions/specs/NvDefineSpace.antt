@@ -21,7 +21,7 @@ use Rattle.tpm_actions_base.specs.Rows.{Success, all_read, parameter}
 use Rattle.tpm_nvactions.specs.declared.nv_define_space.DefinitionParameters.{DefinitionParameters}
 use Rattle.tpm_nvactions.specs.Access.{changed_nv}
 
--- auth, at most 32 bytes, whose trailing zeros do not count; publicInfo
+-- the parameters auth, at most 32 bytes, whose trailing zeros do not count, and publicInfo
 pub record Parameters : Type 0 where
   pub auth_value : List ℕ
   pub public : NvPublic
@@ -36,16 +36,16 @@ parameters_in text = do
 abbrev pub parameters_of : DefinitionParameters → Parameters
 parameters_of asked = record { auth_value = asked.auth_value; public = asked.public }
 
--- A1 to A4
+-- the refusals A1 to A4 of a definition
 abbrev pub definition_refusal : DefinitionFault → Refused
 definition_refusal fault.AuthValueSize = parameter_refusal action.First 1 code.Size
 definition_refusal fault.AuthPolicySize = parameter_refusal action.Second 2 code.Size
 definition_refusal fault.Attributes = parameter_refusal action.Third 2 code.Attributes
 definition_refusal fault.DataSize = parameter_refusal action.Fourth 2 code.Size
 
--- authHandle, the owner or the platform. A1: auth is longer than a digest of nameAlg; A2: the
--- policy is no digest; A3: the attributes; A4: the size; A5: there is such an index; A6: there is
--- no room
+-- authHandle (the owner or the platform) is authorized. A1: auth is longer than a digest of
+-- nameAlg; A2: the policy does not have the size of a digest; A3: the attributes; A4: the size; A5:
+-- there is such an index already; A6: there is no room
 unfoldable pub nv_define_space_row : Record → Request → Result Success Refused
 nv_define_space_row r q = do
   auth_handle ← first_handle q.handles

@@ -16,7 +16,7 @@ use Rattle.tpm_actions_base.specs.Rows.{Success, all_read, parameter, unchanged}
 use Rattle.tpm_nvactions.specs.declared.nv_read.ReadParameters.{ReadParameters}
 use Rattle.tpm_actions_base.specs.Target.{reading_passes, target_of}
 
--- size, offset
+-- the parameters size and offset
 unfoldable pub parameters_in : List ℕ → Result ReadParameters Refused
 parameters_in text = do
   size ← parameter 1 (or_fault (number_at w16 text) (plain code.Insufficient))
@@ -24,9 +24,9 @@ parameters_in text = do
   ended ← all_read offset.1
   Ok (record { size = size.0; offset = offset.0 })
 
--- authHandle, nvIndex. A1 to A3: those of every command that reads; A4: more bytes than the
--- limit of data; A5: past the index's data, which is all that then refuses it (reading_laws of
--- tpm_actions_base). Answered: these bytes
+-- handles authHandle and nvIndex. A1 to A3: the checks of every command that reads an index; A4:
+-- more bytes are asked for than the limit of data; A5: they reach past the index's data, which is
+-- all that then refuses the reading (reading_laws of tpm_actions_base). Answered: the bytes
 unfoldable pub nv_read_row : Record → Request → Result Success Refused
 nv_read_row r q = do
   target ← target_of r q

@@ -10,7 +10,8 @@ use Rattle.tpm_actions_base.specs.Rows.{Success, all_read}
 use Rattle.tpm_actions_base.specs.Target.{target_of}
 use Rattle.tpm_nvactions.specs.Access.{changed_nv, lock_refusal, reader_passes}
 
--- authHandle, nvIndex. A1: it may not read; A2: the index has no READ_STCLEAR
+-- handles authHandle and nvIndex. A1: authHandle may not read the index; A2: the index has no
+-- READ_STCLEAR
 unfoldable pub nv_read_lock_row : Record → Request → Result Success Refused
 nv_read_lock_row r q = do
   target ← target_of r q

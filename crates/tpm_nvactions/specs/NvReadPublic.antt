@@ -12,12 +12,12 @@ use Rattle.tpm_actions_base.specs.Request.{Request, first_handle}
 use Rattle.tpm_actions_base.specs.Rows.{Success, all_read, unchanged}
 use Rattle.tpm_actions_base.specs.Target.{index_or_refusal}
 
--- the public area of an index, and its Name
+-- what TPM2_NV_ReadPublic answers: the public area of an index, and its Name
 abbrev pub public_body : NvIndex → Body
 public_body index =
     SizedFirst (nv_public_text index.public) (sized_text (nv_name index.public))
 
--- nvIndex; answered: these of the index
+-- handle nvIndex; answered: the public area and the Name of the index
 unfoldable pub nv_read_public_row : Record → Request → Result Success Refused
 nv_read_public_row r q = do
   handle ← first_handle q.handles

@@ -11,7 +11,8 @@ use Rattle.tpm_actions_base.specs.Request.{Request}
 use Rattle.tpm_actions_base.specs.Rows.{Success, only}
 use Rattle.tpm_nvactions.specs.Access.{write_row}
 
--- authHandle, nvIndex; bits. A1: it may not write; A2: locked; A3: no field of bits
+-- handles authHandle and nvIndex; parameter bits. A1: authHandle may not write the index; A2: the
+-- index is locked; A3: it is no bit field
 unfoldable pub nv_set_bits_row : Record → Request → Result Success Refused
 nv_set_bits_row r q =
     write_row r q (only (or_fault (number_at w64 q.parameters) (plain code.Insufficient)))

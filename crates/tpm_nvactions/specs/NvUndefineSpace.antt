@@ -17,12 +17,13 @@ use Rattle.tpm_actions_base.specs.declared.target.Target.{Target}
 use Rattle.tpm_actions_base.specs.Target.{target_of}
 use Rattle.tpm_nvactions.specs.Access.{changed_nv}
 
--- whether the owner would remove what the platform defined
+-- whether the owner asks to remove an index that the platform defined
 abbrev pub is_kept_from : Target → Bool
 is_kept_from target =
     target.auth_handle.number == owner_handle.number && has target.attributes attribute.PlatformCreate
 
--- authHandle, the owner or the platform; nvIndex. A1: the owner, of an index of the platform's
+-- authHandle (the owner or the platform) is authorized; nvIndex. A1: the owner may not remove an
+-- index of the platform's
 unfoldable pub nv_undefine_space_row : Record → Request → Result Success Refused
 nv_undefine_space_row r q = do
   target ← target_of r q

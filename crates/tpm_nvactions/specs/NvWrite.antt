@@ -14,7 +14,7 @@ use Rattle.tpm_actions_base.specs.Rows.{Success, all_read, parameter}
 use Rattle.tpm_nvactions.specs.declared.nv_write.WriteParameters.{WriteParameters}
 use Rattle.tpm_nvactions.specs.Access.{write_row}
 
--- data, within the limit of data; offset
+-- the parameters data, within the limit of data, and offset
 pub record Parameters : Type 0 where
   pub bytes : List ℕ
   pub offset : ℕ
@@ -29,8 +29,9 @@ parameters_in text = do
 abbrev pub parameters_of : WriteParameters → Parameters
 parameters_of asked = record { bytes = asked.bytes.now; offset = asked.offset }
 
--- authHandle, nvIndex. A1: it may not write; A2: locked; A3: no ordinary index; A4: past the data,
--- or not all of them where WRITEALL is set
+-- handles authHandle and nvIndex. A1: authHandle may not write the index; A2: the index is locked;
+-- A3: it is no ordinary index; A4: the bytes reach past its data, or are not all of them where
+-- WRITEALL is set
 unfoldable pub nv_write_row : Record → Request → Result Success Refused
 nv_write_row r q =
     write_row r q (parameters_in q.parameters) (λ p handle. written r.nv handle p.offset p.bytes)

@@ -10,8 +10,8 @@ use Rattle.tpm_actions_base.specs.Rows.{Success, all_read}
 use Rattle.tpm_actions_base.specs.Target.{target_of}
 use Rattle.tpm_nvactions.specs.Access.{changed_nv, lock_refusal, writer_passes}
 
--- authHandle, nvIndex. A1: it may not write; A2: the index has neither WRITEDEFINE nor
--- WRITE_STCLEAR
+-- handles authHandle and nvIndex. A1: authHandle may not write the index; A2: the index has neither
+-- WRITEDEFINE nor WRITE_STCLEAR
 unfoldable pub nv_write_lock_row : Record → Request → Result Success Refused
 nv_write_lock_row r q = do
   target ← target_of r q

@@ -1,11 +1,11 @@
 #![tactic(auto)]
 
-//! What each command on NV indices does: a file a command, with one public call that reads its
-//! plain parameters, checks them, and changes the record last (TPM 2.0 Library, Part 3, section
+//! What each command on NV indices does: a file for each command, with one public call that reads
+//! its plain parameters, checks them, and changes the record last (TPM 2.0 Library, Part 3, section
 //! 31). What the commands share, who may read and write an index and how they refuse, is in
 //! [`access`].
 //!
-//! It stands on `tpm_actions_base`, and on `tpm_nv` for the indices. `specs/` has a row for each
+//! The crate uses `tpm_actions_base`, and `tpm_nv` for the indices. `specs/` has a row for each
 //! command under the same name; each call is proved to be its row, for each way of keeping the
 //! record, and a refusal leaves the record. Only TPM2_NV_DefineSpace may be refused memory.
 

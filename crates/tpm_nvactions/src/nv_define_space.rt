@@ -20,7 +20,7 @@ use tpm_record::Keep;
 use tpm_types::{ActionCheck, AuthValue, Handle, Refused, ResponseCode};
 use tpm_types_nv::NvPublic;
 
-/// What is asked for.
+/// The parameters of TPM2_NV_DefineSpace.
 #[derive(Drop)]
 pub struct DefinitionParameters {
     auth_value: AuthValue,

@@ -16,7 +16,7 @@ use tpm_nv::Indices;
 use tpm_record::Keep;
 use tpm_types::{ActionCheck, DATA_LIMIT, Refused, ResponseCode};
 
-/// What is asked for.
+/// The parameters of TPM2_NV_Read.
 #[derive(Clone, Copy)]
 pub struct ReadParameters {
     size: u16,

@@ -1,4 +1,4 @@
-//! TPM2_NV_SetBits: sets bits of an index that is a field of bits, by its row in `specs/NvSetBits`.
+//! TPM2_NV_SetBits: sets bits of an index that is a bit field, by its row in `specs/NvSetBits`.
 
 ghost use Rattle.std.specs.Prelude.{◌≡◌};
 ghost use Rattle.tpm_actions_base.specs.Answer.{IsEmpty};
@@ -16,7 +16,7 @@ use tpm_nv::Indices;
 use tpm_record::Keep;
 use tpm_types::Refused;
 
-/// TPM2_NV_SetBits: sets bits of a field of bits.
+/// TPM2_NV_SetBits: sets bits of an index that is a bit field.
 #[tactic(auto, unfolding(crate::specs::NvSetBits::nv_set_bits_row))]
 pub fn nv_set_bits<K: Keep>(keep: &mut K, call: &Call, _answer: &mut Answer) -> Result<(), Refused>
     requires { IsEmpty _answer.old }

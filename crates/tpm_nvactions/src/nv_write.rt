@@ -17,7 +17,7 @@ use tpm_nv::Indices;
 use tpm_record::Keep;
 use tpm_types::{DATA_LIMIT, Refused, read_buffer};
 
-/// What is asked for.
+/// The parameters of TPM2_NV_Write.
 #[derive(Clone, Copy)]
 pub struct WriteParameters<'a> {
     bytes: &'a [u8],

@@ -1,4 +1,4 @@
--- What is wrapped is unwrapped, and what is unwrapped was wrapped so.
+-- A sensitive area that is wrapped is unwrapped, and one that is unwrapped was wrapped so.
 use Rattle.std.proofs.Common.{◌≡◌, ℕ, ◌<◌, ◌≤◌, Bool, true, false, List, [], ◌++◌, length, Result, Ok, Err, refl, sym, ap, subst, ◌∙◌, append-nil, arith}
 use Rattle.std.specs.Prelude.{◌==◌, ◌≢◌, not, IfOk}
 use Rattle.std.specs.Str.{bytes_eq}
@@ -48,7 +48,7 @@ integrity_small parent name protected =
       length-hmac_of parent.public.name_alg (integrity_key parent) (protected ++ name),
     )
 
--- what is sealed is protected
+-- what is authenticated is found in the text
 protected_again : (parent : Object) (name protected : List ℕ)
     → protected_in parent name (authenticated_text parent name protected) ≡ Ok protected
 unfolding protected_in
@@ -60,7 +60,7 @@ protected_again parent name protected =
       (bytes_eq-Decides value value).1 refl,
     ) refl
 
--- what is protected was sealed
+-- what is found in a text was authenticated so
 protected_found : (parent : Object) (name text protected : List ℕ)
     → AreBytes text → protected_in parent name text ≡ Ok protected
     → text ≡ authenticated_text parent name protected
@@ -88,7 +88,7 @@ area_again area is =
     ap (filled_by sensitive_at) (sym (append-nil text)) ∙ sized_sensitive_spelled.again area [] is in
     rw read refl
 
--- and has at most 202 bytes there
+-- an area in its sized buffer has at most 202 bytes
 area_most : (plain : List ℕ) (area : Sensitive) → area_in plain ≡ Ok area → length plain ≤ 202
 unfolding area_in
 area_most plain area e =
@@ -104,7 +104,7 @@ unfolding encrypted_area
 encrypted_undone parent name iv area =
     cfb_undone (storage_key parent name) iv (sized_text (sensitive_text area))
 
--- an encrypted area is decrypted to what it was
+-- an encrypted area is decrypted to the area that it was
 decrypted_again : (parent : Object) (name iv : List ℕ) (area : Sensitive) → length iv ≡ 16 → IsSensitive area
     → decrypted_area parent name (protected_text parent name iv area) ≡ Ok area
 unfolding decrypted_area
@@ -117,7 +117,7 @@ decrypted_again parent name iv area whole is =
       area_again area is,
     ) refl
 
--- what is decrypted was encrypted so
+-- an area that is decrypted was encrypted so
 decrypted_found : (parent : Object) (name protected iv encrypted plain : List ℕ) (area : Sensitive)
     → AreBytes protected → sized_at 16 protected ≡ Ok (iv, encrypted) → length iv ≡ 16
     → cfb_encrypt_of (storage_key parent name) iv plain ≡ encrypted
@@ -131,7 +131,7 @@ decrypted_found parent name protected iv encrypted plain area fits read whole un
     sym undone ∙ ap (cfb_encrypt_of (storage_key parent name) iv) spelled in
     (iv, whole, t.0.parts ∙ ap (λ (l : List ℕ). sized_text iv ++ l) again)
 
--- a text that is longer than an area in its sized buffer is none, encrypted or not
+-- a text that is longer than an area in its sized buffer is no area, encrypted or not
 long_refused : (plain : List ℕ) → 202 < length plain → area_in plain ≡ Err integrity_fault
 long_refused plain long = by (area_in plain) refl
   where
@@ -152,7 +152,7 @@ unfolding decrypted_area
 long_area_refused parent name protected iv encrypted read whole long =
     rw (read, whole, long_cipher_refused parent name iv encrypted long) refl
 
--- the same of what a reading gives
+-- a reading of a decrypted text gives the area that was encrypted so
 pub decrypted_law : (parent : Object) (name protected iv encrypted plain : List ℕ)
     (result : Result Sensitive IntegrityFault)
     → AreBytes protected → sized_at 16 protected ≡ Ok (iv, encrypted) → length iv ≡ 16
@@ -184,7 +184,7 @@ refuses : (a b : ObjectType) (area : Sensitive) → b ≢ a → of_type a b area
 refuses a b area other =
     rw (ne_eqb (object_type_number a) (object_type_number b) (λ same. other (sym (same_type a b same)))) refl
 
--- what was wrapped comes to its type
+-- a private area that was wrapped is unwrapped if the types fit
 wrapped_is : (parent : Object) (public : Public) (name iv : List ℕ) (area : Sensitive)
     → name ≡ object_name public → length iv ≡ 16 → IsSensitive area
     → unwrapped parent public (private_text parent name iv area)
@@ -194,7 +194,7 @@ wrapped_is parent public name iv area named whole is =
     let protected : List ℕ = protected_text parent name iv area in
     rw (sym named, protected_again parent name protected, decrypted_again parent name iv area whole is) refl
 
--- it is unwrapped, where both areas are of one type
+-- a private area is unwrapped, where both areas are of one type
 pub wrapped_undone : (parent : Object) (public : Public) (name iv text : List ℕ) (area : Sensitive)
     → text ≡ private_text parent name iv area → length iv ≡ 16 → IsSensitive area
     → name ≡ object_name public → object_type public ≡ area.object_type
@@ -203,7 +203,7 @@ wrapped_undone parent public name iv text area spelled whole is named typed =
     ap (unwrapped parent public) spelled ∙ wrapped_is parent public name iv area named whole is
     ∙ passes area.object_type (object_type public) area (sym typed)
 
--- and is not, where they are of two
+-- a private area is not unwrapped, where the two areas are of two types
 pub wrapped_refused : (parent : Object) (public : Public) (name iv text : List ℕ) (area : Sensitive)
     → text ≡ private_text parent name iv area → length iv ≡ 16 → IsSensitive area
     → name ≡ object_name public → object_type public ≢ area.object_type
@@ -212,14 +212,14 @@ wrapped_refused parent public name iv text area spelled whole is named other =
     ap (unwrapped parent public) spelled ∙ wrapped_is parent public name iv area named whole is
     ∙ refuses area.object_type (object_type public) area other
 
--- what was wrapped for a public area is unwrapped
+-- a private area that was wrapped for a public area is unwrapped
 pub unwrapped_only : (parent : Object) (public : Public) (text : List ℕ) (area : Sensitive)
     → IsWrapped parent public text area → unwrapped parent public text ≡ Ok area
 unwrapped_only parent public text area is =
     wrapped_undone parent public (object_name public) is.iv text area is.spelled is.whole is.sized refl
     (sym is.typed)
 
--- what is unwrapped was wrapped
+-- a private area that is unwrapped was wrapped
 pub unwrapped_found : (parent : Object) (public : Public) (name text protected : List ℕ) (area : Sensitive)
     → name ≡ object_name public → AreBytes text → protected_in parent name text ≡ Ok protected
     → IsSensitive area × IsProtected parent name protected area

@@ -11,8 +11,8 @@ use Rattle.tpm_types.specs.Buffer.{is_given}
 use Rattle.tpm_object.specs.Creation.{generated_size}
 use Rattle.tpm_object.specs.declared.areas.Created.{Created}
 
--- the type of the template, the authorization value without the zeros at its end, the seed, and the
--- data that the caller gives, else the key
+-- the sensitive area of a new object: the type of the template, the authorization value without the
+-- zeros at its end, the seed, and the data that the caller gives, or else the key
 abbrev pub new_sensitive : Public → SensitiveValues → (seed key : List ℕ) → Sensitive
 new_sensitive template given seed key = record {
   object_type = object_type template;
@@ -21,7 +21,7 @@ new_sensitive template given seed key = record {
   sensitive = if is_given given.data then given.data else key;
 }
 
--- the template, whose unique becomes H(seedValue || sensitive)
+-- the public area of a new object: the template, whose unique becomes H(seedValue || sensitive)
 abbrev pub new_public : Public → Sensitive → Public
 new_public template area =
     record template { unique = hash_of template.name_alg (area.seed_value ++ area.sensitive) }
@@ -32,7 +32,7 @@ new_object_areas template given seed key =
     let area : Sensitive = new_sensitive template given seed key in
     record { public = new_public template area; sensitive = area }
 
--- those of an object that is made from random bytes: first the key, and then the seed
+-- both areas of an object that is made from random bytes: first the key, and then the seed
 unfoldable pub created : Public → SensitiveValues → (random : List ℕ) → Created
 created template given random =
     new_object_areas template given

@@ -1,12 +1,12 @@
--- Checks in an order, of which the first that applies refuses.
+-- Checks in their order, of which the first that applies refuses.
 use Rattle.std.specs.Prelude.{Bool, List, [], ◌∷◌, if◌then◌else◌, Result, Ok, Err}
 use Rattle.std.specs.List.{list_any}
 
--- the fault of the first that applies
+-- the fault of the first check that applies, if one does
 abbrev pub first_fault : {F : Type 0} → List (Bool × F) → Result (Unit {0}) F
 first_fault [] = Ok tt
 first_fault (check ∷ checks) = if check.0 then Err check.1 else first_fault checks
 
--- whether one of these is so
+-- whether at least one of these conditions holds
 abbrev pub one_of : List Bool → Bool
 one_of conditions = list_any (λ condition. condition) conditions

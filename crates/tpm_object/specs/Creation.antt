@@ -19,13 +19,14 @@ use Rattle.tpm_object.specs.Object.{is_cipher, is_keyed_hash}
 use Rattle.tpm_object.specs.declared.creation.CreationFault.{CreationFault}
 use Rattle.tpm_object.specs.declared.creation.CreationFault.TheVariants as fault
 
--- an authorization value has no more bytes than a digest of nameAlg; zeros at its end do not count
+-- whether an authorization value has more bytes than a digest of nameAlg; zeros at its end do not
+-- count
 abbrev pub is_long_auth : SensitiveValues → Public → Bool
 is_long_auth given t = nat_lt (digest_size t.name_alg) (length (trimmed given.user_auth))
 
--- each of these is wrong, where the caller may give the key or the data to seal:
--- sensitiveDataOrigin says that the device makes the key, and what is sealed
--- is not made
+-- what may be wrong with who gives the key or the data to seal: sensitiveDataOrigin says that the
+-- device makes the key, but the caller gives one; or neither gives it; or what is sealed would be
+-- made by the device
 abbrev pub origin_conflicts : SensitiveValues → Public → List Bool
 origin_conflicts given t =
     let made : Bool = has t.attributes attribute.SensitiveDataOrigin in
@@ -33,7 +34,8 @@ origin_conflicts given t =
     ∷ (not made && not (is_given given.data))
     ∷ (made && is_keyed_hash t && not (has t.attributes attribute.Sign)) ∷ []
 
--- a cipher's key has 16 bytes; with no data it is made
+-- whether the key that is given for a cipher does not have 16 bytes; where none is given the device
+-- makes it
 abbrev pub has_wrong_key_size : SensitiveValues → Public → Bool
 has_wrong_key_size given t = is_cipher t && is_given given.data && not (length given.data == 16)
 
@@ -43,12 +45,12 @@ creation_checks given t =
     ∷ (one_of (origin_conflicts given t), fault.Attributes)
     ∷ (has_wrong_key_size given t, fault.DataSize) ∷ []
 
--- whether the values pass, or the fault of the first check that holds
+-- whether what a caller gives passes, or the fault of the first check that applies
 unfoldable pub creation_passes : SensitiveValues → Public → Result (Unit {0}) CreationFault
 creation_passes given t = first_fault (creation_checks given t)
 
--- the bytes of a key: 128 bits of AES, or as many as a digest of the scheme's hash algorithm has,
--- with no scheme of nameAlg
+-- how many bytes a key has: 128 bits of AES, or as many as a digest of the scheme's hash algorithm,
+-- or of nameAlg where there is no scheme
 abbrev pub parameters_key_size : HashAlg → PublicParameters → ℕ
 parameters_key_size name_alg parameters_of.SymCipher = 16
 parameters_key_size name_alg (parameters_of.KeyedHash (Hmac hash)) = digest_size hash

@@ -22,12 +22,12 @@ are_of_cipher parameters_of.SymCipher = true
 abbrev pub is_cipher : Public → Bool
 is_cipher p = are_of_cipher p.parameters
 
--- or a KEYEDHASH
+-- whether an object is a KEYEDHASH
 abbrev pub is_keyed_hash : Public → Bool
 is_keyed_hash p = not (are_of_cipher p.parameters)
 
--- a storage key, under which other objects can be: a SYMCIPHER that decrypts and does not sign, and
--- is restricted to that
+-- whether an object is a storage parent, under which other objects can be: a SYMCIPHER that
+-- decrypts and does not sign, and is restricted to that
 abbrev pub is_storage_parent : Public → Bool
 is_storage_parent p =
     is_cipher p && has p.attributes attribute.Restricted && has p.attributes attribute.Decrypt
@@ -57,7 +57,6 @@ pub record IsObject (object : Object) : Type 0 where
   pub sensitive : length object.sensitive ≤ sensitive_limit
   pub qualified_name : length object.qualified_name ≤ 34
 
--- the highest byte of a loaded object's handle, 80: it is a transient object (TPM_HT_TRANSIENT of
--- Part 2, section 7.2)
+-- the highest byte of a transient object's handle, 80 (TPM_HT_TRANSIENT of Part 2, section 7.2)
 abbrev pub transient_byte : Object → ℕ
 transient_byte object = 0x80

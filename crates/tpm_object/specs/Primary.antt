@@ -16,27 +16,28 @@ use Rattle.tpm_object.specs.Object.{loaded_object}
 use Rattle.tpm_object.specs.declared.areas.Created.{Created}
 use Rattle.tpm_object.specs.declared.object.Object.{Object}
 
--- "PRIMARY"
+-- the label of KDFa for primary objects: "PRIMARY"
 abbrev pub primary_label : List ℕ
 primary_label = 0x50 ∷ 0x52 ∷ 0x49 ∷ 0x4d ∷ 0x41 ∷ 0x52 ∷ 0x59 ∷ []
 
--- KDFa(nameAlg, seed, "PRIMARY", H(TPMT_PUBLIC), H(TPMS_SENSITIVE_CREATE), bits), where both texts
--- are as the caller sends them, without their sizes: the template with its unique, the
--- authorization value with zeros at its end
+-- the bytes of a primary object: KDFa(nameAlg, seed, "PRIMARY", H(TPMT_PUBLIC),
+-- H(TPMS_SENSITIVE_CREATE), bits), where both texts are as the caller sends them, without their
+-- sizes: the template with its unique, the authorization value with zeros at its end
 unfoldable pub primary_bytes : (seed : List ℕ) → Public → SensitiveValues → List ℕ
 primary_bytes seed template given =
     kdfa_of template.name_alg seed primary_label (hash_of template.name_alg (public_text template))
     (hash_of template.name_alg (sensitive_create_text given))
     (digest_size template.name_alg + generated_size template given)
 
--- the first of them, as many as a digest has, are the seedValue, the others the key
+-- both areas of a primary object: the first of its bytes, as many as a digest has, are the
+-- seedValue, the others the key
 unfoldable pub primary_areas : (seed : List ℕ) → Public → SensitiveValues → Created
 primary_areas seed template given =
     let bytes : List ℕ = primary_bytes seed template given in
     new_object_areas template given (take (digest_size template.name_alg) bytes)
     (drop (digest_size template.name_alg) bytes)
 
--- an object right under its hierarchy, whose handle stands for the qualified Name of a parent
+-- an object right under its hierarchy, whose handle takes the place of a parent's qualified Name
 abbrev pub under_hierarchy : HierarchyHandle → Created → Object
 under_hierarchy hierarchy areas =
     loaded_object hierarchy areas.public areas.sensitive (handle_name (hierarchy_handle hierarchy))

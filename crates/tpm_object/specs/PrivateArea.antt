@@ -19,7 +19,7 @@ use Rattle.tpm_types_object.specs.declared.sensitive.Sensitive.{Sensitive}
 use Rattle.tpm_object.specs.declared.object.Object.{Object}
 use Rattle.tpm_object.specs.declared.private_area.IntegrityFault.{IntegrityFault}
 
--- "STORAGE" and "INTEGRITY"
+-- the labels of KDFa for the keys of a private area: "STORAGE" and "INTEGRITY"
 abbrev pub storage_label : List ℕ
 storage_label = 0x53 ∷ 0x54 ∷ 0x4f ∷ 0x52 ∷ 0x41 ∷ 0x47 ∷ 0x45 ∷ []
 
@@ -27,34 +27,36 @@ abbrev pub integrity_label : List ℕ
 integrity_label =
     0x49 ∷ 0x4e ∷ 0x54 ∷ 0x45 ∷ 0x47 ∷ 0x52 ∷ 0x49 ∷ 0x54 ∷ 0x59 ∷ []
 
--- KDFa(pNameAlg, seedValue, "STORAGE", name, NULL, 128 bits), by the parent's nameAlg and seedValue
+-- the key that encrypts a private area: KDFa(pNameAlg, seedValue, "STORAGE", name, NULL, 128 bits),
+-- by the parent's nameAlg and seedValue
 unfoldable pub storage_key : (parent : Object) → (name : List ℕ) → List ℕ
 storage_key parent name =
     kdfa_of parent.public.name_alg parent.seed_value storage_label name [] 16
 
--- KDFa(pNameAlg, seedValue, "INTEGRITY", NULL, NULL, bits of a digest)
+-- the HMAC key of a private area: KDFa(pNameAlg, seedValue, "INTEGRITY", NULL, NULL, bits of a
+-- digest)
 unfoldable pub integrity_key : (parent : Object) → List ℕ
 integrity_key parent =
     kdfa_of parent.public.name_alg parent.seed_value integrity_label [] []
     (digest_size parent.public.name_alg)
 
--- HMAC(pNameAlg, HMACkey, what is protected || name)
+-- the integrity value of a private area: HMAC(pNameAlg, HMACkey, what is protected || name)
 unfoldable pub integrity_of : (parent : Object) → (name protected : List ℕ) → List ℕ
 integrity_of parent name protected =
     hmac_of parent.public.name_alg (integrity_key parent) (protected ++ name)
 
--- ---- writing
+-- ---- writing a private area
 
 -- the sensitive area in a sized buffer, encrypted
 unfoldable pub encrypted_area : (parent : Object) → (name iv : List ℕ) → Sensitive → List ℕ
 encrypted_area parent name iv area =
     cfb_encrypt_of (storage_key parent name) iv (sized_text (sensitive_text area))
 
--- the IV in a sized buffer, and the encrypted area
+-- what the integrity value protects: the IV in a sized buffer, and the encrypted area
 abbrev pub protected_text : (parent : Object) → (name iv : List ℕ) → Sensitive → List ℕ
 protected_text parent name iv area = sized_text iv ++ encrypted_area parent name iv area
 
--- the integrity value in a sized buffer, and what it protects
+-- a private area: the integrity value in a sized buffer, and what it protects
 abbrev pub authenticated_text : (parent : Object) → (name protected : List ℕ) → List ℕ
 authenticated_text parent name protected =
     sized_text (integrity_of parent name protected) ++ protected
@@ -63,13 +65,13 @@ unfoldable pub private_text : (parent : Object) → (name iv : List ℕ) → Sen
 private_text parent name iv area =
     authenticated_text parent name (protected_text parent name iv area)
 
--- this is what a parent protects of an area, by some IV
+-- This is what a parent protects of a sensitive area, by some IV.
 abbrev pub IsProtected : (parent : Object) → (name protected : List ℕ) → Sensitive → Type 0
 IsProtected parent name protected area =
     (iv : List ℕ) × (length iv ≡ 16) × (protected ≡ protected_text parent name iv area)
 
--- a text is the private area that the parent makes of this sensitive area, by some IV, for a public
--- area of its type
+-- A text is the private area that the parent makes of this sensitive area, by some IV, for a public
+-- area of its type.
 pub record IsWrapped (parent : Object) (public : Public) (text : List ℕ) (area : Sensitive)
     : Type 0 where
   pub typed : area.object_type ≡ object_type public
@@ -78,12 +80,12 @@ pub record IsWrapped (parent : Object) (public : Public) (text : List ℕ) (area
   pub whole : length iv ≡ 16
   pub spelled : text ≡ private_text parent (object_name public) iv area
 
--- ---- reading
+-- ---- reading a private area
 
 abbrev pub integrity_fault : IntegrityFault
 integrity_fault = record {}
 
--- what an integrity value protects, where the value is right
+-- what the integrity value of a private area protects, where the value is right
 unfoldable pub protected_in : (parent : Object)
     → (name text : List ℕ)
     → Result (List ℕ) IntegrityFault
@@ -100,7 +102,7 @@ area_in plain = do
   whole ← refused_if (not (length area.1 == 0)) integrity_fault
   Ok area.0
 
--- the area after an IV of 16 bytes
+-- the sensitive area, decrypted, from an IV of 16 bytes and what stands after it
 unfoldable pub decrypted_area : (parent : Object)
     → (name protected : List ℕ)
     → Result Sensitive IntegrityFault

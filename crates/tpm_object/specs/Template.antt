@@ -1,6 +1,6 @@
 -- The checks of a template, or of a public area to be loaded. TPM 2.0 Library, Part 1, section 25
 -- (object attributes), and Part 3, section 12.1 (TPM2_Create). The order of the checks is this
--- device's own, and so is that no KEYEDHASH decrypts: no XOR scheme and no derivation parents are
+-- device's own. No KEYEDHASH decrypts here, since XOR schemes and derivation parents are not
 -- served.
 use Rattle.std.specs.Prelude.{ℕ, ◌&&◌, not, Bool, false, if◌then◌else◌}
 use Rattle.std.specs.Prelude.{List, [], ◌∷◌, length, Result}
@@ -17,14 +17,14 @@ use Rattle.tpm_object.specs.Object.{is_cipher, is_keyed_hash}
 use Rattle.tpm_object.specs.declared.template.TemplateFault.{TemplateFault}
 use Rattle.tpm_object.specs.declared.template.TemplateFault.TheVariants as fault
 
--- under a hierarchy or a parent with fixedTPM, an object is right to have fixedTPM exactly if it
--- has fixedParent; under another parent it is wrong to have it
+-- whether fixedTPM is wrong: under a hierarchy or a parent with fixedTPM, an object has to have
+-- fixedTPM exactly if it has fixedParent; under another parent it may not have it
 abbrev pub has_wrong_fixing : (parent_is_fixed : Bool) → (attributes : ℕ) → Bool
 has_wrong_fixing parent_is_fixed a =
     if parent_is_fixed then not (beq (has a attribute.FixedTpm) (has a attribute.FixedParent))
     else has a attribute.FixedTpm
 
--- each of these is wrong
+-- the conflicts that the attributes of a template can have
 abbrev pub object_attribute_conflicts : (parent_is_fixed : Bool) → Public → List Bool
 object_attribute_conflicts parent_is_fixed t =
     let restricted : Bool = has t.attributes attribute.Restricted in
@@ -37,7 +37,8 @@ object_attribute_conflicts parent_is_fixed t =
     ∷ (is_cipher t && not sign && not decrypt)
     ∷ (is_cipher t && restricted && sign) ∷ []
 
--- a scheme HMAC without sign, or a restricted KEYEDHASH without a scheme
+-- whether the attributes do not fit the scheme: a scheme HMAC without sign, or a restricted
+-- KEYEDHASH without a scheme
 abbrev pub has_wrong_scheme : PublicParameters → (attributes : ℕ) → Bool
 has_wrong_scheme (parameters_of.KeyedHash (Hmac hash)) a = not (has a attribute.Sign)
 has_wrong_scheme (parameters_of.KeyedHash Null) a = has a attribute.Restricted
@@ -49,7 +50,7 @@ template_checks parent_is_fixed t =
     ∷ (one_of (object_attribute_conflicts parent_is_fixed t), fault.Attributes)
     ∷ (has_wrong_scheme t.parameters t.attributes, fault.Scheme) ∷ []
 
--- whether a template passes, or the fault of the first check that holds
+-- whether a template passes, or the fault of the first check that applies
 unfoldable pub template_passes : (parent_is_fixed : Bool)
     → Public
     → Result (Unit {0}) TemplateFault

@@ -37,7 +37,7 @@ fn new_sensitive(template: &Public, given: &SensitiveCreate, seed: &[u8], key: &
     }
 }
 
-/// The public area that goes with a sensitive area: the template with the `unique` of that.
+/// The public area that goes with a sensitive area: the template with a `unique` made of that area.
 fn new_public(template: &Public, area: &Sensitive) -> Public
     ensures { result ≡ new_public template.now area.now }
 {
@@ -81,8 +81,8 @@ pub fn create(template: &Public, given: &SensitiveCreate, random: &[u8; 256]) ->
     new_object_areas(template, given, seed, key)
 }
 
-/// Both areas of an object that is made, by random bytes or by a seed, are of one type: so what a
-/// parent wraps of it is unwrapped for it. It does nothing.
+/// Both areas of an object that is made, by random bytes or by a seed, are of one type: so the
+/// sensitive area that a parent wraps is unwrapped for the public one. The function does nothing.
 #[inline(always)]
 #[tactic(auto, unfolding(crate::specs::Areas::created, crate::specs::Areas::new_object_areas, crate::specs::Primary::primary_areas))]
 pub fn area_laws()

@@ -17,11 +17,11 @@ use tpm_types_object::{
 /// Why what the caller gives to a new object is refused.
 #[derive(Clone, Copy, Debug, PartialEq, Eq)]
 pub enum CreationFault {
-    /// An authorization value that is longer than a digest of nameAlg.
+    /// The authorization value is longer than a digest of nameAlg.
     AuthValueSize,
     /// sensitiveDataOrigin does not go with the data, or with the use of the object.
     Attributes,
-    /// A key of another size than the cipher's.
+    /// The key does not have the size of the cipher's.
     DataSize,
 }
 
@@ -55,7 +55,7 @@ fn has_wrong_key_size(given: &SensitiveCreate, template: &Public) -> bool
 }
 
 /// Whether what the caller gives goes with the template (TPM 2.0 Library, Part 1, section 27). The
-/// first check that it fails refuses it.
+/// first check that fails refuses the creation.
 #[tactic(auto, unfolding(crate::specs::Creation::creation_passes))]
 pub fn check_creation(given: &SensitiveCreate, template: &Public) -> Result<(), CreationFault>
     ensures { result ≡ creation_passes (sensitive_values_of given.now) template.now }
@@ -83,7 +83,7 @@ fn parameters_key_size(name_alg: HashAlg, parameters: PublicParameters) -> usize
     }
 }
 
-/// How many bytes a key of such an object has that the device makes.
+/// How many bytes the key of an object with this template has, where the device makes it.
 pub fn key_size(template: &Public) -> usize
     ensures value { result ≡ key_size template.now }
     ensures small { result ≤ 32 }
@@ -103,7 +103,7 @@ pub fn generated_size(template: &Public, given: &SensitiveCreate) -> usize
     }
 }
 
-/// How many random bytes `create` takes.
+/// How many random bytes `create` takes: those of the key and of the seedValue.
 pub fn drawn_by(template: &Public, given: &SensitiveCreate) -> usize
     ensures value { result ≡ drawn_by template.now (sensitive_values_of given.now) }
     ensures small { result ≤ 64 }

@@ -1,13 +1,13 @@
 #![tactic(auto)]
 
-//! Objects (TPM 2.0 Library, Part 1, sections 22 to 28): the checks of a new one, how it is made
+//! Objects (TPM 2.0 Library, Part 1, sections 22 to 28): the checks of a new object, how it is made
 //! from a seed or from random bytes, and how its sensitive area is protected by its parent.
 //!
-//! It stands on `tpm_types_object` for the areas of objects, on `tpm_mac` and `tpm_aes` for
-//! digests, keys and encryption, on `tpm_types_name` for Names, and on `tpm_types`. Each call equals its
+//! The crate uses `tpm_types_object` for the areas of objects, `tpm_mac` and `tpm_aes` for digests,
+//! keys and encryption, `tpm_types_name` for Names, and `tpm_types`. Each call equals its
 //! definition in `specs/`. Unwrapping a private area gives back the sensitive area that was wrapped
-//! for a public area of its type, as that of each object that is made, and accepts nothing but what
-//! its parent wraps. No call here takes memory.
+//! for a public area of its type, and those of each object that is made are of one type; it accepts
+//! nothing but what the parent wraps. No call here takes memory.
 
 mod areas;
 mod creation;

@@ -14,15 +14,15 @@ use tpm_types_object::{ObjectAttribute, ObjectAttributes, Public, PublicParamete
 /// A loaded object.
 #[derive(Drop)]
 pub struct Object {
-    /// To which it belongs.
+    /// The hierarchy to which the object belongs.
     pub hierarchy: HierarchyHandle,
     pub public: Public,
     pub auth_value: AuthValue,
-    /// With which it encrypts, or which makes it unique.
+    /// The seedValue, with which a storage parent encrypts, and which makes other objects unique.
     pub seed_value: Octets<32>,
-    /// Its key, or the data that it seals.
+    /// The object's key, or the data that it seals.
     pub sensitive: Octets<SENSITIVE_LIMIT>,
-    /// Its Name under the Names of all its ancestors.
+    /// The object's Name under the Names of all its ancestors.
     pub qualified_name: Name,
 }
 
@@ -63,7 +63,7 @@ pub fn is_storage_parent(public: &Public) -> bool
 /// The highest byte of a transient object's handle.
 pub const TRANSIENT_BYTE: u32 = 0x80;
 
-/// Loaded objects stand under the handles of transient objects.
+/// Loaded objects have the handles of transient objects.
 impl Kinded for Object {
     ghost use Rattle.tpm_object.specs.Object.{transient_byte};
 
@@ -92,7 +92,7 @@ impl Sizes for Object {
 }
 
 impl Default for Object {
-    /// What stands in a free place.
+    /// The object in a place that is free.
     fn default() -> Object {
         Object {
             hierarchy: HierarchyHandle::Null,
@@ -126,7 +126,7 @@ impl Object {
         Object::loaded_named(hierarchy, public, &name, sensitive, parent_qualified_name)
     }
 
-    /// The loaded object, where its Name is known.
+    /// The loaded object with these areas, where its Name is known already.
     pub fn loaded_named(
         hierarchy: HierarchyHandle,
         public: Public,
@@ -153,7 +153,7 @@ impl Object {
         }
     }
 
-    /// The same object.
+    /// A copy of the object.
     pub fn copy(&self) -> Object
         ensures { result ≡ self.now }
     {
@@ -167,7 +167,7 @@ impl Object {
         }
     }
 
-    /// Its Name, that of its public area.
+    /// The object's Name, which is made of its public area.
     pub fn name(&self) -> Name
         ensures { result ≡ object_name self.now.public }
     {

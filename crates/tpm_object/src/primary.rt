@@ -18,7 +18,7 @@ use tpm_types_object::{Public, SensitiveCreate};
 /// The label of the keys of primary objects.
 const PRIMARY_LABEL: &[u8] = b"PRIMARY";
 
-/// Fills `out` with the bytes of a primary object: those of its seed, and then of its key.
+/// Fills `out` with the bytes of a primary object: those of its seedValue, and then of its key.
 #[tactic(auto, unfolding(crate::specs::Primary::primary_bytes))]
 fn derive(seed: &[u8; 32], template: &Public, given: &SensitiveCreate, out: &mut [u8])
     requires size { length out.old ≡ digest_size template.now.name_alg

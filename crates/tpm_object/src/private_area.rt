@@ -23,7 +23,7 @@ use tpm_types_object::{Public, Sensitive};
 #[derive(Clone, Copy, Debug, PartialEq, Eq)]
 pub struct IntegrityFault;
 
-/// The most bytes of a sensitive area in a sized buffer: more are none, encrypted or not.
+/// The most bytes of a sensitive area in a sized buffer, encrypted or not.
 const AREA_LIMIT: usize = 202;
 
 /// The label of the keys by which a parent encrypts.
@@ -117,26 +117,27 @@ pub fn wrap(parent: &Object, public: &Public, sensitive: &Sensitive, iv: &[u8; 1
     ensures value { result
         ≡ private_text parent.now (object_name public.now) iv.now sensitive.now }
     ensures small { length result ≤ 254 }
-    // Unwrapping undoes it, where both areas are of one type.
+    // Unwrapping gives back the sensitive area, where both areas are of one type.
     ensures undone { object_type public.now ≡ sensitive.now.object_type
         → unwrapped parent.now public.now result ≡ Ok sensitive.now }
-    // Where they are not, it is not unwrapped.
+    // Where the two areas are not of one type, unwrapping refuses the private area.
     ensures other_type { object_type public.now ≢ sensitive.now.object_type
         → unwrapped parent.now public.now result ≡ Err integrity_fault }
 {
     wrap_named(parent, &tpm_name::of_object(public), sensitive, iv)
 }
 
-/// The private area of the object of this Name, where that is known.
+/// The private area of the object of this Name, where the Name is known already.
 #[tactic(auto, unfolding(crate::specs::PrivateArea::private_text))]
 pub fn wrap_named(parent: &Object, name: &Name, sensitive: &Sensitive, iv: &[u8; 16]) -> Sink<256>
     ensures value { result ≡ private_text parent.now name.now iv.now sensitive.now }
     ensures small { length result ≤ 254 }
-    // For each public area of this Name: unwrapping undoes it, where both areas are of one type.
+    // Unwrapping for a public area of this Name gives back the sensitive area, where both areas are
+    // of one type.
     ensures undone { (public : Public) → name.now ≡ object_name public
         → object_type public ≡ sensitive.now.object_type
         → unwrapped parent.now public result ≡ Ok sensitive.now }
-    // Where they are not, it is not unwrapped.
+    // Where the two areas are not of one type, unwrapping refuses the private area.
     ensures other_type { (public : Public) → name.now ≡ object_name public
         → object_type public ≢ sensitive.now.object_type
         → unwrapped parent.now public result ≡ Err integrity_fault }
@@ -149,7 +150,7 @@ pub fn wrap_named(parent: &Object, name: &Name, sensitive: &Sensitive, iv: &[u8;
     text
 }
 
-/// What the integrity value in front protects, where the value is right.
+/// What the integrity value at the front of a private area protects, where the value is right.
 #[tactic(auto, unfolding(crate::specs::PrivateArea::protected_in))]
 fn protected_in<'a>(
     parent: &Object,
@@ -184,7 +185,7 @@ fn area_in(plain: &[u8]) -> Result<Sensitive, IntegrityFault>
     Ok(area)
 }
 
-/// The bytes, decrypted.
+/// The sensitive area's bytes, decrypted by the parent's key.
 fn decrypted(parent: &Object, name: &Name, iv: &[u8; 16], cipher: &[u8]) -> ArrayVec<u8, AREA_LIMIT>
     requires { length cipher.now ≤ AREA_LIMIT }
     ensures value { result.items
@@ -198,7 +199,7 @@ fn decrypted(parent: &Object, name: &Name, iv: &[u8; 16], cipher: &[u8]) -> Arra
     bytes
 }
 
-/// The sensitive area after an IV of 16 bytes.
+/// The sensitive area, decrypted, from an IV of 16 bytes and what stands after it.
 #[tactic(auto, unfolding(crate::specs::PrivateArea::decrypted_area))]
 fn decrypted_area(
     parent: &Object,
@@ -228,9 +229,10 @@ fn decrypted_area(
 /// The integrity value is compared before anything is decrypted.
 pub fn unwrap(parent: &Object, public: &Public, private: &[u8]) -> Result<Sensitive, IntegrityFault>
     ensures value { result ≡ unwrapped parent.now public.now private.now }
-    // Nothing is accepted but what the parent wraps for a public area of that Name and type.
+    // A private area is accepted only if the parent wraps it for a public area of that Name and
+    // type.
     ensures found { IfOk result (λ area. IsWrapped parent.now public.now private.now area) }
-    // And all of that is.
+    // Every private area that the parent wraps so is accepted.
     ensures only { (area : Sensitive) → IsWrapped parent.now public.now private.now area
         → result ≡ Ok area }
 {

@@ -16,9 +16,9 @@ use tpm_types_object::{
 pub enum TemplateFault {
     /// authPolicy is neither empty nor a digest of nameAlg.
     AuthPolicySize,
-    /// Attributes that do not go together, or not with the type or the parent.
+    /// There are attributes that do not go together, or not with the type or the parent.
     Attributes,
-    /// A scheme that does not go with the attributes.
+    /// The scheme does not go with the attributes.
     Scheme,
 }
 
@@ -68,8 +68,8 @@ fn has_wrong_scheme(parameters: PublicParameters, attributes: ObjectAttributes) 
 }
 
 /// Whether a template can be one of a new object under a hierarchy or a parent with fixedTPM, or
-/// else under another parent (TPM 2.0 Library, Part 1, section 25). The first check that it fails
-/// refuses it.
+/// else under another parent (TPM 2.0 Library, Part 1, section 25). The first check that fails
+/// refuses the template.
 #[tactic(auto, unfolding(crate::specs::Template::template_passes))]
 pub fn check_template(template: &Public, parent_is_fixed: bool) -> Result<(), TemplateFault>
     ensures { result ≡ template_passes parent_is_fixed template.now }

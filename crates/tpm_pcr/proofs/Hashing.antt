@@ -19,7 +19,7 @@ abbrev pub text_below : BankValues → BankSelection → ℕ → List ℕ
 text_below all bank n =
     concat (map (pcr_value all bank.hash) (filter (is_selected bank.select) (numbers_below n)))
 
--- the chosen lists and one more, which may be chosen
+-- the joined lists of chosen numbers, and of one more, which may be chosen
 joined_cond : (f : ℕ → List ℕ) (front : List ℕ) (n : ℕ) (b : Bool)
     → concat (map f (front ++ cond b (n ∷ []) [])) ≡ concat (map f front) ++ cond b (f n) []
 joined_cond f front n true =
@@ -29,7 +29,7 @@ joined_cond f front n true =
 joined_cond f front n false =
     ap (λ (pcrs : List ℕ). concat (map f pcrs)) (append-nil front) ∙ sym (append-nil (concat (map f front)))
 
--- one PCR more, where it is selected
+-- the text of one PCR more, where it is selected
 text_below_more : (all : BankValues) (bank : BankSelection) (n : ℕ)
     → text_below all bank (n + 1) ≡ text_below all bank n ++ cond (is_selected bank.select n) (pcr_value all bank.hash n) []
 text_below_more all bank n =
@@ -37,13 +37,13 @@ text_below_more all bank n =
     ∙ ap (λ (pcrs : List ℕ). concat (map (pcr_value all bank.hash) pcrs)) (filter-append (is_selected bank.select) (numbers_below n) (n ∷ []))
     ∙ joined_cond (pcr_value all bank.hash) (filter (is_selected bank.select) (numbers_below n)) n (is_selected bank.select n)
 
--- all of a bank's selected PCRs are those below 24
+-- the text of all of a bank's selected PCRs is that of those below 24
 text_below_all : (all : BankValues) (bank : BankSelection)
     → text_below all bank 24 ≡ concat (selected_values all bank)
 unfolding selected_pcrs all_pcrs
 text_below_all all bank = refl
 
--- one bank more
+-- the text of one bank more
 banks_joined_more : (all : BankValues) (banks : List BankSelection) (i : ℕ) (bank : BankSelection)
     → i < length banks
     → concat (flat_map (selected_values all) (take (i + 1) banks))
@@ -67,7 +67,7 @@ taken_more all bank n pcr start before after is so_far one algorithm message hel
     ∙ ap (λ (text : List ℕ). message ++ text) (sym (text_below_more all bank n)) in
     subst (Holds after algorithm) whole (one algorithm _ (so_far algorithm message held))
 
--- and that is all of them
+-- a hasher that took the values below 24 took those of all selected PCRs
 pub taken_all : (all : BankValues) (bank : BankSelection) (n : ℕ) (start after : Hasher) → n ≡ 24
     → Takes start (text_below all bank n) after → Takes start (concat (selected_values all bank)) after
 taken_all all bank n start after done so_far =

@@ -11,11 +11,11 @@ use Rattle.tpm_types.specs.declared.pcr_selection.BankSelection.{BankSelection}
 use Rattle.tpm_types.specs.Pcr.{is_selected, with_pcr}
 use Rattle.tpm_pcr.specs.Values.{BankValues}
 
--- the PCRs of a bank
+-- the PCRs of a bank: 0 to 23
 unfoldable pub all_pcrs : List ℕ
 all_pcrs = numbers_below 24
 
--- a PCR starts with all ones from 17 to 22, until a dynamic launch, and else with zeros
+-- the value with which a PCR starts: all ones from 17 to 22, until a dynamic launch, and else zeros
 abbrev pub starting_value : HashAlg → ℕ → List ℕ
 starting_value bank pcr =
     replicate (digest_size bank) (if nat_le 17 pcr && nat_le pcr 22 then 0xff else 0)
@@ -48,7 +48,7 @@ abbrev pub HaveValues : BankValues → PcrValues → Type 0
 HaveValues banks values =
     (bank : HashAlg) (pcr : ℕ) → pcr < 24 → pcr_value banks bank pcr ≡ values bank pcr
 
--- what TPM2_PCR_Read answers
+-- ---- what TPM2_PCR_Read answers
 
 -- the PCRs that a bank's selection names, ascending, and their values
 unfoldable pub selected_pcrs : BankSelection → List ℕ
@@ -57,11 +57,11 @@ selected_pcrs bank = filter (is_selected bank.select) all_pcrs
 abbrev pub selected_values : BankValues → BankSelection → List (List ℕ)
 selected_values banks bank = map (pcr_value banks bank.hash) (selected_pcrs bank)
 
--- the number that selects just these PCRs: from none on, each of them added
+-- the number that selects just these PCRs: each of them is added in turn
 abbrev pub select_with : List ℕ → ℕ
 select_with pcrs = fold with_pcr 0 pcrs
 
--- the values of a selection in its order, as many as there is room for
+-- the values of the PCRs of a selection, in its order, as many as there is room for
 unfoldable pub read_values : BankValues → ℕ → List BankSelection → List (List ℕ)
 read_values banks room selection = take room (flat_map (selected_values banks) selection)
 

@@ -20,8 +20,8 @@ use Rattle.tpm_pcr.specs.declared.changes.ChangeFault.TheVariants as fault
 use Rattle.tpm_pcr.specs.declared.changes.PcrUse.{PcrUse}
 use Rattle.tpm_pcr.specs.declared.changes.PcrUse.TheVariants.{Static, Debug, Dynamic, Application}
 
--- 0 to 15 measure the start of the platform, 16 is for debugging, 17 to 22 measure a dynamic
--- launch, and 23 is the applications'
+-- what a PCR is for: 0 to 15 measure the start of the platform, 16 is for debugging, 17 to 22
+-- measure a dynamic launch, and 23 is the applications'
 abbrev pub use_of : ℕ → PcrUse
 use_of pcr =
     if nat_lt pcr 16 then Static
@@ -29,14 +29,14 @@ use_of pcr =
     else (if nat_lt pcr 23 then Dynamic
     else Application))
 
--- from which localities a PCR may be extended
+-- whether a PCR for this may be extended from a locality
 abbrev pub may_extend : PcrUse → ℕ → Bool
 may_extend Static locality = true
 may_extend Debug locality = true
 may_extend Dynamic locality = nat_le 2 locality
 may_extend Application locality = true
 
--- and reset
+-- whether a PCR for this may be reset from a locality
 abbrev pub may_reset : PcrUse → ℕ → Bool
 may_reset Static locality = false
 may_reset Debug locality = true
@@ -60,7 +60,8 @@ with_extension pcr banks digest =
     let hash = hash_of_value digest in
     with_value hash pcr (hash_of hash (pcr_value banks hash pcr ++ digest_of digest)) banks
 
--- what that makes of the value of a PCR in a bank: nothing, if the digest is not of its hash
+-- the value of a PCR in a bank after an extension by a digest: unchanged if the digest is not of
+-- the bank's hash
 abbrev pub value_extended : HashAlg → List ℕ → DigestValue → List ℕ
 value_extended alg.Sha1 old (Sha1 digest) = hash_of alg.Sha1 (old ++ digest)
 value_extended alg.Sha1 old (Sha256 digest) = old
@@ -74,35 +75,37 @@ change_check may updates banks = do
   locality ← refused_if (not may) fault.Locality
   refused_if (nat_lt (2 ^ 64 - 1) (banks.update_count + updates)) fault.Failure
 
--- TPM2_PCR_Extend: by each digest in turn
+-- the banks after TPM2_PCR_Extend: a PCR is extended by each digest in turn
 unfoldable pub extend_of : ℕ → ℕ → List DigestValue → BankValues → Result BankValues ChangeFault
 extend_of pcr locality digests banks = do
   passed ← change_check (may_extend (use_of pcr) locality) (length digests) banks
   Ok (fold (with_extension pcr) banks digests)
 
--- TPM2_PCR_Event: by the digests of the data, one for each bank
+-- the digests of TPM2_PCR_Event: those of the data, one for each bank
 abbrev pub event_digests : List ℕ → List DigestValue
 event_digests event = Sha1 (hash_of alg.Sha1 event) ∷ Sha256 (hash_of alg.Sha256 event) ∷ []
 
--- TPM2_PCR_Reset: zeros in both banks
+-- the banks after TPM2_PCR_Reset: zeros in both banks
 unfoldable pub reset_of : ℕ → ℕ → BankValues → Result BankValues ChangeFault
 reset_of pcr locality banks = do
   passed ← change_check (may_reset (use_of pcr) locality) 2 banks
   Ok (with_value alg.Sha256 pcr (replicate 32 0) (with_value alg.Sha1 pcr (replicate 20 0) banks))
 
--- TPM2_Clear: it changes no value, and counts as an update
+-- the banks after TPM2_Clear: no value changes, and it counts as an update
 unfoldable pub clear_counted : BankValues → Result BankValues ChangeFault
 clear_counted banks = do
   passed ← change_check true 1 banks
   Ok (record banks { update_count = banks.update_count + 1 })
 
--- A change did what it should; a refusal changes nothing.
+-- A change left the banks that the definition gives, or was refused as it says; a refusal changes
+-- nothing.
 abbrev pub ChangesBanks : Result BankValues ChangeFault
     → BankValues → Result (Unit {0}) ChangeFault → BankValues → Type 0
 ChangesBanks change old (Ok u) new = change ≡ Ok new
 ChangesBanks change old (Err e) new = (change ≡ Err e) × (new ≡ old)
 
--- A change did what it should, and answered these digests; a refusal changes nothing.
+-- A change left the banks that the definition gives, and answered these digests; or it was refused,
+-- and changed nothing.
 abbrev pub AnswersDigests : List DigestValue → Result BankValues ChangeFault
     → BankValues → Result DigestValues ChangeFault → BankValues → Type 0
 AnswersDigests digests change old (Ok answer) new =

@@ -9,11 +9,12 @@ pub record BankValues : Type 0 where
   pub sha256 : List (List ℕ)
   pub update_count : ℕ
 
--- a bank has 24 values of this many bytes
+-- A bank has 24 values of this many bytes.
 abbrev pub IsBank : ℕ → List (List ℕ) → Type 0
 IsBank size values = (length values ≡ 24) × All (λ value. length value ≡ size) values
 
--- what holds of all banks: values of 20 bytes by SHA-1 and of 32 by SHA-256, and a count of 64 bits
+-- What holds of all banks: their values have 20 bytes by SHA-1 and 32 by SHA-256, and the update
+-- counter has 64 bits.
 pub record IsBanks (banks : BankValues) : Type 0 where
   pub sha1 : IsBank 20 banks.sha1
   pub sha256 : IsBank 32 banks.sha256

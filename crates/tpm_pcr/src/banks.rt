@@ -42,7 +42,7 @@ impl Model for Banks {
         record { sha1 = b.sha1; sha256 = b.sha256; update_count = b.update_count } };
 }
 
-/// What a read of PCRs answers: their values in the order of the selection, at most eight, and the
+/// The answer to a read of PCRs: their values in the order of the selection, at most eight, and the
 /// selection of just these.
 #[derive(Drop)]
 pub struct PcrReading {
@@ -145,8 +145,8 @@ impl Banks {
         }
     }
 
-    /// Reads the PCRs of one bank's selection while there is room, and answers the selection of
-    /// these.
+    /// Reads the PCRs of one bank's selection while there is room, and gives the selection of those
+    /// that were read.
     fn read_bank(&self, bank: &BankSelection, values: &mut ArrayVec<Digest, 8>) -> PcrSelect
         ensures select { result
             ≡ select_with (take (8 - length values.old.items) (selected_pcrs bank.now)) }
@@ -235,7 +235,8 @@ impl Banks {
         saved.sha256 = sha256;
     }
 
-    /// Gives the PCRs 0 to 15 the values that were saved. The others and the update counter stay.
+    /// Gives the PCRs 0 to 15 the values that were saved. The other PCRs and the update counter
+    /// stay.
     pub fn restore(&mut self, saved: &SavedPcrs)
         ensures { self.new ≡ restored_in saved.now self.old }
     {
@@ -247,8 +248,8 @@ impl Banks {
     }
 }
 
-/// What each PCR starts with: `high` for 17 to 22, until a dynamic launch, and `low` for the
-/// others.
+/// The value with which each PCR starts: `high` for 17 to 22, until a dynamic launch, and `low` for
+/// the others.
 fn starting_values<T: Copy>(low: T, high: T) -> [T; 24]
     ensures { result ≡ replicate 17 low ++ replicate 6 high ++ low ∷ [] }
 {

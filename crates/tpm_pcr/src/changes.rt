@@ -1,5 +1,5 @@
-//! The changes of PCRs by commands, extend, event and reset, and from which localities each PCR
-//! allows them (TPM 2.0 Library, Part 1, section 17).
+//! The changes of PCRs by commands, TPM2_PCR_Extend, TPM2_PCR_Event and TPM2_PCR_Reset, and from
+//! which localities each PCR allows them (TPM 2.0 Library, Part 1, section 17).
 
 ghost use Rattle.std.specs.Prelude.{◌≡◌, ◌+◌, ◌-◌, ◌<◌, ◌^◌, ◌++◌};
 ghost use Rattle.std.specs.Prelude.{List, ℕ, [], ◌∷◌, fold, length, replicate};
@@ -106,8 +106,8 @@ fn check(banks: &Banks, may: bool, updates: u64) -> Result<(), ChangeFault>
 }
 
 impl Banks {
-    /// Extends a PCR by each digest in turn (TPM2_PCR_Extend): Locality where its locality forbids
-    /// that, then Failure where the updates could not be counted.
+    /// Extends a PCR by each digest in turn (TPM2_PCR_Extend): Locality where the PCR may not be
+    /// extended from this locality, then Failure where the updates could not be counted.
     #[tactic(auto, unfolding(crate::specs::Changes::extend_of))]
     pub fn extend(
         &mut self,
@@ -129,8 +129,8 @@ impl Banks {
         Ok(())
     }
 
-    /// Extends a PCR by the digests of the data (TPM2_PCR_Event), and answers these; the refusals
-    /// are those of `extend`.
+    /// Extends a PCR by the digests of the data (TPM2_PCR_Event), and answers the digests; the
+    /// refusals are those of `extend`.
     pub fn event(
         &mut self,
         pcr: PcrIndex,
@@ -146,8 +146,8 @@ impl Banks {
         Ok(digests)
     }
 
-    /// Makes a PCR zeros in both banks (TPM2_PCR_Reset): Locality where its locality forbids that,
-    /// then Failure where the updates could not be counted.
+    /// Makes a PCR zeros in both banks (TPM2_PCR_Reset): Locality where the PCR may not be reset
+    /// from this locality, then Failure where the updates could not be counted.
     #[tactic(auto, unfolding(crate::specs::Changes::reset_of))]
     pub fn reset(&mut self, pcr: PcrIndex, locality: Locality) -> Result<(), ChangeFault>
         ensures { ChangesBanks (reset_of pcr (locality_number locality) self.old)
@@ -159,8 +159,8 @@ impl Banks {
         Ok(())
     }
 
-    /// Counts a TPM2_Clear as an update, which changes no value: Failure where it could not be
-    /// counted.
+    /// Counts a TPM2_Clear as an update, which changes no value: Failure where the update could not
+    /// be counted.
     #[tactic(auto, unfolding(crate::specs::Changes::clear_counted))]
     pub fn count_clear(&mut self) -> Result<(), ChangeFault>
         ensures { ChangesBanks (clear_counted self.old) self.old result self.new }

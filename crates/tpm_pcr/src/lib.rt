@@ -3,10 +3,10 @@
 //! The PCR banks of the device: the values of 24 PCRs for each hash algorithm, and the counter of
 //! their updates (TPM 2.0 Library, Part 1, section 17).
 //!
-//! [`banks::Banks`] reads them, [`changes`] changes them by what each PCR allows from a locality,
-//! and [`saved::SavedPcrs`] are the values that a shutdown saves. It stands on `tpm_types` for
-//! selections and on `tpm_mac` for digests. Each call equals its definition in `specs/`; a refused
-//! change leaves the banks, and no call here takes memory.
+//! [`banks::Banks`] reads the values, [`changes`] changes them as each PCR allows it from a
+//! locality, and [`saved::SavedPcrs`] are the values that a shutdown saves. The crate uses
+//! `tpm_types` for selections and `tpm_mac` for digests. Each call equals its definition in
+//! `specs/`; a refused change leaves the banks, and no call here takes memory.
 
 pub mod banks;
 pub mod changes;

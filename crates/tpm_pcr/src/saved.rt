@@ -26,7 +26,7 @@ impl Model for SavedPcrs {
 impl SavedPcrs {
     ghost use Rattle.tpm_pcr.specs.Saved.{IsSaved, no_values};
 
-    /// Zeros, in the place of values that are saved later.
+    /// Saved values that are all zeros, until others are saved.
     pub fn new() -> SavedPcrs
         ensures { result ≡ no_values }
     {
@@ -36,7 +36,7 @@ impl SavedPcrs {
         }
     }
 
-    /// Puts another value of a PCR in the bank of SHA-1.
+    /// Saves another value of a PCR in the bank of SHA-1.
     pub fn set_sha1(&mut self, place: usize, value: [u8; 20])
         requires { place < 16 }
         ensures { self.new ≡ record self.old { sha1 = slice_set self.old.sha1 place value } }
@@ -44,7 +44,7 @@ impl SavedPcrs {
         self.sha1[place] = value;
     }
 
-    /// Puts another value of a PCR in the bank of SHA-256.
+    /// Saves another value of a PCR in the bank of SHA-256.
     pub fn set_sha256(&mut self, place: usize, value: [u8; 32])
         requires { place < 16 }
         ensures { self.new ≡ record self.old { sha256 = slice_set self.old.sha256 place value } }
@@ -52,14 +52,14 @@ impl SavedPcrs {
         self.sha256[place] = value;
     }
 
-    /// The values in the bank of SHA-1.
+    /// The saved values in the bank of SHA-1.
     pub fn sha1(&self) -> &[[u8; 20]; 16]
         ensures { result.now ≡ self.now.sha1 }
     {
         &self.sha1
     }
 
-    /// The values in the bank of SHA-256.
+    /// The saved values in the bank of SHA-256.
     pub fn sha256(&self) -> &[[u8; 32]; 16]
         ensures { result.now ≡ self.now.sha256 }
     {
@@ -67,7 +67,7 @@ impl SavedPcrs {
     }
 
     /// Says of the values what their types say: there are sixteen of their hash's size in each
-    /// bank. It only reads.
+    /// bank. The call only reads.
     #[inline(always)]
     pub fn read_sizes(&self)
         ensures { IsSaved self.now }

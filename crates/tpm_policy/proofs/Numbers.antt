@@ -10,11 +10,11 @@ use Rattle.tpm_policy.specs.Comparison.{signed_number, unsigned_number}
 abbrev pub AreBytes : List ℕ → Type 0
 AreBytes bytes = (i : ℕ) → slice_index bytes i < 256
 
--- the number that bytes spell after those of another
+-- the number that bytes spell after this number
 abbrev number_after : ℕ → List ℕ → ℕ
 number_after n bytes = number_from_digits_after 256 n bytes
 
--- after the lesser of two numbers it stays the lesser
+-- the lesser of two numbers stays the lesser, whatever bytes come after the two
 number_after_lt : (m n : ℕ) (xs ys : List ℕ) → length xs ≡ length ys → AreBytes xs → m < n
     → number_after m xs < number_after n ys
 number_after_lt m n [] [] same fit less = less
@@ -24,13 +24,13 @@ number_after_lt m n (x ∷ xs) (y ∷ ys) same fit less =
     let small : x < 256 = fit 0 in
     number_after_lt (m * 256 + x) (n * 256 + y) xs ys (omega arith) (λ i. fit (suc i)) (omega arith)
 
--- the walk over both: the first byte in which they differ decides
+-- whether a number is less than another: the first byte in which they differ decides
 abbrev is_less : List ℕ → List ℕ → Bool
 is_less [] others = false
 is_less (byte ∷ bytes) [] = false
 is_less (byte ∷ bytes) (other ∷ others) = nat_lt byte other || (byte == other && is_less bytes others)
 
--- one step of it, after the same number
+-- one step of the comparison, after the same number
 step_is : (m x y : ℕ) (xs ys : List ℕ) (lt eq : Bool) → length xs ≡ length ys
     → AreBytes xs → AreBytes ys
     → ((n : ℕ) → nat_lt (number_after n xs) (number_after n ys) ≡ is_less xs ys)
@@ -71,7 +71,7 @@ less_by_first x y xs ys same fit fits =
     ∙ ap (λ (less : Bool). nat_lt x y || (x == y && less))
     (sym (less_after xs ys same (λ i. fit (suc i)) (λ i. fits (suc i)) 0))
 
--- two tests of numbers that stand alike
+-- two tests that compare numbers of the same order agree
 same_lt : (a b x y : ℕ) → (x < y → a < b) → (y ≤ x → b ≤ a) → nat_lt a b ≡ nat_lt x y
 same_lt a b x y up down = by (nat_lt x y) refl
   where
@@ -90,7 +90,7 @@ all_below : (bytes : List ℕ) → AreBytes bytes → AllBelowBase 256 bytes
 all_below [] fit = tt
 all_below (x ∷ xs) fit = (fit 0, all_below xs (λ i. fit (suc i)))
 
--- a number that is some other less, where that is above it
+-- a natural number less a larger one, as an integer
 below_zero : (n whole : ℕ) → n < whole → pos n -ℤ pos whole ≡ negsuc (whole - suc n)
 below_zero n zero below = absurd (omega arith)
 below_zero n (suc more) below = rw (lt-ltb n (suc more) below) refl
@@ -148,19 +148,20 @@ signed_by x y xs ys false true same fit fits is_below are_below =
     let differ : (raised x == raised y) ≡ false = ne_eqb _ _ (λ h. omega (arith, h)) in
     rw (is_below, are_below, below_zero _ _ other, less, differ) refl
 
--- what stands after the first byte
+-- the bytes after the first byte
 abbrev rest_of : List ℕ → List ℕ
 rest_of bytes = take (length bytes - 1) (drop 1 bytes)
 
 rest_is : (x : ℕ) (xs : List ℕ) → rest_of (x ∷ xs) ≡ xs
 rest_is x xs = let size : length (x ∷ xs) - 1 ≡ length xs = omega arith in rw (size) (take-length xs)
 
--- the texts after the first bytes have one size too
+-- the bytes after the first bytes of two texts are as many
 pub rest-length : (bytes others : List ℕ) → length bytes ≡ length others
     → length (rest_of bytes) ≡ length (rest_of others)
 rest-length bytes others same = simp (length-take, length-drop, same) refl
 
--- of two texts that are not empty: by the first bytes, and by the others where these are the same
+-- the lesser of two texts that are not empty: by the first bytes, and by the others where these are
+-- the same
 pub unsigned_less : (bytes others : List ℕ) → 1 ≤ length bytes → length bytes ≡ length others
     → AreBytes bytes → AreBytes others
     → nat_lt (unsigned_number bytes) (unsigned_number others)

@@ -59,7 +59,7 @@ pub record NvParts : Type 0 where
   pub operation : Operation
   pub compared : Result (List ℕ) ActionFault
 
--- the same, wherever its bytes lie in memory
+-- the parts of an assertion of PCRs, wherever its bytes lie in memory
 abbrev pub pcr_parts : PcrAssertion → PcrParts
 pcr_parts asserted = record {
   given = asserted.given.now;
@@ -104,7 +104,7 @@ pub data Assertion : Type 0 where
   Secret : SecretParts → Assertion
   Nv : NvParts → Assertion
 
--- whether something else is recorded
+-- whether another value than this one is recorded
 abbrev pub is_other : Option ℕ → ℕ → Bool
 is_other None number = false
 is_other (Some recorded) number = not (recorded == number)
@@ -113,23 +113,24 @@ abbrev pub is_other_hash : Option (List ℕ) → List ℕ → Bool
 is_other_hash None hash = false
 is_other_hash (Some recorded) hash = not (bytes_eq recorded hash)
 
--- whether one state of an index, written or not yet written, is recorded, and another is found; where
--- there is no index, none is found
+-- whether one state of an index, written or not yet written, is recorded, and another is found;
+-- where there is no index, no state is found
 abbrev pub is_other_written : Option Bool → Option Bool → Bool
 is_other_written None found = false
 is_other_written (Some recorded) None = true
 is_other_written (Some true) (Some found) = not found
 is_other_written (Some false) (Some found) = found
 
--- policyDigest := H(policyDigest || commandCode || what the assertion is about)
+-- the policy after an assertion extends its digest: H(policyDigest || commandCode || what the
+-- assertion is about)
 abbrev pub extended : HashAlg → ServedCommand → (about : List ℕ) → Policy → Policy
 extended hash command about policy =
     record policy {
       digest = hash_of hash (policy.digest ++ to_be_bytes w32 (code_number command) ++ about);
     }
 
--- TPM2_PolicyPCR (section 23.7): the digest of the values is taken, and in a trial session the
--- given one where one is given
+-- TPM2_PolicyPCR (section 23.7): the digest that is asserted of the PCRs is that of their values;
+-- in a trial session it is the given one, if one is given
 abbrev pub taken_digest : (trial : Bool) → PcrParts → List ℕ
 taken_digest trial pcr = if trial && is_given pcr.given then pcr.given else pcr.digest
 
@@ -144,8 +145,8 @@ pcr_asserted hash trial pcr policy = do
     update_count = Some pcr.update_count;
   })
 
--- TPM2_PolicyOR (section 23.6): the digest is among these, and starts over from zeros with all of
--- them; what was recorded stays
+-- TPM2_PolicyOR (section 23.6): the policy digest is among these digests, and becomes the hash of
+-- zeros and all of them; what was recorded stays
 unfoldable pub or_digest : HashAlg → (digests : List (List ℕ)) → List ℕ
 or_digest hash digests =
     hash_of hash (replicate (digest_size hash) 0 ++ to_be_bytes w32 (code_number served.PolicyOr)
@@ -158,8 +159,9 @@ or_asserted hash trial digests policy = do
       (parameter_fault action.First 1 code.Value)
   Ok (record policy { digest = or_digest hash digests })
 
--- TPM2_PolicyAuthValue (section 23.17), and TPM2_PolicyPassword (section 23.18), which has the same
--- digest: they demand the authorization value of the entity, in an HMAC's key or in plain
+-- TPM2_PolicyAuthValue (section 23.17), and TPM2_PolicyPassword (section 23.18), which extends the
+-- digest in the same way: both demand the authorization value of the entity, in an HMAC's key or in
+-- plain
 abbrev demanding : HashAlg → Demand → Policy → Policy
 demanding hash wanted policy = record (extended hash served.PolicyAuthValue [] policy) { demand = wanted }
 
@@ -169,8 +171,8 @@ auth_value_asserted hash policy = demanding hash demand.AuthValue policy
 unfoldable pub password_asserted : HashAlg → Policy → Policy
 password_asserted hash policy = demanding hash demand.Password policy
 
--- TPM2_PolicyCommandCode (section 23.11): only this command. Both checks are made in a trial session
--- too (this device's own)
+-- TPM2_PolicyCommandCode (section 23.11): only this command is allowed. Both checks are made in a
+-- trial session too (this device's own)
 unfoldable pub command_code_asserted : HashAlg → (number : ℕ)
     → Policy → Result Policy ActionFault
 command_code_asserted hash number policy = do
@@ -178,9 +180,9 @@ command_code_asserted hash number policy = do
   a2 ← refused_if (not (is_served number)) (parameter_fault action.Second 1 code.PolicyCc)
   Ok (record (extended hash served.PolicyCommandCode (to_be_bytes w32 number) policy) { command = Some number })
 
--- TPM2_PolicyLocality (section 23.8): only those of these localities that were still allowed, of
--- which there must be one, in a trial session too (this device's own); extended localities, 32 and up,
--- are not served
+-- TPM2_PolicyLocality (section 23.8): only those of these localities are allowed that were still
+-- allowed. One has to be left, in a trial session too (this device's own); extended localities, 32
+-- and up, are not served
 unfoldable pub locality_asserted : HashAlg → (localities : ℕ)
     → Policy → Result Policy ActionFault
 locality_asserted hash localities policy = do
@@ -191,8 +193,8 @@ locality_asserted hash localities policy = do
     localities = bit_and policy.localities localities;
   })
 
--- TPM2_PolicyCpHash (section 23.13): only the command with this cpHash. Its size is checked, and that
--- no other is recorded, in a trial session too (this device's own)
+-- TPM2_PolicyCpHash (section 23.13): only the command with this cpHash is allowed. Its size is
+-- checked, and that no other cpHash is recorded, in a trial session too (this device's own)
 unfoldable pub cp_hash_asserted : HashAlg → (cp_hash : List ℕ)
     → Policy → Result Policy ActionFault
 cp_hash_asserted hash cp_hash policy = do
@@ -200,13 +202,13 @@ cp_hash_asserted hash cp_hash policy = do
   a2 ← refused_if (is_other_hash policy.cp_hash cp_hash) (plain_fault action.Second code.Cphash)
   Ok (record (extended hash served.PolicyCpHash cp_hash policy) { cp_hash = Some cp_hash })
 
--- 1 for yes, 0 for no (Part 2, section 9.2, TPMI_YES_NO)
+-- the byte of a yes (1) or a no (0) (Part 2, section 9.2, TPMI_YES_NO)
 abbrev pub yes_no_text : Bool → List ℕ
 yes_no_text true = 1 ∷ []
 yes_no_text false = 0 ∷ []
 
--- TPM2_PolicyNvWritten (section 23.20): only an index that is written, or one that is not. That the
--- other is not recorded is checked in a trial session too (this device's own)
+-- TPM2_PolicyNvWritten (section 23.20): only an index that is written may be used, or only one that
+-- is not. That the other is not recorded is checked in a trial session too (this device's own)
 unfoldable pub nv_written_asserted : HashAlg → (is_written : Bool)
     → Policy → Result Policy ActionFault
 nv_written_asserted hash is_written policy = do
@@ -217,8 +219,8 @@ nv_written_asserted hash is_written policy = do
   })
 
 -- TPM2_PolicySecret (section 23.4): policyRef is hashed after the rest, also where it is empty. No
--- policy expires: expiration must be 0, in a trial session too, and cpHashA is checked for its size
--- in one too (this device's own)
+-- policy expires: expiration must be 0, in a trial session too, where the size of cpHashA is
+-- checked as well (this device's own)
 abbrev pub secret_digest : HashAlg → (digest name reference : List ℕ) → List ℕ
 secret_digest hash digest name reference =
     hash_of hash (hash_of hash (digest ++ to_be_bytes w32 (code_number served.PolicySecret) ++ name) ++ reference)
@@ -238,15 +240,15 @@ secret_asserted hash trial secret policy = do
     cp_hash = if is_given secret.cp_hash then Some secret.cp_hash else policy.cp_hash;
   })
 
--- TPM2_PolicyNV (section 23.9): the bytes of the index stand so to the operand; in a trial session
--- nothing is checked
+-- TPM2_PolicyNV (section 23.9): the comparison of the index with the operand holds; in a trial
+-- session nothing is checked
 abbrev pub nv_compared : (trial : Bool) → NvParts → Result (Unit {0}) ActionFault
 nv_compared true nv = Ok tt
 nv_compared false nv = do
   bytes ← nv.compared
   refused_if (not (compares nv.operation bytes nv.operand)) (plain_fault action.Fifth code.Policy)
 
--- H(operand || offset || operation)
+-- the arguments of TPM2_PolicyNV, hashed: H(operand || offset || operation)
 abbrev pub nv_arguments : HashAlg → NvParts → List ℕ
 nv_arguments hash nv =
     hash_of hash (nv.operand ++ to_be_bytes w16 nv.offset
@@ -258,7 +260,7 @@ nv_asserted hash trial nv policy = do
   compared ← nv_compared trial nv
   Ok (extended hash served.PolicyNv (nv_arguments hash nv ++ nv.name) policy)
 
--- what an assertion makes of a policy, or the first check that refuses it
+-- the policy that an assertion makes of a policy, or the first check that refuses the assertion
 abbrev pub asserted : HashAlg → (trial : Bool) → Assertion → Policy → Result Policy ActionFault
 asserted hash trial (Pcr pcr) policy = pcr_asserted hash trial pcr policy
 asserted hash trial (Or digests) policy = or_asserted hash trial digests policy
@@ -271,7 +273,8 @@ asserted hash trial (NvWritten is_written) policy = nv_written_asserted hash is_
 asserted hash trial (Secret secret) policy = secret_asserted hash trial secret policy
 asserted hash trial (Nv nv) policy = nv_asserted hash trial nv policy
 
--- An assertion did what it should; a refused one changes nothing.
+-- The code made of the policy what the definition says, or refused the assertion as it says; a
+-- refusal changes nothing.
 abbrev pub Asserts : Result Policy ActionFault
     → Policy → Result (Unit {0}) ActionFault → Policy → Type 0
 Asserts change old (Ok u) new = change ≡ Ok new

@@ -26,10 +26,10 @@ pub record EntityParts : Type 0 where
   pub hash : HashAlg
   pub digest : List ℕ
 
--- what a use is about, wherever its bytes lie in memory: the number of the entry, the session's
+-- what is known of a use, wherever its bytes lie in memory: the number of the entry, the session's
 -- type and hash, whether the entity is available, how often PCRs have been changed, the command's
--- number, the role in which it is authorized, its cpHash, whether the entity is written where it is an
--- NV index, where the command comes from, and the entity's policy, if it has one
+-- number, the role in which it is authorized, its cpHash, whether the entity is written where it is
+-- an NV index, where the command comes from, and the entity's policy, if it has one
 pub record UseParts : Type 0 where
   pub entry : ℕ
   pub kind : SessionType
@@ -61,18 +61,19 @@ parts_of u = record {
   entity = option_map entity_parts u.entity;
 }
 
--- the role ADMIN takes a policy that names the command
+-- whether a policy lacks the name of a command, which the role ADMIN requires
 abbrev pub lacks_command : Role → Option ℕ → Bool
 lacks_command role.User command = false
 lacks_command role.Admin command = is_none command
 
--- whether this is the policy of an entity: by its nameAlg, and its digest is authPolicy
+-- whether the digest of a session of this hash is the policy of an entity: the hash is the entity's
+-- nameAlg, and the digest its authPolicy
 abbrev pub is_policy_of : HashAlg → List ℕ → Option EntityParts → Bool
 is_policy_of hash digest None = false
 is_policy_of hash digest (Some entity) =
     hash_number entity.hash == hash_number hash && bytes_eq digest entity.digest
 
--- whether a policy authorizes this, and what it demands in addition
+-- whether a policy authorizes this use, and what it demands in addition
 unfoldable pub use_passes : Policy → UseParts → Result Demand Rc
 use_passes policy u = do
   trial ← refused_if (is_trial u.kind) (entry_fault u.entry code.Attributes)

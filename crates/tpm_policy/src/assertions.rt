@@ -18,10 +18,11 @@ use tpm_mac::{Digest, HashAlg, digest_parts};
 use tpm_types::{ActionCheck, ActionFault, DigestList, ResponseCode};
 use tpm_types_command::CommandCode;
 
-/// The most that an assertion of localities may name: 0 to 4, each by its bit.
+/// The most that TPM2_PolicyLocality may name: localities 0 to 4, each by its bit.
 const LOCALITIES_LIMIT: u8 = 31;
 
-/// The hash of a digest, a command code, and what an assertion is about.
+/// The policy digest after an assertion: the hash of a digest, a command code, and what the
+/// assertion is about.
 fn extended_digest(hash: HashAlg, digest: &[u8], command: CommandCode, about: &[u8]) -> Digest
     ensures { result.items
         ≡ hash_of hash (digest.now ++ to_be_bytes w32 (code_number command) ++ about.now) }
@@ -29,7 +30,7 @@ fn extended_digest(hash: HashAlg, digest: &[u8], command: CommandCode, about: &[
     digest_parts(hash, &[digest, &command.number().to_be_bytes(), about])
 }
 
-/// Whether the digest is one of these.
+/// Whether the digest is one of these digests.
 fn is_among(digest: &[u8], digests: &[Digest]) -> bool
     ensures { result ≡ list_any (λ other. bytes_eq other digest.now) (digests_of digests.now) }
 {
@@ -39,7 +40,7 @@ fn is_among(digest: &[u8], digests: &[Digest]) -> bool
     }
 }
 
-/// The digest of a policy that goes on from any of these.
+/// The policy digest after TPM2_PolicyOR for these digests.
 #[tactic(auto, unfolding(crate::specs::Assertion::or_digest))]
 fn or_digest(hash: HashAlg, list: &DigestList) -> Digest
     ensures { result.items ≡ or_digest hash (digests_of list.now.digests.items) }
@@ -72,7 +73,8 @@ impl PolicyState {
         self.digest = extended_digest(hash, self.digest.as_slice(), command, about);
     }
 
-    /// TPM2_PolicyOR: VALUE where the digest is none of these. A trial session takes any.
+    /// TPM2_PolicyOR: VALUE where the policy digest is none of these. A trial session takes any
+    /// list.
     #[tactic(auto, unfolding(crate::specs::Assertion::or_asserted))]
     pub fn or(&mut self, hash: HashAlg, trial: bool, list: &DigestList) -> Result<(), ActionFault>
         ensures { Asserts (or_asserted hash trial (digests_of list.now.digests.items) self.old)
@@ -104,8 +106,8 @@ impl PolicyState {
         self.demand = Demand::Password;
     }
 
-    /// TPM2_PolicyCommandCode: VALUE where another command is recorded, POLICY_CC where there is no
-    /// such command.
+    /// TPM2_PolicyCommandCode: VALUE where another command is recorded, POLICY_CC where no command
+    /// that is served has this code.
     #[tactic(auto, unfolding(crate::specs::Assertion::command_code_asserted))]
     pub fn command_code(&mut self, hash: HashAlg, number: u32) -> Result<(), ActionFault>
         ensures { Asserts (command_code_asserted hash number self.old) self.old result self.new }
@@ -123,8 +125,8 @@ impl PolicyState {
         Ok(())
     }
 
-    /// TPM2_PolicyCpHash: SIZE where the hash is none of the session's algorithm, CPHASH where that of
-    /// another command is recorded.
+    /// TPM2_PolicyCpHash: SIZE where the hash does not have the size of the session's algorithm,
+    /// CPHASH where that of another command is recorded.
     #[tactic(auto, unfolding(crate::specs::Assertion::cp_hash_asserted))]
     pub fn cp_hash(&mut self, hash: HashAlg, cp_hash: &[u8]) -> Result<(), ActionFault>
         ensures { Asserts (cp_hash_asserted hash cp_hash.now self.old) self.old result self.new }
@@ -156,7 +158,7 @@ impl PolicyState {
     }
 
     /// TPM2_PolicyLocality: RANGE where no locality is named, an extended one, or none of those
-    /// that are left.
+    /// that are still allowed.
     #[tactic(auto, unfolding(crate::specs::Assertion::locality_asserted))]
     pub fn locality(&mut self, hash: HashAlg, localities: u8) -> Result<(), ActionFault>
         ensures { Asserts (locality_asserted hash localities self.old) self.old result self.new }

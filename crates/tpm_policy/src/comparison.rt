@@ -22,8 +22,8 @@ fn is_less(bytes: &[u8], others: &[u8]) -> bool
     byte < other || byte == other && is_less(bytes, others)
 }
 
-/// The first byte of a signed number, raised by half of the range of its size: so the least one
-/// becomes zero, and the order of signed numbers that of unsigned ones.
+/// The first byte of a signed number, raised by half of the range of its size: so the least number
+/// becomes zero, and signed numbers have the order of unsigned ones.
 fn raised_byte(byte: u8) -> u8
     ensures { result ≡ (byte + 128) % 256 }
 {
@@ -71,7 +71,7 @@ fn has_clear(bytes: &[u8], operand: &[u8]) -> bool
     byte & mask == 0 && has_clear(bytes, operand)
 }
 
-/// Whether the bytes of an NV index stand so to an operand.
+/// Whether this comparison of the bytes of an NV index with an operand holds.
 #[tactic(auto, unfolding(crate::specs::Comparison::compares))]
 pub(crate) fn compares(operation: Operation, bytes: &[u8], operand: &[u8]) -> bool
     ensures { result ≡ compares operation bytes.now operand.now }

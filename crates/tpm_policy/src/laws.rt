@@ -1,4 +1,4 @@
-//! What holds of assertions by their definition.
+//! The laws of assertions.
 
 ghost use Rattle.std.specs.Prelude.{◌≡◌, Bool, Ok};
 ghost use Rattle.tpm_mac.specs.declared.algorithm.HashAlg.{HashAlg};
@@ -6,8 +6,8 @@ ghost use Rattle.tpm_policy.specs.Assertion.{Assertion, asserted};
 ghost use Rattle.tpm_policy.specs.Made.{policy_with};
 ghost use Rattle.tpm_policy.specs.State.{Policy};
 
-/// An assertion that passes its checks makes of a policy what is said of it without them. The
-/// function does nothing.
+/// An assertion that passes its checks makes of a policy what its definition without checks does.
+/// The function does nothing.
 #[inline(always)]
 #[tactic(auto, using(crate::proofs::Made::policy_made))]
 pub fn assertion_laws()

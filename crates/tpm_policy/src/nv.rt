@@ -1,4 +1,4 @@
-//! The assertion of TPM2_PolicyNV, that the data of an NV index compare with an operand as it says.
+//! The assertion of TPM2_PolicyNV, that the comparison of an NV index with an operand holds.
 
 ghost use Rattle.std.specs.Prelude.{◌≡◌};
 ghost use Rattle.tpm_policy.specs.Assertion as assertion;
@@ -11,10 +11,10 @@ use tpm_types::{ActionCheck, ActionFault, Operation, ResponseCode};
 use tpm_types_command::CommandCode;
 use tpm_types_name::Name;
 
-/// What TPM2_PolicyNV is about.
+/// The parts of the assertion of TPM2_PolicyNV.
 #[derive(Clone, Copy)]
 pub struct NvAssertion<'a> {
-    /// Of the index.
+    /// The Name of the index.
     pub name: &'a Name,
     pub operand: &'a [u8],
     pub offset: u16,
@@ -25,7 +25,7 @@ pub struct NvAssertion<'a> {
 }
 
 impl NvAssertion<'_> {
-    /// The digest of what is compared, and how.
+    /// The digest of operand, offset and operation.
     fn arguments(&self, hash: HashAlg) -> Digest
         ensures { result.items ≡ nv_arguments hash (nv_parts self.now) }
     {
@@ -36,8 +36,8 @@ impl NvAssertion<'_> {
         digest_parts(hash, &[self.operand, &offset, &operation])
     }
 
-    /// Refuses bytes that cannot be read, or do not stand so to the operand; in a trial session
-    /// nothing.
+    /// Refuses bytes that cannot be read, or whose comparison with the operand does not hold; in a
+    /// trial session refuses nothing.
     fn check(&self, trial: bool) -> Result<(), ActionFault>
         ensures { result ≡ nv_compared trial (nv_parts self.now) }
     {
@@ -53,8 +53,8 @@ impl NvAssertion<'_> {
 }
 
 impl PolicyState {
-    /// TPM2_PolicyNV: what refuses the reading of the index, or POLICY where the comparison is
-    /// false. A trial session takes any.
+    /// TPM2_PolicyNV: what refuses the reading of the index, or POLICY where the comparison does
+    /// not hold. A trial session takes any index and operand.
     #[tactic(auto, unfolding(crate::specs::Assertion::nv_asserted))]
     pub fn nv(&mut self, hash: HashAlg, trial: bool, about: &NvAssertion) -> Result<(), ActionFault>
         ensures { Asserts (asserted hash trial (assertion.Nv (nv_parts about.now)) self.old)

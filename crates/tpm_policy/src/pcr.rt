@@ -15,10 +15,10 @@ use tpm_mac::{Digest, HashAlg, digest_parts};
 use tpm_types::{ActionCheck, ActionFault, PcrSelection, ResponseCode};
 use tpm_types_command::CommandCode;
 
-/// What TPM2_PolicyPCR is about.
+/// The parts of the assertion of TPM2_PolicyPCR.
 #[derive(Clone, Copy)]
 pub struct PcrAssertion<'a> {
-    /// The digest that the caller gives, or no byte.
+    /// The digest that the caller gives, which may be empty.
     pub given: &'a [u8],
     pub selection: &'a PcrSelection,
     /// The digest of the values of the selected PCRs.
@@ -28,7 +28,7 @@ pub struct PcrAssertion<'a> {
 }
 
 impl<'a> PcrAssertion<'a> {
-    /// The digest that the policy takes: in a trial session the given one, where one is given.
+    /// The digest that is asserted of the PCRs: in a trial session the given one, if one is given.
     fn taken(&self, trial: bool) -> &'a [u8]
         ensures { result.now ≡ taken_digest trial (pcr_parts self.now) }
     {
@@ -41,7 +41,7 @@ impl<'a> PcrAssertion<'a> {
 }
 
 impl PolicyState {
-    /// Whether PCRs had been changed another number of times when they were compared.
+    /// Whether the recorded update counter of PCRs is another than this.
     pub(crate) fn records_other_count(&self, update_count: u64) -> bool
         ensures { result ≡ is_other self.now.update_count update_count }
     {
@@ -51,7 +51,7 @@ impl PolicyState {
         }
     }
 
-    /// The policy digest after the assertion.
+    /// The policy digest after the assertion of PCRs.
     fn pcr_digest(&self, hash: HashAlg, trial: bool, about: &PcrAssertion) -> Digest
         ensures { result.items ≡ hash_of hash
             (self.now.digest ++ to_be_bytes w32 (code_number served.PolicyPcr)
@@ -65,8 +65,9 @@ impl PolicyState {
         digest_parts(hash, &[digest, &code, selection.as_slice(), taken])
     }
 
-    /// TPM2_PolicyPCR: PCR_CHANGED where PCRs changed since they were compared first, VALUE where
-    /// their values have another digest than the given one. A trial session takes any.
+    /// TPM2_PolicyPCR: PCR_CHANGED where PCRs changed since the session's first TPM2_PolicyPCR,
+    /// VALUE where their values have another digest than the given one. A trial session takes any
+    /// digest.
     #[tactic(auto, unfolding(crate::specs::Assertion::pcr_asserted))]
     pub fn pcr(
         &mut self,

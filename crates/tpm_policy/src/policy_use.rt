@@ -15,20 +15,20 @@ use tpm_types::{Locality, Rc, ResponseCode, Role, SessionType, hash_number};
 /// The policy of an entity.
 #[derive(Clone, Copy)]
 pub struct EntityPolicy<'a> {
-    /// nameAlg.
+    /// The nameAlg of the entity.
     pub hash: HashAlg,
-    /// authPolicy.
+    /// The authPolicy of the entity.
     pub digest: &'a [u8],
 }
 
-/// What a policy session is to authorize.
+/// The use that a policy session is to authorize.
 #[derive(Clone, Copy)]
 pub struct Use<'a> {
     /// The number of the authorization entry.
     pub entry: u8,
-    /// The session's.
+    /// The type of the session.
     pub kind: SessionType,
-    /// The session's.
+    /// The hash algorithm of the session.
     pub hash: HashAlg,
     /// Whether the entity can be used now.
     pub available: bool,
@@ -38,7 +38,7 @@ pub struct Use<'a> {
     pub command: u32,
     /// In which role the entity is authorized.
     pub role: Role,
-    /// The hash of the command.
+    /// The cpHash of the command.
     pub cp_hash: &'a [u8],
     /// Whether the entity is written, where it is an NV index.
     pub written: Option<bool>,
@@ -48,7 +48,7 @@ pub struct Use<'a> {
 }
 
 impl PolicyState {
-    /// Whether the role takes a policy that names the command, and this one names none.
+    /// Whether the role requires a policy that names the command, and this one names none.
     fn lacks_command(&self, role: Role) -> bool
         ensures { result ≡ lacks_command role self.now.command }
     {
@@ -58,7 +58,8 @@ impl PolicyState {
         }
     }
 
-    /// Whether the entity is to be an NV index that is written, or one that is not, and is none such.
+    /// Whether the policy wants an NV index that is written, or one that is not, and the entity is
+    /// no such index.
     pub(crate) fn records_other_written(&self, found: Option<bool>) -> bool
         ensures { result ≡ is_other_written self.now.nv_written found }
     {
@@ -77,7 +78,7 @@ impl PolicyState {
         (self.localities >> locality.number()) & 1 == 0
     }
 
-    /// Whether it is the entity's policy, of a session with this hash.
+    /// Whether the policy of a session with this hash is the entity's.
     fn is_policy_of(&self, hash: HashAlg, entity: Option<EntityPolicy>) -> bool
         ensures { result
             ≡ is_policy_of hash self.now.digest (option_map entity_parts entity.entry) }
@@ -91,10 +92,11 @@ impl PolicyState {
         }
     }
 
-    /// Whether the policy authorizes this, and what it demands in addition. The first that does
-    /// not hold refuses: ATTRIBUTES for a trial session, AUTH_UNAVAILABLE, PCR_CHANGED, POLICY_CC
-    /// for another command, POLICY_FAIL for the role, another cpHash, or an entity that is not written
-    /// as it is to be, LOCALITY, and POLICY_FAIL for another policy than the entity's.
+    /// Tells whether the policy authorizes this use, and what it demands in addition. The first
+    /// condition that does not hold refuses: ATTRIBUTES for a trial session, AUTH_UNAVAILABLE,
+    /// PCR_CHANGED, POLICY_CC for another command, POLICY_FAIL for the role, another cpHash, or an
+    /// entity that is not written as it is to be, LOCALITY, and POLICY_FAIL for another policy than
+    /// the entity's.
     #[tactic(auto, unfolding(crate::specs::Use::use_passes))]
     pub fn check_use(&self, asked: &Use) -> Result<Demand, Rc>
         ensures { result ≡ use_passes self.now (parts_of asked.now) }

@@ -11,23 +11,23 @@ use tpm_types::{ActionCheck, ActionFault, ResponseCode};
 use tpm_types_command::CommandCode;
 use tpm_types_name::Name;
 
-/// What TPM2_PolicySecret is about. A buffer of no byte gives nothing.
+/// The parts of the assertion of TPM2_PolicySecret. An empty buffer gives nothing.
 #[derive(Clone, Copy)]
 pub struct SecretAssertion<'a> {
-    /// Of the entity whose authorization is shown.
+    /// The Name of the entity whose authorization is shown.
     pub name: &'a Name,
     /// The nonce that the caller gives.
     pub nonce: &'a [u8],
-    /// The session's.
+    /// The session's nonceTPM.
     pub nonce_tpm: &'a [u8],
-    /// The hash of the one command that is to be allowed.
+    /// cpHashA: the cpHash of the one command that is to be allowed.
     pub cp_hash: &'a [u8],
-    /// policyRef.
+    /// The parameter policyRef.
     pub reference: &'a [u8],
     pub expiration: u32,
 }
 
-/// The policy digest after the assertion.
+/// The policy digest after the assertion of a secret.
 fn secret_digest(hash: HashAlg, digest: &[u8], name: &Name, reference: &[u8]) -> Digest
     ensures { result.items ≡ secret_digest hash digest.now name.now reference.now }
 {
@@ -37,7 +37,7 @@ fn secret_digest(hash: HashAlg, digest: &[u8], name: &Name, reference: &[u8]) ->
 }
 
 impl PolicyState {
-    /// Whether the hash of another command is recorded.
+    /// Whether the cpHash of another command is recorded.
     pub(crate) fn records_other_hash(&self, cp_hash: &[u8]) -> bool
         ensures { result ≡ is_other_hash self.now.cp_hash cp_hash.now }
     {
@@ -47,9 +47,10 @@ impl PolicyState {
         }
     }
 
-    /// TPM2_PolicySecret: VALUE where it is to expire, SIZE where cpHashA is no digest, NONCE where
-    /// another nonce than the session's is given, CPHASH where another command's hash is recorded.
-    /// A trial session takes any nonce and any hash.
+    /// TPM2_PolicySecret: VALUE where expiration is not 0, SIZE where cpHashA does not have the
+    /// size of a digest, NONCE where another nonce than the session's is given, CPHASH where
+    /// another command's cpHash is recorded. A trial session takes any nonce and any cpHashA of
+    /// that size.
     #[tactic(auto, unfolding(crate::specs::Assertion::secret_asserted))]
     pub fn secret(
         &mut self,

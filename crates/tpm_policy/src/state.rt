@@ -12,26 +12,26 @@ use tpm_mac::{Digest, HashAlg};
 /// What a policy demands in addition to its digest.
 #[derive(Clone, Copy, Debug, PartialEq, Eq)]
 pub enum Demand {
-    /// Nothing.
+    /// Nothing is demanded in addition.
     None,
     /// An HMAC whose key has the entity's authorization value.
     AuthValue,
-    /// The entity's authorization value in plain.
+    /// The entity's authorization value as a password.
     Password,
 }
 
-/// The state of a policy session (TPM 2.0 Library, Part 1, section 19.7). Contracts see it as a
-/// `Policy`, a plain record.
+/// The state of a policy session (TPM 2.0 Library, Part 1, section 19.7). Contracts see the state
+/// as a `Policy`, a plain record.
 #[derive(Drop)]
 pub struct PolicyState {
     pub(crate) digest: Digest,
-    /// How often PCRs had been changed at the last TPM2_PolicyPCR.
+    /// The update counter of PCRs at the last TPM2_PolicyPCR.
     pub(crate) update_count: Option<u64>,
     /// The number of the one command that is allowed.
     pub(crate) command: Option<u32>,
-    /// The hash of the one command that is allowed.
+    /// The cpHash of the one command that is allowed.
     pub(crate) cp_hash: Option<Digest>,
-    /// Whether the NV index is to be written already.
+    /// Whether the NV index has to be written already.
     pub(crate) nv_written: Option<bool>,
     /// The localities that are allowed, bit n for locality n.
     pub(crate) localities: u8,
@@ -57,10 +57,10 @@ impl Model for PolicyState {
     ghost invariant = { λ s. s.localities ≤ 31 };
 }
 
-/// The localities 0 to 4.
+/// All localities that can be allowed: 0 to 4.
 const ALL_LOCALITIES: u8 = 0x1f;
 
-/// A digest of zeros.
+/// A policy digest of zeros.
 fn zeros(hash: HashAlg) -> Digest
     ensures { result.items ≡ replicate (digest_size hash) 0 }
 {
@@ -87,7 +87,7 @@ impl PolicyState {
         }
     }
 
-    /// Makes it the state in which a session starts.
+    /// Makes this the state in which a session starts.
     pub fn restart(&mut self, hash: HashAlg)
         ensures { self.new ≡ starting hash }
     {
@@ -109,7 +109,7 @@ impl PolicyState {
         self.demand
     }
 
-    /// The same state.
+    /// A copy of the state.
     pub fn copy(&self) -> PolicyState
         ensures { result ≡ self.now }
     {
@@ -134,7 +134,7 @@ impl PolicyState {
         }
     }
 
-    /// The numbers are of their widths.
+    /// The numbers have their widths.
     #[inline(always)]
     fn read_update_count(&self)
         ensures { IfSome self.now.update_count (λ count. count < 2 ^ 64) }
@@ -153,7 +153,7 @@ impl PolicyState {
         }
     }
 
-    /// Says what the types of its fields say. It only reads.
+    /// Says what the types of the state's fields say. The call only reads.
     #[inline(always)]
     pub fn read_sizes(&self)
         ensures { IsPolicy self.now }

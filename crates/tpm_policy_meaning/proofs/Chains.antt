@@ -1,4 +1,5 @@
--- Chains of hashes: where two have one digest, they have the same steps, or a hash is broken.
+-- Chains of hashes: where two chains have one digest, they have the same steps, or a hash is
+-- broken.
 use Rattle.std.proofs.Common.{◌≡◌, ◌≢◌, ◌⊎◌, ℕ, arith, Bool, true, false, cond, List, [], ◌∷◌, ◌++◌, length, length-append, take, drop, Option, Some, None, is_some, refl, ap, sym, ◌∙◌, inl, inr}
 use Rattle.std.proofs.lemmas.Bool.{false≢true}
 use Rattle.std.proofs.lemmas.List.{drop_at, length-replicate, take_at}
@@ -11,9 +12,9 @@ use Rattle.tpm_mac.specs.declared.algorithm.HashAlg.{HashAlg}
 use Rattle.tpm_policy_meaning.specs.Asserted.{IsAmong}
 use Rattle.tpm_policy_meaning.specs.PolicyDigest.{digest_after, with_reference, zeros}
 
--- ---- lists
+-- ---- lists of texts
 
--- two texts are cut at one place
+-- two texts that are cut at one place are the same only with the same parts
 pub same_fronts : (a b c d : List ℕ) → length a ≡ length c → a ++ b ≡ c ++ d → (a ≡ c) × (b ≡ d)
 same_fronts a b c d size is = (
   sym (take_at a b (length a) refl) ∙ ap (take (length a)) is ∙ take_at c d (length a) (sym size),
@@ -37,7 +38,7 @@ pub among_either : {X Elsewhere : Type 0} (x : X) (front back : List X) → IsAm
 among_either x front back (inl among) there = among_front x front back among
 among_either x front back (inr elsewhere) there = among_back x front back (there elsewhere)
 
--- Two texts are the same or not; and a text is one of these or not.
+-- Two texts are the same or not; and a text is among others or not.
 pub is_same_or_not : (t u : List ℕ) → (t ≡ u) ⊎ (t ≢ u)
 is_same_or_not t u = by (bytes_eq t u) refl
   where
@@ -58,14 +59,14 @@ is_among_or_not t (u ∷ texts) = by (is_same_or_not t u) (is_among_or_not t tex
     by (inr apart) (inl among) = inl (inr among)
     by (inr apart) (inr none) = inr (none_among t u texts apart none)
 
--- what goes on unless a hash is broken
+-- a conclusion that follows unless a hash is broken
 pub unless_broken : {A B Broken : Type 0} → A ⊎ Broken → (A → B ⊎ Broken) → B ⊎ Broken
 unless_broken (inl a) next = next a
 unless_broken (inr broken) next = inr broken
 
 -- ---- chains of steps
 
--- the digest that steps make, the latest first; and the texts that are hashed for them
+-- the digest of a chain of steps, the latest first; and the texts that are hashed for them
 abbrev pub chain : HashAlg → List (List ℕ) → List ℕ
 chain hash [] = zeros hash
 chain hash (step ∷ earlier) = hash_of hash (chain hash earlier ++ step)
@@ -84,7 +85,7 @@ pub record Breaking (hash : HashAlg) (Broken : Type 0) (One Other : List ℕ →
   pub of_zeros : (t : List ℕ) → One t ⊎ Other t → hash_of hash t ≡ zeros hash → Broken
 
 module _ (hash : HashAlg) (Broken : Type 0) (One Other : List ℕ → Type 0) (breaking : Breaking hash Broken One Other) where
-  -- texts with one hash are the same
+  -- two texts with one hash are the same, or a hash is broken
   pub same_hashed : (t u : List ℕ) → One t → Other u → hash_of hash t ≡ hash_of hash u → (t ≡ u) ⊎ Broken
   same_hashed t u one other is = by (is_same_or_not t u)
     where
@@ -108,7 +109,7 @@ module _ (hash : HashAlg) (Broken : Type 0) (One Other : List ℕ → Type 0) (b
 
 -- ---- steps of assertions
 
--- what is said by an assertion: its policyRef, where it has one, and its text
+-- what an assertion says: its policyRef, where it has one, and its text
 abbrev pub Said : Type 0
 Said = Option (List ℕ) × List ℕ
 
@@ -131,7 +132,7 @@ abbrev pub AllFit : List Said → Type 0
 AllFit [] = Unit {0}
 AllFit (said ∷ earlier) = Fits said × AllFit earlier
 
--- whether a policyRef is to come after these steps; none is after those of whole assertions
+-- whether a policyRef is to come after these steps; it is not after the steps of whole assertions
 abbrev awaits : List (List ℕ) → Bool
 awaits [] = false
 awaits (step ∷ earlier) = cond (awaits earlier) false (is_secret step)
@@ -158,7 +159,7 @@ latest_aligned (Some r) None t u xs ys st su ax ay is =
     let rest : t ∷ xs ≡ ys = cc in
     absurd (false≢true (sym ay ∙ ap awaits (sym rest) ∙ rw (ax, st) refl))
 
--- The same steps are said by the same assertions.
+-- two lists of assertions with the same steps say the same
 pub aligned : (xs ys : List Said) → AllFit xs → AllFit ys → all_steps xs ≡ all_steps ys → xs ≡ ys
 aligned [] [] fx fy is = refl
 aligned [] (y ∷ ys) fx fy is = absurd (some_steps y.0 y.1 (all_steps ys) (sym is))

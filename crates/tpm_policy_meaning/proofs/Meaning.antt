@@ -1,4 +1,5 @@
--- A policy session with the digest of a policy asserted what the policy says, or the hash is broken.
+-- A policy session with the digest of a policy asserted what the policy says, or the hash is
+-- broken.
 use Rattle.std.proofs.Common.{◌≡◌, ◌≢◌, ◌⊎◌, ℕ, List, [], ◌∷◌, ◌++◌, append_assoc, length, refl, ap, sym, subst, ◌∙◌, inl, inr}
 use Rattle.tpm_mac.specs.Digest.{digest_size}
 use Rattle.tpm_mac.specs.declared.algorithm.HashAlg.{HashAlg}
@@ -14,7 +15,7 @@ use Rattle.tpm_policy_meaning.proofs.Astride.{HaveSize, joined, stands_astride}
 use Rattle.tpm_policy_meaning.proofs.Chains.{Breaking, Said, aligned, all_steps, among_back, among_front, is_among_or_not, length-chain, same_chain, unless_broken}
 use Rattle.tpm_policy_meaning.proofs.Spelled.{policy_chain, policy_chain_texts, policy_fits, policy_said, said_before, said_of, session_chain, session_chain_texts, session_fits, session_said}
 
--- a digest that is one of these stands in them joined
+-- A digest that is one of some digests is within them joined.
 abbrev StandsIn : (digest whole : List ℕ) → Type 0
 StandsIn digest whole = (front : List ℕ) × (back : List ℕ) × (whole ≡ front ++ digest ++ back)
 
@@ -38,7 +39,7 @@ same_latest x y xs ys is = (cc, cc)
 none_said : (x : Said) (xs : List Said) → x ∷ xs ≡ [] → ⊥
 none_said x xs is = absurd cc
 
--- what asserts something written is no TPM2_PolicyOR
+-- a session's assertion that says one of a written policy is no TPM2_PolicyOR
 earlier_said : (one : Assertion) (written : PolicyAssertion) (said : List Said) → Says one written → said_before one said ≡ said
 earlier_said (assertion.Or digests) written said asserts = absurd asserts
 earlier_said _ written said asserts = refl
@@ -141,7 +142,7 @@ module _ (hash : HashAlg) (whole : PolicyExpression) (all : List Assertion) wher
       (sym (policy_chain hash policy) ∙ sym is ∙ session_chain hash assertions))
       (λ steps. inl (aligned (policy_said hash policy) (session_said hash assertions) (policy_fits hash policy) (session_fits hash assertions) steps))
 
-  -- ---- along the policy
+  -- ---- along the assertions of the policy
 
   then_holds : (before : PolicyExpression) (written : PolicyAssertion) (latest : Assertion) (earlier : List Assertion) → Within (Then before written) → UpTo (latest ∷ earlier) → (said_of (update_of hash written) ≡ said_of (update_by hash latest)) × (policy_said hash before ≡ said_before latest (session_said hash earlier)) → (policy_said hash before ≡ session_said hash earlier → IsMet (IsAsserted all) before ⊎ Broken) → IsMet (IsAsserted all) (Then before written) ⊎ Broken
   then_holds before written latest earlier within up same next =

@@ -1,4 +1,4 @@
--- What accepted assertions found and demand.
+-- The laws of accepted assertions: what they found and demand.
 use Rattle.std.proofs.Common.{◌≡◌, ◌⊎◌, ℕ, Bool, true, false, not, List, [], ◌∷◌, Ok, refl, sym, subst, inl, inr}
 use Rattle.std.proofs.lemmas.Bool.{false≢true}
 use Rattle.std.proofs.lemmas.Slice.Eq.{bytes_eq-Decides}
@@ -39,7 +39,7 @@ accepted_find hash (assertion.Or digests) earlier made is =
     (passes (parameter_fault action.First 1 code.Value) (record policy { digest = or_digest hash digests }) made (list_any (λ (one : List ℕ). bytes_eq one policy.digest) digests) is)
 accepted_find hash _ earlier made is = tt
 
--- ---- what is demanded
+-- ---- what a session demands
 
 abbrev Demanded : HashAlg → Bool → List Assertion → Type 0
 Demanded hash trial assertions =

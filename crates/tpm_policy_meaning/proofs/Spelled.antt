@@ -1,4 +1,5 @@
--- A policy and a session by what their assertions say: digests and texts are those of their steps.
+-- A policy and a session by what their assertions say: their digests and texts are those of their
+-- steps.
 use Rattle.std.proofs.Common.{◌≡◌, ℕ, List, [], ◌∷◌, ◌++◌, append_assoc, Option, Some, None, refl, ap, ◌∙◌, inl, inr}
 use Rattle.std.specs.Int.{w32, to_be_bytes}
 use Rattle.std.specs.List.{flat_map}
@@ -17,7 +18,7 @@ use Rattle.tpm_policy_meaning.proofs.Chains.{AllFit, Fits, Said, all_steps, amon
 abbrev pub said_of : PolicyUpdate → Said
 said_of update = (update.reference, update_text update)
 
--- ---- a policy
+-- ---- the steps of a policy
 
 abbrev pub policy_said : HashAlg → PolicyExpression → List Said
 policy_said hash Nothing = []
@@ -50,9 +51,9 @@ policy_chain_texts hash (Then before written) text among =
 policy_chain_texts hash (PolicyOr branches) text (inl is) = inl is
 policy_chain_texts hash (PolicyOr branches) text (inr among) = absurd among
 
--- ---- a session
+-- ---- the steps of a session
 
--- TPM2_PolicyOR lets nothing stand that was said before
+-- what was said before an assertion; nothing before TPM2_PolicyOR counts
 abbrev pub said_before : Assertion → List Said → List Said
 said_before (assertion.Or digests) said = []
 said_before _ said = said

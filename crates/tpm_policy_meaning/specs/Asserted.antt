@@ -1,5 +1,5 @@
--- What was asserted on a session, and the texts that its digest is made of. TPM 2.0 Library, Part
--- 1, section 19.7, and Part 3, section 23.
+-- The assertions of a session, and the texts of which its digest is made. TPM 2.0 Library, Part 1,
+-- section 19.7, and Part 3, section 23.
 use Rattle.std.specs.Prelude.{◌≡◌, ◌⊎◌, ◌<◌, ◌^◌, ℕ, Bool, false, List, [], ◌∷◌, ◌++◌, length, Ok}
 use Rattle.tpm_mac.specs.Digest.{digest_size}
 use Rattle.tpm_mac.specs.declared.algorithm.HashAlg.{HashAlg}
@@ -20,12 +20,13 @@ use Rattle.tpm_policy_meaning.specs.PolicyDigest.{or_update}
 use Rattle.tpm_policy_meaning.specs.PolicyDigest.{secret_update, nv_update, nv_arguments_text}
 use Rattle.tpm_policy_meaning.specs.PolicyDigest.{texts_after, zeros}
 
--- It is one of these.
+-- x is a member of this list.
 abbrev pub IsAmong : {X : Type 0} → X → List X → Type 0
 IsAmong x [] = ⊥
 IsAmong x (y ∷ ys) = (x ≡ y) ⊎ IsAmong x ys
 
--- the policy that assertions make, the latest first, from that with which a session starts
+-- the policy that these assertions make, the latest first, from the policy with which a session
+-- starts
 abbrev pub evaluated : HashAlg → (trial : Bool) → List Assertion → Policy
 evaluated hash trial [] = starting hash
 evaluated hash trial (latest ∷ earlier) =
@@ -35,11 +36,12 @@ evaluated hash trial (latest ∷ earlier) =
 abbrev pub session_digest : HashAlg → List Assertion → List ℕ
 session_digest hash assertions = (evaluated hash false assertions).digest
 
--- ---- what is asserted
+-- ---- assertions of a session and of a written policy
 
--- An assertion says what is written. TPM2_PolicyAuthValue and TPM2_PolicyPassword have one digest,
--- so that each of them stands for both: which of the two a use must meet is what the session
--- demands, and either way the authorization value is shown (`DemandsValue`).
+-- An assertion of a session says what one of a written policy says. TPM2_PolicyAuthValue and
+-- TPM2_PolicyPassword have one digest, and so each says what the other does: which of the two a use
+-- must meet is what the session demands, and either way the authorization value is shown
+-- (`DemandsValue`).
 abbrev pub Says : Assertion → PolicyAssertion → Type 0
 Says (assertion.Pcr parts) (PolicyPcr selection digest) =
     (parts.selection ≡ selection_text selection) × (parts.digest ≡ digest)
@@ -58,15 +60,15 @@ Says (assertion.Nv parts) (PolicyNv name operand offset operation) =
     × (parts.operation ≡ operation)
 Says _ _ = ⊥
 
--- One of these assertions says it.
+-- One of these assertions says what that of a written policy says.
 abbrev pub IsAsserted : List Assertion → PolicyAssertion → Type 0
 IsAsserted assertions written =
     (one : Assertion) × IsAmong one assertions × Says one written
 
 -- ---- what is known of assertions that a session accepted
 
--- Numbers are of their widths: the digest of PCRs is one of the session's hash, a command code has
--- 32 bits, and an offset 16.
+-- The numbers of an assertion have their widths: the digest of PCRs is one of the session's hash, a
+-- command code has 32 bits, and an offset 16.
 abbrev pub HasWidths : HashAlg → Assertion → Type 0
 HasWidths hash (assertion.Pcr parts) = length parts.digest ≡ digest_size hash
 HasWidths hash (assertion.CommandCode number) = number < 2 ^ 32
@@ -79,13 +81,14 @@ FindsDigest hash (assertion.Or digests) earlier =
     IsAmong (session_digest hash earlier) digests
 FindsDigest hash _ earlier = Unit {0}
 
--- This is so of each of them, the latest first.
+-- Each of these assertions, the latest first, has its widths, and if it is a TPM2_PolicyOR it found
+-- the digest before it.
 abbrev pub AreAccepted : HashAlg → List Assertion → Type 0
 AreAccepted hash [] = Unit {0}
 AreAccepted hash (latest ∷ earlier) =
     HasWidths hash latest × FindsDigest hash latest earlier × AreAccepted hash earlier
 
--- ---- what is hashed
+-- ---- what a session hashes
 
 -- what an assertion puts into the digest
 abbrev pub update_by : HashAlg → Assertion → PolicyUpdate
@@ -105,7 +108,7 @@ update_by hash (assertion.Secret parts) = secret_update parts.name parts.referen
 update_by hash (assertion.Nv parts) =
     nv_update hash parts.name (nv_arguments_text parts.operand parts.offset parts.operation)
 
--- the digest after which it is hashed: TPM2_PolicyOR begins with zeros again
+-- the digest after which an assertion is hashed: TPM2_PolicyOR begins with zeros again
 abbrev pub digest_before : HashAlg → Assertion → (earlier : List Assertion) → List ℕ
 digest_before hash (assertion.Or digests) earlier = zeros hash
 digest_before hash _ earlier = session_digest hash earlier
@@ -122,7 +125,7 @@ session_digests hash [] = session_digest hash [] ∷ []
 session_digests hash (latest ∷ earlier) =
     session_digest hash (latest ∷ earlier) ∷ session_digests hash earlier
 
--- ---- laws
+-- ---- laws of the digest of a session
 
 -- The digest of a policy session is that of the texts that it hashed.
 abbrev pub SessionHashesTexts : Type 0

@@ -1,8 +1,8 @@
--- Policies with their digests, worked out. TPM 2.0 Library, Part 1, section 19.7. The digest of
+-- Examples of policies with their digests. TPM 2.0 Library, Part 1, section 19.7. The digest of
 -- TPM2_PolicySecret by the endorsement hierarchy is printed in the TCG EK Credential Profile for
--- TPM Family 2.0, as the authPolicy of its templates (PolicyA_SHA256); that of
--- TPM2_PolicyAuthValue alone is in use by many programs. All are computed by Python's hashlib too,
--- from the bytes of their texts.
+-- TPM Family 2.0, as the authPolicy of its templates (PolicyA_SHA256); that of TPM2_PolicyAuthValue
+-- alone is in use by many programs. All are computed by Python's hashlib too, from the bytes of
+-- their texts.
 use Rattle.std.specs.Prelude.{◌≡◌, ℕ, List, [], ◌∷◌}
 use Rattle.tpm_mac.specs.declared.algorithm.HashAlg.TheVariants as alg
 use Rattle.tpm_types.specs.declared.operation.Operation.TheVariants as operation
@@ -12,7 +12,7 @@ use Rattle.tpm_policy_meaning.specs.Expression.{PolicyPcr, PolicyAuthValue, Poli
 use Rattle.tpm_policy_meaning.specs.Expression.{PolicySecret, PolicyNv}
 use Rattle.tpm_policy_meaning.specs.PolicyDigest.{policy_digest}
 
--- by the authorization value
+-- the policy of TPM2_PolicyAuthValue alone, and its digest
 abbrev pub by_value : PolicyExpression
 by_value = Then Nothing PolicyAuthValue
 
@@ -23,7 +23,8 @@ by_value_digest =
     ∷ 0x82 ∷ 0x41 ∷ 0xbb ∷ 0xc2 ∷ 0x02 ∷ 0x88 ∷ 0x98 ∷ 0x1f
     ∷ 0xc7 ∷ 0xac ∷ 0x1e ∷ 0xdd ∷ 0xc1 ∷ 0xfd ∷ 0xdb ∷ 0x0e ∷ []
 
--- by the authorization of the endorsement hierarchy, 4000000B, for an empty policyRef
+-- the policy of TPM2_PolicySecret for the endorsement hierarchy, 4000000B, with an empty policyRef,
+-- and its digest
 abbrev pub by_endorsement : PolicyExpression
 by_endorsement = Then Nothing (PolicySecret (0x40 ∷ 0x00 ∷ 0x00 ∷ 0x0b ∷ []) [])
 
@@ -34,14 +35,14 @@ by_endorsement_digest =
     ∷ 0xfd ∷ 0x52 ∷ 0xd7 ∷ 0x6e ∷ 0x06 ∷ 0x52 ∷ 0x0b ∷ 0x64
     ∷ 0xf2 ∷ 0xa1 ∷ 0xda ∷ 0x1b ∷ 0x33 ∷ 0x14 ∷ 0x69 ∷ 0xaa ∷ []
 
--- for TPM2_Unseal, 15E, with SHA-1
+-- the digest, with SHA-1, of the policy that allows TPM2_Unseal, 15E, alone
 abbrev pub unsealing_digest : List ℕ
 unsealing_digest =
     0x4e ∷ 0xbd ∷ 0x9e ∷ 0x4f ∷ 0x77 ∷ 0x9e ∷ 0x20 ∷ 0x23
     ∷ 0x80 ∷ 0x60 ∷ 0xdf ∷ 0x3d ∷ 0x7f ∷ 0xb5 ∷ 0xc5 ∷ 0x01
     ∷ 0xec ∷ 0xca ∷ 0x28 ∷ 0xc9 ∷ []
 
--- the hash of 64 zeros, which is that of two PCRs of zeros
+-- the hash of 64 zeros, which is the digest of two PCRs of zeros
 abbrev pub two_zero_pcrs : List ℕ
 two_zero_pcrs =
     0xf5 ∷ 0xa5 ∷ 0xfd ∷ 0x42 ∷ 0xd1 ∷ 0x6a ∷ 0x20 ∷ 0x30
@@ -49,7 +50,8 @@ two_zero_pcrs =
     ∷ 0x43 ∷ 0x00 ∷ 0x3d ∷ 0x23 ∷ 0x20 ∷ 0xd9 ∷ 0xf0 ∷ 0xe8
     ∷ 0xea ∷ 0x98 ∷ 0x31 ∷ 0xa9 ∷ 0x27 ∷ 0x59 ∷ 0xfb ∷ 0x4b ∷ []
 
--- PCR 7 and 11 of the bank of SHA-256 with these values, and then the authorization value
+-- the policy that PCR 7 and 11 of the bank of SHA-256 have these values, and that the authorization
+-- value is given
 abbrev pub by_pcrs_and_value : PolicyExpression
 by_pcrs_and_value =
     let selection = record { hash = alg.Sha256; select = 0x000880 } ∷ [] in
@@ -62,7 +64,7 @@ by_pcrs_and_value_digest =
     ∷ 0x35 ∷ 0x06 ∷ 0xb1 ∷ 0x17 ∷ 0xee ∷ 0x0a ∷ 0xd5 ∷ 0x52
     ∷ 0xd9 ∷ 0x61 ∷ 0xf4 ∷ 0x69 ∷ 0xb4 ∷ 0xb7 ∷ 0x97 ∷ 0x1c ∷ []
 
--- either of these two
+-- the policy of TPM2_PolicyOR for the two policies above
 abbrev pub by_either : PolicyExpression
 by_either = PolicyOr (Branch by_pcrs_and_value (Branch by_endorsement NoBranch))
 
@@ -73,7 +75,7 @@ by_either_digest =
     ∷ 0x43 ∷ 0x61 ∷ 0x42 ∷ 0xe1 ∷ 0x65 ∷ 0xcf ∷ 0xdf ∷ 0x51
     ∷ 0x45 ∷ 0x82 ∷ 0xb0 ∷ 0x5f ∷ 0x8b ∷ 0xb9 ∷ 0x22 ∷ 0xd9 ∷ []
 
--- eight bytes of the index of this Name are at least 5
+-- the policy that eight bytes of the index of this Name are at least 5
 abbrev pub index_name : List ℕ
 index_name =
     0x00 ∷ 0x0b ∷ 0x00 ∷ 0x01 ∷ 0x02 ∷ 0x03 ∷ 0x04 ∷ 0x05
@@ -94,7 +96,7 @@ by_count_digest =
     ∷ 0xc8 ∷ 0xa4 ∷ 0x19 ∷ 0x7b ∷ 0x79 ∷ 0xc1 ∷ 0x64 ∷ 0x9e
     ∷ 0x75 ∷ 0x73 ∷ 0x9e ∷ 0xe2 ∷ 0x8c ∷ 0x3d ∷ 0x12 ∷ 0x15 ∷ []
 
--- The digests of these policies.
+-- These policies have these digests.
 pub record ComputesDigests : Type 0 where
   pub by_value : policy_digest alg.Sha256 by_value ≡ by_value_digest
   pub by_endorsement : policy_digest alg.Sha256 by_endorsement ≡ by_endorsement_digest

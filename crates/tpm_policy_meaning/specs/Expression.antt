@@ -7,15 +7,15 @@ use Rattle.tpm_types.specs.declared.pcr_selection.BankSelection.{BankSelection}
 
 -- What one assertion demands of a use:
 -- PolicyPcr: the values of the selected PCRs have this digest.
--- PolicyAuthValue: the key of the use's HMAC has the authorization value of what is used.
--- PolicyPassword: the use has the authorization value of what is used as its password.
+-- PolicyAuthValue: the key of the use's HMAC has the authorization value of the entity that is
+-- used.
+-- PolicyPassword: the use has the authorization value of the entity as its password.
 -- PolicyCommandCode: the command is the one of this number.
 -- PolicyLocality: the command comes from one of these localities, bit n for locality n.
 -- PolicyCpHash: the command, its handles' Names and its parameters have this hash.
--- PolicyNvWritten: what is used is an NV index that is written, or one that is not.
+-- PolicyNvWritten: the entity is an NV index that is written, or one that is not.
 -- PolicySecret: the entity of this Name was authorized for this policyRef.
--- PolicyNv: the bytes of the NV index of this Name, from this offset on, compared so with an
--- operand.
+-- PolicyNv: the comparison of the NV index of this Name, from this offset on, with an operand held.
 pub data PolicyAssertion : Type 0 where
   PolicyPcr : (selection : List BankSelection) → (digest : List ℕ) → PolicyAssertion
   PolicyAuthValue : PolicyAssertion

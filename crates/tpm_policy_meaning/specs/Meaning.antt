@@ -1,5 +1,5 @@
--- What the digest of a policy session says. TPM 2.0 Library, Part 1, section 19.7. Where it is the
--- digest of a policy, the session asserted what that policy says, along one branch at each
+-- What the digest of a policy session says. TPM 2.0 Library, Part 1, section 19.7. Where the digest
+-- is that of a policy, the session asserted what that policy says, along one branch at each
 -- TPM2_PolicyOR; or the hash is broken, by texts that the policy and the session spell.
 use Rattle.std.specs.Prelude.{◌≡◌, ◌≢◌, ◌⊎◌, ◌<◌, ◌^◌, ℕ, List, [], ◌∷◌, ◌++◌, length}
 use Rattle.tpm_mac.specs.Digest.{digest_size, hash_of}
@@ -25,7 +25,7 @@ abbrev mutual
   IsOneMet P NoBranch = ⊥
   IsOneMet P (Branch policy branches) = IsMet P policy ⊎ IsOneMet P branches
 
--- What is written has a text that tells it: the digest of PCRs is one of the policy's hash, a
+-- An assertion of a written policy has a text: the digest of PCRs is one of the policy's hash, a
 -- command code has 32 bits, and an offset 16.
 abbrev pub IsPolicyAssertion : HashAlg → PolicyAssertion → Type 0
 IsPolicyAssertion hash (PolicyPcr selection digest) = length digest ≡ digest_size hash
@@ -58,8 +58,8 @@ abbrev mutual
   lists_within hash (Branch policy branches) =
       branch_lists hash policy ++ lists_within hash branches
 
--- A text is none of these, but astride two neighbours: it is the end of the one and the beginning
--- of the next.
+-- A text is none of these texts, but astride two neighbours: it is the end of the one and the
+-- beginning of the next.
 pub record IsAstride (text : List ℕ) (texts : List (List ℕ)) : Type 0 where
   pub before : List (List ℕ)
   pub front : List ℕ

@@ -31,16 +31,16 @@ pub record PolicyUpdate : Type 0 where
 abbrev pub plain_update : CommandCode → (about : List ℕ) → PolicyUpdate
 plain_update code about = record { code = code; about = about; reference = None; apart = [] }
 
--- TPM2_PolicyOR is about the joined digests of its branches, without their sizes
+-- the update of TPM2_PolicyOR: the joined digests of its branches, without their sizes
 abbrev pub or_update : (digests : List (List ℕ)) → PolicyUpdate
 or_update digests = plain_update command.PolicyOr (flat_map (λ digest. digest) digests)
 
--- TPM2_PolicySecret has a policyRef, which may be empty
+-- the update of TPM2_PolicySecret, which has a policyRef, perhaps an empty one
 abbrev pub secret_update : (name reference : List ℕ) → PolicyUpdate
 secret_update name reference =
     record (plain_update command.PolicySecret name) { reference = Some reference }
 
--- operandB || offset || operation, whose hash TPM2_PolicyNV is about
+-- the arguments of TPM2_PolicyNV, whose hash its update has: operandB || offset || operation
 abbrev pub nv_arguments_text : (operand : List ℕ) → (offset : ℕ) → Operation → List ℕ
 nv_arguments_text operand offset operation =
     operand ++ to_be_bytes w16 offset ++ to_be_bytes w16 (operation_number operation)
@@ -51,7 +51,7 @@ nv_update hash name arguments =
       apart = arguments ∷ [];
     }
 
--- TPM2_PolicyPassword has the code of TPM2_PolicyAuthValue
+-- the update of an assertion; TPM2_PolicyPassword has the code of TPM2_PolicyAuthValue
 abbrev pub update_of : HashAlg → PolicyAssertion → PolicyUpdate
 update_of hash (PolicyPcr selection digest) =
     plain_update command.PolicyPcr (selection_text selection ++ digest)
@@ -68,13 +68,14 @@ update_of hash (PolicySecret name reference) = secret_update name reference
 update_of hash (PolicyNv name operand offset operation) =
     nv_update hash name (nv_arguments_text operand offset operation)
 
--- ---- texts
+-- ---- the texts that are hashed for a policy
 
--- the code, and what the assertion is about
+-- the text of an update: the code, and what the assertion is about
 abbrev pub update_text : PolicyUpdate → List ℕ
 update_text update = to_be_bytes w32 (code_number update.code) ++ update.about
 
--- a text, and after its hash policyRef
+-- a text of an assertion, and where the assertion has a policyRef a second one: the hash of the
+-- first, and policyRef
 abbrev pub with_reference : HashAlg → Option (List ℕ) → (text : List ℕ) → List (List ℕ)
 with_reference hash None text = text ∷ []
 with_reference hash (Some reference) text = (hash_of hash text ++ reference) ∷ text ∷ []
@@ -84,16 +85,16 @@ abbrev pub texts_after : HashAlg → (digest : List ℕ) → PolicyUpdate → Li
 texts_after hash digest update =
     with_reference hash update.reference (digest ++ update_text update) ++ update.apart
 
--- a policy begins with zeros
+-- the zeros with which the digest of a policy begins
 abbrev pub zeros : HashAlg → List ℕ
 zeros hash = replicate (digest_size hash) 0
 
--- the digest of texts, the latest first: the hash of the latest
+-- the digest after these texts, the latest first: the hash of the latest
 abbrev pub digest_after : HashAlg → (texts : List (List ℕ)) → List ℕ
 digest_after hash [] = zeros hash
 digest_after hash (text ∷ earlier) = hash_of hash text
 
--- the texts that are hashed for a policy, those of its branches too, the latest first;
+-- the texts that are hashed for a policy, those of its branches too, the latest first; the text of
 -- TPM2_PolicyOR begins with zeros again
 abbrev mutual
   pub policy_texts : HashAlg → PolicyExpression → List (List ℕ)

@@ -1,10 +1,10 @@
 #![tactic(auto)]
 
 //! What a policy says of a policy session that has its digest: policies as they are written, their
-//! digests, and what follows where a session has the digest of one.
+//! digests, and what follows where a session has the digest of a policy.
 //!
-//! It stands on the definitions of tpm_policy, and knows no sessions, no entities and no history.
-//! Each law stands on the contract of a function that does nothing.
+//! The crate uses the definitions of tpm_policy, and has no sessions, no entities and no history.
+//! Each law is the contract of a function that does nothing.
 
 ghost use Rattle.tpm_policy_meaning.specs.Asserted.{AcceptedFindDigest, DemandsValue};
 ghost use Rattle.tpm_policy_meaning.specs.Asserted.{SessionHashesTexts};
@@ -27,7 +27,7 @@ pub fn trial_laws()
     ensures { TrialComputes }
 {}
 
-/// What is said of a session is so. A TPM2_PolicyOR that a policy session accepts finds the digest
+/// Laws of the digest of a session. A TPM2_PolicyOR that a policy session accepts finds the digest
 /// before it among its digests. The digest of a session is that of the texts that it hashed. Where
 /// TPM2_PolicyAuthValue or TPM2_PolicyPassword was asserted, the session demands the authorization
 /// value, in an HMAC's key or as a password.
@@ -38,8 +38,7 @@ pub fn session_laws()
     ensures demand { DemandsValue }
 {}
 
-/// The digests of some policies, worked out: those that are published, and others that are computed
-/// elsewhere.
+/// Examples of policies with their digests: some are published, and others are computed elsewhere.
 #[inline(always)]
 pub fn example_laws()
     ensures { ComputesDigests }

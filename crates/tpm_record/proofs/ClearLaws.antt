@@ -1,4 +1,4 @@
--- Objects cleared, place by place, and what is found then.
+-- Objects cleared, place by place, and what is found after that.
 use Rattle.std.proofs.Common.{◌≡◌, ℕ, zero, suc, ◌≤◌, Bool, true, false, cond, eqb, List, [], ◌∷◌, ◌++◌, length, take, drop, Option, Some, None, refl, sym, ap, ◌∙◌, arith}
 use Rattle.std.specs.Prelude.{IfSome, map, option_and_then, slice_set}
 use Rattle.std.proofs.lemmas.List.Sums.{sum_by-cons}
@@ -9,7 +9,7 @@ use Rattle.tpm_containers.specs.Slots.{at_place, taken_count}
 use Rattle.tpm_containers.proofs.SlotLaws.{counted}
 use Rattle.tpm_record.specs.Clear.{ClearingLaws, cleared_objects, cleared_place, is_cleared, is_place_cleared}
 
--- the first ones are cleared
+-- the places of which the first ones are cleared
 abbrev pub cleared_up_to : ℕ → List (Option Object) → List (Option Object)
 cleared_up_to count places = map cleared_place (take count places) ++ drop count places
 
@@ -21,7 +21,7 @@ rest_cleared : (b : Bool) (p : Option Object) (ps qs : List (Option Object)) →
 rest_cleared true p ps qs = refl
 rest_cleared false p ps qs = refl
 
--- where the next is cleared, one more is
+-- where the next place is cleared, one more is
 pub cleared_in_turn : (places : List (Option Object)) (i : ℕ) → cond (is_place_cleared (at_place (cleared_up_to i places) i)) (slice_set (cleared_up_to i places) i None) (cleared_up_to i places) ≡ cleared_up_to (suc i) places
 cleared_in_turn [] zero = refl
 cleared_in_turn [] (suc i) = refl
@@ -30,7 +30,7 @@ cleared_in_turn (p ∷ ps) (suc i) =
     rest_cleared (is_place_cleared (at_place (cleared_up_to i ps) i)) (cleared_place p) (slice_set (cleared_up_to i ps) i None) (cleared_up_to i ps)
     ∙ ap (λ (l : List (Option Object)). cleared_place p ∷ l) (cleared_in_turn ps i)
 
--- and there are as many as before
+-- there are as many places as before
 pub cleared_length : (i : ℕ) (places : List (Option Object)) → length (cleared_up_to i places) ≡ length places
 cleared_length zero [] = refl
 cleared_length (suc i) [] = refl
@@ -43,7 +43,7 @@ all_cleared [] (suc i) many = refl
 all_cleared (p ∷ ps) zero many = absurd (omega arith)
 all_cleared (p ∷ ps) (suc i) many = ap (λ (l : List (Option Object)). cleared_place p ∷ l) (all_cleared ps i (omega arith))
 
--- ---- what is found
+-- ---- what is found after objects are cleared
 
 at_cleared : (places : List (Option Object)) (place : ℕ) → at_place (cleared_objects places) place ≡ cleared_place (at_place places place)
 unfolding cleared_objects
@@ -51,7 +51,7 @@ at_cleared [] place = refl
 at_cleared (p ∷ ps) zero = refl
 at_cleared (p ∷ ps) (suc place) = at_cleared ps place
 
--- under a number, by what is in its place
+-- what is found under a number, by what is in its place
 abbrev of_number : ℕ → Option Object → Option Object
 of_number number cell = option_and_then (if_of_kind transient_byte number) cell
 
@@ -89,7 +89,7 @@ absent_in number (Some x) none = by (is_cleared x.hierarchy)
     by true = refl
     by false = none
 
--- ---- how many there are
+-- ---- how many objects there are
 
 one_cleared : (cell : Option Object) → counted (cleared_place cell) ≤ counted cell
 one_cleared None = omega arith

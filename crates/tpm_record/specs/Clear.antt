@@ -1,6 +1,6 @@
 -- What TPM2_Clear does to objects, transient and persistent: those of the owner and of the
--- endorsement hierarchy are gone. TPM 2.0 Library, Part 3, section 24.6. What it does to the
--- hierarchies stands in Hierarchy, to NV indices in tpm_nv/Clear.
+-- endorsement hierarchy are gone. TPM 2.0 Library, Part 3, section 24.6. What the command does to
+-- the hierarchies is defined in Hierarchy, and what it does to NV indices in tpm_nv/Clear.
 use Rattle.std.specs.Prelude.{◌≡◌, ◌≤◌, ℕ, Bool, true, false, not, List, Option, Some, None, map, if◌then◌else◌}
 use Rattle.tpm_containers.specs.SortedMap.{Entries, kept_entries}
 use Rattle.tpm_object.specs.Object.{transient_byte}
@@ -10,33 +10,33 @@ use Rattle.tpm_containers.specs.Slots.{taken_count}
 use Rattle.tpm_types.specs.declared.handle.HierarchyHandle.{HierarchyHandle}
 use Rattle.tpm_types.specs.declared.handle.HierarchyHandle.TheVariants as hierarchy
 
--- whether a hierarchy is cleared
+-- whether TPM2_Clear removes the objects of a hierarchy
 abbrev pub is_cleared : HierarchyHandle → Bool
 is_cleared hierarchy.Owner = true
 is_cleared hierarchy.Endorsement = true
 is_cleared hierarchy.Platform = false
 is_cleared hierarchy.Null = false
 
--- whether there is an object of such a hierarchy in a place
+-- whether there is an object in a place that TPM2_Clear removes
 abbrev pub is_place_cleared : Option Object → Bool
 is_place_cleared (Some object) = is_cleared object.hierarchy
 is_place_cleared None = false
 
--- it is free then
+-- a place after TPM2_Clear: free, if its object was removed
 abbrev pub cleared_place : Option Object → Option Object
 cleared_place place = if is_place_cleared place then None else place
 
 unfoldable pub cleared_objects : List (Option Object) → List (Option Object)
 cleared_objects places = map cleared_place places
 
--- of the persistent objects those of the other hierarchies stay
+-- whether a persistent object outlasts TPM2_Clear: its hierarchy is another
 abbrev pub outlasts : Object → Bool
 outlasts object = not (is_cleared object.hierarchy)
 
 abbrev pub cleared_persistent : Entries Object → Entries Object
 cleared_persistent objects = kept_entries outlasts objects
 
--- what is found after objects were cleared
+-- the laws of the objects that are found after TPM2_Clear
 pub record ClearingLaws : Type 0 where
   -- an object of a hierarchy that is cleared is gone, and any other stays as it was
   pub gone : (places : List (Option Object)) (number : ℕ) (object : Object)
@@ -47,7 +47,7 @@ pub record ClearingLaws : Type 0 where
       → at_number transient_byte places number ≡ Some object
       → is_cleared object.hierarchy ≡ false
       → at_number transient_byte (cleared_objects places) number ≡ Some object
-  -- where nothing was, nothing is, and no more places are taken
+  -- where no object was, there is none after it, and no more places are taken
   pub absent : (places : List (Option Object)) (number : ℕ)
       → at_number transient_byte places number ≡ None
       → at_number transient_byte (cleared_objects places) number ≡ None

@@ -1,4 +1,4 @@
--- The record that is kept in containers of any kind.
+-- The record that containers of any kind keep.
 use Rattle.std.specs.Prelude.{List, Option}
 use Rattle.tpm_containers.specs.SortedMap.{Entries}
 use Rattle.tpm_nv.specs.Index.{NvContents}
@@ -9,8 +9,8 @@ use Rattle.tpm_record.specs.Objects.{objects_of}
 use Rattle.tpm_record.specs.Record.{Record}
 use Rattle.tpm_record.specs.declared.kept.Kept.{Kept}
 
--- by what shows the places of its sessions and of its objects, its persistent objects, and its NV
--- indices
+-- the record of these containers, by functions that show the places of the sessions and of the
+-- transient objects, the persistent objects, and the NV indices
 abbrev pub kept_record : {S O P N : Type 0}
     → (S → List (Option Session)) → (O → List (Option Object)) → (P → Entries Object)
     → (N → NvContents) → Kept S O P N → Record

@@ -11,7 +11,7 @@ use Rattle.tpm_containers.specs.declared.slots.SlotFault.TheVariants.{Full, NoMe
 use Rattle.tpm_types.specs.declared.handle.Handle.{Handle}
 use Rattle.tpm_record.specs.declared.objects.Objects.{Objects}
 
--- the places of the objects, by what shows those of their container
+-- the places of the transient objects, by a function that shows those of their container
 abbrev pub objects_of : {O : Type 0}
     → (O → List (Option Object)) → Objects O → List (Option Object)
 objects_of places objects = places objects.places
@@ -27,15 +27,15 @@ object_handle place = record { number = number_of 0x80 place }
 abbrev pub next_handle : List (Option Object) → Option Handle
 next_handle places = option_map object_handle (lowest_free places)
 
--- with an object in a place
+-- the places with an object in one of them
 abbrev pub with_object : List (Option Object) → ℕ → Object → List (Option Object)
 with_object places place object = slice_set places place (Some object)
 
--- without the object of a handle
+-- the places without the object of a handle
 unfoldable pub without_object : List (Option Object) → Handle → List (Option Object)
 without_object places handle = without_number transient_byte places handle.number
 
--- An object took the lowest free place, unless all are taken or memory was refused.
+-- An object took the lowest free place, unless all were taken or memory was refused.
 abbrev pub Adds : Bool → List (Option Object) → Object
     → Result Handle SlotFault → List (Option Object) → Type 0
 Adds can old object (Ok handle) new =

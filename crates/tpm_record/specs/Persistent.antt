@@ -18,32 +18,32 @@ no_persistent = []
 abbrev pub persistent_at : Entries Object → Handle → Option Object
 persistent_at objects handle = at_key objects handle.number
 
--- with an object more, and without one
+-- the persistent objects with one more, and without one
 abbrev pub with_persistent : Entries Object → Handle → Object → Entries Object
 with_persistent objects handle object = with_key objects handle.number object
 
 abbrev pub without_persistent : Entries Object → Handle → Entries Object
 without_persistent objects handle = without_key objects handle.number
 
--- the lowest handle of one from a number on
+-- the lowest handle of a persistent object from a number on
 abbrev pub next_persistent : Entries Object → ℕ → Option ℕ
 next_persistent objects number = key_from objects number
 
--- whether objects of a hierarchy can be persistent: none of the null hierarchy, which is made anew
--- at each TPM Reset
+-- whether objects of a hierarchy can be persistent: not those of the null hierarchy, which is made
+-- anew at each TPM Reset
 abbrev pub can_persist : HierarchyHandle → Bool
 can_persist hierarchy.Owner = true
 can_persist hierarchy.Endorsement = true
 can_persist hierarchy.Platform = true
 can_persist hierarchy.Null = false
 
--- a persistent object under its handle
+-- What holds of a persistent object under its handle.
 pub record IsPersistent (number : ℕ) (object : Object) : Type 0 where
   pub named : is_persistent (numbered number) ≡ true
   pub owned : can_persist object.hierarchy ≡ true
   pub sized : IsObject object
 
--- what holds of all
+-- What holds of all persistent objects.
 pub record ArePersistent (objects : Entries Object) : Type 0 where
   pub ascends : Ascends objects
   pub few : length objects ≤ persistent_limit

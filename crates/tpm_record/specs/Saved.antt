@@ -8,8 +8,8 @@ use Rattle.tpm_types.specs.declared.startup_type.StartupType.TheVariants as type
 use Rattle.tpm_record.specs.declared.saved.SavedKind.{SavedKind}
 use Rattle.tpm_record.specs.declared.saved.SavedKind.TheVariants as kind
 
--- nothing, as there was no TPM2_Shutdown, or since it was cancelled; that there was one with CLEAR;
--- or the values of the PCRs that one with STATE saved
+-- what is saved: nothing, as there was no TPM2_Shutdown, or since it was cancelled; that there was
+-- one with CLEAR; or the values of the PCRs that one with STATE saved
 pub data SavedState : Type 0 where
   Nothing : SavedState
   Clear : SavedState
@@ -20,25 +20,25 @@ abbrev pub saved_by : StartupType → BankValues → SavedState
 saved_by type.Clear banks = Clear
 saved_by type.State banks = State (saved_of banks)
 
--- what is kept: where nothing or CLEAR is, the values are none
+-- what is saved, from its kind and from values that count only where the kind is STATE
 abbrev pub state_kept : SavedKind → SavedValues → SavedState
 state_kept kind.Nothing values = Nothing
 state_kept kind.Clear values = Clear
 state_kept kind.State values = State values
 
--- of which kind it is
+-- of which kind the saved state is
 abbrev pub kind_of : SavedState → SavedKind
 kind_of Nothing = kind.Nothing
 kind_of Clear = kind.Clear
 kind_of (State values) = kind.State
 
--- the values that are saved, if there are such
+-- the values that are saved, if any are
 abbrev pub values_of : SavedState → Option SavedValues
 values_of Nothing = None
 values_of Clear = None
 values_of (State values) = Some values
 
--- the banks with the values that are saved, if there are such
+-- the banks with the values that are saved, if any are
 abbrev pub restored_from : SavedState → BankValues → BankValues
 restored_from Nothing banks = banks
 restored_from Clear banks = banks

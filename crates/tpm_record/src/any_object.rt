@@ -1,5 +1,5 @@
-//! Objects of a keep, transient and persistent, added, removed and found one after another by one
-//! call each.
+//! Objects of a device's state, transient and persistent, added, removed and found one after
+//! another by one call each.
 
 ghost use Rattle.std.specs.Prelude.{◌≡◌, is_some, true};
 ghost use Rattle.tpm_record.specs.AnyObject.{AddsObject, AddsPersistent, next_object, next_transient};
@@ -54,7 +54,7 @@ pub fn next_object<K: Keep>(keep: &K, from: Handle) -> Option<u32>
     }
 }
 
-/// That of a transient object.
+/// The number of the lowest handle of a transient object, from this one on.
 #[tactic(auto, using(crate::proofs::Searching::none_more, crate::proofs::Searching::found_least))]
 fn next_transient<K: Keep>(keep: &K, from: Handle) -> Option<u32>
     ensures { result ≡ next_transient (K.record_of keep.now).objects from.number }

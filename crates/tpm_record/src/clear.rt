@@ -9,7 +9,7 @@ use tpm_containers::{Choice, Slots};
 use tpm_object::Object;
 use tpm_types::{HierarchyHandle, OBJECT_LIMIT};
 
-/// Whether a hierarchy is cleared.
+/// Whether TPM2_Clear removes the objects of a hierarchy.
 fn is_cleared(hierarchy: HierarchyHandle) -> bool
     ensures { result ≡ is_cleared hierarchy }
 {
@@ -19,7 +19,7 @@ fn is_cleared(hierarchy: HierarchyHandle) -> bool
     }
 }
 
-/// Whether what is in a place is an object of such a hierarchy.
+/// Whether there is an object in a place that TPM2_Clear removes.
 fn is_place_cleared(object: Option<&Object>) -> bool
     ensures { result ≡ is_place_cleared (option_copied object.entry) }
 {
@@ -29,7 +29,7 @@ fn is_place_cleared(object: Option<&Object>) -> bool
     }
 }
 
-/// Frees a place with such an object.
+/// Frees a place, if TPM2_Clear removes its object.
 fn clear_place<O: Slots<Object, OBJECT_LIMIT>>(places: &mut O, place: usize)
     ensures cleared { O.places places.new
         ≡ (if is_place_cleared (at_place (O.places places.old) place)
@@ -43,7 +43,7 @@ fn clear_place<O: Slots<Object, OBJECT_LIMIT>>(places: &mut O, place: usize)
     }
 }
 
-/// The persistent objects that TPM2_Clear leaves: those of the other hierarchies.
+/// The choice of the persistent objects that TPM2_Clear leaves: those of the other hierarchies.
 pub(crate) enum Outlasting {}
 
 impl Choice<Object> for Outlasting {
@@ -56,7 +56,7 @@ impl Choice<Object> for Outlasting {
     }
 }
 
-/// Frees each place with an object of a hierarchy that is cleared.
+/// Frees each place with an object that TPM2_Clear removes.
 #[tactic(auto, unfolding(crate::specs::Clear::cleared_objects), using(crate::proofs::ClearLaws::all_cleared))]
 pub(crate) fn clear_places<O: Slots<Object, OBJECT_LIMIT>>(places: &mut O)
     ensures { O.places places.new ≡ cleared_objects (O.places places.old) }

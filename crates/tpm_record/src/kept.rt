@@ -1,5 +1,5 @@
-//! The keeps of the device's state: one in lists that grow, one in fixed places that never takes
-//! memory.
+//! The types that implement `Keep`: one holds the device's state in lists that grow, and one in
+//! fixed places, which never takes memory.
 
 ghost use Rattle.std.specs.Prelude.{◌≡◌};
 
@@ -15,8 +15,8 @@ use tpm_object::Object;
 use tpm_session::{Session, Sessions};
 use tpm_types::{OBJECT_LIMIT, SESSION_LIMIT};
 
-/// The record, with its sessions, its objects, transient and persistent, and its NV indices in
-/// containers of any kind.
+/// The device's state, with its sessions, its objects, transient and persistent, and its NV indices
+/// in containers of any kind.
 #[derive(Drop)]
 pub struct Kept<
     S: Slots<Session, SESSION_LIMIT>,
@@ -31,8 +31,8 @@ pub struct Kept<
     nv: N,
 }
 
-/// The record in lists that grow. Memory can be refused to a session, to an object or to an NV
-/// index.
+/// The device's state in lists that grow. Memory can be refused to a session, to an object or to an
+/// NV index.
 pub type ListKeep = Kept<
     ListSlots<Session, SESSION_LIMIT>,
     ListSlots<Object, OBJECT_LIMIT>,
@@ -40,8 +40,8 @@ pub type ListKeep = Kept<
     ListIndices,
 >;
 
-/// The record in fixed places, one for each thing that there can be. No memory is ever taken, so
-/// none can be refused. It is some 40,300 bytes long: it is made once, and lent.
+/// The device's state in fixed places, one for each thing that there can be. No memory is ever
+/// taken, so none can be refused. The type has some 40,300 bytes: a value is made once, and lent.
 pub type SlotKeep = Kept<
     FixedSlots<Session, SESSION_LIMIT>,
     FixedSlots<Object, OBJECT_LIMIT>,

@@ -1,4 +1,4 @@
-//! The law that a keep in fixed places is never refused memory.
+//! The law that the state in fixed places is never refused memory.
 
 ghost use Rattle.std.specs.Prelude.{◌≡◌, false};
 
@@ -11,8 +11,8 @@ use tpm_object::Object;
 use tpm_session::Session;
 use tpm_types::{OBJECT_LIMIT, SESSION_LIMIT};
 
-/// A record in fixed places is never refused memory, neither where it grows nor where it is made,
-/// and none of its containers is. It does nothing.
+/// The state in fixed places is never refused memory, neither where it grows nor where it is made,
+/// and none of its containers is. The function does nothing.
 #[inline(always)]
 pub fn fixed_laws()
     ensures never_refused { ⟦<SlotKeep as Keep>⟧.can_refuse ≡ false }

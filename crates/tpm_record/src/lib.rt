@@ -2,17 +2,16 @@
 
 //! The device's state: the record that contracts see, and the trait by which it is kept.
 //!
-//! [`keep::Keep`] is the trait, [`kept::Kept`] the way of keeping the record, in containers of any
+//! [`keep::Keep`] is the trait, [`kept::Kept`] the type that implements it, with containers of any
 //! kind: [`kept::ListKeep`] in lists that grow, [`kept::SlotKeep`] in fixed places, one for each
 //! object, session and index that there can be, which takes no memory. [`fixed::Fixed`] is the part
 //! that does not grow, [`saved::Saved`] in it what a shutdown saved, [`objects::Objects`] are the
 //! transient objects, [`persistent::PersistentObjects`] the persistent ones; NV indices are
-//! tpm_nv's.
-//! [`tick::tick`] and [`cycle::power_cycle`] are what happens to a record whatever the command,
-//! [`entity`] what a handle's entity is. It stands on `tpm_lockout`, `tpm_pcr`, `tpm_session`,
-//! `tpm_object` and `tpm_nv`, on `tpm_containers` for the places of sessions and transient objects, and
-//! on `tpm_containers` for the map of persistent ones. It promises for each keep the equations of
-//! `specs/` on its record.
+//! tpm_nv's. [`tick::tick`] and [`cycle::power_cycle`] are what happens to a record whatever the
+//! command, [`entity`] has the entity of a handle. The crate uses `tpm_lockout`, `tpm_pcr`,
+//! `tpm_session`, `tpm_object` and `tpm_nv`, and `tpm_containers` for the places of sessions and
+//! transient objects and for the map of persistent ones. Each call on a type that implements the
+//! trait equals its definition in `specs/`, on the record.
 
 pub mod any_object;
 mod clear;

@@ -16,8 +16,8 @@ use tpm_containers::{SlotFault, Slots, numbered};
 use tpm_object::{Object, TRANSIENT_BYTE};
 use tpm_types::{Handle, OBJECT_LIMIT};
 
-/// The transient objects of a device, at most [`OBJECT_LIMIT`], by their handles. Their places are
-/// kept by `O`.
+/// The transient objects of a device, at most [`OBJECT_LIMIT`], by their handles. `O` keeps their
+/// places.
 #[derive(Drop)]
 pub struct Objects<O: Slots<Object, OBJECT_LIMIT>> {
     places: O,
@@ -34,7 +34,7 @@ fn handle_of(place: usize) -> Handle
 }
 
 impl<O: Slots<Object, OBJECT_LIMIT>> Objects<O> {
-    /// No object; no memory is taken.
+    /// No object is there at first; no memory is taken.
     pub fn new(alloc: Global) -> Objects<O>
         ensures { objects_of O.places result ≡ no_objects }
     {
@@ -60,8 +60,8 @@ impl<O: Slots<Object, OBJECT_LIMIT>> Objects<O> {
         Some(handle_of(self.places.free()?))
     }
 
-    /// Says of each object what the types of its fields say, and how many places there are. It only
-    /// reads.
+    /// Says of each object what the types of its fields say, and how many places there are. The
+    /// call only reads.
     #[inline(always)]
     pub fn read_sizes(&self)
         ensures each { AreAll IsObject (objects_of O.places self.now) }
@@ -106,15 +106,15 @@ impl<O: Slots<Object, OBJECT_LIMIT>> Objects<O> {
 }
 
 /// The transient objects of a device are a map from handles: what is found after one was added or
-/// removed. It does nothing.
+/// removed. The function does nothing.
 pub fn object_laws()
     ensures { MapLaws transient_byte }
 {
     numbered::numbered_laws::<Object>()
 }
 
-/// Of the objects that TPM2_Clear finds, those of the owner and of the endorsement hierarchy are
-/// gone, and all others are found as before. It does nothing.
+/// Of the objects that are found before TPM2_Clear, those of the owner and of the endorsement
+/// hierarchy are gone after it, and all others are found as before. The function does nothing.
 #[tactic(auto, using(crate::proofs::ClearLaws::are_cleared))]
 pub fn clearing_laws()
     ensures { ClearingLaws }

@@ -1,5 +1,4 @@
-//! The persistent objects of a device by their handles: the trait, and how they
-//! are kept.
+//! The persistent objects of a device by their handles: the trait, and the types that implement it.
 
 ghost use Rattle.tpm_types.specs.Limits.{persistent_limit};
 ghost use Rattle.std.specs.Prelude.{◌≡◌, Bool, is_some, length, option_copied, true};
@@ -16,8 +15,8 @@ use tpm_containers::{KeyFault, ListMap, Sizes, SlotMap, SortedMap};
 use tpm_object::Object;
 use tpm_types::{Handle, PERSISTENT_LIMIT};
 
-/// The persistent objects of a device by their handles, at most [`PERSISTENT_LIMIT`]. Who may make
-/// an object persistent, or remove it, is no matter of these calls.
+/// The persistent objects of a device by their handles, at most [`PERSISTENT_LIMIT`]. These calls
+/// do not ask who may make an object persistent, or remove it.
 pub trait PersistentObjects: Drop + Sized {
     /// The handles in ascending order, each with its object.
     ghost entries: { Self → Entries ObjectParts };
@@ -25,11 +24,11 @@ pub trait PersistentObjects: Drop + Sized {
     /// Whether memory can be refused where an object is added.
     ghost can_refuse: { Bool };
 
-    /// No object; no memory is taken.
+    /// No object is there at first; no memory is taken.
     fn new(alloc: Global) -> Self
         ensures { entries result ≡ no_persistent };
 
-    /// How many there are.
+    /// How many persistent objects there are.
     fn len(&self) -> usize
         ensures { result ≡ length (entries self.now) };
 
@@ -62,7 +61,7 @@ pub trait PersistentObjects: Drop + Sized {
     fn clear_hierarchies(&mut self)
         ensures { entries self.new ≡ cleared_persistent (entries self.old) };
 
-    /// Says what holds of the objects whatever came before. It does nothing else.
+    /// Says what holds of the objects, whatever came before. The call does nothing.
     fn read_sizes(&self)
         ensures { ArePersistent (entries self.now) };
 }

@@ -8,7 +8,7 @@ use std::marker::Model;
 use tpm_pcr::{Banks, SavedPcrs};
 use tpm_types::StartupType;
 
-/// What kind of TPM2_Shutdown there was before, if it was not cancelled.
+/// The kind of the last TPM2_Shutdown, if there was one that was not cancelled.
 #[derive(Clone, Copy, Debug, PartialEq, Eq)]
 pub enum SavedKind {
     Nothing,
@@ -17,7 +17,7 @@ pub enum SavedKind {
 }
 
 /// What the last TPM2_Shutdown saved for the next TPM2_Startup (TPM 2.0 Library, Part 3, sections
-/// 9.3 and 9.4). The values stay where they are when they are cancelled, and then count no more.
+/// 9.3 and 9.4). When the values are cancelled they stay where they are, and count no more.
 #[derive(Drop)]
 pub struct Saved {
     kind: SavedKind,
@@ -33,7 +33,7 @@ impl Model for Saved {
 }
 
 impl Saved {
-    /// Nothing.
+    /// What is saved where there was no TPM2_Shutdown: nothing.
     pub fn nothing() -> Saved
         ensures { result ≡ Nothing }
     {
@@ -43,7 +43,7 @@ impl Saved {
         }
     }
 
-    /// That there was a TPM2_Shutdown with CLEAR.
+    /// What is saved by a TPM2_Shutdown with CLEAR: that there was one.
     pub fn clear() -> Saved
         ensures { result ≡ Clear }
     {
@@ -53,7 +53,7 @@ impl Saved {
         }
     }
 
-    /// The values that one with STATE saved.
+    /// What is saved by a TPM2_Shutdown with STATE: these values.
     pub fn state(pcrs: SavedPcrs) -> Saved
         ensures { result ≡ State pcrs }
     {
@@ -63,7 +63,7 @@ impl Saved {
         }
     }
 
-    /// The values that are saved, if there are such.
+    /// The values that are saved, if a TPM2_Shutdown with STATE saved some.
     pub fn values(&self) -> Option<&SavedPcrs>
         ensures { option_copied result ≡ values_of self.now }
     {
@@ -73,14 +73,14 @@ impl Saved {
         }
     }
 
-    /// Of which kind it is.
+    /// The kind of the TPM2_Shutdown that saved this.
     pub fn kind(&self) -> SavedKind
         ensures { result ≡ kind_of self.now }
     {
         self.kind
     }
 
-    /// Saves what a TPM2_Shutdown of this type does.
+    /// Saves what a TPM2_Shutdown of this type saves.
     pub fn shut_down(&mut self, kind: StartupType, banks: &Banks)
         ensures { self.new ≡ saved_by kind banks.now }
     {
@@ -93,14 +93,14 @@ impl Saved {
         }
     }
 
-    /// Saves nothing any more.
+    /// Cancels what was saved.
     pub fn cancel(&mut self)
         ensures { self.new ≡ Nothing }
     {
         self.kind = SavedKind::Nothing;
     }
 
-    /// Gives the PCRs 0 to 15 the values that are saved, if there are such.
+    /// Gives the PCRs 0 to 15 the values that are saved, if there are any.
     pub fn restore(&self, banks: &mut Banks)
         ensures { banks.new ≡ restored_from self.now banks.old }
     {
@@ -109,7 +109,7 @@ impl Saved {
         }
     }
 
-    /// Says of what is saved what its types say. It only reads.
+    /// Says of what is saved what its types say. The call only reads.
     #[inline(always)]
     pub fn read_sizes(&self)
         ensures { IsSavedState self.now }

@@ -1,12 +1,11 @@
 #![tactic(auto)]
 
-//! What saves a device while it is used: a [`Saver`] is told the device, and [`SavesNothing`] is the
-//! saver of a device that nobody keeps.
+//! What saves a device while it is used: a [`Saver`] is told the device, and [`SavesNothing`] is
+//! the saver of a device that nobody keeps.
 //!
-//! Who uses a device, as a script or a client of a socket does, tells a saver the device at each
-//! change and at the end. Contracts see what each call told: that of a saver's user says which
-//! devices the saver was told, in which order, and each saver says what it makes of them. The crate
-//! stands on `tpm_machine`.
+//! A script or a server that uses a device tells a saver the device at each change and at the end.
+//! Contracts see what each call told: that of a saver's user says which devices the saver was told,
+//! in which order, and each saver says what it makes of them. The crate uses `tpm_machine`.
 
 ghost use Rattle.std.specs.Prelude.{◌≡◌, Bool, OnErr, OnOk, false, true};
 ghost use Rattle.tpm_machine.specs.State.{state_of};
@@ -15,24 +14,24 @@ ghost use Rattle.tpm_record.specs.Record.{Record};
 use tpm_machine::Machine;
 use tpm_record::Keep;
 
-/// The device was not saved.
+/// The fault that the device was not saved.
 #[derive(Clone, Copy, Debug, PartialEq, Eq)]
 pub struct Unsaved;
 
-/// What saves a device while it is used. Contracts see each call that went well as a relation: the
+/// What saves a device while it is used. Contracts see each call that succeeds as a relation of the
 /// saver before, the record of the device that it was told, and the saver after.
 pub trait Saver {
-    /// It was told a device, its clock too.
+    /// The saver was told a device, its clock too.
     ghost saves: { Self → Record → Self → Type 0 };
 
-    /// It was told a device, of which the clock alone may be unsaved.
+    /// The saver was told a device, of which the clock alone may be unsaved.
     ghost saves_change: { Self → Record → Self → Type 0 };
 
     /// Whether a save has failed, which stays so.
     ghost has_failed: { Self → Bool };
 
     /// Saves a device that has executed a command, if more than its clock changed. The response
-    /// goes out behind that.
+    /// goes out after that.
     fn save_change<K: Keep>(&mut self, machine: &Machine<K>) -> Result<(), Unsaved>
         ensures told { OnOk result
             (saves_change self.old (state_of K.record_of machine.now) self.new) }
@@ -46,7 +45,7 @@ pub trait Saver {
         ensures stays { has_failed self.old ≡ true → has_failed self.new ≡ true };
 }
 
-/// What saves nothing, since nobody wants the device any more.
+/// A saver that saves nothing, since nobody wants the device any more.
 #[derive(Clone, Copy, Debug, PartialEq, Eq)]
 pub struct SavesNothing;
 

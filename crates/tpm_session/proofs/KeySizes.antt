@@ -1,4 +1,4 @@
--- As long as a digest is a size of a session's key.
+-- A key that is as long as a digest has a size of a session's key.
 use Rattle.std.proofs.Common.{◌≡◌, ℕ, true, refl}
 use Rattle.tpm_mac.specs.Digest.{digest_size}
 use Rattle.tpm_mac.specs.declared.algorithm.HashAlg.{HashAlg}

@@ -8,28 +8,30 @@ use Rattle.tpm_types.specs.declared.symmetric.SymmetricDefinition.{SymmetricDefi
 use Rattle.tpm_types.specs.declared.symmetric.SymmetricDefinition.TheVariants.{Null, Aes128Cfb, Xor}
 use Rattle.tpm_session.specs.declared.session.Session.{Session}
 
--- "CFB"
+-- the label of KDFa for a key of CFB: "CFB"
 abbrev pub cipher_label : List ℕ
 cipher_label = 0x43 ∷ 0x46 ∷ 0x42 ∷ []
 
--- KDFa(authHash, sessionKey || authValue, "CFB", nonceNewer, nonceOlder, 256 bits: 32 bytes)
+-- the key and the IV of a parameter: KDFa(authHash, sessionKey || authValue, "CFB", nonceNewer,
+-- nonceOlder, 256 bits: 32 bytes)
 unfoldable pub cipher_bytes : Session → (auth_value newer older : List ℕ) → List ℕ
 cipher_bytes session auth_value newer older =
     kdfa_of session.hash (session.key ++ auth_value) cipher_label newer older 32
 
--- the first 128 bits are the key, the others the IV
+-- the key for a parameter, the first 128 bits, and its IV, the others
 abbrev pub cipher_key : List ℕ → List ℕ
 cipher_key bytes = take 16 bytes
 
 abbrev pub cipher_iv : List ℕ → List ℕ
 cipher_iv bytes = drop 16 bytes
 
--- "XOR"
+-- the label of KDFa for a mask of XOR: "XOR"
 abbrev pub mask_label : List ℕ
 mask_label = 0x58 ∷ 0x4f ∷ 0x52 ∷ []
 
--- KDFa(authHash, sessionKey || authValue, "XOR", nonceNewer, nonceOlder, as many bits as a parameter
--- of this size has). A check of TPM2_StartAuthSession makes the hash of XOR authHash
+-- the mask of a parameter: KDFa(authHash, sessionKey || authValue, "XOR", nonceNewer, nonceOlder,
+-- as many bits as a parameter of this size has). A check of TPM2_StartAuthSession makes the hash of
+-- XOR authHash
 unfoldable pub mask_bytes : Session → (auth_value newer older : List ℕ) → (size : ℕ) → List ℕ
 mask_bytes session auth_value newer older size =
     kdfa_of session.hash (session.key ++ auth_value) mask_label newer older size
@@ -62,7 +64,7 @@ unfoldable pub encrypted_parameter : Session → (auth_value newer older plain :
 encrypted_parameter session auth_value newer older plain =
     encrypted_by session.symmetric session auth_value newer older plain
 
--- and decrypted
+-- the bytes of a parameter decrypted; the same bytes where the session has no symmetric algorithm
 unfoldable pub plain_parameter : Session → (auth_value newer older cipher : List ℕ) → List ℕ
 plain_parameter session auth_value newer older cipher =
     decrypted_by session.symmetric session auth_value newer older cipher

@@ -7,7 +7,7 @@ use Rattle.std.specs.Int.{w16, from_be_bytes}
 abbrev pub first_size : List ℕ → ℕ
 first_size text = from_be_bytes w16 (take 2 text)
 
--- whether a whole sized buffer stands there
+-- whether a whole sized buffer stands at the front of a text
 abbrev pub has_first_buffer : List ℕ → Bool
 has_first_buffer text = nat_le 2 (length text) && nat_le (2 + first_size text) (length text)
 
@@ -18,7 +18,7 @@ with_first_buffer f text =
     then take 2 text ++ f (take (first_size text) (drop 2 text)) ++ drop (2 + first_size text) text
     else text
 
--- The size of that buffer was found, or there is none.
+-- The size of the sized buffer at the front of a text was found, or there is none.
 abbrev pub FindsFirst : List ℕ → Option ℕ → Type 0
 FindsFirst text (Some size) =
     (has_first_buffer text ≡ true) × (size ≡ first_size text) × (2 + size ≤ length text)

@@ -7,20 +7,21 @@ use Rattle.tpm_mac.specs.declared.algorithm.HashAlg.{HashAlg}
 use Rattle.tpm_mac.specs.declared.algorithm.HashAlg.TheVariants.{Sha1, Sha256}
 use Rattle.tpm_session.specs.declared.session.Binding.{Binding}
 
--- a caller's first nonce has at least 16 bytes, and no more than a digest
+-- whether a caller's first nonce has a size that it may have: at least 16 bytes, and no more than a
+-- digest
 abbrev pub is_nonce_size : HashAlg → ℕ → Bool
 is_nonce_size hash size = nat_le 16 size && nat_le size (digest_size hash)
 
--- a session's key is empty, or as long as a digest
+-- whether a session's key has a size that it may have: it is empty, or as long as a digest
 abbrev pub is_key_size : ℕ → Bool
 is_key_size size = size == 0 || size == digest_size Sha1 || size == digest_size Sha256
 
--- "ATH"
+-- the label of KDFa for session keys: "ATH"
 abbrev pub key_label : List ℕ
 key_label = 0x41 ∷ 0x54 ∷ 0x48 ∷ []
 
--- KDFa(authHash, bind.authValue, "ATH", nonceTPM, nonceCaller, bits of a digest), and the empty key
--- without a binding
+-- the session key: KDFa(authHash, bind.authValue, "ATH", nonceTPM, nonceCaller, bits of a digest),
+-- or empty without a binding
 unfoldable pub session_key : HashAlg → Option Binding → (nonce_tpm nonce_caller : List ℕ) → List ℕ
 session_key hash None nonce_tpm nonce_caller = []
 session_key hash (Some binding) nonce_tpm nonce_caller =

@@ -1,5 +1,5 @@
-//! The encryption of a first parameter by a session, in place (TPM 2.0 Library, Part 1, sections 21.2
-//! and 21.3). Decryption undoes it.
+//! The encryption of a first parameter by a session, in place (TPM 2.0 Library, Part 1, sections
+//! 21.2 and 21.3). Decryption undoes encryption.
 
 ghost use Rattle.std.specs.Prelude.{◌≡◌, ◌≤◌, ◌↔◌, false, IsOk, OnErr, length};
 ghost use Rattle.tpm_types.specs.Limits.{buffer_limit};
@@ -12,24 +12,24 @@ use tpm_aes::{Aes128, xor_with};
 use tpm_mac::kdfa;
 use tpm_types::{BUFFER_LIMIT, SymmetricDefinition};
 
-/// The session has no symmetric algorithm.
+/// The fault that the session has no symmetric algorithm.
 #[derive(Clone, Copy, Debug, PartialEq, Eq)]
 pub struct SymmetricFault;
 
-/// The label of the keys of parameters.
+/// The label of KDFa for the keys of parameters.
 const CIPHER_LABEL: &[u8] = b"CFB";
 
-/// The label of the masks of parameters.
+/// The label of KDFa for the masks of parameters.
 const MASK_LABEL: &[u8] = b"XOR";
 
-/// A cipher and the IV with which it starts.
+/// A cipher, and the IV with which it starts.
 #[derive(Drop)]
 struct ParameterCipher {
     cipher: Aes128,
     iv: [u8; 16],
 }
 
-/// The cipher whose key is the first 16 of these bytes, and whose IV the others.
+/// The cipher whose key is the first 16 of these bytes, and its IV, the others.
 fn cipher_from(bytes: &[u8; 32]) -> ParameterCipher
     ensures key { result.cipher ≡ cipher_key bytes.now }
     ensures iv { result.iv ≡ cipher_iv bytes.now }
@@ -74,7 +74,7 @@ impl Session {
         requires size { length bytes.old ≤ buffer_limit }
         ensures value { bytes.new
             ≡ masked self.now auth_value.now newer.now older.now bytes.old }
-        // There is a byte of the mask for each.
+        // The mask has a byte for each byte of the parameter.
         ensures whole { length
             (mask_bytes self.now auth_value.now newer.now older.now (length bytes.old))
             ≡ length bytes.old }
@@ -87,7 +87,7 @@ impl Session {
     }
 
     /// Decrypts a parameter in place, or refuses and leaves it where the session has no symmetric
-    /// algorithm. The authorization value is that of the entity that the session authorizes too, or
+    /// algorithm. The authorization value is that of the entity that the session authorizes, or
     /// empty (TPM 2.0 Library, Part 1, sections 21.2 and 21.3).
     #[tactic(auto, unfolding(crate::specs::Encryption::plain_parameter))]
     pub fn open_parameter(
@@ -134,7 +134,7 @@ impl Session {
         ensures value { bytes.new
             ≡ encrypted_parameter self.now auth_value.now newer.now older.now bytes.old }
         ensures refused { OnErr result (bytes.new ≡ bytes.old) }
-        // Opening undoes it.
+        // Decryption undoes the encryption.
         ensures undone { plain_parameter self.now auth_value.now newer.now older.now bytes.new
             ≡ bytes.old }
     {

@@ -1,5 +1,5 @@
 //! The HMAC by which a session authenticates an entry of a command or of a response, and the text
-//! that it is about (TPM 2.0 Library, Part 1, section 19.6.5).
+//! of that HMAC (TPM 2.0 Library, Part 1, section 19.6.5).
 
 ghost use Rattle.std.specs.Prelude.{◌≡◌, ◌≤◌, IsTrue, ◌↔◌, length};
 ghost use Rattle.tpm_bytes.specs.Writing.{Puts};
@@ -14,16 +14,16 @@ use tpm_bytes::{Full, Sink, append};
 use tpm_mac::{Digest, HashAlg, KeyedMac};
 use tpm_types::SessionAttributes;
 
-/// What the HMAC of a command's entry is about besides its session (TPM 2.0 Library, Part 1,
+/// What the HMAC of a command's entry authenticates besides its session (TPM 2.0 Library, Part 1,
 /// section 19.6.5).
 #[derive(Clone, Copy)]
 pub struct CommandText<'a> {
-    /// The hash of the command.
+    /// The cpHash of the command.
     pub hash: &'a [u8],
     pub nonce_caller: &'a [u8],
-    /// The nonce of another session that decrypts, where it stands in this entry; else empty.
+    /// The nonce of another session that decrypts, where this entry authenticates it; else empty.
     pub decrypt_nonce: &'a [u8],
-    /// The nonce of another session that encrypts, where it stands in this entry; else empty.
+    /// The nonce of another session that encrypts, where this entry authenticates it; else empty.
     pub encrypt_nonce: &'a [u8],
     pub attributes: SessionAttributes,
 }
@@ -50,9 +50,9 @@ impl<'a> Model for EntryText<'a> {
         entry_text t.hash.now t.newer.now t.older.now t.decrypt.now t.encrypt.now t.attributes };
 }
 
-/// The text of an entry's HMAC, of these parts, of which none is copied: the hash of the command or
-/// the response, the nonces of the entry's session, the newer first, and those of the sessions that
-/// decrypt and encrypt, where they stand in it.
+/// The text of an entry's HMAC, from these parts, of which none is copied: the hash of the command
+/// or the response, the nonces of the entry's session, the newer first, and those of the sessions
+/// that decrypt and encrypt, where the entry authenticates them.
 pub fn entry_text<'a>(
     hash: &'a [u8],
     newer: &'a [u8],
@@ -75,7 +75,7 @@ pub fn entry_text<'a>(
 }
 
 impl<'a> EntryText<'a> {
-    /// Whether there is room for it.
+    /// Whether the text fits into room for so many bytes.
     fn fits(&self, room: usize) -> bool
         ensures { IsTrue result ↔ (length self.now ≤ room) }
     {
@@ -85,7 +85,7 @@ impl<'a> EntryText<'a> {
         parts + encrypt as u128 + 1 <= room as u128
     }
 
-    /// Writes it at the end, or nothing where it does not fit.
+    /// Writes the text at the end, or nothing where it does not fit.
     pub fn write<const N: usize>(&self, sink: &mut Sink<N>) -> Result<(), Full>
         ensures { Puts N self.now sink.old result sink.new }
     {
@@ -101,7 +101,7 @@ impl<'a> EntryText<'a> {
         Ok(())
     }
 
-    /// Its HMAC under a key.
+    /// The HMAC of the text under a key.
     fn mac(&self, alg: HashAlg, key: ArrayVec<u8, 64>, keyed: &mut KeyedMac) -> Digest
         ensures value { result.items ≡ hmac_of alg key.items self.now }
         ensures size { length result.items ≡ digest_size alg }
@@ -131,7 +131,7 @@ impl Session {
         key
     }
 
-    /// What a command's entry of this session authenticates.
+    /// The HMAC text of a command's entry, of this session.
     pub fn command_text<'a>(&'a self, text: &CommandText<'a>) -> EntryText<'a>
         ensures { result ≡ command_text self.now (parts_of text.now) }
     {
@@ -145,7 +145,7 @@ impl Session {
         )
     }
 
-    /// What a response's entry of this session authenticates, over the hash of the response.
+    /// The HMAC text of a response's entry, of this session, over the hash of the response.
     pub fn response_text<'a>(
         &'a self,
         hash: &'a [u8],

@@ -12,7 +12,7 @@ use std::marker::Model;
 use tpm_bytes::copied;
 use tpm_mac::{HashAlg, kdfa};
 
-/// The label of session keys.
+/// The label of KDFa for session keys.
 const KEY_LABEL: &[u8] = b"ATH";
 
 /// The key of a session: empty, or as long as a digest. Contracts see it as its bytes.
@@ -92,14 +92,14 @@ impl SessionKey {
         SessionKey::of(&key[..hash.size()])
     }
 
-    /// Its bytes.
+    /// The bytes of the key.
     pub fn as_slice(&self) -> &[u8]
         ensures value { result.now ≡ self.now }
         ensures fits { length result.now ≤ 32 }
     {
         self.bytes.as_slice()
     }
-    /// It is empty, or as long as a digest. It only reads.
+    /// The key is empty, or as long as a digest. The call only reads.
     #[inline(always)]
     pub(crate) fn read_size(&self)
         ensures { is_key_size (length self.now) ≡ true }

@@ -3,12 +3,12 @@
 //! Authorization sessions (TPM 2.0 Library, Part 1, sections 19.6 and 21): the sessions of a device
 //! by their handles, the HMAC of an entry by a session, and parameters that a session encrypts.
 //!
-//! It stands on `tpm_policy` for the state of a policy session, on `tpm_mac` and `tpm_aes` for
-//! HMACs, keys and encryption, on `tpm_types_name` for the Names in a command's hash, on `tpm_containers` for
-//! the places of sessions, and on `tpm_types`. Contracts see the sessions of
+//! The crate uses `tpm_policy` for the state of a policy session, `tpm_mac` and `tpm_aes` for
+//! HMACs, keys and encryption, `tpm_types_name` for the Names in a command's hash, `tpm_containers`
+//! for the places of sessions, and `tpm_types`. Contracts see the sessions of
 //! [`sessions::Sessions`] as places, each free or with a session, whatever keeps them
-//! (`tpm_containers::slots::Slots`). A refused start changes nothing. Only the start of a session may
-//! take memory, and none does where the places are fixed.
+//! (`tpm_containers::slots::Slots`). A refused start changes nothing. Only the start of a session
+//! may take memory, and none does where the places are fixed.
 
 pub mod encryption;
 pub mod entry;

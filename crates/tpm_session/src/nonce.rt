@@ -32,7 +32,7 @@ impl Nonce {
         }
     }
 
-    /// Its bytes.
+    /// The bytes of the nonce.
     pub fn as_slice(&self) -> &[u8]
         ensures value { result.now ≡ self.now }
         ensures fits { length result.now ≤ 32 }
@@ -40,7 +40,7 @@ impl Nonce {
         self.bytes.as_slice()
     }
 
-    /// How many bytes it has.
+    /// How many bytes the nonce has.
     pub fn len(&self) -> usize
         ensures value { result ≡ length self.now }
         ensures fits { result ≤ 32 }

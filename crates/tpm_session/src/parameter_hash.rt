@@ -44,7 +44,7 @@ pub fn response_hash(hash: HashAlg, code: u32, parameters: &[u8]) -> Digest
     digest_parts(hash, &[&success, &code, parameters])
 }
 
-/// What a parameter hash is of.
+/// What cpHash or rpHash is the hash of.
 #[derive(Clone, Copy)]
 pub enum HashedParameters<'a> {
     /// A command: its code, the Names of its handles, and its parameters as they are sent.
@@ -56,7 +56,7 @@ pub enum HashedParameters<'a> {
 impl HashedParameters<'_> {
     ghost use Rattle.tpm_session.specs.ParameterHash.{HasFewNames, hashed_parts, parameter_hash_of};
 
-    /// Its hash, cpHash or rpHash.
+    /// The hash of the parameters: cpHash or rpHash.
     pub fn hash(self, hash: HashAlg) -> Digest
         requires { HasFewNames (hashed_parts self) }
         ensures { result.items ≡ parameter_hash_of hash (hashed_parts self.entry) }

@@ -12,7 +12,7 @@ use tpm_bytes::copied;
 use tpm_mac::{Digest, HashAlg};
 
 /// The hashes of one command's or one success's parameters, each computed once, when it is first
-/// asked for. Contracts see it as what is hashed.
+/// asked for. Contracts see what is hashed.
 #[derive(Drop)]
 pub struct ParameterHashes<'a> {
     hashed: HashedParameters<'a>,
@@ -33,7 +33,7 @@ impl<'a> Model for ParameterHashes<'a> {
 }
 
 impl<'a> ParameterHashes<'a> {
-    /// Of these parameters; none is computed yet.
+    /// The hashes of these parameters, of which none is computed yet.
     pub fn new(hashed: HashedParameters<'a>) -> ParameterHashes<'a>
         requires { HasFewNames (hashed_parts hashed) }
         ensures { result ≡ hashed_parts hashed.entry }
@@ -45,7 +45,7 @@ impl<'a> ParameterHashes<'a> {
         }
     }
 
-    /// The hash by this algorithm.
+    /// The hash of the parameters by this algorithm.
     pub fn by(&mut self, hash: HashAlg) -> Digest
         ensures value { result.items ≡ parameter_hash_of hash self.old }
         ensures same { self.new ≡ self.old }

@@ -16,7 +16,7 @@ use tpm_mac::HashAlg;
 use tpm_policy::PolicyState;
 use tpm_types::{Handle, SESSION_LIMIT, SessionType, SymmetricDefinition};
 
-/// With what a session starts (TPM 2.0 Library, Part 3, section 11.1).
+/// The parameters with which a session starts (TPM 2.0 Library, Part 3, section 11.1).
 #[derive(Drop)]
 pub struct Start<'a> {
     pub kind: SessionType,
@@ -38,8 +38,7 @@ pub enum StartFault {
     Memory,
 }
 
-/// The sessions of a device, at most [`SESSION_LIMIT`], by their handles. Their places are kept by
-/// `S`.
+/// The sessions of a device, at most [`SESSION_LIMIT`], by their handles. `S` keeps their places.
 #[derive(Drop)]
 pub struct Sessions<S: Slots<Session, SESSION_LIMIT>> {
     slots: S,
@@ -77,7 +76,7 @@ fn started_session(start: Start) -> Session
 }
 
 impl<S: Slots<Session, SESSION_LIMIT>> Sessions<S> {
-    /// No session; no memory is taken.
+    /// No session is there at first; no memory is taken.
     pub fn new(alloc: Global) -> Sessions<S>
         ensures { places_of S.places result ≡ free session_limit }
     {
@@ -135,7 +134,7 @@ impl<S: Slots<Session, SESSION_LIMIT>> Sessions<S> {
         self.slots.clear();
     }
 
-    /// Gives the session of a handle another nonce of the TPM's, and tells whether there was one.
+    /// Gives the session of a handle another nonceTPM, and tells whether there was one.
     #[tactic(auto, unfolding(crate::specs::Sessions::rolled, crate::specs::Sessions::session_at))]
     pub fn roll(&mut self, handle: Handle, nonce: Nonce) -> bool
         ensures there { result ≡ is_some (session_at (places_of S.places self.old) handle) }
@@ -166,8 +165,8 @@ impl<S: Slots<Session, SESSION_LIMIT>> Sessions<S> {
             None => false,
         }
     }
-    /// Says of each session what the types of its fields say, and how many places there are. It only
-    /// reads.
+    /// Says of each session what the types of its fields say, and how many places there are. The
+    /// call only reads.
     #[inline(always)]
     pub fn read_sizes(&self)
         ensures each { AreAll IsSession (places_of S.places self.now) }

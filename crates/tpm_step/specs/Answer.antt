@@ -1,4 +1,4 @@
--- What is answered. TPM 2.0 Library, Part 1, section 18 (command and response structures).
+-- What a device answers. TPM 2.0 Library, Part 1, section 18 (command and response structures).
 use Rattle.std.specs.Prelude.{ℕ, ◌+◌, List, [], ◌∷◌, ◌++◌, length, drop, Option, Some, None}
 use Rattle.std.specs.Int.{w16, w32, to_be_bytes}
 use Rattle.tpm_types.specs.declared.handle.Handle.{Handle}
@@ -23,13 +23,13 @@ abbrev pub framed : (tag code : ℕ) → List ℕ → List ℕ
 framed tag code body =
     to_be_bytes w16 tag ++ to_be_bytes w32 (10 + length body) ++ to_be_bytes w32 code ++ body
 
--- a refusal has no sessions; where the command's tag was bad it has a tag of its own, 00C4
+-- the tag of a refusal, which has no sessions; where the command's tag was bad it is 00C4
 -- (TPM_ST_RSP_COMMAND)
 abbrev pub refusal_tag : Check → ℕ
 refusal_tag check.Tag = 0xc4
 refusal_tag _ = 0x8001
 
--- ten bytes
+-- the response of a refusal, which has ten bytes
 abbrev pub refusal_text : Refused → List ℕ
 refusal_text e = framed (refusal_tag e.check) (rc_number e.rc) []
 
@@ -37,8 +37,9 @@ abbrev pub handle_answer : Option Handle → List ℕ
 handle_answer None = []
 handle_answer (Some handle) = handle_text handle
 
--- the handle of what was made, if there is one, and the parameters; with sessions the size of the
--- parameters stands before them, and after them what answers the command's entries
+-- the response of a success: the handle of what was made, if there is one, and the parameters; with
+-- sessions the size of the parameters stands before them, and the answers to the command's entries
+-- after them
 unfoldable pub success_text : List Entry → Option Handle → (answer area : List ℕ) → List ℕ
 success_text [] handle answer area = framed 0x8001 0 (handle_answer handle ++ answer)
 success_text (entry ∷ entries) handle answer area =
@@ -49,7 +50,7 @@ pub record Answered : Type 0 where
   pub response : List ℕ
   pub after : Record
 
--- an answer as it is written: its parameters are a text
+-- an answer whose parameters are written as one text
 pub record Written : Type 0 where
   pub handle : Option Handle
   pub parameters : List ℕ
@@ -58,14 +59,14 @@ pub record Written : Type 0 where
 abbrev pub written_of : AnswerParts → Written
 written_of a = record { handle = a.handle; parameters = answer_body_text a.body; drawn = a.drawn }
 
--- the code's answer
+-- the answer that the code wrote
 abbrev pub text_of : Answer → Written
 text_of a = record { handle = a.handle; parameters = a.parameters; drawn = a.drawn }
 
--- what answers a command that had its effect, each of whose entries authorized this handle or none:
--- new nonces are drawn after the command's own random bytes, then its parameters are encrypted
--- where that is asked for, then each entry is answered, and then policies return to their start and
--- sessions end
+-- the answer to a command that had its effect, and each of whose entries authorized this handle or
+-- none: new nonces are drawn after the command's own random bytes, then its parameters are
+-- encrypted where that is asked for, then each entry is answered, and then policies return to their
+-- start and sessions end
 unfoldable pub answer_to : Whole → List (Option Grant) → Written → Record → List ℕ → Answered
 answer_to c grants a effect random =
     let granted : List Granted = granted_entries c grants in

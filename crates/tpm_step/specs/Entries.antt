@@ -21,7 +21,7 @@ use Rattle.tpm_auth.specs.declared.session_grant.Grant.{Grant}
 use Rattle.tpm_auth.specs.SessionGrant.{demands_password, used_auth_value}
 use Rattle.tpm_step.specs.Granted.{Granted}
 
--- a record, and the random bytes that are left
+-- a record after new nonces were drawn, and the random bytes that are left
 pub record Drawn : Type 0 where
   pub after : Record
   pub left : List ℕ
@@ -30,22 +30,23 @@ pub record Drawn : Type 0 where
 unfoldable pub draw_of : Record → Entry → ℕ
 draw_of r e = option_map_or (λ (s : Session). length s.nonce_tpm) (session_of r e) 0
 
--- a new nonce for the session of an entry
+-- the record after the session of an entry has a new nonce, and the random bytes that are left
 unfoldable pub entry_rolled : Record → Entry → List ℕ → Drawn
 entry_rolled r e left = record {
   after = record r { sessions = rolled r.sessions e.session (take (draw_of r e) left) };
   left = drop (draw_of r e) left;
 }
 
--- and of each entry, in order
+-- the record after the session of each entry, in order, has a new nonce, and the random bytes that
+-- are left
 abbrev pub entries_rolled : Record → List Entry → List ℕ → Drawn
 entries_rolled r [] left = record { after = r; left = left }
 entries_rolled r (e ∷ es) left =
     let first = entry_rolled r e left in
     entries_rolled first.after es first.left
 
--- A row that draws some of 256 random bytes, and the nonces of the entries after it, leave all
--- but at most 192 of them.
+-- A row that draws some of 256 random bytes, and the nonces of the entries after it, draw at most
+-- 192 of them.
 abbrev pub DrawsFew : List ℕ → Record → List Entry → (drawn : ℕ) → Type 0
 DrawsFew random r entries drawn =
     length random ≤ length (entries_rolled r entries (drop drawn random)).left + 192
@@ -54,10 +55,10 @@ DrawsFew random r entries drawn =
 abbrev pub password_answer : List ℕ
 password_answer = 0 ∷ 0 ∷ 1 ∷ 0 ∷ 0 ∷ []
 
--- the HMAC of an answer. Its key is made after the command's effect: of the entity's value as it is
--- then, and a session whose entity's value was changed is no longer bound to it. Where the
--- command's HMAC was empty this is empty too, even if the key is no longer empty (this device's
--- own); it is also empty where a policy demanded a password
+-- the HMAC of an answer. Its key is made after the command's effect, of the entity's value as it is
+-- then, and a session whose entity's value was changed is no longer bound to the entity. Where the
+-- command's HMAC was empty the answer's is empty too, even if the key is no longer empty (this
+-- device's own); it is also empty where a policy demanded a password
 unfoldable pub answer_mac : Record → HashedParts → Option Grant → Entry → Session → List ℕ
 answer_mac r hashed grant e s =
     if length e.hmac == 0 || demands_password grant then []
@@ -78,7 +79,8 @@ entry_answer r hashed grant e =
 abbrev pub entries_answer : Record → HashedParts → List Granted → List ℕ
 entries_answer r hashed granted = flat_map (λ g. entry_answer r hashed g.1 g.0) granted
 
--- a policy session that authorized returns to the policy with which it started
+-- the record after a policy session authorized: the session returns to the policy with which it
+-- started
 abbrev pub restarted_by : SessionType → Record → Entry → HashAlg → Record
 restarted_by type.Hmac r e hash = r
 restarted_by type.Policy r e hash =
@@ -89,12 +91,12 @@ unfoldable pub entry_restarted : Record → Entry → Record
 entry_restarted r e =
     option_map_or (λ (s : Session). restarted_by s.kind r e s.hash) (session_of r e) r
 
--- a session without continueSession (bit 0) ends
+-- the record after an entry: a session without continueSession (bit 0) ends
 unfoldable pub entry_ended : Record → Entry → Option Grant → Record
 entry_ended r e grant =
     if not (continues_session e.attributes) then record r { sessions = flushed r.sessions e.session }
     else (if is_some grant then entry_restarted r e else r)
 
--- each in order
+-- the record after all entries, in order, of which sessions without continueSession end
 abbrev pub entries_ended : Record → List Granted → Record
 entries_ended r granted = fold (λ after g. entry_ended after g.0 g.1) r granted

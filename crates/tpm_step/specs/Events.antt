@@ -11,8 +11,8 @@ pub data PlainEvent : Type 0 where
   Given : (buffer : List ℕ) (locality elapsed : ℕ) (random : List ℕ) → PlainEvent
   Cycled : PlainEvent
 
--- what can happen: localities are 0 to 4, an elapsed time has 32 bits, and each command has 256
--- random bytes
+-- What can happen: localities are 0 to 4, an elapsed time has 32 bits, and each command has 256
+-- random bytes.
 abbrev pub IsEvent : PlainEvent → Type 0
 IsEvent (Given buffer locality elapsed random) =
     (locality ≤ 4) × (elapsed < 2 ^ 32) × (length random ≡ 256)

@@ -36,7 +36,8 @@ abbrev pub in_command : {X : Type 0} → CommandCode → Result X Refused → Re
 in_command c (Ok x) = Ok x
 in_command c (Err e) = Err (record { code = code_number c; refused = e })
 
--- G1 to G4, the header's faults; their row names no command
+-- the check that refuses for a fault of the header, G1 to G4; the row that reports it names no
+-- command
 abbrev pub header_check : HeaderFault → Check
 header_check fault.Length = check.Length
 header_check fault.Tag = check.Tag
@@ -50,7 +51,7 @@ abbrev pub in_header : Result (Header × List ℕ) HeaderFault → Result (Heade
 in_header (Ok h) = Ok h
 in_header (Err f) = Err (header_refusal f)
 
--- G5: before TPM2_Startup nothing else is accepted, and after it no second TPM2_Startup
+-- G5: before TPM2_Startup no other command is accepted, and after it no second TPM2_Startup
 abbrev pub is_startup : CommandCode → Bool
 is_startup c = code_number c == code_number command.Startup
 
@@ -62,8 +63,8 @@ abbrev pub has_sessions : Tag → Bool
 has_sessions NoSessions = false
 has_sessions Sessions = true
 
--- G7: some commands may have no sessions, and one with a handle that needs authorization must have
--- some
+-- G7: some commands may have no sessions, and a command with a handle that needs authorization must
+-- have one
 unfoldable pub sessions_pass : CommandCode → Tag → Result (Unit {0}) Refused
 sessions_pass c tag = do
   forbidden ← refused_if (has_sessions tag && (shape_of c).forbids_sessions)
@@ -71,18 +72,18 @@ sessions_pass c tag = do
   refused_if (not (has_sessions tag) && nat_lt 0 (authorized_handles c))
       (refusal check.Sessions (plain code.AuthMissing))
 
--- handle n as its rule wants it, if there is what it names
+-- handle n of a command's text, which its rule accepts, and which names something that is there
 unfoldable pub present_handle_at : Record → ℕ → HandleRule → List ℕ → Result (Handle × List ℕ) Rc
 present_handle_at r n rule text = do
   handle ← allowed_handle_at n rule text
   present ← refused_if (not (is_present r handle.0)) (absence_rc n handle.0)
   Ok handle
 
--- a handle for each rule of the command
+-- the handles of a command's text, one for each of its rules
 abbrev pub present_handles_at : Record → CommandCode → List ℕ → Result (List Handle × List ℕ) Rc
 present_handles_at r code text = each_at (present_handle_at r) 1 (shape_of code).handles text
 
--- G5 to the sizes of the area in G8: what stands after the header
+-- the checks from G5 to the sizes of the area in G8, of what stands after the header
 unfoldable pub body_of : Record → Header → List ℕ → Result Whole Refused
 body_of r header text = do
   g5 ← refused_if (both_or_neither r.fixed.started (is_startup header.code))

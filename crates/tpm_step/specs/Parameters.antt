@@ -15,14 +15,14 @@ use Rattle.tpm_step.specs.Granted.{Granted}
 use Rattle.tpm_step.specs.declared.direction.Direction.{Direction}
 use Rattle.tpm_step.specs.declared.direction.Direction.TheVariants as direction
 
--- whether an entry asks that its session does so
+-- whether an entry asks that its session decrypts a parameter, or encrypts one
 abbrev pub asks_for : Direction → Entry → Bool
 asks_for direction.Decrypt e = decrypts e
 asks_for direction.Encrypt e = encrypts e
 
 -- bytes as a session decrypts them, between the caller's nonce and the TPM's, or as it encrypts
--- them, between the TPM's new nonce and the caller's. In the key stands the authorization value of
--- the handle that the session authorizes, even where it is bound to that (unlike the key of an
+-- them, between the TPM's new nonce and the caller's. The key has the authorization value of the
+-- handle that the session authorizes, even where the session is bound to that (unlike the key of an
 -- HMAC)
 abbrev pub session_bytes : Direction → Session → (value : List ℕ) → Entry → List ℕ → List ℕ
 session_bytes direction.Decrypt s value e = plain_parameter s value e.nonce s.nonce_tpm
@@ -34,7 +34,8 @@ entry_parameters d r grant e text =
     option_map_or (λ (s : Session).
     with_first_buffer (session_bytes d s (granted_value r grant) e) text) (session_of r e) text
 
--- and as that of the first entry does that asks for it, if there is one
+-- parameters as the session of the first entry that asks for it decrypts or encrypts the first of
+-- them; unchanged if no entry does
 abbrev pub session_parameters : Direction → Record → List Granted → List ℕ → List ℕ
 session_parameters d r granted text =
     option_map_or (λ (g : Granted). entry_parameters d r g.1 g.0 text)
@@ -44,6 +45,6 @@ session_parameters d r granted text =
 abbrev pub plain_parameters : Record → List Granted → List ℕ → List ℕ
 plain_parameters r granted text = session_parameters direction.Decrypt r granted text
 
--- and those of its answer, encrypted
+-- the parameters of an answer, encrypted as its command's sessions do
 abbrev pub encrypted_answer : Record → List Granted → List ℕ → List ℕ
 encrypted_answer r granted text = session_parameters direction.Encrypt r granted text

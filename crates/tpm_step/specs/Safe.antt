@@ -1,4 +1,4 @@
--- What a refusal leaves, and what a success may take, said of a step and apart from it.
+-- What a refusal leaves, and what a success may take, of random bytes and of the answer's size.
 use Rattle.std.specs.Prelude.{◌≡◌, ◌≢◌, ℕ, ◌≤◌, List, length, Ok, IfOk}
 use Rattle.tpm_record.specs.Record.{Record}
 use Rattle.tpm_record.specs.Tick.{ticked}
@@ -12,7 +12,7 @@ use Rattle.tpm_step.specs.Entries.{DrawsFew}
 use Rattle.tpm_step.specs.Events.{PlainEvent, Given, Cycled}
 use Rattle.tpm_step.specs.Step.{Accepted, Stepped, accepted, counted_in}
 
--- the record after a command's elapsed time, and nothing else
+-- the record after a command's elapsed time, which else is as it was
 abbrev pub only_ticked : Record → PlainEvent → Record
 only_ticked r (Given buffer locality elapsed random) = ticked r elapsed
 only_ticked r Cycled = r
@@ -26,8 +26,9 @@ IsHarmless r event x = x.row.check ≢ 0
     × (x.row.check ≡ check_number refused.check)
     × (x.after ≡ counted_in refused.counted (only_ticked r event))
 
--- A row draws no more of the event's 256 random bytes than the limit, 96, and with three nonces of 32
--- bytes after them at most 192 are drawn. Its parameters have no more bytes than the limit.
+-- A success is modest: its row draws no more of the event's 256 random bytes than the limit, 96,
+-- and with three nonces of 32 bytes after them at most 192 are drawn. Its parameters have no more
+-- bytes than the limit.
 abbrev pub IsModest : List ℕ → Accepted → Type 0
 IsModest random a =
     (a.success.answer.drawn ≤ draw_limit) × (length (answer_body_text a.success.answer.body) ≤ answer_limit)

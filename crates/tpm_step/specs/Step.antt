@@ -34,21 +34,21 @@ use Rattle.tpm_step.specs.declared.event.Outcome.{Outcome}
 use Rattle.tpm_step.specs.declared.event.Row.{Row}
 use Rattle.tpm_step.specs.declared.refused_command.RefusedCommand.{RefusedCommand}
 
--- what an event answers, the row that is reported, and the record after it
+-- what an event does: the response, the row that is reported, and the record after it
 pub record Stepped : Type 0 where
   pub response : List ℕ
   pub row : Row
   pub after : Record
 
--- a command that is accepted: as it was sent, what each of its entries authorizes, what it asks of
--- its row, and the success of that
+-- a command that is accepted: as it was sent, what each of its entries authorizes, its request, and
+-- the success of its row
 pub record Accepted : Type 0 where
   pub command : Whole
   pub grants : List (Option Grant)
   pub request : Request
   pub success : Success
 
--- what a command asks of its row: its parameters are those that its sessions decrypt
+-- the request of a command: its parameters are those that its sessions decrypt
 abbrev pub request_in : Record → Whole → List (Option Grant) → ℕ → List ℕ → Request
 request_in r c grants locality random = record {
   handles = c.handles;
@@ -57,7 +57,7 @@ request_in r c grants locality random = record {
   random = random;
 }
 
--- the authorization of a command, and then its row
+-- the acceptance of a command: its authorization, and then its row
 unfoldable pub acceptance : Record → Whole → ℕ → List ℕ → Result Accepted Refused
 acceptance r c locality random = do
   grants ← authorize r c locality
@@ -65,7 +65,7 @@ acceptance r c locality random = do
   success ← row_of r c.code q
   Ok (record { command = c; grants = grants; request = q; success = success })
 
--- The refusal is that of the acceptance; or memory was refused, where it can be, in place of a
+-- The refusal is that of the acceptance; or memory was refused, where it can be, in place of the
 -- success of a command that grows something.
 abbrev pub RefusesOrWantsMemory : Bool → Whole → Result Accepted Refused → Refused → Type 0
 RefusesOrWantsMemory can c (Err refused) e = e ≡ refused
@@ -80,14 +80,14 @@ Succeeds (Ok a) c grants answer new =
     × (new ≡ a.success.after)
 Succeeds (Err refused) c grants answer new = ⊥
 
--- The code's acceptance of a command with these grants stands for the definition's; a refusal
--- leaves the record.
+-- The code accepted a command with these grants as the definition does, or refused it as that does;
+-- a refusal leaves the record.
 abbrev pub Accepts : Bool → Result Accepted Refused → Whole → List (Option Grant)
     → Record → Result (Unit {0}) Refused → Answer → Record → Type 0
 Accepts can a c grants old (Ok done) answer new = Succeeds a c grants answer new
 Accepts can a c grants old (Err e) answer new = (new ≡ old) × RefusesOrWantsMemory can c a e
 
--- a command's buffer, accepted by a record whose time has passed, or its first refusal
+-- the command of a buffer, accepted by a record whose time has passed, or the first refusal
 unfoldable pub accepted : Record → List ℕ → ℕ → List ℕ → Result Accepted RefusedCommand
 accepted r buffer locality random = do
   command ← general r buffer
@@ -103,7 +103,7 @@ lockout_counted counted.Lockout s = closed_by_failure s
 abbrev pub counted_in : Counted → Record → Record
 counted_in counted r = with_lockout r (lockout_counted counted r.fixed.lockout)
 
--- a refusal leaves the record, but for what it counts
+-- the step of a refusal, which leaves the record, but for what it counts
 abbrev pub refusal_step : Record → RefusedCommand → Stepped
 refusal_step r e = record {
   response = refusal_text e.refused;
@@ -111,8 +111,8 @@ refusal_step r e = record {
   after = counted_in e.refused.counted r;
 }
 
--- what a TPM2_Shutdown saved is cancelled by the next success, unless that keeps it (Part 3,
--- section 9.4)
+-- the record after a success: what a TPM2_Shutdown saved is cancelled, unless the command keeps it
+-- (Part 3, section 9.4)
 abbrev pub settled : CommandCode → Record → Record
 settled code r = if (shape_of code).keeps_shutdown then r else with_saved r Nothing
 
@@ -130,32 +130,33 @@ abbrev pub stepped_of : Record → List ℕ → Result Accepted RefusedCommand �
 stepped_of r random (Ok a) = success_step a random
 stepped_of r random (Err e) = refusal_step r e
 
--- the step of which an outcome tells that left this record
+-- the step that an outcome tells of, with this record after it
 abbrev pub outcome_step : Record → Outcome → Stepped
 outcome_step r o = record { response = o.response.items; row = o.row; after = r }
 
--- the answer where memory was refused: MEMORY, check M, and the record as it was
+-- the step where memory was refused: MEMORY, check M, and the record as it was
 abbrev pub refusal_without_memory : Record → Whole → Stepped
 refusal_without_memory r c =
     refusal_step r (record { code = code_number c.code; refused = memory_refusal })
 
--- a success where memory is refused: MEMORY in its place, if the command grows something
+-- the step of an accepted command where memory is refused: MEMORY, if the command grows something
 abbrev pub success_without_memory : Record → List ℕ → Accepted → Stepped
 success_without_memory r random a =
     if (shape_of a.command.code).grows then refusal_without_memory r a.command
     else success_step a random
 
--- the answer where memory is refused; a command that is refused anyway wants none
+-- the step of a command where memory is refused; a command that is refused anyway wants none
 abbrev pub answer_without_memory : Record → List ℕ → Result Accepted RefusedCommand → Stepped
 answer_without_memory r random (Ok a) = success_without_memory r random a
 answer_without_memory r random (Err e) = refusal_step r e
 
--- the answer to a command, to which memory is refused (true) or is not (false)
+-- the step of a command, to which memory is refused (true) or is not (false)
 abbrev pub answer_where : Bool → Record → List ℕ → Result Accepted RefusedCommand → Stepped
 answer_where false r random a = stepped_of r random a
 answer_where true r random a = answer_without_memory r random a
 
--- the step of an event, to which memory is refused or is not: for a command first its time passes
+-- the step of an event, to which memory is refused (true) or is not: for a command first its time
+-- passes
 abbrev pub step_where : Bool → Record → PlainEvent → Stepped
 step_where refused r (Given buffer locality elapsed random) =
     let t = ticked r elapsed in answer_where refused t random (accepted t buffer locality random)
@@ -166,12 +167,12 @@ step_where refused r Cycled =
 abbrev pub step : Record → PlainEvent → Stepped
 step r event = step_where false r event
 
--- An answer to which memory is refused only where the keep can be refused it.
+-- The step of a command, where memory is refused only if the device's state can be refused it.
 abbrev pub Answers : Bool → Record → List ℕ → Result Accepted RefusedCommand → Stepped → Type 0
 Answers can r random a x =
     (refused : Bool) × (refused ≡ true → can ≡ true) × (x ≡ answer_where refused r random a)
 
--- A step in which memory is refused only where the keep can be refused it.
+-- The step of an event, where memory is refused only if the device's state can be refused it.
 abbrev pub Steps : Bool → Record → PlainEvent → Stepped → Type 0
 Steps can r event x =
     (refused : Bool) × (refused ≡ true → can ≡ true) × (x ≡ step_where refused r event)

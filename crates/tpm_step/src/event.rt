@@ -37,7 +37,8 @@ impl<'a> Event<'a> {
     ) -> Event<'a>
         ensures value { result ≡ Command buffer.entry locality elapsed_ms random }
 
-        // What happens comes from locality 0 to 4, with a time of 32 bits and 256 random bytes.
+        // The event of a command comes from locality 0 to 4, with a time of 32 bits and 256 random
+        // bytes.
         ensures event { IsEvent (plain_event result) }
     {
         Event::Command {
@@ -49,8 +50,8 @@ impl<'a> Event<'a> {
     }
 }
 
-/// What was decided about an event: the command's code, 0 where none was found or power was cycled,
-/// and the number of the check that refused it, 0 where none did.
+/// What was decided about an event: the command's code, or 0 where none was found or power was
+/// cycled, and the number of the check that refused the command, or 0 where none did.
 #[derive(Clone, Copy, Debug, PartialEq, Eq)]
 pub struct Row {
     pub code: u32,
@@ -67,7 +68,7 @@ pub struct Outcome {
 impl Outcome {
     ghost use Rattle.std.specs.Prelude.{[]};
 
-    /// That of an event that answers nothing, to be written over.
+    /// The outcome of an event that answers nothing, to be written over.
     pub fn empty() -> Outcome
         ensures response { result.response.items ≡ [] }
         ensures row { result.row ≡ record { code = 0; check = 0 } }

@@ -1,14 +1,14 @@
 #![tactic(auto)]
 
-//! What an event of the device is, and what its step is: the definitions of the general checks, of
-//! the table of all rows, of the answer, of the step of an event and of runs of events stand in
-//! `specs/`. Its own code is an [`event::Event`], its [`event::Outcome`], a
+//! The events of the device, and the step of each: `specs/` has the definitions of the general
+//! checks, of the table of all rows, of the answer, of the step of an event and of runs of events.
+//! The code of this crate is an [`event::Event`], its [`event::Outcome`], a
 //! [`refused_command::RefusedCommand`], and the [`direction::Direction`] in which a session passes
 //! a parameter.
 //!
-//! It stands on the definitions of the rows in tpm_actions_base and the crates of the commands, and
-//! on those of tpm_auth. tpm_machine computes the step, and is proved to; laws and theorems over
-//! histories stand on this crate alone, and so on no code.
+//! The crate uses the definitions of the rows in tpm_actions_base and the crates of the commands,
+//! and those of tpm_auth. tpm_machine computes the step, and is proved to; laws and theorems over
+//! histories use this crate alone, and so no code.
 
 pub mod direction;
 pub mod event;

@@ -6,7 +6,7 @@ ghost use Rattle.tpm_types_command.specs.CommandCode.{code_number};
 use tpm_types::Refused;
 use tpm_types_command::CommandCode;
 
-/// A refusal, and the code of the command that is refused; 0 where none was found.
+/// A refusal, and the code of the command that is refused, or 0 where none was found.
 #[derive(Clone, Copy, Debug, PartialEq, Eq)]
 pub struct RefusedCommand {
     pub code: u32,

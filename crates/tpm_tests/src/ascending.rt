@@ -1,10 +1,10 @@
-//! Each call of a map whose keys ascend once, on both maps.
+//! Each call of a map whose keys ascend, once, on both kinds of map.
 
 use super::comparison::check;
 use std::process::Abort;
 use tpm_containers::{KeyFault, ListMap, SlotMap, SortedMap};
 
-/// Writes a value under a key, and tells whether it is there.
+/// Writes a value under a key, and tells whether the key is there.
 fn set<M: SortedMap<u32, 3>>(map: &mut M, key: u32, value: u32) -> bool {
     match map.get_mut(key) {
         Some(place) => {
@@ -15,7 +15,7 @@ fn set<M: SortedMap<u32, 3>>(map: &mut M, key: u32, value: u32) -> bool {
     }
 }
 
-/// What a map of at most three values answers.
+/// Makes each call on a map of at most three values, and checks the answers.
 fn exercise<R: Abort, M: SortedMap<u32, 3>>(rt: &R, mut map: M) {
     check(rt, map.len(), 0);
     check(rt, map.next(0), None);

@@ -1,15 +1,16 @@
-//! Each reader and writer of bytes once, and what a tap tells of its device.
+//! Each reader and writer of bytes, once, and what a tap tells of its device.
 
 use super::comparison::check;
 use std::io;
 use std::io::{ErrorKind, Read, Write};
 use tpm_bytes::{Cursor, Full, Short, Sink, SizedFault, Tap};
 
-/// Sixteen bytes, no two alike: as numbers of one byte, of two, of four and of eight, and one byte
-/// more.
+/// Sixteen bytes, no two alike: to be read as numbers of one byte, of two, of four and of eight,
+/// and one byte more.
 const TEXT: &[u8] = b"\x10\x21\x32\x43\x54\x65\x76\x87\x98\xa9\xba\xcb\xdc\xed\xfe\x0f";
 
-/// The same bytes, of which the prover then knows nothing, so that it computes nothing of them.
+/// The same bytes, passed through a call: the prover then knows nothing of them, and so computes
+/// nothing.
 fn unknown(bytes: &[u8]) -> &[u8] {
     bytes
 }
@@ -37,7 +38,7 @@ fn a_sized_buffer_has_a_limit(rt: HostRuntime) {
     check(&rt, cursor.sized(3), Err(SizedFault::Short));
 }
 
-/// Puts fifteen bytes by numbers of each width, and three sized and two bare ones.
+/// Writes fifteen bytes as numbers of each width, then three in a sized buffer and two bare ones.
 fn fill(sink: &mut Sink<20>) -> Result<(), Full> {
     sink.put_u8(0x10)?;
     sink.put_u16(0x2132)?;
@@ -64,9 +65,9 @@ fn a_sink_takes_what_fits(rt: HostRuntime) {
 /// What a device does at each call.
 #[derive(Clone, Copy)]
 enum Conduct {
-    /// It gives or takes one byte, where there is room for one.
+    /// The device gives or takes one byte, where there is room for one.
     OneByte,
-    /// It gives or takes nothing.
+    /// The device gives or takes nothing.
     Nothing,
     Fails,
 }
@@ -81,7 +82,8 @@ impl Conduct {
     }
 }
 
-/// A reader and a writer that does one thing after the other, and then nothing.
+/// A reader and a writer that behaves in each of these ways in turn, and then gives or takes
+/// nothing.
 #[derive(Drop)]
 struct Device {
     conducts: &'static [Conduct],
@@ -118,7 +120,7 @@ impl Write for Device {
     }
 }
 
-/// What a call gave or took, or the kind of its error.
+/// The number of bytes that a call gave or took, or the kind of its error.
 fn outcome_of(given: io::Result<usize>) -> Result<usize, ErrorKind> {
     match given {
         Ok(count) => Ok(count),
@@ -201,7 +203,7 @@ fn a_tap_writes_a_whole_text(rt: HostRuntime) {
     }
 }
 
-/// A reader and a writer that does the same at each call, and counts the calls.
+/// A reader and a writer that behaves alike at each call, and counts the calls.
 #[derive(Drop)]
 struct CountedDevice {
     conduct: Conduct,

@@ -9,7 +9,7 @@ struct BlockCase {
     cipher: [u8; 16],
 }
 
-// FIPS 197, B and C.1
+// The examples of FIPS 197, B and C.1
 const BLOCKS: [BlockCase; 2] = [
     BlockCase {
         key: [
@@ -41,7 +41,7 @@ const BLOCKS: [BlockCase; 2] = [
     },
 ];
 
-// SP 800-38A, F.3.13
+// The example of SP 800-38A, F.3.13
 const KEY: [u8; 16] = [
     0x2b, 0x7e, 0x15, 0x16, 0x28, 0xae, 0xd2, 0xa6, 0xab, 0xf7, 0x15, 0x88, 0x09, 0xcf, 0x4f, 0x3c,
 ];
@@ -71,7 +71,7 @@ fn blocks_of_published_keys(rt: HostRuntime) {
     }
 }
 
-// The front of a text encrypts to the front of its cipher text, since each block hangs on those
+// The front of a text encrypts to the front of its cipher text, since each block depends on those
 // before it alone.
 #[test]
 fn feedback_of_every_length_there_and_back(rt: HostRuntime) {

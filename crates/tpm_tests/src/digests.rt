@@ -59,7 +59,7 @@ const DIGESTS: [DigestCase; 6] = [
     },
 ];
 
-// RFC 2202 and RFC 4231, cases 1 to 4, 6 and 7
+// The examples of RFC 2202 and RFC 4231, cases 1 to 4, 6 and 7
 const MACS: [MacCase; 12] = [
     MacCase {
         alg: HashAlg::Sha1,
@@ -219,7 +219,7 @@ struct KeyCase {
     derived: &'static [u8],
 }
 
-// 45 bytes, which are no whole number of digests
+// Keys of 45 bytes, which is no multiple of a digest's size
 const KEYS: [KeyCase; 2] = [
     KeyCase {
         alg: HashAlg::Sha1,
@@ -247,7 +247,8 @@ fn keys_are_derived(rt: HostRuntime) {
 /// A buffer before a key is derived into its front.
 const UNTOUCHED: [u8; 80] = [0x55; 80];
 
-// The block of the counter by HMAC alone, of which KDFa wants this number of bits in all.
+// The block of KDFa with this counter, computed by HMAC alone, where KDFa wants this number of bits
+// in all.
 fn block_by_hmac(alg: HashAlg, counter: u32, bits: u32) -> Digest {
     let counter: &[u8] = &counter.to_be_bytes();
     let bits: &[u8] = &bits.to_be_bytes();

@@ -1,11 +1,11 @@
 #![tactic(auto)]
 
-//! What no clause says and no script under `tests/` shows of the crates below the device: published
-//! vectors and numbers that were computed outside, each public call once, and what a tap tells of
-//! its device.
+//! Tests of the crates below the device, for what no clause says and no script under `tests/`
+//! shows: published vectors and numbers that were computed outside, each public call once, and what
+//! a tap tells of its device.
 //!
-//! It stands on those crates, and nothing stands on it. A crate with tests is proved twice, so
-//! these stand in a crate of their own.
+//! The crate uses those crates, and no crate uses it. A crate with tests is proved twice, so the
+//! tests are in a crate of their own.
 
 #[cfg(test)]
 mod ascending;

@@ -1,10 +1,10 @@
-//! Failed tries and lockoutAuth to the millisecond, and at the ends of their numbers.
+//! Failed tries and lockoutAuth to the millisecond, and near the largest values of their numbers.
 
 use super::comparison::check;
 use tpm_lockout::{Lockout, LockoutFields};
 
-/// A number of failed tries of at most three, each forgiven after some seconds, and a closed
-/// lockoutAuth that opens after as many.
+/// Lockout with this number of failed tries, of at most three, each forgiven after these seconds,
+/// and with lockoutAuth closed, which opens after as many.
 fn locked(failed_tries: u32, seconds: u32) -> Lockout {
     Lockout::restore(LockoutFields {
         failed_tries,
@@ -64,7 +64,7 @@ fn times_begin_anew(rt: HostRuntime) {
 #[test]
 fn the_longest_elapsed_time_forgives_many(rt: HostRuntime) {
     let mut lockout = locked(5_000_000, 1);
-    // 4,294,967 seconds, and 295 milliseconds that carry on
+    // These are 4,294,967 seconds, and 295 milliseconds that carry on
     lockout.tick(u32::MAX);
     check(&rt, tries(&lockout), 705_033);
     lockout.tick(704);

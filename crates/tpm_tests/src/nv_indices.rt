@@ -26,10 +26,10 @@ const ORDINARY: &[u8] = b"\x01\0\0\x01\0\x0b\0\x04\0\x04\0\0\0\x08";
 /// A counter that can be locked for reading until the next startup.
 const COUNTER: &[u8] = b"\x01\0\0\x02\0\x0b\x80\x04\0\x14\0\0\0\x08";
 
-/// Bits that can be locked for writing until the next startup, which a startup clears.
+/// A bit field that can be locked for writing until the next startup, and that a startup clears.
 const BITS: &[u8] = b"\x01\0\0\x01\0\x0b\x08\x04\x40\x24\0\0\0\x08";
 
-/// What is extended by SHA-1.
+/// An index that is extended by SHA-1.
 const EXTENDED: &[u8] = b"\x01\0\0\x01\0\x04\0\x04\0\x44\0\0\0\x14";
 
 /// An ordinary index that is said to be written.
@@ -38,11 +38,11 @@ const WRITTEN: &[u8] = b"\x01\0\0\x01\0\x0b\x20\x04\0\x04\0\0\0\x08";
 /// A counter of four bytes.
 const SHORT_COUNTER: &[u8] = b"\x01\0\0\x02\0\x0b\0\x04\0\x14\0\0\0\x04";
 
-/// SHA-1 of twenty zeros and "abc".
+/// The SHA-1 digest of twenty zeros and "abc".
 const DIGEST: &[u8] =
     b"\x82\x6e\xb4\x34\xa3\xb9\x98\xd5\x2e\x8f\x8d\x6f\xf9\x74\x18\xcb\x60\xd5\x25\x6e";
 
-/// What became of a definition: no public area, or the check that it failed, or the call's answer.
+/// The outcome of a definition: no public area, or the check that failed, or the call's answer.
 #[derive(Clone, Copy, Debug, PartialEq, Eq)]
 enum Outcome {
     Unread,
@@ -76,7 +76,7 @@ fn is_read<N: Indices>(indices: &N, handle: Handle, size: u16, bytes: &[u8]) -> 
     }
 }
 
-/// Why the first byte of an index is not read.
+/// The fault by which the first byte of an index is not read, if any.
 fn read_fault<N: Indices>(indices: &N, handle: Handle) -> Option<ReadFault> {
     indices.read(handle, 0, 1).err()
 }
@@ -210,8 +210,8 @@ fn extended<N: Indices>(rt: &impl Abort, mut indices: N) {
     check(rt, is_read(&indices, FIRST, 20, DIGEST), true);
 }
 
-/// Each call, of indices that are kept in one way. A function that names the way is slow to prove,
-/// so two name one each.
+/// Makes each call on indices that are kept in one way. A function that names the way is slow to
+/// prove, so each of two functions names one.
 fn exercise<N: Indices, R: Abort>(rt: &R, alloc: Global) {
     ordinary(rt, N::new(alloc));
     counters(rt, N::new(alloc));

@@ -10,7 +10,7 @@ use tpm_types_nv::{NvAttribute, NvAttributes, NvPublic, NvType};
 /// An ordinary index of eight bytes by SHA-256, in a sized buffer.
 const ORDINARY: &[u8] = b"\0\x0e\x01\0\0\x01\0\x0b\0\x04\0\x04\0\0\0\x08";
 
-/// Its Name.
+/// The Name of that ordinary index.
 const ORDINARY_NAME: &[u8] = b"\x00\x0b\xc6\x28\x87\x6e\xb0\x6c\xbf\xae\xb9\x4f\x49\xb1\x80\xab\
     \x06\xf3\xf9\xef\xee\x52\x92\x9d\x18\xb5\xe8\x08\xa4\xbc\x62\x3e\xb0\xa0";
 
@@ -18,7 +18,7 @@ const ORDINARY_NAME: &[u8] = b"\x00\x0b\xc6\x28\x87\x6e\xb0\x6c\xbf\xae\xb9\x4f\
 const WITH_POLICY: &[u8] = b"\0\x22\x01\xc0\0\x02\0\x04\x62\x04\0\x04\
     \0\x14\x11\x11\x11\x11\x11\x11\x11\x11\x11\x11\x11\x11\x11\x11\x11\x11\x11\x11\x11\x11\0\x20";
 
-/// Its Name.
+/// The Name of that written index.
 const WITH_POLICY_NAME: &[u8] =
     b"\x00\x04\x02\xf4\x4e\x4c\x68\x69\xcb\x4d\xd3\xfd\x0a\x38\x8e\xfa\x8b\x8d\xb7\xe2\x19\x93";
 
@@ -33,7 +33,7 @@ fn rewritten(text: &[u8]) -> Option<ArrayVec<u8, 48>> {
     Some(sink.into_bytes())
 }
 
-/// The same without its size.
+/// The public area that a text spells, written again without its size.
 fn rewritten_bare(text: &[u8]) -> Option<ArrayVec<u8, 46>> {
     let mut sink = Sink::new();
     public_of(text)?.write(&mut sink).ok()?;
@@ -56,7 +56,7 @@ fn has_name(text: &[u8], name: &[u8]) -> bool {
     }
 }
 
-/// Why a bare public area is refused.
+/// The fault by which a bare public area is refused, if any.
 fn fault_of(text: &[u8]) -> Option<ResponseCode> {
     match NvPublic::read(&mut Cursor::new(text)) {
         Ok(_) => None,

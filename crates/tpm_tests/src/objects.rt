@@ -1,4 +1,4 @@
-//! The areas of objects, and what is made of them: each public call once, with a Name that was
+//! The areas of objects, and the objects made of them: each public call once, with a Name that was
 //! computed outside, by Python's `hashlib` and `hmac`.
 
 use super::comparison::check;
@@ -23,13 +23,13 @@ const KEY: &[u8] = b"\0\x10\0\x08\0\x0b\0\x04\x04\x40\0\0\0\x05\0\x0b\0\0";
 /// A storage key, in a sized buffer.
 const STORAGE: &[u8] = b"\0\x12\0\x25\0\x0b\0\x03\0\x72\0\0\0\x06\0\x80\0\x43\0\0";
 
-/// No authorization value, and the key "Jefe", in a sized buffer.
+/// What is given beside a template, in a sized buffer: no authorization value, and the key "Jefe".
 const JEFE: &[u8] = b"\0\x08\0\0\0\x04Jefe";
 
-/// Neither of them.
+/// What is given beside a template, in a sized buffer: neither an authorization value nor a key.
 const NOTHING: &[u8] = b"\0\x04\0\0\0\0";
 
-/// The Name of that key, derived from that seed.
+/// The Name of the HMAC key, derived from that seed.
 const NAME: &[u8] = b"\x00\x0b\x42\xa3\x3b\x43\xc0\xf6\x6b\x39\x4f\x97\x10\x5e\x96\x92\x5d\x1f\
     \xa1\xd9\xf0\x3f\x3a\xa8\xf2\xaf\x35\xa5\xfe\x87\x06\x03\x1f\x5e";
 
@@ -103,7 +103,7 @@ fn a_primary_object_has_the_name_that_was_computed_outside(rt: HostRuntime) {
     check(&rt, is_named(primary_of(STORAGE, NOTHING), NAME), false);
 }
 
-/// What refuses a template and what is given beside it, if anything does.
+/// Whether the template is refused, and whether what is given beside it is.
 fn faults_of(template: &[u8], given: &[u8]) -> Option<(bool, bool)> {
     let (template, given) = (public_of(template)?, given_of(given)?);
     let is_fixed_wrongly = check_template(&template, false) == Err(TemplateFault::Attributes);
@@ -118,8 +118,8 @@ fn templates_are_checked(rt: HostRuntime) {
     check(&rt, faults_of(KEY, NOTHING), Some((false, true)));
 }
 
-/// Whether what is created under a storage key and wrapped is unwrapped, for the public area that
-/// it was wrapped for and no other.
+/// Whether the sensitive area that is created under a storage key and wrapped is unwrapped, for the
+/// public area that it was wrapped for and no other.
 fn is_unwrapped() -> Option<bool> {
     let parent = primary_of(STORAGE, NOTHING)?;
     let (template, given) = (public_of(KEY)?, given_of(JEFE)?);

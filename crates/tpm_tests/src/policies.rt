@@ -1,4 +1,5 @@
-//! Digests that were computed outside, by Python's `hashlib`, and what refuses the use of a policy.
+//! Digests of policies that were computed outside, by Python's `hashlib`, and the conditions that
+//! refuse the use of a policy.
 
 use super::comparison::check;
 use tpm_bytes::Cursor;
@@ -10,25 +11,25 @@ use tpm_types::{
 };
 use tpm_types_name::Name;
 
-/// TPM2_PolicyAuthValue.
+/// The policy digest of TPM2_PolicyAuthValue.
 const AUTH_VALUE: &[u8] = b"\x8f\xcd\x21\x69\xab\x92\x69\x4e\x0c\x63\x3f\x1a\xb7\x72\x84\x2b\
     \x82\x41\xbb\xc2\x02\x88\x98\x1f\xc7\xac\x1e\xdd\xc1\xfd\xdb\x0e";
 
-/// TPM2_PolicySecret of TPM_RH_ENDORSEMENT.
+/// The policy digest of TPM2_PolicySecret for TPM_RH_ENDORSEMENT.
 const SECRET: &[u8] = b"\x83\x71\x97\x67\x44\x84\xb3\xf8\x1a\x90\xcc\x8d\x46\xa5\xd7\x24\
     \xfd\x52\xd7\x6e\x06\x52\x0b\x64\xf2\xa1\xda\x1b\x33\x14\x69\xaa";
 
 const PCR_RESET: u32 = 0x13d;
 
-/// TPM2_PolicyCommandCode of TPM2_GetRandom.
+/// The policy digest of TPM2_PolicyCommandCode for TPM2_GetRandom.
 const COMMAND_CODE: &[u8] = b"\x5b\xe1\x5b\x50\xc0\x23\x8a\x19\xfb\x28\x12\xee\x10\xf5\xed\xa0\
     \x6b\x24\xd8\x8f\xd4\xdf\x45\x14\xe4\xba\xdf\x55\x15\xa6\xdc\x11";
 
-/// TPM2_PolicyLocality of locality 3.
+/// The policy digest of TPM2_PolicyLocality for locality 3.
 const LOCALITY: &[u8] = b"\x77\x64\x49\x1d\x5a\xfe\x71\x90\x35\xc0\xc0\x9f\xaa\x90\xc3\x49\
     \x0a\x74\x75\xd6\xdf\x42\x2b\x80\x4e\x8f\x68\xaa\x65\xf8\x93\x4f";
 
-/// TPM2_PolicyPCR of PCR 0 in the SHA-256 bank, whose value is zeros.
+/// The policy digest of TPM2_PolicyPCR for PCR 0 in the SHA-256 bank, whose value is zeros.
 const PCR: &[u8] = b"\x09\x3c\xeb\x41\x18\x1d\x47\x80\x88\x62\xd7\x94\x62\x68\xee\x6a\
     \x17\xa1\x0e\x3d\x1b\x79\xb3\x23\x51\xbc\x56\xe4\xbe\xac\xef\xf0";
 
@@ -36,25 +37,25 @@ const PCR: &[u8] = b"\x09\x3c\xeb\x41\x18\x1d\x47\x80\x88\x62\xd7\x94\x62\x68\xe
 const ZEROS_HASH: &[u8] = b"\x66\x68\x7a\xad\xf8\x62\xbd\x77\x6c\x8f\xc1\x8b\x8e\x9f\x8e\x20\
     \x08\x97\x14\x85\x6e\xe2\x33\xb3\x90\x2a\x59\x1d\x0d\x5f\x29\x25";
 
-/// Those of the command code and of the locality, as TPM2_PolicyOR has them.
+/// The digests of the command code and of the locality, as TPM2_PolicyOR takes them.
 const BRANCHES: &[u8] = b"\x00\x00\x00\x02\
     \x00\x20\x5b\xe1\x5b\x50\xc0\x23\x8a\x19\xfb\x28\x12\xee\x10\xf5\xed\xa0\
     \x6b\x24\xd8\x8f\xd4\xdf\x45\x14\xe4\xba\xdf\x55\x15\xa6\xdc\x11\
     \x00\x20\x77\x64\x49\x1d\x5a\xfe\x71\x90\x35\xc0\xc0\x9f\xaa\x90\xc3\x49\
     \x0a\x74\x75\xd6\xdf\x42\x2b\x80\x4e\x8f\x68\xaa\x65\xf8\x93\x4f";
 
-/// TPM2_PolicyOR of a command code or a locality.
+/// The policy digest of TPM2_PolicyOR for a command code or a locality.
 const OR: &[u8] = b"\x5c\xd8\x1d\x2a\xc9\x60\x77\x5e\x3d\x72\xf3\x00\x07\xe7\xb0\x40\
     \x46\x21\x3b\x08\x17\xc4\x88\x82\x09\x81\x75\xbd\xb3\x05\xb3\xb5";
 
-/// PCR 0 in the SHA-256 bank.
+/// The selection of PCR 0 in the SHA-256 bank.
 const SELECTION: &[u8] = b"\x00\x00\x00\x01\x00\x0b\x03\x01\x00\x00";
 
 const GET_RANDOM: u32 = 0x17b;
 
 const CP_HASH: &[u8] = &[0xcc; 32];
 
-/// The selected PCR has the value zeros, and 7 changes were counted.
+/// The assertion that the selected PCR has the value zeros, after 7 changes of PCRs.
 fn pcr(selection: &PcrSelection) -> PcrAssertion<'_> {
     PcrAssertion {
         given: ZEROS_HASH,
@@ -114,7 +115,7 @@ fn either_branch_leads_to_one_digest(rt: HostRuntime) {
     check(&rt, state.digest(), OR);
 }
 
-/// Takes PCR 0, which had been changed 7 times, GetRandom, its cpHash, an index that is written, and
+/// Asserts PCR 0, after 7 changes of PCRs, GetRandom, its cpHash, an index that is written, and
 /// locality 0.
 fn assert_all(state: &mut PolicyState, selection: &PcrSelection) -> Result<(), ActionFault> {
     let name = Name::of_handle(Handle::ENDORSEMENT);
@@ -159,7 +160,7 @@ fn spoiled_from(condition: u8, digest: &[u8], locality: Locality) -> Use<'_> {
     }
 }
 
-/// What refuses where every condition from this number on does not hold.
+/// The refusal where every condition from this number on does not hold.
 fn refusals() -> [(u8, Rc); 8] {
     let policy_fail = ResponseCode::PolicyFail.anywhere().at_session(1);
     [

@@ -1,5 +1,5 @@
-//! Sessions by their handles, in both kinds of places, and numbers that were computed outside:
-//! HMACs and hashes by Python's `hmac` and `hashlib`, the encrypted parameter by OpenSSL.
+//! Sessions by their handles, in both kinds of places, and values that were computed outside: HMACs
+//! and hashes by Python's `hmac` and `hashlib`, the encrypted parameter by OpenSSL.
 
 ghost use Rattle.std.specs.Prelude.{◌≤◌, length};
 
@@ -27,14 +27,14 @@ const NONCE_CALLER: &[u8] = &[0xaa; 16];
 
 const NONCE_TPM: &[u8] = &[0xbb; 16];
 
-/// TPM2_PCR_Event.
+/// The command code of TPM2_PCR_Event.
 const CODE: u32 = 0x13c;
 
-/// By `command_hash`.
+/// The hash that `command_hash` is to give.
 const COMMAND_HASH: &[u8] = b"\x3c\x31\x76\x2c\x00\x6e\x41\xf9\x21\xdc\x4a\xd8\xac\x22\xff\x90\
     \x93\xac\x6b\xdd\xe5\xf6\xed\x09\xd4\xcc\x24\xef\xf7\x08\x8e\xcb";
 
-/// By `response_hash`.
+/// The hash that `response_hash` is to give.
 const RESPONSE_HASH: &[u8] = b"\xf1\x3a\x65\xc8\x44\x28\xe6\x4a\x87\x2d\x9d\x4d\xe4\x53\xb9\x3f\
     \x44\x0a\x92\x38\x60\x94\x71\x3e\x28\xd1\xa5\x87\x7e\x2d\x7d\x46";
 
@@ -49,12 +49,12 @@ const PLAIN: &[u8] = b"a parameter of 25 bytes..";
 const ENCRYPTED: &[u8] = b"\xa2\x50\xc0\xbe\x24\xaf\x83\xc1\xd4\x33\x10\xe8\x13\x7b\x2c\x2f\
     \xe5\x90\xfe\x91\xcb\x85\x69\xf0\x12";
 
-/// By the exclusive or with KDFa's bytes for "XOR".
+/// The parameter that is masked by the exclusive or with KDFa's bytes for "XOR".
 const MASKED: &[u8] = b"\xb9\xa7\x60\x5e\xe4\x00\x34\x4b\xa2\xa5\x9c\x4f\x9c\x9d\xc9\x93\
     \x3c\xd9\x6c\x50\x40\xb3\xcc\x47\x08";
 
-/// The same bytes, of which the prover then knows their number alone, and so computes nothing of
-/// them.
+/// The same bytes, passed through a call: the prover then knows only how many they are, and so
+/// computes nothing.
 fn short(bytes: &[u8]) -> &[u8]
     requires { length bytes.now ≤ 32 }
     ensures { length result.now ≤ 32 }
@@ -62,7 +62,7 @@ fn short(bytes: &[u8]) -> &[u8]
     bytes
 }
 
-/// The owner, with the authorization value "owner".
+/// A binding to the owner, with the authorization value "owner".
 fn owner() -> Binding {
     Binding {
         name: Name::of_handle(Handle::OWNER),
@@ -92,7 +92,7 @@ fn started<S: Slots<Session, SESSION_LIMIT>>(
         .map(|handle| handle.number)
 }
 
-/// The TPM's nonce of a session.
+/// The nonceTPM of a session.
 fn nonce_of<S: Slots<Session, SESSION_LIMIT>>(
     sessions: &Sessions<S>,
     number: u32,
@@ -216,7 +216,7 @@ fn bound_session(symmetric: SymmetricDefinition) -> Session {
 
 const ATTRIBUTES: SessionAttributes = SessionAttributes { octet: 0x21 };
 
-/// What a command's entry is about, with nonces of two other sessions.
+/// What the HMAC of a command's entry authenticates, with nonces of two other sessions.
 fn command_text() -> CommandText<'static> {
     CommandText {
         hash: COMMAND_HASH,
@@ -256,7 +256,7 @@ fn an_entry_s_text_is_written(rt: HostRuntime) {
     check(&rt, short.len(), 0);
 }
 
-/// Closes the plain parameter, which then is this one, and opens it again.
+/// Encrypts the plain parameter, which has to become this one, and decrypts it again.
 fn close_and_open<R: Abort>(rt: &R, symmetric: SymmetricDefinition, encrypted: &[u8]) {
     let session = bound_session(symmetric);
     let mut parameter = [0; 25];

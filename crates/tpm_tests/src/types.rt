@@ -1,5 +1,5 @@
-//! Structures byte by byte, as TPM 2.0 Library, Part 1, section 18, and Part 2 have them. What the
-//! device reads and answers is shown by the scripts under `tests/`.
+//! Structures byte by byte, as in TPM 2.0 Library, Part 1, section 18, and Part 2. The scripts
+//! under `tests/` show what the device reads and answers.
 
 use super::comparison::check;
 use arrayvec::ArrayVec;
@@ -12,17 +12,17 @@ use tpm_types::{
 use tpm_types_command::{AuthEntry, Command, CommandCode, HandleKind, ParameterKind, read_handles};
 use tpm_types_name::Name;
 
-/// PCR_Reset of PCR 16, with a nonce of two bytes and the password "abc": the header, the handle,
-/// the area's size, and its entry.
+/// The buffer of PCR_Reset of PCR 16, with a nonce of two bytes and the password "abc": the header,
+/// the handle, the area's size, and its entry.
 const PCR_RESET: &[u8] = b"\x80\x02\x00\x00\x00\x20\x00\x00\x01\x3d\
     \x00\x00\x00\x10\
     \x00\x00\x00\x0e\
     \x40\x00\x00\x09\x00\x02\xaa\xbb\x01\x00\x03abc";
 
-/// PCRs 0, 10 and 23 by SHA-256.
+/// The selection of PCRs 0, 10 and 23 by SHA-256.
 const SELECTION: &[u8] = b"\x00\x00\x00\x01\x00\x0b\x03\x01\x04\x80";
 
-/// Two digests: twenty bytes 1 by SHA-1, and thirty-two bytes 2 by SHA-256.
+/// A list of two digests: twenty bytes 1 by SHA-1, and thirty-two bytes 2 by SHA-256.
 const DIGESTS: &[u8] = b"\x00\x00\x00\x02\
     \x00\x04\x01\x01\x01\x01\x01\x01\x01\x01\x01\x01\x01\x01\x01\x01\x01\x01\x01\x01\x01\x01\
     \x00\x0b\x02\x02\x02\x02\x02\x02\x02\x02\x02\x02\x02\x02\x02\x02\x02\x02\

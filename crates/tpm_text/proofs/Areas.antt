@@ -19,7 +19,7 @@ pub no_area : (old : Option (List ℕ)) → (let none : Option (List ℕ) = None
 unfolding with_area
 no_area old = refl
 
--- how many bytes were written
+-- the text of a draft is as long as the bytes that were written
 pub taken_size : (draft : Draft) (size : ℕ) → draft.used ≡ Some size → length (take size draft.bytes) ≡ size
 taken_size draft size e = let small = draft.within size e in length-take-le size draft.bytes (omega (arith, small, draft.capacity))
 

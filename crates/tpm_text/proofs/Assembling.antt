@@ -26,7 +26,7 @@ use Rattle.tpm_text.specs.Line.{assembled, ended, entry_tokens_in, handles_in, n
 use Rattle.tpm_text.specs.Pieces.{Token, tokens_of}
 use Rattle.tpm_text.proofs.Growing.{fits, grown-grown, none_grows, spills, too_much}
 
--- ---- what a part gave
+-- ---- the text of a part of a line
 
 pub reads_tokens_ok : {A E : Type 0} (read : Result (A × List Token) E) (result : Result A E) (x : A) (left : List Token) → result ≡ Ok x → ReadsTokens (λ a. a) read result left → read ≡ Ok (x, left)
 reads_tokens_ok (Ok read) (Ok y) x left e h = let same : y ≡ x = cc in ap (λ a. Ok (a, read.1)) (h.0 ∙ same) ∙ ap (λ l. Ok (x, l)) (sym h.1)
@@ -68,7 +68,7 @@ sessions_err (Err other) old new (Err found) fault left e h = ap Err (sym h ∙ 
 
 -- ---- the authorization area
 
--- an area of its own, added to the draft
+-- an area that was written on its own, added to the draft
 area_is : (old area : Option (List ℕ)) (text : List ℕ) → area ≡ grown (Some []) text → with_area old area ≡ grown old (to_be_bytes w32 (length text) ++ text)
 unfolding with_area
 area_is old area text e = by (nat_le (length text) buffer_limit) refl
@@ -95,7 +95,7 @@ sessions_laid (token ∷ tokens) left old area new result first done h e =
     by (Err fault) others (Ok done) d h = absurd h
     by (Err fault) others (Err found) d h = absurd cc
 
--- ---- a whole text
+-- ---- the text of a whole line
 
 fitting : (tag : Tag) (code : CommandCode) (ten body : List ℕ) → length ten ≡ 10 → finished tag code (Some (ten ++ body)) ≡ Ok (header_text tag (10 + length body) code ++ body)
 unfolding finished
@@ -105,7 +105,7 @@ not_fitting : (tag : Tag) (code : CommandCode) → finished tag code None ≡ Er
 unfolding finished
 not_fitting tag code = refl
 
--- ten bytes and more
+-- a draft of ten bytes or more is still one after more bytes
 pub still_ten : (draft : Option (List ℕ)) (bytes : List ℕ) → IfSome draft (λ text. 10 ≤ length text) → IfSome (grown draft bytes) (λ text. 10 ≤ length text)
 still_ten None bytes h = subst (λ (d : Option (List ℕ)). IfSome d (λ text. 10 ≤ length text)) (sym (none_grows bytes)) tt
 still_ten (Some text) bytes h = by (nat_le (length text + length bytes) buffer_limit) refl
@@ -114,7 +114,7 @@ still_ten (Some text) bytes h = by (nat_le (length text + length bytes) buffer_l
     by true short = subst (λ (d : Option (List ℕ)). IfSome d (λ text. 10 ≤ length text)) (sym (fits text bytes (leb-true _ _ short))) (omega (arith, h, length-append text bytes))
     by false long = subst (λ (d : Option (List ℕ)). IfSome d (λ text. 10 ≤ length text)) (sym (spills text bytes (leb-false _ _ long))) tt
 
--- a draft that began
+-- a draft that was begun has ten bytes
 pub begun : (draft : Option (List ℕ)) → IsSome draft → IfSome draft (λ text. length text ≡ 10) → (ten : List ℕ) × (draft ≡ Some ten) × (length ten ≡ 10)
 begun None is h = absurd cc
 begun (Some ten) is h = (ten, refl, h)
@@ -152,7 +152,7 @@ module _ (line : List ℕ) (code : CommandCode) (one : List Token) (n : name_in 
         unfolding assembled spelled command_size command_text command_body_text body
         whole e = rw (n, h, s, p, e) refl
 
-        -- the text of the command, after ten bytes
+        -- the text of the command, after ten bytes for the header
         command_is : ended four ≡ Ok tt → (ten : List ℕ) → length ten ≡ 10 → finished (tag_for entries) code (grown (Some ten) body) ≡ assembled line
         command_is e ten ten_is = by (nat_le (length ten + length body) buffer_limit) refl ∙ sym (whole e)
           where

@@ -15,7 +15,7 @@ use Rattle.tpm_text.proofs.Growing.{grown-grown}
 use Rattle.tpm_text.specs.declared.fault.TokenFault.{TokenFault}
 use Rattle.tpm_text.specs.declared.fault.TokenFault.TheVariants.{Bad}
 
--- what stands before a password
+-- the front of a password's entry, before the size of the password
 abbrev pub password_front : List ℕ
 password_front = to_be_bytes w32 password_handle.number ++ 0 ∷ 0 ∷ 1 ∷ []
 
@@ -35,7 +35,7 @@ five_are_bad a b c d (e ∷ others) some = refl
 pub other_pieces : (text a b c d rest : List ℕ) → pieces_of colon text ≡ a ∷ b ∷ c ∷ d ∷ pieces_of colon rest → session_pieces_of (pieces_of colon text) ≡ Err Bad
 other_pieces text a b c d rest e = ap session_pieces_of e ∙ five_are_bad a b c d (pieces_of colon rest) (omega (arith, length-slice_split (λ byte. byte == 58) rest))
 
--- an entry's text, part by part
+-- the text of a session's entry, part by part
 abbrev pub parts_of : SessionPieces → Result (List ℕ) TokenFault
 parts_of pieces =
     handle_in pieces.session >>= λ session.
@@ -61,7 +61,7 @@ pub no_session_text : (text : List ℕ) (fault : TokenFault) → session_pieces_
 unfolding session_entry
 no_session_text text fault e = rw e refl
 
--- the four parts of an entry that were written
+-- the four parts of a session's entry that were written
 pub parts_drafted : (session octet : List ℕ) (nonce : List ℕ) (hmac : Result (List ℕ) TokenFault) (old one two three : Option (List ℕ)) (result : Result (Unit {0}) TokenFault) (new : Option (List ℕ))
     → one ≡ grown old session → two ≡ grown one nonce → three ≡ grown two octet → Drafts hmac three result new
     → Drafts (hmac >>= λ bytes. Ok (session ++ nonce ++ octet ++ bytes)) old result new

@@ -1,4 +1,4 @@
--- The first place of a byte.
+-- The place of the first byte that passes a test.
 use Rattle.std.proofs.Common.{◌≡◌, ℕ, Bool, List, length, slice_index, Option, Some, None, arith}
 use Rattle.std.proofs.lemmas.Bool.{false_from_ne_true}
 use Rattle.std.proofs.lemmas.Grind.{common_steps}

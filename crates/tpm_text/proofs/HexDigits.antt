@@ -1,4 +1,4 @@
--- What hex digits write.
+-- The bytes that hex digits write.
 use Rattle.tpm_types.specs.Limits.{buffer_limit}
 use Rattle.std.proofs.Common.{◌≡◌, ℕ, ◌+◌, ◌*◌, ◌/◌, ◌<◌, ◌%◌, true, false, List, [], length, Some, None, Result, Ok, Err, refl, arith}
 use Rattle.std.proofs.lemmas.Bool.{lt-leb}
@@ -19,7 +19,7 @@ use Rattle.tpm_text.specs.declared.fault.TokenFault.TheVariants.{Bad}
 pub odd_is_bad : (digits : List ℕ) → length digits % 2 ≡ 1 → IsChecked (hex_in digits) (Err Bad)
 odd_is_bad digits odd = rw (decode_of-odd digits odd) refl
 
--- and so is another byte
+-- a byte that is no hex digit is refused
 decoded_are_digits : (digits : List ℕ) (read : Result (List ℕ) FromHexError) → decode_of digits ≡ read → list_all is_hex_digit digits ≡ false → IsChecked (or_fault read Bad) (Err Bad)
 decoded_are_digits digits (Ok bytes) e other = let all = list_all-from_AllPass is_hex_digit digits (decode_of-ok digits bytes e).1 in absurd cc
 decoded_are_digits digits (Err fault) e other = refl
@@ -38,7 +38,7 @@ pub none_is_good : hex_in [] ≡ Ok []
 unfolding decode_pairs
 none_is_good = refl
 
--- how many bytes digits write
+-- digits write half as many bytes
 pub half_of : (digits bytes : List ℕ) → hex_in digits ≡ Ok bytes → length digits ≡ 2 * length bytes
 half_of digits bytes e = (decode_of-ok digits bytes (or_fault_ok _ _ bytes e)).2
 

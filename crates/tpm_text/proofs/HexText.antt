@@ -1,4 +1,4 @@
--- Hex digits are text.
+-- Hex digits are UTF-8 text.
 use Rattle.std.proofs.Common.{ℕ, List, get_or, refl}
 use Rattle.std.specs.Prelude.{nat_lt}
 use Rattle.std.specs.Str.{IsAscii, IsUtf8}

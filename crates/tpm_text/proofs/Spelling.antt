@@ -1,4 +1,4 @@
--- The command that a line spells is one that is read back.
+-- The command that a line spells is the one that is read back from its buffer.
 use Rattle.tpm_types.specs.Limits.{buffer_limit}
 use Rattle.std.proofs.Common.{◌≡◌, ℕ, zero, suc, ◌<◌, ◌≤◌, ◌^◌, Bool, true, false, cond, List, [], ◌∷◌, length, drop, Result, Ok, Err, refl, ap, subst, arith, length-append}
 use Rattle.std.specs.Int.{Width, w8, w32, from_be_bytes, to_be_bytes}
@@ -58,7 +58,7 @@ octet_below piece octet e =
 
 -- ---- entries
 
--- what holds of an entry that was read, but for its sizes
+-- This holds of an entry that was read, but for its sizes.
 abbrev Spells : Entry → Type 0
 Spells entry = (entry.session.number < 2 ^ 32) × (entry.attributes.octet < 2 ^ 8)
 
@@ -103,7 +103,7 @@ entries_spell (suc most) (token ∷ tokens) x e = by (entries_spell most tokens)
         subst (λ (x : List Entry × List Token). (length x.0 ≤ suc most) × AllByRecursion Spells x.0) (ok_is (first.0 ∷ others.0.0, others.0.1) x others.2) (omega (arith, rest.0), (one, rest.1))
     by fewer false e = subst (λ (x : List Entry × List Token). (length x.0 ≤ suc most) × AllByRecursion Spells x.0) (ok_is ([], token ∷ tokens) x e) (omega arith, tt)
 
--- entries of this many bytes in all
+-- entries of this many bytes in all have sizes that fit their fields
 sized_entries : (entries : List Entry) → AllByRecursion Spells entries → length (entries_text entries) < 2 ^ 16 → AllByRecursion IsEntry entries
 sized_entries [] each small = tt
 sized_entries (entry ∷ entries) each small =

@@ -21,7 +21,7 @@ use Rattle.tpm_step.specs.Step.{Accepted, Stepped, acceptance, accepted, answer_
 use Rattle.tpm_step.specs.declared.refused_command.RefusedCommand.{RefusedCommand}
 use Rattle.tpm_text.specs.Trace.{IsRow, IsTraceable}
 
--- a refusal names a command that is served, or none
+-- A refusal names a command that is served, or none.
 abbrev Names : {X : Type 0} → Result X RefusedCommand → Type 0
 Names (Ok x) = Unit {0}
 Names (Err e) = (e.code ≡ 0) ⊎ ((code : CommandCode) × (e.code ≡ code_number code))
@@ -63,7 +63,7 @@ answer_long : (a : Accepted) (random : List ℕ) → 10 ≤ length (success_step
 unfolding answer_to
 answer_long a random = success_long a.command.entries a.success.answer.handle _ _
 
--- both of a step
+-- The row and the response of a step can be traced.
 abbrev IsTraced : Stepped → Type 0
 IsTraced x = IsRow x.row × (10 ≤ length x.response)
 

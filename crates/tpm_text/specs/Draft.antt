@@ -1,4 +1,4 @@
--- What a command's text is while it is being written.
+-- The text of a command while it is being written.
 use Rattle.tpm_types.specs.Limits.{buffer_limit}
 use Rattle.std.specs.Prelude.{◌≡◌, ℕ, ◌+◌, nat_le, if◌then◌else◌, List, ◌++◌, length, take, drop}
 use Rattle.std.specs.Prelude.{Option, Some, None, option_map, Result, Ok, Err}
@@ -10,7 +10,7 @@ use Rattle.tpm_text.specs.declared.fault.AsmFault.{AsmFault}
 use Rattle.tpm_text.specs.declared.fault.AsmFault.TheVariants.{TooLong}
 use Rattle.tpm_text.specs.declared.draft.Draft.{Draft}
 
--- the bytes so far; None once they were more than a command may have
+-- the bytes of a draft so far; None once they were more than a command may have
 abbrev pub drafted : Draft → Option (List ℕ)
 drafted draft = option_map (λ size. take size draft.bytes) draft.used
 
@@ -25,19 +25,19 @@ unfoldable pub with_area : Option (List ℕ) → Option (List ℕ) → Option (L
 with_area draft None = None
 with_area draft (Some entries) = grown draft (to_be_bytes w32 (length entries) ++ entries)
 
--- the command of a draft, whose first ten bytes only keep the header's place
+-- the command of a draft, whose first ten bytes only hold the header's place
 unfoldable pub finished : Tag → CommandCode → Option (List ℕ) → Result (List ℕ) AsmFault
 finished tag code None = Err TooLong
 finished tag code (Some text) = Ok (header_text tag (length text) code ++ drop 10 text)
 
--- A write of what a definition gives, or its fault.
+-- A write added to the draft the text that the definition gives, or found the definition's fault.
 abbrev pub Drafts : {E : Type 0}
     → Result (List ℕ) E → Option (List ℕ) → Result (Unit {0}) E → Option (List ℕ) → Type 0
 Drafts (Ok text) old (Ok done) new = new ≡ grown old text
 Drafts (Err fault) old (Err found) new = found ≡ fault
 Drafts _ old _ new = ⊥
 
--- A command was finished, or it is too long.
+-- The code finished the command that the definition gives, or found the definition's fault.
 abbrev pub Finishes : {E : Type 0}
     → Result (List ℕ) E → Result (Unit {0}) E → Option (List ℕ) → Type 0
 Finishes (Ok text) (Ok done) new = new ≡ Some text

@@ -36,7 +36,7 @@ octet_in piece = do
   Ok (from_be_bytes w8 bytes)
 
 -- the entry of a password: of TPM_RS_PW, without a nonce, with continueSession, and with the
--- password in the HMAC's place
+-- password as the HMAC
 unfoldable pub password_entry : List ℕ → Result Entry TokenFault
 password_entry password = do
   bytes ← bytes_in password
@@ -47,7 +47,7 @@ password_entry password = do
     hmac = bytes;
   })
 
--- the four pieces of a session's entry
+-- the pieces of a session's entry: handle, nonce, attributes, HMAC
 pub record SessionPieces : Type 0 where
   pub session : List ℕ
   pub nonce : List ℕ
@@ -59,7 +59,7 @@ session_pieces_of (session ∷ nonce ∷ attributes ∷ hmac ∷ []) =
     Ok (record { session = session; nonce = nonce; attributes = attributes; hmac = hmac })
 session_pieces_of other = Err Bad
 
--- a session's handle, nonce, attributes and HMAC, with a colon between two
+-- the entry of a session: its handle, nonce, attributes and HMAC, with a colon between two
 unfoldable pub session_entry : List ℕ → Result Entry TokenFault
 session_entry text = do
   pieces ← session_pieces_of (pieces_of colon text)
@@ -90,7 +90,7 @@ entry_in token =
     if begins_password token then password_entry (drop 3 token)
     else (if begins_session token then session_entry (drop 2 token) else Err Bad)
 
--- the text of an entry that was read
+-- the bytes of an entry that was read
 abbrev pub text_of_entry : {E : Type 0} → Result Entry E → Result (List ℕ) E
 text_of_entry read = do
   entry ← read

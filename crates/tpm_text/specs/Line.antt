@@ -26,15 +26,15 @@ token_in read (token ∷ tokens) = do
   value ← at_column token.column (read token.text)
   Ok (value, tokens)
 
--- the command that the first token names; what names none is a fault of its own. Each line has a
--- first token, though it may be empty
+-- the command that the first token names; a name of no command is a fault of its own. Each line has
+-- a first token, though it may be empty
 abbrev pub name_in : List Token → Result (CommandCode × List Token) AsmFault
 name_in [] = Err fault.BadName
 name_in (token ∷ tokens) = do
   code ← ok_or (code_called token.text) fault.BadName
   Ok (code, tokens)
 
--- a number of handles
+-- a number of handles, one from each of the first tokens, and the tokens after them
 unfoldable pub handles_in : ℕ → List Token → Result (List Handle × List Token) AsmFault
 handles_in zero tokens = Ok ([], tokens)
 handles_in (suc count) tokens = do
@@ -42,7 +42,8 @@ handles_in (suc count) tokens = do
   others ← handles_in count first.1
   Ok (first.0 ∷ others.0, others.1)
 
--- the entries in front, at most this many; the first token that does not begin like one ends them
+-- the entries at the front of the tokens, at most this many; the first token that does not begin
+-- like an entry ends them
 unfoldable pub entry_tokens_in : ℕ → List Token → Result (List Entry × List Token) AsmFault
 entry_tokens_in zero tokens = Ok ([], tokens)
 entry_tokens_in (suc most) [] = Ok ([], [])
@@ -52,7 +53,7 @@ entry_tokens_in (suc most) (token ∷ tokens) = cond (begins_entry token.text) (
   Ok (first ∷ others.0, others.1))
     (Ok ([], token ∷ tokens))
 
--- a parameter of each kind, as their text
+-- the text of a parameter of each kind, one after another, and the tokens after them
 unfoldable pub parameters_in : List ParameterKind → List Token
     → Result (List ℕ × List Token) AsmFault
 parameters_in [] tokens = Ok ([], tokens)
@@ -61,7 +62,7 @@ parameters_in (kind ∷ kinds) tokens = do
   others ← parameters_in kinds first.1
   Ok (first.0 ++ others.0, others.1)
 
--- no token is left over
+-- the check that no token is left over
 abbrev pub ended : List Token → Result (Unit {0}) AsmFault
 ended [] = Ok tt
 ended (token ∷ tokens) = Err (fault.BadField token.column)
@@ -81,7 +82,7 @@ spelled line = do
     parameters = parameters.0;
   })
 
--- the text of that command, which is too long only where nothing else is wrong
+-- the text of the command that a line spells, which is too long only where nothing else is wrong
 unfoldable pub assembled : List ℕ → Result (List ℕ) AsmFault
 assembled line = do
   command ← spelled line

@@ -37,7 +37,7 @@ unfoldable pub number_of : List ℕ → Option ℕ
 number_of token =
     if starts_with nat_eq token (codes "0x") then numeral 16 (drop 2 token) else numeral 10 token
 
--- what was written: Bad where it is no number, Range where it is over this
+-- the number that was written: Bad where none was, Range where it is over this limit
 unfoldable pub at_most : ℕ → Option ℕ → Result ℕ TokenFault
 at_most most written = do
   number ← ok_or written Bad
@@ -56,17 +56,17 @@ decimal_of digits = result_ok (at_most (2 ^ 32 - 1) (numeral 10 digits))
 abbrev pub locality_of : ℕ → Option ℕ
 locality_of number = if nat_le number 4 then Some number else None
 
--- a number as a number of bytes, of which this is the largest number
+-- the bytes of the number that a token writes, which is at most this one
 abbrev pub number_text : Width → (most : ℕ) → List ℕ → Result (List ℕ) TokenFault
 number_text width most token = do
   number ← number_in most token
   Ok (to_be_bytes width number)
 
--- the bytes that hex digits of either case write, two digits a byte
+-- the bytes that hex digits of either case write, two digits for each byte
 abbrev pub hex_in : List ℕ → Result (List ℕ) TokenFault
 hex_in digits = or_fault (decode_of digits) Bad
 
--- bytes in hex; none at all are written as -
+-- the bytes that a token writes in hex; the token - writes no bytes
 unfoldable pub bytes_in : List ℕ → Result (List ℕ) TokenFault
 bytes_in token =
     if is_word (codes "-") token then Ok []

@@ -1,4 +1,4 @@
--- How a line falls into tokens, and a token into pieces.
+-- How a line is cut into tokens, and a token into pieces.
 use Rattle.std.specs.Prelude.{◌≡◌, ℕ, ◌+◌, ◌==◌, List, [], ◌∷◌, length, Option, Some, None}
 use Rattle.std.specs.Prelude.{Result, Ok}
 use Rattle.std.specs.List.{slice_split}
@@ -6,7 +6,8 @@ use Rattle.tpm_bytes.specs.Reading.{◌>>=◌}
 use Rattle.tpm_text.specs.declared.token.Token as declared
 use Rattle.tpm_text.specs.declared.fault.TokenFault.{TokenFault}
 
--- what separates: tokens, the elements of a list, numbers, and a word from what stands after it
+-- the separators: of tokens, of the elements of a list, of numbers, and of a word from what stands
+-- after it
 abbrev pub space : ℕ
 space = 32
 
@@ -28,7 +29,8 @@ pub record Token : Type 0 where
   pub column : ℕ
   pub text : List ℕ
 
--- the tokens that stand one after the other from a column on, a space between two
+-- the tokens of these texts, which stand one after another from a column on, with a space between
+-- two
 abbrev pub placed : ℕ → List (List ℕ) → List Token
 placed column [] = []
 placed column (text ∷ texts) =
@@ -41,7 +43,7 @@ tokens_of line = placed 1 (pieces_of space line)
 abbrev pub token_of : declared.Token → Token
 token_of token = record { column = token.column; text = token.text.now }
 
--- what is read of each piece, or the first fault from the left
+-- what is read of each piece of a token, or the first fault from the left
 unfoldable pub each_in : {A : Type 0}
     → (List ℕ → Result A TokenFault) → List (List ℕ) → Result (List A) TokenFault
 each_in read [] = Ok []
@@ -50,7 +52,7 @@ each_in read (piece ∷ pieces) = do
   others ← each_in read pieces
   Ok (first ∷ others)
 
--- The first was taken from what was left, or nothing was left.
+-- The first of what was left was taken, or nothing was left.
 abbrev pub TakesFirst : {X Y : Type 0} → (X → Y) → List Y → Option X → List Y → Type 0
 TakesFirst view old None new = (old ≡ []) × (new ≡ [])
 TakesFirst view old (Some x) new = old ≡ view x ∷ new

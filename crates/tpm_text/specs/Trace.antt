@@ -13,8 +13,8 @@ use Rattle.tpm_step.specs.Events.{PlainEvent, Given, Cycled}
 use Rattle.tpm_step.specs.Step.{Stepped}
 use Rattle.tpm_step.specs.declared.event.Row.{Row}
 
--- A row of the table names a command that is served, or none by 0, and the check that refused it,
--- or none by 0.
+-- A row of the table names a command that is served, or no command by 0, and the check that refused
+-- the command, or no check by 0.
 abbrev pub IsRow : Row → Type 0
 IsRow row =
     ((row.code ≡ 0) ⊎ ((code : CommandCode) × (row.code ≡ code_number code)))
@@ -29,12 +29,12 @@ IsAnswered Cycled response = Unit {0}
 abbrev pub IsTraceable : PlainEvent → Stepped → Type 0
 IsTraceable event x = IsRow x.row × IsAnswered event x.response
 
--- the name of the command of this number; ? where there is none
+-- the name of the command with this number, or ? where no command has it
 unfoldable pub name_text : ℕ → List ℕ
 name_text number = unwrap_or (option_map code_name (code_named number)) (codes "?")
 
--- the check of this number: ok where none refused; G1 to G11 are those of every command, A1 to A7
--- the command's own, and M is want of memory
+-- the name of the check with this number: ok where none refused; G1 to G11 are those of every
+-- command, A1 to A7 the command's own, and M is want of memory
 unfoldable pub check_text : ℕ → List ℕ
 check_text number =
     if number == 0 then codes "ok"
@@ -42,12 +42,13 @@ check_text number =
     else if number == 255 then codes "M"
     else codes "A" ++ decimal (number - 20)
 
--- the response code, which stands after a response's tag and size
+-- the response code in hex, which stands after a response's tag and size
 abbrev pub response_code_text : List ℕ → List ℕ
 response_code_text response = encode_lower (slice_range response 6 10)
 
--- a power cycle; or a command with its name, the locality that it came from, the milliseconds that
--- passed before it, the check that refused it, and the response code
+-- the trace of an event: of a power cycle; or of a command, with its name, the locality that it
+-- came from, the milliseconds that passed before it, the check that refused it, and the response
+-- code
 abbrev pub trace_text : PlainEvent → Row → (response : List ℕ) → List ℕ
 trace_text Cycled row response = codes "power"
 trace_text (Given buffer locality elapsed random) row response =

@@ -1,4 +1,4 @@
-//! The check that a token is bytes in hex, before these are decoded.
+//! The check that a token is bytes in hex, before the bytes are decoded.
 
 ghost use Rattle.std.specs.Prelude.{◌≡◌, Err, MatchResult};
 ghost use Rattle.std.specs.List.{list_all};
@@ -21,7 +21,7 @@ fn are_hex_digits(bytes: &[u8]) -> bool
     bytes.iter().all(|byte| is_hex_digit(*byte))
 }
 
-/// Tells whether hex digits of either case write bytes, and does not decode them: Bad where they do
+/// Checks that hex digits of either case write bytes, and does not decode them: Bad where they do
 /// not.
 #[tactic(auto, using(crate::proofs::HexDigits::hex_digits))]
 pub fn check_hex(digits: &[u8]) -> Result<(), TokenFault>

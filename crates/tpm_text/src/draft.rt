@@ -12,11 +12,11 @@ use tpm_bytes::Sink;
 use tpm_types::BUFFER_LIMIT;
 use tpm_types_command::{CommandCode, HEADER_SIZE, Tag};
 
-/// A command's text that is being written, and that knows when it has become too long.
+/// A command's text that is being written, which remembers whether it has become too long.
 #[derive(Drop)]
 pub struct Draft {
     bytes: [u8; BUFFER_LIMIT],
-    /// How many bytes were written; none once they were too many.
+    /// How many bytes were written; None once they were too many.
     used: Option<usize>,
     ghost capacity: { length bytes ≡ buffer_limit },
     ghost within: { ForSome used (λ size. size ≤ buffer_limit) },
@@ -27,7 +27,7 @@ impl Draft {
     ghost use Rattle.tpm_text.specs.Number.{hex_in};
     ghost use Rattle.tpm_text.specs.Parameter.{buffer_text};
 
-    /// No bytes.
+    /// An empty draft.
     pub fn new() -> Draft
         ensures { drafted result ≡ Some [] }
     {
@@ -37,7 +37,7 @@ impl Draft {
         }
     }
 
-    /// Begins anew, after the ten bytes of a header.
+    /// Begins a draft anew, after the ten bytes of a header.
     pub fn begin(&mut self)
         ensures ten { IfSome (drafted self.new) (λ text. length text ≡ 10) }
         ensures some { IsSome (drafted self.new) }
@@ -45,7 +45,7 @@ impl Draft {
         self.used = Some(HEADER_SIZE);
     }
 
-    /// Adds bytes.
+    /// Adds bytes to the draft.
     #[tactic(auto, unfolding(crate::specs::Draft::grown))]
     pub fn put(&mut self, bytes: &[u8])
         ensures { drafted self.new ≡ grown (drafted self.old) bytes.now }
@@ -62,7 +62,7 @@ impl Draft {
         self.used = Some(end);
     }
 
-    /// Adds the bytes that hex digits write: Bad where they write none.
+    /// Adds the bytes that hex digits write: Bad where the text is not hex.
     #[tactic(auto, unfolding(crate::specs::Draft::grown))]
     pub fn put_hex(&mut self, digits: &[u8]) -> Result<(), TokenFault>
         ensures { Drafts (hex_in digits.now) (drafted self.old) result (drafted self.new) }
@@ -98,7 +98,7 @@ impl Draft {
         self.put_hex(digits)
     }
 
-    /// Adds an authorization area: the size of its entries, and these.
+    /// Adds an authorization area: the size of its entries, and the entries.
     pub fn put_area(&mut self, entries: &Draft)
         ensures { drafted self.new ≡ with_area (drafted self.old) (drafted entries.now) }
     {
@@ -125,7 +125,7 @@ impl Draft {
         Ok(())
     }
 
-    /// The bytes so far; none once they were too many.
+    /// The bytes so far; empty once they were too many.
     pub fn as_slice(&self) -> &[u8]
         ensures value { IfSome (drafted self.now) (λ text. result.now ≡ text) }
         ensures small { length result.now ≤ buffer_limit }

@@ -1,7 +1,7 @@
 //! What the elements of a list in words may be: selected PCRs, digests with their algorithm, or
 //! digests alone.
 
-/// What the elements of a list are.
+/// The kinds of elements that a list may have.
 #[derive(Clone, Copy, Debug, PartialEq, Eq)]
 pub enum Element {
     /// The PCRs that are selected in a bank: TPMS_PCR_SELECTION.

@@ -31,7 +31,7 @@ fn hex_handle_in(token: &[u8]) -> Result<Handle, TokenFault>
     })
 }
 
-/// A handle: the name of a permanent entity, or eight hex digits.
+/// The handle of a token: the name of a permanent entity, or eight hex digits.
 #[tactic(auto, unfolding(crate::specs::Entry::handle_in))]
 pub fn handle_in(token: &[u8]) -> Result<Handle, TokenFault>
     ensures { Gives (λ handle. handle) (handle_in token.now) result }
@@ -51,7 +51,7 @@ pub fn handle_in(token: &[u8]) -> Result<Handle, TokenFault>
     }
 }
 
-/// An octet: two hex digits.
+/// The octet that two hex digits write.
 #[tactic(auto, unfolding(crate::specs::Entry::octet_in))]
 fn octet_in(piece: &[u8]) -> Result<u8, TokenFault>
     ensures { Gives (λ octet. octet) (octet_in piece.now) result }
@@ -66,7 +66,7 @@ fn octet_in(piece: &[u8]) -> Result<u8, TokenFault>
     Ok(octet[0])
 }
 
-/// The four pieces of a session's entry.
+/// The pieces of a session's entry: handle, nonce, attributes, HMAC.
 #[derive(Clone, Copy)]
 struct SessionPieces<'a> {
     session: &'a [u8],
@@ -98,7 +98,7 @@ fn session_pieces(text: &[u8]) -> Result<SessionPieces, TokenFault>
     }
 }
 
-/// Writes the entry of a password: TPM_RS_PW, no nonce, a session that goes on, and the password.
+/// Writes the entry of a password: TPM_RS_PW, no nonce, continueSession, and the password.
 fn put_password(password: &[u8], draft: &mut Draft) -> Result<(), TokenFault>
     ensures { Drafts (text_of_entry (password_entry password.now)) (drafted draft.old) result
         (drafted draft.new) }
@@ -127,7 +127,7 @@ pub fn begins_entry(token: &[u8]) -> bool
     token.starts_with(b"pw:") || token.starts_with(b"s:")
 }
 
-/// Writes an entry.
+/// Writes the entry that a token spells.
 #[tactic(auto, unfolding(crate::specs::Entry::entry_in))]
 pub fn put_entry(token: &[u8], draft: &mut Draft) -> Result<(), TokenFault>
     ensures { Drafts (text_of_entry (entry_in token.now)) (drafted draft.old) result

@@ -4,13 +4,13 @@ ghost use Rattle.std.specs.Prelude.{◌≡◌};
 
 use std::alloc::AllocError;
 
-/// Why a line spells no command, or none that a buffer can hold: the first fault from the left.
-/// A column is the place of a token's first byte, from 1.
+/// Why a line spells no command, or one that no buffer can hold: the first fault from the left. A
+/// column is the place of a token's first byte, from 1.
 #[derive(Clone, Copy, Debug, PartialEq, Eq)]
 pub enum AsmFault {
     /// The first token is no command's name.
     BadName,
-    /// The token at this column is none of what is wanted in its place, or is left over.
+    /// The token at this column is not what is wanted in its place, or is left over.
     BadField { column: usize },
     /// The line has ended where a token is wanted.
     Missing,
@@ -32,10 +32,10 @@ impl From<AllocError> for AsmFault {
     }
 }
 
-/// Why a token is none of what is wanted in its place.
+/// Why a token is not what is wanted in its place.
 #[derive(Clone, Copy, Debug, PartialEq, Eq)]
 pub enum TokenFault {
-    /// It is not written so.
+    /// The token is not written as it should be.
     Bad,
     /// A number is too large.
     Range,

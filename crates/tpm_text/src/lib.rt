@@ -4,16 +4,15 @@
 //!
 //! A line is a command in words: its name, its handles, its authorization entries and its
 //! parameters, a space between two. [`line`] reads it token by token ([`token`]) by the shape of
-//! the command, which says what is wanted where, and writes the buffer of the command
-//! ([`draft`]): handles and entries ([`entry`]), and parameters ([`parameter`]), which are numbers
-//! ([`number`]), words ([`word`]), bytes in hex ([`digits`]) and lists ([`list`]). The first fault
-//! from the left is told with its column ([`fault`]). A trace ([`trace`]) tells of an event in one
-//! line which command came from which locality, which row of the table it took, and what was
-//! answered.
+//! the command, which says what is wanted where, and writes the buffer of the command ([`draft`]):
+//! handles and entries ([`entry`]), and parameters ([`parameter`]): numbers ([`number`]), words
+//! ([`word`]), bytes in hex ([`digits`]) and lists ([`list`]). The first fault from the left is
+//! told with its column ([`fault`]). A trace ([`trace`]) tells of an event in one line which
+//! command came from which locality, which row of the table it took, and what was answered.
 //!
-//! It stands on `tpm_types_command` for the shapes of commands, and on `tpm_step` for
-//! events. Each call equals its definition in `specs/`: a line gives the buffer of the command that
-//! it spells, which is read back as that command, or its first fault.
+//! The crate uses `tpm_types_command` for the shapes of commands, and `tpm_step` for events. Each
+//! call equals its definition in `specs/`: a line gives the buffer of the command that it spells,
+//! which is read back as that command, or the line's first fault.
 
 mod digits;
 pub mod draft;

@@ -20,7 +20,7 @@ use crate::token::Tokens;
 use std::alloc::Global;
 use tpm_types_command::{CommandCode, ParameterKind, Tag};
 
-/// Writes a number of handles.
+/// Writes a number of handles, one from each token.
 fn put_handles(count: usize, tokens: &mut Tokens, draft: &mut Draft) -> Result<(), AsmFault>
     ensures { DraftsRead handles_text (handles_in count (tokens_left tokens.old))
         (drafted draft.old) result (drafted draft.new) (tokens_left tokens.new) }
@@ -34,7 +34,7 @@ fn put_handles(count: usize, tokens: &mut Tokens, draft: &mut Draft) -> Result<(
     put_handles(count - 1, tokens, draft)
 }
 
-/// Writes at most `most` entries: as many as the tokens begin like one.
+/// Writes at most `most` entries, as long as the next token begins like an entry.
 fn put_entries(most: usize, tokens: &mut Tokens, draft: &mut Draft) -> Result<(), AsmFault>
     ensures { DraftsRead entries_text (entry_tokens_in most (tokens_left tokens.old))
         (drafted draft.old) result (drafted draft.new) (tokens_left tokens.new) }
@@ -49,7 +49,7 @@ fn put_entries(most: usize, tokens: &mut Tokens, draft: &mut Draft) -> Result<()
     put_entries(most - 1, tokens, draft)
 }
 
-/// Writes a parameter of each kind.
+/// Writes a parameter of each kind, one from each token.
 fn put_parameters(
     kinds: &[ParameterKind],
     tokens: &mut Tokens,
@@ -91,7 +91,7 @@ fn read_name(tokens: &mut Tokens) -> Result<CommandCode, AsmFault>
     CommandCode::called(token.text).ok_or(AsmFault::BadName)
 }
 
-/// Tells whether no token is left over.
+/// Checks that no token is left over.
 fn check_end(tokens: &mut Tokens) -> Result<(), AsmFault>
     ensures { Gives (λ done. done) (ended (tokens_left tokens.old)) result }
 {
@@ -128,7 +128,7 @@ fn write_command(line: &[u8], draft: &mut Draft) -> Result<(), AsmFault>
 }
 
 /// The buffer of the command that a line spells, or the first fault of the line from the left.
-/// NoMemory comes only where the line spells one that fits a buffer.
+/// NoMemory comes only where the line spells a command that fits a buffer.
 pub fn assemble(alloc: Global, line: &str) -> Result<Vec<u8>, AsmFault>
     ensures { Assembles (λ buffer. buffer.items) (assembled line.now) result }
 {

@@ -19,7 +19,7 @@ use tpm_bytes::Sink;
 use tpm_mac::HashAlg;
 use tpm_types::{BankSelection, PcrIndex, PcrSelect, hash_number};
 
-/// A hash algorithm, and all that stands after the first colon.
+/// The hash algorithm before the first colon, and all that stands after the colon.
 #[tactic(auto, unfolding(crate::specs::Parameter::hash_and_rest_in))]
 fn hash_and_rest_in(piece: &[u8]) -> Result<(HashAlg, &[u8]), TokenFault>
     ensures { Gives (λ pair. (pair.0, pair.1.now)) (hash_and_rest_in piece.now) result }
@@ -39,7 +39,7 @@ fn pcr_in(piece: &[u8]) -> Result<PcrIndex, TokenFault>
     PcrIndex::new(number as u8).ok_or(TokenFault::Range)
 }
 
-/// The PCRs of these numbers, joined by commas.
+/// The selection of the PCRs of these numbers, joined by commas.
 fn pcrs_in(numbers: &[u8]) -> Result<PcrSelect, TokenFault>
     ensures { Gives (λ select. select) (pcrs_in numbers.now) result }
 {
@@ -114,7 +114,7 @@ fn separator_count(separator: u8, text: &[u8]) -> usize
     text.iter().filter(|byte| **byte == separator).count()
 }
 
-/// How many pieces a separator makes of a text, in 32 bits. A text with more pieces than these can
+/// How many pieces a separator makes of a text, in 32 bits. A text with more pieces than 32 bits
 /// count is that of a command that is too long.
 fn piece_count(separator: u8, text: &[u8]) -> u32
     ensures { to_be_bytes w32 result ≡ to_be_bytes w32 (length (pieces_of separator text.now)) }
@@ -131,7 +131,7 @@ pub fn put_list(element: Element, token: &[u8], draft: &mut Draft) -> Result<(),
     put_elements(element, token, draft)
 }
 
-/// The same, where `-` is a list of none.
+/// Writes a list, whose elements are joined by +, where `-` is the empty list.
 #[tactic(auto, unfolding(crate::specs::Parameter::list_or_none_text))]
 pub fn put_list_or_none(element: Element, token: &[u8], draft: &mut Draft) -> Result<(), TokenFault>
     ensures { Drafts (list_or_none_text element token.now) (drafted draft.old) result

@@ -18,7 +18,7 @@ pub fn is_word(word: &str, text: &[u8]) -> bool
     text == word.as_bytes()
 }
 
-/// In what a number is written.
+/// The radix in which a number is written.
 #[derive(Clone, Copy, Debug, PartialEq, Eq)]
 enum Radix {
     Decimal,
@@ -49,7 +49,7 @@ impl Radix {
         bytes.iter().all(|byte| self.has_digit(*byte))
     }
 
-    /// The number that digits write: Bad where they write none, Range from 2^64 on.
+    /// The number that digits of this radix write: Bad where they write none, Range from 2^64 on.
     fn read(self, digits: &[u8]) -> Result<u64, TokenFault>
         ensures { Gives (λ number. number)
             (at_most (2 ^ 64 - 1) (numeral (radix_number self) digits.now)) result }
@@ -84,8 +84,8 @@ pub fn number_in(most: u64, token: &[u8]) -> Result<u64, TokenFault>
     Ok(number)
 }
 
-/// The number that decimal digits write: at least one, with leading zeros or none, and no sign.
-/// `None` is any other text, and a number of 2^32 or more.
+/// The number that decimal digits write: at least one digit, with leading zeros or none, and no
+/// sign. `None` is any other text, and a number of 2^32 or more.
 #[tactic(auto, unfolding(crate::specs::Number::at_most))]
 pub fn decimal(digits: &[u8]) -> Option<u32>
     ensures { result ≡ decimal_of digits.now }

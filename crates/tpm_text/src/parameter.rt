@@ -15,7 +15,7 @@ use crate::number::{is_word, number_in};
 use crate::word::{hash_in, put_hash, put_symmetric};
 use tpm_types_command::ParameterKind;
 
-/// Writes a parameter of a kind, given as a token.
+/// Writes a parameter of this kind, given as a token.
 #[tactic(auto, unfolding(crate::specs::Parameter::parameter_text))]
 pub fn put_parameter(kind: ParameterKind, token: &[u8], draft: &mut Draft) -> Result<(), TokenFault>
     ensures { Drafts (parameter_text kind token.now) (drafted draft.old)

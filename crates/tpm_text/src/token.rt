@@ -9,14 +9,14 @@ use crate::entry::begins_entry;
 use crate::fault::{AsmFault, TokenFault};
 use memchr::memchr;
 
-/// The first place of a byte.
+/// The place of the first such byte in a text.
 pub fn position_of(byte: u8, bytes: &[u8]) -> Option<usize>
     ensures { result ≡ position (λ other. other == byte) bytes.now }
 {
     memchr(byte, bytes)
 }
 
-/// What stands before the first separator, and what stands after it, if one is there.
+/// The text before the first separator, and the text after it, if there is a separator.
 #[tactic(auto, using(crate::proofs::Cutting::cuts))]
 pub fn cut(separator: u8, text: &[u8]) -> (&[u8], Option<&[u8]>)
     ensures pieces { pieces_of separator text.now ≡ result.0.now
@@ -42,7 +42,7 @@ pub struct Token<'a> {
 pub struct Tokens<'a> {
     /// How many bytes the whole line has.
     size: usize,
-    /// What stands after the last space that was passed; none after the last token.
+    /// The text after the last space that was passed; None after the last token.
     rest: Option<&'a [u8]>,
     ghost within: { ForSome rest (λ text. length text.now ≤ size) },
     ghost small: { size < 2 ^ 63 },
@@ -51,7 +51,7 @@ pub struct Tokens<'a> {
 impl<'a> Token<'a> {
     ghost use Rattle.tpm_text.specs.Fault.{at_column};
 
-    /// What was read of the token, with its column where that is a fault.
+    /// The result of reading the token, with its column where that is a fault.
     pub fn told<T>(self, read: Result<T, TokenFault>) -> Result<T, AsmFault>
         ensures { result ≡ at_column self.entry.column read }
     {
@@ -78,7 +78,7 @@ impl<'a> Tokens<'a> {
         }
     }
 
-    /// Takes the next token, which is wanted.
+    /// Takes the next token, or fails where none is left.
     pub fn wanted(&mut self) -> Result<Token<'a>, AsmFault>
         ensures { Takes token_of (tokens_left self.old) result (tokens_left self.new) }
     {

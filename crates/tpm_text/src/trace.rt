@@ -66,13 +66,13 @@ pub fn trace_text(event: &Event, row: Row, response: &[u8]) -> Trace
     text
 }
 
-/// What an execution of an event gives can be traced.
+/// Every execution of an event gives something that can be traced.
 pub fn traceable_laws()
     ensures { (can : Bool) (old : Record) (event : PlainEvent) (x : Stepped)
         → Executes can old event x → IsTraceable event x }
 {}
 
-/// The name of the command of this number, or `?`.
+/// The name of the command with this number, or `?`.
 #[tactic(auto, unfolding(crate::specs::Trace::name_text))]
 fn name(number: u32) -> &'static str
     ensures value { result.now ≡ name_text number }
@@ -84,7 +84,7 @@ fn name(number: u32) -> &'static str
     }
 }
 
-/// Adds the check of this number, or `ok`.
+/// Adds the name of the check with this number, or `ok`, to the trace.
 #[tactic(auto, unfolding(crate::specs::Trace::check_text))]
 fn put_check(number: u8, text: &mut Trace)
     requires check { (number ≡ 0) ⊎ ((check : Check) × (number ≡ check_number check)) }
@@ -100,7 +100,7 @@ fn put_check(number: u8, text: &mut Trace)
     }
 }
 
-/// Adds a letter and a number.
+/// Adds a letter and a number to the trace.
 fn put_numbered(letter: &str, number: u8, text: &mut Trace)
     requires letter { length letter.now ≡ 1 }
     requires room { array_string_len text.old + 4 ≤ 64 }
@@ -112,7 +112,7 @@ fn put_numbered(letter: &str, number: u8, text: &mut Trace)
     text.push_str(numeral.format(number));
 }
 
-/// Adds the response code in eight hex digits.
+/// Adds the response code in eight hex digits to the trace.
 fn put_response_code(response: &[u8], text: &mut Trace)
     requires response { 10 ≤ length response.now }
     requires room { array_string_len text.old + 8 ≤ 64 }

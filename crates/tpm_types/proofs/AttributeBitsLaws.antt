@@ -1,4 +1,4 @@
--- Attributes, a bit of 32 for each: what is read was spelled so, and what is spelled so is read.
+-- Attributes, a bit of 32 for each: a value is read only from its text, and from every such text.
 use Rattle.std.proofs.Common.{ℕ, ◌^◌, List, Ok, refl, subst}
 use Rattle.std.specs.Prelude.{◌==◌, not, bit_and}
 use Rattle.std.specs.Int.{w32, to_be_bytes}

@@ -1,4 +1,4 @@
--- Hash algorithms: what is read was spelled so, and what is spelled so is read.
+-- Hash algorithms: a value is read only from its text, and from every such text.
 use Rattle.std.proofs.Common.{◌≡◌, ℕ, List, ◌++◌, Ok}
 use Rattle.std.specs.Int.{w16, to_be_bytes}
 use Rattle.tpm_bytes.proofs.Fields.{AreBytes, Takes}
@@ -18,7 +18,7 @@ hash_takes bytes x fits e = (hash_spelled.taken bytes x fits e).0
 pub hash_again : (hash : HashAlg) (rest : List ℕ) → hash_at (to_be_bytes w16 (hash_number hash) ++ rest) ≡ Ok (hash, rest)
 hash_again hash rest = hash_spelled.again hash rest tt
 
--- the same with NULL
+-- ---- hash algorithms or NULL
 
 pub hash_or_null_spelled : Spelled (λ hash. to_be_bytes w16 (hash_or_null_number hash)) (λ hash. Unit {0}) hash_or_null_at
 unfolding hash_or_null_at

@@ -1,4 +1,5 @@
--- A number on the wire and what it names: the one that is found has that number, and is found by it.
+-- A number on the wire and what it names: what is found under a number has that number, and is
+-- found by it.
 use Rattle.std.proofs.Common.{◌≡◌, ℕ, ◌<◌, ◌^◌, Bool, true, false, cond, List, Option, Some, None, Ok, refl, ap, subst, ◌∙◌, arith}
 use Rattle.std.specs.Prelude.{◌==◌, ok_or}
 use Rattle.std.specs.Int.{w16, to_be_bytes}
@@ -14,7 +15,8 @@ use Rattle.tpm_types.specs.Algorithm.{hash_named, hash_number, hash_or_null_name
 use Rattle.tpm_types.specs.Rc.{plain}
 use Rattle.tpm_types.proofs.Spelled.{Spelled}
 
--- one link of a chain of tests: it names the first, whose number it is, or the links after it name one
+-- one link of a chain of tests: the number names the first value, whose number it is, or the links
+-- after it name one
 pub link : {A : Type 0} (number_of : A → ℕ) (number : ℕ) (first : A) (others : Option A) (x : A) → ((o : A) → others ≡ Some o → number ≡ number_of o) → cond (number == number_of first) (Some first) others ≡ Some x → number ≡ number_of x
 link number_of number first others x after = chosen (number == number_of first) refl
   where

@@ -1,4 +1,4 @@
--- Selections of PCRs: what is read was spelled so, and what is spelled so is read.
+-- Selections of PCRs: a value is read only from its text, and from every such text.
 use Rattle.std.proofs.Common.{◌≡◌, ℕ, zero, suc, ◌/◌, ◌%◌, ◌^◌, ◌<◌, Bool, true, false, ltb, List, [], ◌∷◌, ◌++◌, length, take, Ok, refl, sym, ap, subst, ◌∙◌, append_assoc, arith}
 use Rattle.std.specs.Prelude.{◌==◌, not}
 use Rattle.std.specs.Int.{w8, w16, w32, to_be_bytes, from_le_bytes, to_le_bytes}
@@ -16,7 +16,7 @@ use Rattle.tpm_types.specs.PcrSelection.{IsBank, IsSelection, bank_at, bank_text
 use Rattle.tpm_types.proofs.CountedLaws.{counted_again, counted_takes}
 use Rattle.tpm_types.proofs.HashLaws.{hash_again, hash_takes}
 
--- a test of inequality that did not hold
+-- two numbers whose inequality test failed are equal
 pub is_equal : (m n : ℕ) → not (m == n) ≡ false → m ≡ n
 is_equal m n e = eqb-true m n (same (m == n) e)
   where
@@ -24,7 +24,7 @@ is_equal m n e = eqb-true m n (same (m == n) e)
     same true e = refl
     same false e = absurd cc
 
--- ---- the octets of a select
+-- ---- the octets of a bank's selection
 
 octets_are_bytes : (a b c : ℕ) → a < 256 → b < 256 → c < 256 → AreBytes (a ∷ b ∷ c ∷ 0 ∷ [])
 octets_are_bytes a b c fa fb fc zero = fa
@@ -46,7 +46,7 @@ fourth_octet select small = ap (λ n. select % 256 ∷ select / 256 % 256 ∷ se
 pub select_again : (select : ℕ) → select < 2 ^ 24 → select_of (select_text select) ≡ select
 select_again select small = ap (from_le_bytes w32) (fourth_octet select small) ∙ from_le_bytes-to_le_bytes_4 select (omega arith)
 
--- ---- a bank
+-- ---- the selection of a bank
 
 abbrev bank_of : HashAlg → List ℕ × List ℕ → BankSelection × List ℕ
 bank_of hash octets = (record { hash = hash; select = select_of octets.0 }, octets.1)

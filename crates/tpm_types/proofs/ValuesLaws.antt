@@ -1,4 +1,4 @@
--- Digests with their algorithms: what is read was spelled so, and what is spelled so is read.
+-- Digests with their algorithms: a value is read only from its text, and from every such text.
 use Rattle.std.proofs.Common.{◌≡◌, ℕ, ltb, List, ◌++◌, Ok, refl, sym, ap, subst, ◌∙◌, append_assoc, arith}
 use Rattle.std.specs.Int.{w16, to_be_bytes}
 use Rattle.std.proofs.lemmas.Bool.{ltb-false, le-ltb}

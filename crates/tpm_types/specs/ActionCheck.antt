@@ -1,4 +1,4 @@
--- The places of a command's own checks, which TPM 2.0 Library, Part 3, gives in its section.
+-- The places of a command's own checks, which are those of its section in TPM 2.0 Library, Part 3.
 use Rattle.std.specs.Prelude.{ℕ, ◌==◌, if◌then◌else◌}
 use Rattle.tpm_types.specs.declared.action_check.ActionCheck.{ActionCheck}
 use Rattle.tpm_types.specs.declared.action_check.ActionCheck.TheVariants as action
@@ -13,7 +13,7 @@ action_number action.Fifth = 5
 action_number action.Sixth = 6
 action_number action.Seventh = 7
 
--- the check of a place; the seventh for any other number
+-- the check in a place; the seventh for any other number
 abbrev pub action_named : ℕ → ActionCheck
 action_named number =
     if number == 1 then action.First

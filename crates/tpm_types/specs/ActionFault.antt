@@ -7,11 +7,11 @@ use Rattle.tpm_types.specs.declared.rc.Place.TheVariants as place
 use Rattle.tpm_types.specs.declared.rc.ResponseCode.{ResponseCode}
 use Rattle.tpm_types.specs.Rc.{at, plain}
 
--- a fault of a check that is of no handle, parameter or session
+-- the fault of a check that concerns no handle, parameter or session
 abbrev pub plain_fault : ActionCheck → ResponseCode → ActionFault
 plain_fault check code = record { check = check; rc = plain code }
 
--- and one of a parameter
+-- the fault of a check that concerns the parameter of this number
 abbrev pub parameter_fault : ActionCheck → (parameter : ℕ) → ResponseCode → ActionFault
 parameter_fault check parameter code =
     record { check = check; rc = at (place.Parameter parameter) (plain code) }

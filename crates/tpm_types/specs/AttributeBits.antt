@@ -7,12 +7,12 @@ use Rattle.tpm_types.specs.declared.rc.Rc.{Rc}
 use Rattle.tpm_types.specs.declared.rc.ResponseCode.TheVariants as code
 use Rattle.tpm_types.specs.Rc.{plain}
 
--- what has a text: no reserved bit is set
+-- Attributes have a text: they fit 32 bits, and no reserved bit is set.
 pub record AreAttributeBits (reserved bits : ℕ) : Type 0 where
   pub fits : bits < 2 ^ 32
   pub named : bit_and bits reserved ≡ 0
 
--- the bits, and what is after them
+-- the bits of the attributes at the front of a text, and what is after them
 unfoldable pub attribute_bits_at : (reserved : ℕ) → List ℕ → Result (ℕ × List ℕ) Rc
 attribute_bits_at reserved text = do
   bits ← or_fault (number_at w32 text) (plain code.Insufficient)

@@ -8,7 +8,8 @@ use Rattle.tpm_types.specs.declared.rc.Rc.{Rc}
 use Rattle.tpm_types.specs.declared.rc.ResponseCode.TheVariants as code
 use Rattle.tpm_types.specs.Rc.{plain}
 
--- a buffer over its limit is SIZE, whole or cut, and else a cut one is INSUFFICIENT
+-- the response code for a bad sized buffer: one over its limit is SIZE, whether it is whole or cut,
+-- and else a cut one is INSUFFICIENT
 abbrev pub sized_rc : SizedFault → Rc
 sized_rc fault.TooLong = plain code.Size
 sized_rc fault.Short = plain code.Insufficient
@@ -17,10 +18,10 @@ abbrev pub or_sized_rc : {X : Type 0} → Result X SizedFault → Result X Rc
 or_sized_rc (Ok x) = Ok x
 or_sized_rc (Err fault) = Err (sized_rc fault)
 
--- the bytes of a buffer of at most this many, and what is after it
+-- the bytes of the sized buffer at the front of a text, at most this many, and what is after it
 unfoldable pub buffer_at : ℕ → List ℕ → Result (List ℕ × List ℕ) Rc
 buffer_at limit text = or_sized_rc (sized_at limit text)
 
--- a caller who has nothing to give for a buffer leaves it empty
+-- whether the caller gave something for a buffer: else it is empty
 abbrev pub is_given : List ℕ → Bool
 is_given bytes = not (length bytes == 0)

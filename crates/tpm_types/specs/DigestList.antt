@@ -22,18 +22,18 @@ digests_text digests = flat_map sized_text digests
 unfoldable pub digest_list_text : List (List ℕ) → List ℕ
 digest_list_text digests = to_be_bytes w32 (length digests) ++ digests_text digests
 
--- a digest has at most 32 bytes
+-- A digest has at most 32 bytes.
 abbrev pub IsDigest : List ℕ → Type 0
 IsDigest digest = length digest ≤ 32
 
--- a list that is read has two to eight digests: TPM2_PolicyOR's alone is read (Part 3, section
--- 23.6)
+-- A list of digests that is read has two to eight of them: only TPM2_PolicyOR's is read (Part 3,
+-- section 23.6).
 pub record IsDigestList (digests : List (List ℕ)) : Type 0 where
   pub several : 2 ≤ length digests
   pub few : length digests ≤ 8
   pub each : AllByRecursion IsDigest digests
 
--- reading, with the first fault
+-- ---- reading a list of digests, with the first fault
 
 abbrev pub digest_at : List ℕ → Result (List ℕ × List ℕ) Rc
 digest_at text = buffer_at 32 text

@@ -22,7 +22,8 @@ abbrev pub digest_of : DigestValue → List ℕ
 digest_of (Sha1 digest) = digest
 digest_of (Sha256 digest) = digest
 
--- the algorithm, and as many bytes as it gives
+-- the text of a digest with its algorithm: the algorithm's number, and as many bytes as the
+-- algorithm gives
 unfoldable pub digest_value_text : DigestValue → List ℕ
 digest_value_text value = to_be_bytes w16 (hash_number (hash_of_value value)) ++ digest_of value
 
@@ -32,17 +33,17 @@ values_text values = flat_map digest_value_text values
 unfoldable pub digest_values_text : List DigestValue → List ℕ
 digest_values_text values = to_be_bytes w32 (length values) ++ values_text values
 
--- a digest is as long as its algorithm gives
+-- A digest is as long as its algorithm gives.
 abbrev pub IsDigestValue : DigestValue → Type 0
 IsDigestValue (Sha1 digest) = length digest ≡ 20
 IsDigestValue (Sha256 digest) = length digest ≡ 32
 
--- what has a text: at most two digests
+-- A list of digests has a text: it has at most two.
 pub record IsDigestValues (values : List DigestValue) : Type 0 where
   pub few : length values ≤ 2
   pub each : AllByRecursion IsDigestValue values
 
--- reading, with the first fault
+-- ---- reading a list of digests with their algorithms, with the first fault
 
 abbrev pub octets_at : ℕ → List ℕ → Result (List ℕ × List ℕ) Rc
 octets_at count text = or_fault (bytes_at count text) (plain code.Insufficient)

@@ -8,7 +8,8 @@ use Rattle.tpm_types.specs.declared.rc.ResponseCode.TheVariants as code
 use Rattle.tpm_types.specs.Buffer.{buffer_at}
 use Rattle.tpm_types.specs.Rc.{plain}
 
--- where the bytes of the buffer run out, its size is wrong; other faults stay
+-- the response code of a fault within a sized buffer: where the buffer's bytes run out, its size is
+-- wrong; other faults stay
 abbrev pub within_buffer : ResponseCode → ResponseCode
 within_buffer code.Insufficient = code.Size
 within_buffer other = other
@@ -17,8 +18,8 @@ abbrev pub or_size : {X : Type 0} → Result X Rc → Result X Rc
 or_size (Ok x) = Ok x
 or_size (Err fault) = Err (record fault { code = within_buffer fault.code })
 
--- a structure that fills a sized buffer, and what is after the buffer: a cut buffer is
--- INSUFFICIENT, and one with too few bytes or too many is SIZE
+-- the structure that fills the sized buffer at the front of a text, and what is after the buffer: a
+-- cut buffer is INSUFFICIENT, and one with too few bytes or too many is SIZE
 unfoldable pub filled_by : {X : Type 0}
     → (List ℕ → Result (X × List ℕ) Rc)
     → List ℕ → Result (X × List ℕ) Rc

@@ -18,8 +18,8 @@ numbered number = record { number = number }
 abbrev pub handle_type : Handle → ℕ
 handle_type handle = handle.number / 2 ^ 24
 
--- whether a handle is one of an NV index (01), a session (02 for HMACs, 03 for policies and
--- trials), a transient object (80) or a persistent object (81), there or not
+-- whether a handle's type is that of an NV index (01), a session (02 for HMACs, 03 for policies and
+-- trials), a transient object (80) or a persistent object (81), whether it names something or not
 abbrev pub is_nv_index : Handle → Bool
 is_nv_index handle = handle_type handle == 0x01
 
@@ -35,7 +35,7 @@ is_transient handle = handle_type handle == 0x80
 abbrev pub is_persistent : Handle → Bool
 is_persistent handle = handle_type handle == 0x81
 
--- the handles that the standard gives: TPM_RH_OWNER, TPM_RH_NULL, TPM_RS_PW, TPM_RH_LOCKOUT,
+-- the permanent handles of the standard: TPM_RH_OWNER, TPM_RH_NULL, TPM_RS_PW, TPM_RH_LOCKOUT,
 -- TPM_RH_ENDORSEMENT and TPM_RH_PLATFORM
 abbrev pub owner_handle : Handle
 owner_handle = numbered 0x4000_0001
@@ -63,7 +63,8 @@ session_kind handle =
     else (if is_session handle then Session
     else Other)
 
--- whose authorization value a handle names (Part 2: TPMI_RH_HIERARCHY_AUTH)
+-- which hierarchy's authorization value, or lockoutAuth, a handle names (Part 2:
+-- TPMI_RH_HIERARCHY_AUTH)
 abbrev pub hierarchy_auth_of : Handle → Option HierarchyAuth
 hierarchy_auth_of handle =
     if handle.number == owner_handle.number then Some auth.Owner

@@ -1,5 +1,5 @@
--- How much this device can hold and take, where the standard leaves that to whoever builds it.
--- Bounds of one structure stand with that structure.
+-- How much this device can hold and take, where the standard leaves that to whoever builds it. The
+-- bounds of one structure are defined with that structure.
 use Rattle.std.specs.Prelude.{ℕ, ◌+◌, ◌*◌}
 
 -- the most bytes of a command's buffer, and of a response's

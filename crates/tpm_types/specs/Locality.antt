@@ -6,7 +6,7 @@ use Rattle.tpm_types.specs.declared.locality.Locality.{Locality}
 abbrev pub locality_number : Locality → ℕ
 locality_number locality = locality.number
 
--- The locality of a number is there exactly for 0 to 4.
+-- There is a locality of a number, and it has that number, exactly if the number is 0 to 4.
 abbrev pub SomeLocality : ℕ → Option Locality → Type 0
 SomeLocality number (Some locality) = (number ≤ 4) × (locality_number locality ≡ number)
 SomeLocality number None = 4 < number

@@ -6,13 +6,13 @@ use Rattle.std.specs.Prelude.{List, [], ◌∷◌, ◌++◌, take, Option, Some,
 use Rattle.std.specs.Int.{w32, bit_at, from_le_bytes, to_le_bytes}
 use Rattle.tpm_types.specs.declared.pcr.PcrIndex.{PcrIndex}
 
--- The PCR of a number is there exactly for 0 to 23.
+-- There is a PCR of a number, and it has that number, exactly if the number is 0 to 23.
 abbrev pub SomePcr : ℕ → Option PcrIndex → Type 0
 SomePcr number (Some pcr) = (number < 24) × (pcr ≡ number)
 SomePcr number None = 24 ≤ number
 
--- the number that three octets stand for, with a fourth of zero to fill 32 bits, and the octets of
--- a number
+-- the number that the three octets of a selection stand for, with a fourth of zero to fill 32 bits,
+-- and the octets of a number
 abbrev pub select_of : List ℕ → ℕ
 select_of octets = from_le_bytes w32 (octets ++ 0 ∷ [])
 
@@ -22,6 +22,6 @@ select_text select = take 3 (to_le_bytes w32 select)
 abbrev pub is_selected : ℕ → ℕ → Bool
 is_selected select pcr = bit_at select pcr == 1
 
--- the same PCRs and one more
+-- a selection with one more PCR
 abbrev pub with_pcr : ℕ → ℕ → ℕ
 with_pcr select pcr = bit_or select (2 ^ pcr)

@@ -12,7 +12,7 @@ use Rattle.tpm_types.specs.Algorithm.{hash_at, hash_number}
 use Rattle.tpm_types.specs.Pcr.{select_of, select_text}
 use Rattle.tpm_types.specs.Rc.{plain}
 
--- a bank's selection: its hash algorithm, the number of octets, and these
+-- the text of a bank's selection: its hash algorithm, the number of octets, and these
 unfoldable pub bank_text : BankSelection → List ℕ
 bank_text bank =
     to_be_bytes w16 (hash_number bank.hash) ++ to_be_bytes w8 3 ++ select_text bank.select
@@ -20,20 +20,20 @@ bank_text bank =
 unfoldable pub banks_text : List BankSelection → List ℕ
 banks_text banks = flat_map bank_text banks
 
--- a selection: how many banks, and these
+-- the text of a selection: how many banks, and these
 unfoldable pub selection_text : List BankSelection → List ℕ
 selection_text banks = to_be_bytes w32 (length banks) ++ banks_text banks
 
--- a bank selects among 24 PCRs
+-- A bank's selection is among 24 PCRs.
 abbrev pub IsBank : BankSelection → Type 0
 IsBank bank = bank.select < 2 ^ 24
 
--- what has a text: at most sixteen banks
+-- A selection has a text: it has at most sixteen banks.
 pub record IsSelection (banks : List BankSelection) : Type 0 where
   pub few : length banks ≤ 16
   pub each : AllByRecursion IsBank banks
 
--- reading, with the first fault
+-- ---- reading a selection, with the first fault
 
 unfoldable pub bank_at : List ℕ → Result (BankSelection × List ℕ) Rc
 bank_at text = do

@@ -73,10 +73,10 @@ rc_number rc = code_number rc.code + place_number rc.place
 abbrev pub plain : ResponseCode → Rc
 plain code = record { code = code; place = place.Nowhere }
 
--- the same fault elsewhere
+-- a response code with another place
 abbrev pub at : Place → Rc → Rc
 at place rc = record rc { place = place }
 
--- a fault of the authorization entry of this number
+-- the fault of the authorization entry of this number
 abbrev pub entry_fault : ℕ → ResponseCode → Rc
 entry_fault n fault = at (place.Session n) (plain fault)

@@ -5,11 +5,13 @@ use Rattle.tpm_types.specs.declared.check.Check.{Check}
 use Rattle.tpm_types.specs.declared.refused.Counted.TheVariants as counted
 use Rattle.tpm_types.specs.declared.refused.Refused.{Refused}
 
--- a refusal by a check with a response code, which counts nothing
+-- the refusal by this check with this response code, which counts nothing against dictionary
+-- attacks
 abbrev pub refusal : Check → Rc → Refused
 refusal check rc = record { rc = rc; check = check; counted = counted.None }
 
--- a check that refuses with the fault of a reading or of an entry
+-- the result of a reading, or of an entry's checks, with the refusal by this check in place of its
+-- fault
 abbrev pub checked : {X : Type 0} → Check → Result X Rc → Result X Refused
 checked check (Ok x) = Ok x
 checked check (Err rc) = Err (refusal check rc)

@@ -11,11 +11,11 @@ has_bits bits attributes = not (bit_and attributes.octet bits == 0)
 abbrev pub continues_session : SessionAttributes → Bool
 continues_session attributes = has_bits 0x01 attributes
 
--- auditExclusive (bit 1), auditReset (2) or audit (7): it is an audit session
+-- whether a session is to be an audit session: auditExclusive (bit 1), auditReset (2) or audit (7)
 abbrev pub audits : SessionAttributes → Bool
 audits attributes = has_bits 0x86 attributes
 
--- a reserved bit (3 or 4) is set
+-- whether a reserved bit (3 or 4) is set
 abbrev pub has_reserved_bits : SessionAttributes → Bool
 has_reserved_bits attributes = has_bits 0x18 attributes
 
@@ -23,10 +23,10 @@ has_reserved_bits attributes = has_bits 0x18 attributes
 abbrev pub decrypts : SessionAttributes → Bool
 decrypts attributes = has_bits 0x20 attributes
 
--- encrypt (bit 6): it encrypts the response's first parameter
+-- encrypt (bit 6): the session encrypts the response's first parameter
 abbrev pub encrypts : SessionAttributes → Bool
 encrypts attributes = has_bits 0x40 attributes
 
--- decrypt or encrypt
+-- whether a session is to decrypt or to encrypt
 abbrev pub uses_cipher : SessionAttributes → Bool
 uses_cipher attributes = has_bits 0x60 attributes

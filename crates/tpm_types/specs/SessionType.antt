@@ -20,19 +20,20 @@ type_named number =
     else (if number == 0x01 then Some Policy
     else (if number == 0x03 then Some Trial else None))
 
--- the highest byte of a handle: an HMAC session (02), or a policy session, a trial one too (03)
+-- the highest byte of a session's handle: 02 of an HMAC session, 03 of a policy session or a trial
+-- session
 abbrev pub type_byte : SessionType → ℕ
 type_byte Hmac = 0x02
 type_byte Policy = 0x03
 type_byte Trial = 0x03
 
--- a trial session computes a policy, and authorizes nothing
+-- whether a session is a trial session, which computes a policy and authorizes nothing
 abbrev pub is_trial : SessionType → Bool
 is_trial Hmac = false
 is_trial Policy = false
 is_trial Trial = true
 
--- a session type, and what is after it
+-- the session type at the front of a text, and what is after it
 unfoldable pub session_type_at : List ℕ → Result (SessionType × List ℕ) Rc
 session_type_at text = do
   number ← or_fault (number_at w8 text) (plain code.Insufficient)

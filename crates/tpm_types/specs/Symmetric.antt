@@ -16,14 +16,15 @@ is_null Null = true
 is_null Aes128Cfb = false
 is_null (Xor hash) = false
 
--- NULL alone; or AES, the bits of its key, and its mode; or XOR, and the hash of its masks
+-- the text of a symmetric definition: NULL alone; or AES, the bits of its key, and its mode; or
+-- XOR, and the hash of its masks
 unfoldable pub symmetric_text : SymmetricDefinition → List ℕ
 symmetric_text Null = to_be_bytes w16 0x0010
 symmetric_text Aes128Cfb =
     to_be_bytes w16 0x0006 ++ to_be_bytes w16 0x0080 ++ to_be_bytes w16 0x0043
 symmetric_text (Xor hash) = to_be_bytes w16 0x000a ++ to_be_bytes w16 (hash_number hash)
 
--- what stands after the number of AES: 128 bits, and the mode CFB
+-- a symmetric definition from what stands after the number of AES: 128 bits, and the mode CFB
 unfoldable pub aes_at : List ℕ → Result (SymmetricDefinition × List ℕ) Rc
 aes_at text = do
   bits ← or_fault (number_at w16 text) (plain code.Insufficient)
@@ -32,13 +33,13 @@ aes_at text = do
   feedback ← refused_if (not (mode.0 == 0x0043)) (plain code.Mode)
   Ok (Aes128Cfb, mode.1)
 
--- what stands after the number of XOR: a hash
+-- a symmetric definition from what stands after the number of XOR: a hash
 unfoldable pub xor_at : List ℕ → Result (SymmetricDefinition × List ℕ) Rc
 xor_at text = do
   hash ← hash_at text
   Ok (Xor hash.0, hash.1)
 
--- what stands after the number of an algorithm
+-- a symmetric definition from what stands after the number of its algorithm
 abbrev pub behind_at : ℕ → List ℕ → Result (SymmetricDefinition × List ℕ) Rc
 behind_at number text =
     if number == 0x0010 then Ok (Null, text)
@@ -46,13 +47,14 @@ behind_at number text =
     else (if number == 0x000a then xor_at text
     else Err (plain code.Symmetric)))
 
--- a definition, and what is after it
+-- the symmetric definition at the front of a text, and what is after it
 unfoldable pub symmetric_at : List ℕ → Result (SymmetricDefinition × List ℕ) Rc
 symmetric_at text = do
   algorithm ← or_fault (number_at w16 text) (plain code.Insufficient)
   behind_at algorithm.0 algorithm.1
 
--- a cipher, which is AES, and what is after it: the one that a storage key or a SYMCIPHER key can have
+-- the cipher that a storage key or a SYMCIPHER key can have, AES, at the front of a text, and what
+-- is after it
 unfoldable pub cipher_at : List ℕ → Result (SymmetricDefinition × List ℕ) Rc
 cipher_at text = do
   algorithm ← or_fault (number_at w16 text) (plain code.Insufficient)

@@ -18,14 +18,14 @@ pub enum ActionCheck {
 impl ActionCheck {
     ghost use Rattle.tpm_types.specs.ActionCheck.{action_named, action_number};
 
-    /// Its place, from 1.
+    /// The place of the check, from 1.
     pub fn number(self) -> u8
         ensures { result ≡ action_number self }
     {
         self as u8
     }
 
-    /// The check of this place; the seventh where there is none.
+    /// The check in this place; the seventh where there is none.
     pub fn named(number: u8) -> ActionCheck
         ensures { result ≡ action_named number }
     {

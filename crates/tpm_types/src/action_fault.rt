@@ -15,7 +15,7 @@ pub struct ActionFault {
 impl ActionFault {
     ghost use Rattle.tpm_types.specs.ActionFault.{parameter_fault, plain_fault};
 
-    /// A fault that is of no handle, parameter or session.
+    /// The fault of a check that concerns no handle, parameter or session.
     pub fn plain(check: ActionCheck, code: ResponseCode) -> ActionFault
         ensures { result ≡ plain_fault check code }
     {
@@ -25,7 +25,7 @@ impl ActionFault {
         }
     }
 
-    /// A fault of the parameter of this number.
+    /// The fault of a check that concerns the parameter of this number.
     pub fn in_parameter(check: ActionCheck, parameter: u8, code: ResponseCode) -> ActionFault
         ensures { result ≡ parameter_fault check parameter code }
     {

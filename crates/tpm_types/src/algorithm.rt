@@ -10,7 +10,7 @@ use crate::rc::{Rc, ResponseCode};
 use tpm_bytes::Cursor;
 use tpm_mac::HashAlg;
 
-/// TPM_ALG_NULL.
+/// The number of NULL in the place of an algorithm: TPM_ALG_NULL.
 const NULL: u16 = 0x0010;
 
 /// The number of a hash algorithm on the wire: TPM_ALG_ID of TPM 2.0 Library, Part 2, section 6.3.
@@ -23,8 +23,8 @@ pub fn hash_number(algorithm: HashAlg) -> u16
     }
 }
 
-/// Whether an authPolicy of this many bytes goes with this nameAlg: there is none, or it is a
-/// digest.
+/// Whether an authPolicy of this many bytes goes with this nameAlg: it is empty, or has the size of
+/// a digest.
 pub fn is_policy_size(name_alg: HashAlg, size: usize) -> bool
     ensures { result ≡ is_policy_size name_alg size }
 {
@@ -43,7 +43,7 @@ pub fn hash_named(number: u16) -> Option<HashAlg>
 }
 
 /// Reads a hash algorithm (TPMI_ALG_HASH, Part 2, section 9): INSUFFICIENT where it is cut, HASH
-/// where it is no served one.
+/// where it is not served.
 #[tactic(auto, unfolding(crate::specs::Algorithm::hash_at))]
 pub fn read_hash(text: &mut Cursor) -> Result<HashAlg, Rc>
     ensures { Reads (λ algorithm. algorithm) (hash_at text.old) text.old result text.new }

@@ -63,8 +63,8 @@ impl AuthValue {
         }
     }
 
-    /// Reads a value, a sized buffer: SIZE where it says that it has more than 32 bytes, else
-    /// INSUFFICIENT where it is cut.
+    /// Reads an authorization value, a sized buffer: SIZE where its size says more than 32 bytes,
+    /// else INSUFFICIENT where it is cut.
     #[tactic(auto, unfolding(crate::specs::AuthValue::auth_value_at))]
     pub fn read(text: &mut Cursor) -> Result<AuthValue, Rc>
         ensures { Reads (λ value. value) (auth_value_at text.old) text.old result text.new }
@@ -72,7 +72,7 @@ impl AuthValue {
         Ok(AuthValue::of(read_buffer(text, 32)?))
     }
 
-    /// Its bytes.
+    /// The bytes of the value.
     pub fn as_slice(&self) -> &[u8]
         ensures value { result.now ≡ self.now }
         ensures fits { length result.now ≤ 32 }
@@ -81,7 +81,7 @@ impl AuthValue {
         self.bytes.as_slice()
     }
 
-    /// The same value.
+    /// A copy of the value.
     pub fn copy(&self) -> AuthValue
         ensures { result ≡ self.now }
     {
@@ -90,7 +90,7 @@ impl AuthValue {
         }
     }
 
-    /// Whether these are its bytes.
+    /// Whether these are the bytes of the value.
     pub fn is_same(&self, bytes: &[u8]) -> bool
         ensures { result ≡ bytes_eq self.now bytes.now }
     {

@@ -12,7 +12,7 @@ use tpm_bytes::{Cursor, SizedFault};
 pub const DIGEST_LIMIT: usize = 32;
 
 /// Reads a sized buffer of at most `limit` bytes (TPM2B of TPM 2.0 Library, Part 2, section 10.4):
-/// SIZE where it says that it has more, else INSUFFICIENT where it is cut.
+/// SIZE where its size says more, else INSUFFICIENT where it is cut.
 pub fn read_buffer<'a>(text: &mut Cursor<'a>, limit: usize) -> Result<&'a [u8], Rc>
     ensures exact { Reads (λ buffer. buffer.now) (buffer_at limit text.old) text.old
         result text.new }

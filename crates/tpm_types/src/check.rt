@@ -1,12 +1,12 @@
-//! The check that refused a command: one of those of all commands, one of its own, or memory. Its
-//! number is what the row of an event reports.
+//! The check that refused a command: one of those of all commands, one of its own, or memory. The
+//! row of an event reports the check's number.
 
 ghost use Rattle.std.specs.Prelude.{◌≡◌};
 
 use crate::action_check::ActionCheck;
 
 /// The check that refused a command: G1 to G11 for all commands, then A1 to A7 of the command's
-/// own, and M. Its number is what a row reports.
+/// own, and M. A row reports the check's number.
 #[derive(Clone, Copy, Debug, PartialEq, Eq)]
 pub enum Check {
     /// G1: fewer bytes than a header, or more than the limit of a buffer.
@@ -17,9 +17,10 @@ pub enum Check {
     Size,
     /// G4: a command that is not served.
     Code,
-    /// G5: not started and not Startup, or started and Startup.
+    /// G5: a device that is not started and another command than Startup, or one that is started
+    /// and Startup.
     Started,
-    /// G6: a handle that is cut or not of the command's kind.
+    /// G6: a handle that is cut, not of the command's kind, or that names nothing.
     Handles,
     /// G7: sessions where the command may have none, or none where a handle needs authorization.
     Sessions,
@@ -31,7 +32,7 @@ pub enum Check {
     Others,
     /// G11: the parameters, and bytes left over after them.
     Parameters,
-    /// A1 to A7: the command's own.
+    /// A1 to A7: the command's own checks.
     Action(ActionCheck),
     /// M: memory was refused.
     Memory,
@@ -40,7 +41,7 @@ pub enum Check {
 impl Check {
     ghost use Rattle.tpm_types.specs.Check.{check_number};
 
-    /// The number that a row reports.
+    /// The number by which a row reports the check.
     pub fn number(self) -> u8
         ensures { result ≡ check_number self }
     {

@@ -12,13 +12,13 @@ use arrayvec::ArrayVec;
 use tpm_bytes::{Cursor, Full, Readable, Sink, append, read_many};
 use tpm_mac::Digest;
 
-/// How many digests a list that is read has at least.
+/// The fewest digests of a list that is read.
 pub const FEWEST_DIGESTS: u32 = 2;
 
-/// How many it has at most.
+/// The most digests of a list that is read.
 pub const DIGEST_LIST_LIMIT: u32 = 8;
 
-/// One digest of a list, where it lies in the text.
+/// A digest of a list, where it lies in the text.
 #[derive(Drop)]
 struct ListedDigest<'a> {
     bytes: &'a [u8],
@@ -58,13 +58,13 @@ impl DigestList {
     /// Reads a list of two to eight digests: INSUFFICIENT where it is cut, SIZE where it has fewer
     /// or more, and the first fault of a digest.
     pub fn read(text: &mut Cursor) -> Result<DigestList, Rc>
-        // Which digests or which fault it is.
+        // Says which digests are read, or the first fault.
         ensures exact { Reads (λ list. digests_of list.digests.items) (digest_list_at text.old)
             text.old result text.new }
-        // What is read was spelled so.
+        // A value is read only from its text.
         ensures found { IfOk result (λ list. IsDigestList (digests_of list.digests.items)
             × (text.old ≡ digest_list_text (digests_of list.digests.items) ++ text.new)) }
-        // What is spelled so is read.
+        // A value is read from its text, whatever comes after it.
         ensures only { (digests : List (List ℕ)) (rest : List ℕ) → IsDigestList digests
             → text.old ≡ digest_list_text digests ++ rest
             → Reads (λ list. digests_of list.digests.items) (Ok (digests, rest))

@@ -113,7 +113,7 @@ impl<'a> Readable<'a> for DigestValue {
 
 ghost use Rattle.tpm_types.specs.DigestValues.{octets_at};
 
-/// The next `N` bytes: INSUFFICIENT where they are cut.
+/// Reads the next `N` bytes: INSUFFICIENT where they are cut.
 fn read_octets<const N: usize>(text: &mut Cursor) -> Result<[u8; N], Rc>
     ensures { Reads (λ octets. octets) (octets_at N text.old) text.old result text.new }
 {
@@ -126,16 +126,16 @@ fn read_octets<const N: usize>(text: &mut Cursor) -> Result<[u8; N], Rc>
 }
 
 impl DigestValues {
-    /// Reads a list of digests: INSUFFICIENT where it is cut, SIZE where it has over two, and the
-    /// first fault of a digest.
+    /// Reads a list of digests: INSUFFICIENT where it is cut, SIZE where it has more than two, and
+    /// the first fault of a digest.
     pub fn read(text: &mut Cursor) -> Result<DigestValues, Rc>
-        // Which digests or which fault it is.
+        // Says which digests are read, or the first fault.
         ensures exact { Reads (λ digests. digests.values.items) (digest_values_at text.old)
             text.old result text.new }
-        // What is read was spelled so.
+        // A value is read only from its text.
         ensures found { IfOk result (λ digests. IsDigestValues digests.values.items
             × (text.old ≡ digest_values_text digests.values.items ++ text.new)) }
-        // What is spelled so is read.
+        // A value is read from its text, whatever comes after it.
         ensures only { (values : List DigestValue) (rest : List ℕ) → IsDigestValues values
             → text.old ≡ digest_values_text values ++ rest
             → Reads (λ digests. digests.values.items) (Ok (values, rest)) text.old result text.new }

@@ -9,7 +9,7 @@ use crate::buffer::read_buffer;
 use crate::rc::{Rc, ResponseCode};
 use tpm_bytes::{Cursor, Readable};
 
-/// A fault within a sized buffer: SIZE where its bytes ran out, and else the same.
+/// A fault within a sized buffer: SIZE where the buffer's bytes ran out, and else the fault itself.
 fn within_buffer(fault: Rc) -> Rc
     ensures { result ≡ record fault { code = within_buffer fault.code } }
 {
@@ -28,7 +28,7 @@ fn within_buffer(fault: Rc) -> Rc
 #[tactic(auto, unfolding(crate::specs::Filled::filled_by))]
 pub fn read_filled<'a, T: Readable<'a, Fault = Rc> + Drop>(text: &mut Cursor<'a>) -> Result<T, Rc>
     ensures exact { Reads T.seen (filled_by T.at text.old) text.old result text.new }
-    // It is of bytes.
+    // The text is of bytes.
     ensures bytes { AreBytes text.old }
 {
     let mut ahead = Cursor::new(text.rest());

@@ -17,9 +17,9 @@ pub struct Handle {
 pub enum SessionKind {
     /// TPM_RS_PW: no session, a password.
     Password,
-    /// A session, HMAC or policy.
+    /// An HMAC session or a policy session.
     Session,
-    /// Neither.
+    /// The handle names neither a password nor a session.
     Other,
 }
 
@@ -41,18 +41,18 @@ pub enum HierarchyAuth {
 pub enum HierarchyHandle {
     /// TPM_RH_OWNER: the owner's hierarchy, which the standard calls the storage hierarchy.
     Owner,
-    /// TPM_RH_ENDORSEMENT.
+    /// TPM_RH_ENDORSEMENT: the endorsement hierarchy.
     Endorsement,
-    /// TPM_RH_PLATFORM.
+    /// TPM_RH_PLATFORM: the platform hierarchy.
     Platform,
-    /// TPM_RH_NULL.
+    /// TPM_RH_NULL: the null hierarchy.
     Null,
 }
 
 impl HierarchyHandle {
     ghost use Rattle.tpm_types.specs.Handle.{hierarchy_handle};
 
-    /// The handle that names it.
+    /// The handle that names the hierarchy.
     pub fn handle(self) -> Handle
         ensures { result ≡ hierarchy_handle self }
     {
@@ -68,32 +68,32 @@ impl HierarchyHandle {
 impl Handle {
     ghost use Rattle.tpm_types.specs.Handle.{SomePcrOf, handle_type, hierarchy_auth_of, hierarchy_of, is_nv_index, is_persistent, is_policy_session, is_session, is_transient, pcr_of, session_kind};
 
-    /// TPM_RS_PW, section 7.4.
+    /// The handle of a password entry: TPM_RS_PW, section 7.4.
     pub const PASSWORD: Handle = Handle {
         number: 0x4000_0009,
     };
 
-    /// TPM_RH_NULL, section 7.4.
+    /// The handle of the null hierarchy: TPM_RH_NULL, section 7.4.
     pub const NULL: Handle = Handle {
         number: 0x4000_0007,
     };
 
-    /// TPM_RH_OWNER, section 7.4.
+    /// The handle of the owner: TPM_RH_OWNER, section 7.4.
     pub const OWNER: Handle = Handle {
         number: 0x4000_0001,
     };
 
-    /// TPM_RH_LOCKOUT, section 7.4.
+    /// The handle of lockout: TPM_RH_LOCKOUT, section 7.4.
     pub const LOCKOUT: Handle = Handle {
         number: 0x4000_000a,
     };
 
-    /// TPM_RH_ENDORSEMENT, section 7.4.
+    /// The handle of the endorsement hierarchy: TPM_RH_ENDORSEMENT, section 7.4.
     pub const ENDORSEMENT: Handle = Handle {
         number: 0x4000_000b,
     };
 
-    /// TPM_RH_PLATFORM, section 7.4.
+    /// The handle of the platform: TPM_RH_PLATFORM, section 7.4.
     pub const PLATFORM: Handle = Handle {
         number: 0x4000_000c,
     };
@@ -120,7 +120,7 @@ impl Handle {
         }
     }
 
-    /// Whose authorization value the handle names, if it names a hierarchy's or lockoutAuth.
+    /// The authorization value that the handle names, if it names a hierarchy's or lockoutAuth.
     pub fn hierarchy_auth(self) -> Option<HierarchyAuth>
         ensures { result ≡ hierarchy_auth_of self }
     {
@@ -146,42 +146,42 @@ impl Handle {
         }
     }
 
-    /// What its highest byte says that it names (TPM_HT).
+    /// The highest byte of the handle, which says what the handle names (TPM_HT).
     fn type_byte(self) -> u32
         ensures { result ≡ handle_type self }
     {
         self.number >> 24
     }
 
-    /// Whether the handle is one of an NV index, there or not.
+    /// Whether the handle's type is that of an NV index, whether the index is there or not.
     pub fn is_nv_index(self) -> bool
         ensures { result ≡ is_nv_index self }
     {
         self.type_byte() == 0x01
     }
 
-    /// Whether the handle is one of a session, there or not.
+    /// Whether the handle's type is that of a session, whether the session is there or not.
     pub fn is_session(self) -> bool
         ensures { result ≡ is_session self }
     {
         matches!(self.type_byte(), 0x02 | 0x03)
     }
 
-    /// Whether the handle is one of a policy or trial session, there or not.
+    /// Whether the handle's type is that of a policy or trial session, there or not.
     pub fn is_policy_session(self) -> bool
         ensures { result ≡ is_policy_session self }
     {
         self.type_byte() == 0x03
     }
 
-    /// Whether the handle is one of a transient object, there or not.
+    /// Whether the handle's type is that of a transient object, there or not.
     pub fn is_transient(self) -> bool
         ensures { result ≡ is_transient self }
     {
         self.type_byte() == 0x80
     }
 
-    /// Whether the handle is one of a persistent object, there or not.
+    /// Whether the handle's type is that of a persistent object, there or not.
     pub fn is_persistent(self) -> bool
         ensures { result ≡ is_persistent self }
     {

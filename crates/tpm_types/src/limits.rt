@@ -1,7 +1,7 @@
 //! How much this device can hold and take, where the standard leaves that to whoever builds it. The
-//! sizes that follow, as that of the longest image, are computed from these constants. Bounds of
-//! one structure stand with that structure. `specs/Limits.antt` has the same numbers for the
-//! definitions.
+//! sizes that follow, as that of the longest image, are computed from these constants. The bounds
+//! of one structure are defined with that structure. `specs/Limits.antt` has the same numbers for
+//! the definitions.
 
 ghost use Rattle.std.specs.Prelude.{◌≡◌};
 ghost use Rattle.tpm_types.specs.Limits.{answer_limit, buffer_limit, data_limit, nv_data_limit, nv_index_limit, nv_space_limit, object_limit, persistent_limit, sensitive_limit, session_limit};
@@ -37,7 +37,7 @@ pub const NV_SPACE_LIMIT: usize = 16_384;
 /// The most bytes of data that one ordinary NV index has.
 pub const NV_DATA_LIMIT: usize = 2_048;
 
-/// Each constant is what the definitions have. It does nothing.
+/// Each constant is the number that the definitions have. The function does nothing.
 #[inline(always)]
 pub fn limit_laws()
     ensures buffer { BUFFER_LIMIT ≡ buffer_limit }

@@ -25,7 +25,7 @@ impl Locality {
         }
     }
 
-    /// Its number, 0 to 4.
+    /// The number of the locality, 0 to 4.
     pub fn number(self) -> u8
         ensures value { result ≡ locality_number self }
         ensures small { result ≤ 4 }

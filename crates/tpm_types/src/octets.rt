@@ -28,7 +28,7 @@ impl<const N: usize> Model for Octets<N> {
 }
 
 impl<const N: usize> Octets<N> {
-    /// No byte.
+    /// An empty buffer.
     pub fn empty() -> Octets<N>
         ensures { result ≡ [] }
     {
@@ -37,7 +37,7 @@ impl<const N: usize> Octets<N> {
         }
     }
 
-    /// These bytes.
+    /// A buffer of these bytes.
     pub fn of(bytes: &[u8]) -> Octets<N>
         requires { length bytes.now ≤ N }
         ensures { result ≡ bytes.now }
@@ -47,15 +47,15 @@ impl<const N: usize> Octets<N> {
         }
     }
 
-    /// Reads a sized buffer: SIZE where it says that it has more than `N` bytes, else INSUFFICIENT
-    /// where it is cut.
+    /// Reads a sized buffer: SIZE where its size says more than `N` bytes, else INSUFFICIENT where
+    /// it is cut.
     pub fn read(text: &mut Cursor) -> Result<Octets<N>, Rc>
         ensures { Reads (λ octets. octets) (buffer_at N text.old) text.old result text.new }
     {
         Ok(Octets::of(read_buffer(text, N)?))
     }
 
-    /// The bytes.
+    /// The bytes of the buffer.
     pub fn as_slice(&self) -> &[u8]
         ensures value { result.now ≡ self.now }
         ensures fits { length result.now ≤ N }
@@ -70,14 +70,14 @@ impl<const N: usize> Octets<N> {
         self.bytes.len()
     }
 
-    /// The same bytes.
+    /// A copy of the buffer.
     pub fn copy(&self) -> Octets<N>
         ensures { result ≡ self.now }
     {
         Octets::of(self.bytes.as_slice())
     }
 
-    /// Whether these are the bytes.
+    /// Whether these are the bytes of the buffer.
     pub fn is_same(&self, bytes: &[u8]) -> bool
         ensures { result ≡ bytes_eq self.now bytes.now }
     {

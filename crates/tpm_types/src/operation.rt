@@ -20,16 +20,16 @@ pub enum Operation {
     UnsignedGreaterOrEqual,
     SignedLessOrEqual,
     UnsignedLessOrEqual,
-    /// Each bit that is set in the second is set in the first.
+    /// Each bit that is set in the second operand is set in the first.
     BitSet,
-    /// Each bit that is set in the second is clear in the first.
+    /// Each bit that is set in the second operand is clear in the first.
     BitClear,
 }
 
 impl Operation {
     ghost use Rattle.tpm_types.specs.Operation.{operation_at, operation_named, operation_number};
 
-    /// The number on the wire.
+    /// The number of the operation on the wire.
     pub fn number(self) -> u16
         ensures { result ≡ operation_number self }
     {
@@ -70,7 +70,7 @@ impl Operation {
         })
     }
 
-    /// Reads an operation: INSUFFICIENT where it is cut, VALUE where it is none.
+    /// Reads an operation: INSUFFICIENT where it is cut, VALUE where there is none of its number.
     #[tactic(auto, unfolding(crate::specs::Operation::operation_at))]
     pub fn read(text: &mut Cursor) -> Result<Operation, Rc>
         ensures { Reads (λ operation. operation) (operation_at text.old) text.old

@@ -8,7 +8,7 @@ use std::marker::Model;
 /// How many PCRs a bank has.
 pub const PCR_COUNT: u8 = 24;
 
-/// How many octets select among them.
+/// How many octets a selection of PCRs has.
 pub const SELECT_SIZE: u8 = 3;
 
 /// The number of a PCR, 0 to 23 (TPM 2.0 Library, Part 1, section 17).
@@ -69,7 +69,7 @@ impl Model for PcrSelect {
 impl PcrSelect {
     ghost use Rattle.tpm_types.specs.Pcr.{is_selected, select_of, select_text, with_pcr};
 
-    /// No PCR.
+    /// The selection of no PCR.
     pub fn none() -> PcrSelect
         ensures { result ≡ 0 }
     {

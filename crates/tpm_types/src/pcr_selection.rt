@@ -37,8 +37,8 @@ impl Default for BankSelection {
 impl BankSelection {
     ghost use Rattle.tpm_types.specs.PcrSelection.{bank_at, bank_text};
 
-    /// Reads one bank's selection: INSUFFICIENT where it is cut, HASH, and VALUE where it has not
-    /// three octets.
+    /// Reads one bank's selection: INSUFFICIENT where it is cut, HASH where its algorithm is not
+    /// served, and VALUE where it does not have three octets.
     #[tactic(auto, unfolding(crate::specs::PcrSelection::bank_at))]
     pub fn read(text: &mut Cursor) -> Result<BankSelection, Rc>
         ensures { Reads (λ bank. bank) (bank_at text.old) text.old result text.new }
@@ -110,16 +110,16 @@ impl PcrSelection {
     ghost use Rattle.std.specs.Prelude.{Ok};
     ghost use Rattle.tpm_types.specs.PcrSelection.{IsSelection, selection_at, selection_text};
 
-    /// Reads a selection: INSUFFICIENT where it is cut, SIZE where it names over sixteen banks, and
-    /// the first fault of a bank.
+    /// Reads a selection: INSUFFICIENT where it is cut, SIZE where it names more than sixteen
+    /// banks, and the first fault of a bank.
     pub fn read(text: &mut Cursor) -> Result<PcrSelection, Rc>
-        // Which value or which fault it is.
+        // Says which value is read, or the first fault.
         ensures exact { Reads (λ selection. selection.banks.items) (selection_at text.old)
             text.old result text.new }
-        // What is read was spelled so.
+        // A value is read only from its text.
         ensures found { IfOk result (λ selection. IsSelection selection.banks.items
             × (text.old ≡ selection_text selection.banks.items ++ text.new)) }
-        // What is spelled so is read.
+        // A value is read from its text, whatever comes after it.
         ensures only { (banks : List BankSelection) (rest : List ℕ) → IsSelection banks
             → text.old ≡ selection_text banks ++ rest
             → Reads (λ selection. selection.banks.items) (Ok (banks, rest))

@@ -78,7 +78,7 @@ pub struct Rc {
 impl ResponseCode {
     ghost use Rattle.tpm_types.specs.Rc.{code_number, plain};
 
-    /// The number on the wire, without a place.
+    /// The number of the code on the wire, without a place.
     #[tactic(auto, unfolding(crate::specs::Rc::code_number))]
     pub fn number(self) -> u32
         ensures value { result ≡ code_number self }
@@ -102,7 +102,7 @@ impl Rc {
     ghost use Rattle.tpm_types.specs.Rc.{rc_number, at};
     ghost use Rattle.tpm_types.specs.declared.rc.Place.TheVariants as place;
 
-    /// The number on the wire.
+    /// The number of the code on the wire, with its place.
     pub fn number(self) -> u32
         ensures { result ≡ rc_number self }
     {

@@ -12,7 +12,7 @@ pub enum Counted {
     None,
     /// A failed try at a protected entity.
     Try,
-    /// A wrong lockoutAuth, which closes it.
+    /// A wrong try at lockoutAuth, which closes it.
     Lockout,
 }
 

@@ -11,13 +11,13 @@ pub struct SessionAttributes {
     pub octet: u8,
 }
 
-/// continueSession.
+/// The bit continueSession.
 const CONTINUE_SESSION: u8 = 0x01;
 
-/// auditExclusive, auditReset and audit.
+/// The bits auditExclusive, auditReset and audit.
 const AUDIT: u8 = 0x86;
 
-/// Bits 3 and 4.
+/// The reserved bits 3 and 4.
 const RESERVED: u8 = 0x18;
 
 const DECRYPT: u8 = 0x20;
@@ -39,7 +39,7 @@ impl SessionAttributes {
         self.has_any(CONTINUE_SESSION)
     }
 
-    /// Whether it is an audit session.
+    /// Whether the session is to be an audit session.
     pub fn audits(self) -> bool
         ensures { result ≡ audits self }
     {
@@ -67,7 +67,7 @@ impl SessionAttributes {
         self.has_any(ENCRYPT)
     }
 
-    /// Whether the session does either.
+    /// Whether the session decrypts or encrypts a parameter.
     pub fn uses_cipher(self) -> bool
         ensures { result ≡ uses_cipher self }
     {

@@ -9,18 +9,18 @@ use tpm_bytes::Cursor;
 /// The type of a session: TPM_SE of TPM 2.0 Library, Part 2, section 6.11.
 #[derive(Clone, Copy, Debug, PartialEq, Eq)]
 pub enum SessionType {
-    /// It authorizes by the entity's authorization value.
+    /// The session authorizes by the entity's authorization value.
     Hmac,
-    /// It authorizes by a policy.
+    /// The session authorizes by a policy.
     Policy,
-    /// It computes a policy, and authorizes nothing.
+    /// The session computes a policy, and authorizes nothing.
     Trial,
 }
 
 impl SessionType {
     ghost use Rattle.tpm_types.specs.SessionType.{is_trial, session_type_at, type_byte, type_named, type_number};
 
-    /// The number on the wire.
+    /// The number of the type on the wire.
     pub fn number(self) -> u8
         ensures { result ≡ type_number self }
     {
@@ -43,7 +43,7 @@ impl SessionType {
         }
     }
 
-    /// The highest byte of the handle of such a session (TPM_HT, Part 2, section 7.2).
+    /// The highest byte of the handle of a session of this type (TPM_HT, Part 2, section 7.2).
     pub fn handle_byte(self) -> u32
         ensures { result ≡ type_byte self }
     {
@@ -53,7 +53,7 @@ impl SessionType {
         }
     }
 
-    /// Whether such a session computes a policy, and authorizes nothing.
+    /// Whether a session of this type computes a policy, and authorizes nothing.
     pub fn is_trial(self) -> bool
         ensures { result ≡ is_trial self }
     {
@@ -63,7 +63,7 @@ impl SessionType {
         }
     }
 
-    /// Reads a session type: INSUFFICIENT where it is cut, VALUE where it is none.
+    /// Reads a session type: INSUFFICIENT where it is cut, VALUE where there is none of its number.
     #[tactic(auto, unfolding(crate::specs::SessionType::session_type_at))]
     pub fn read(text: &mut Cursor) -> Result<SessionType, Rc>
         ensures { Reads (λ kind. kind) (session_type_at text.old) text.old result text.new }

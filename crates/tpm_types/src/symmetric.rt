@@ -1,5 +1,5 @@
-//! How a session encrypts parameters: not at all, by AES-128 in CFB mode, or by the exclusive or with
-//! masks (TPMT_SYM_DEF; TPM 2.0 Library, Part 2, section 11.1.6).
+//! How a session encrypts parameters: not at all, by AES-128 in CFB mode, or by the exclusive or
+//! with masks (TPMT_SYM_DEF; TPM 2.0 Library, Part 2, section 11.1.6).
 
 ghost use Rattle.std.specs.Prelude.{◌≡◌, ◌+◌, ◌≤◌, ℕ, List, ◌++◌, length, Ok, IfOk};
 ghost use Rattle.tpm_bytes.specs.Reading.{AreBytes, Reads};
@@ -13,11 +13,11 @@ use tpm_mac::HashAlg;
 /// How a session encrypts parameters: TPMT_SYM_DEF of TPM 2.0 Library, Part 2, section 11.1.6.
 #[derive(Clone, Copy, Debug, PartialEq, Eq)]
 pub enum SymmetricDefinition {
-    /// Not at all.
+    /// Parameters are not encrypted.
     Null,
-    /// By AES with a key of 128 bits, in cipher feedback mode.
+    /// Parameters are encrypted by AES with a key of 128 bits, in cipher feedback mode.
     Aes128Cfb,
-    /// By the exclusive or with masks that this hash makes.
+    /// Parameters are encrypted by the exclusive or with masks that this hash makes.
     Xor(HashAlg),
 }
 
@@ -25,17 +25,17 @@ impl SymmetricDefinition {
     ghost use Rattle.tpm_types.specs.Symmetric.{aes_at, cipher_at, symmetric_at, symmetric_text, xor_at};
     ghost use Rattle.tpm_types.specs.declared.symmetric.SymmetricDefinition.{SymmetricDefinition};
 
-    /// Reads a definition: INSUFFICIENT where it is cut, SYMMETRIC where it is neither NULL nor AES
-    /// nor XOR, VALUE where the key has not 128 bits, MODE where the mode is not CFB, and HASH where
-    /// the hash is no served one.
+    /// Reads a symmetric definition: INSUFFICIENT where it is cut, SYMMETRIC where it is neither
+    /// NULL nor AES nor XOR, VALUE where the key does not have 128 bits, MODE where the mode is not
+    /// CFB, and HASH where the hash is not served.
     pub fn read(text: &mut Cursor) -> Result<SymmetricDefinition, Rc>
-        // Which definition it is, or the first fault.
+        // Says which definition is read, or the first fault.
         ensures exact { Reads (λ definition. definition) (symmetric_at text.old) text.old
             result text.new }
-        // What is read was spelled so.
+        // A value is read only from its text.
         ensures found { IfOk result (λ definition.
             text.old ≡ symmetric_text definition ++ text.new) }
-        // What is spelled so is read.
+        // A value is read from its text, whatever comes after it.
         ensures only { (definition : SymmetricDefinition) (rest : List ℕ)
             → text.old ≡ symmetric_text definition ++ rest
             → Reads (λ definition. definition) (Ok (definition, rest)) text.old result text.new }
@@ -63,7 +63,7 @@ impl SymmetricDefinition {
         Ok(definition)
     }
 
-    /// Reads what stands after the number of AES.
+    /// Reads a symmetric definition after the number of AES.
     #[tactic(auto, unfolding(crate::specs::Symmetric::aes_at))]
     fn read_aes(text: &mut Cursor) -> Result<SymmetricDefinition, Rc>
         ensures { Reads (λ definition. definition) (aes_at text.old) text.old result text.new }
@@ -85,7 +85,7 @@ impl SymmetricDefinition {
         Ok(SymmetricDefinition::Aes128Cfb)
     }
 
-    /// Reads what stands after the number of XOR.
+    /// Reads a symmetric definition after the number of XOR.
     #[tactic(auto, unfolding(crate::specs::Symmetric::xor_at))]
     fn read_xor(text: &mut Cursor) -> Result<SymmetricDefinition, Rc>
         ensures { Reads (λ definition. definition) (xor_at text.old) text.old result text.new }
@@ -94,7 +94,7 @@ impl SymmetricDefinition {
     }
 
     /// Reads a cipher, which is AES: INSUFFICIENT where it is cut, SYMMETRIC for another algorithm,
-    /// VALUE where the key has not 128 bits, and MODE where the mode is not CFB.
+    /// VALUE where the key does not have 128 bits, and MODE where the mode is not CFB.
     #[tactic(auto, unfolding(crate::specs::Symmetric::cipher_at))]
     pub fn read_cipher(text: &mut Cursor) -> Result<SymmetricDefinition, Rc>
         ensures { Reads (λ definition. definition) (cipher_at text.old) text.old result text.new }

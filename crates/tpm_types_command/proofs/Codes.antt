@@ -8,7 +8,7 @@ use Rattle.tpm_types_command.specs.declared.command_code.CommandCode.TheVariants
 use Rattle.tpm_types_command.specs.CommandCode.{code_named, code_number}
 use Rattle.tpm_types_command.specs.CommandFacts.{all_codes}
 
--- what is found passes the test
+-- a value that a search finds passes the test
 pub found_passes : {X : Type 0} (test : X → Bool) (xs : List X) → IfSome (find test xs) (λ x. test x ≡ true)
 found_passes test [] = tt
 found_passes test (x ∷ xs) = chosen (test x) refl (found_passes test xs)
@@ -28,7 +28,7 @@ code_named-number number = numbered number (code_named number) (found_passes (λ
 pub code_named-is : (number : ℕ) (code : CommandCode) → code_named number ≡ Some code → number ≡ code_number code
 code_named-is number code e = sym (subst (λ (found : Option CommandCode). IfSome found (λ code. code_number code ≡ number)) e (code_named-number number))
 
--- the last clause stands for each command that has none above it
+-- ---- the last clause is for each command that has none above it
 
 pub code_named-again : (code : CommandCode) → code_named (code_number code) ≡ Some code
 unfolding code_named

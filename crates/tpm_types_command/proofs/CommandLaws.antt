@@ -1,4 +1,4 @@
--- Whole commands: what is read was spelled so, and what is spelled so is read.
+-- Whole commands: a value is read only from its text, and from every such text.
 use Rattle.std.proofs.Common.{◌≡◌, ℕ, ◌+◌, ◌*◌, ◌<◌, ◌≤◌, ◌^◌, List, [], ◌∷◌, ◌++◌, length, Result, Ok, Err, refl, sym, ap, subst, ◌∙◌, append_assoc, arith, length-append}
 use Rattle.std.specs.Prelude.{IfOk}
 use Rattle.std.specs.List.{flat_map, AllByRecursion}
@@ -25,7 +25,7 @@ header_or_rc_ok (Err f) x e = absurd cc
 
 -- ---- the authorization area, where there are sessions
 
--- what was read after a header of this tag
+-- These are the entries that were read after a header of this tag.
 pub record AreSessions (tag : Tag) (bytes : List ℕ) (x : List Entry × List ℕ) : Type 0 where
   pub text : Takes bytes (sessions_text x.0) x.1
   pub tag_is : tag_for x.0 ≡ tag
@@ -104,7 +104,7 @@ command_again c is =
     let sessions = sessions_again c.entries c.parameters is.entry_count is.entries (omega arith) in
     ap command_at (command_text-is c) ∙ rw (header, handles, sessions) refl
 
--- ---- the clauses of a read
+-- ---- the contracts of a read
 
 pub command_found : (old : List ℕ) (result : Result Command Rc) (new : List ℕ) → AreBytes old → Reads whole_of (command_at old) old result new → IfOk result (λ command. IsCommand (whole_of command) × (old ≡ command_text (whole_of command)) × (new ≡ []))
 command_found old (Ok command) new fits reads = command_takes old (whole_of command, new) fits reads

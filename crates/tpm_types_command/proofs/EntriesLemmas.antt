@@ -1,5 +1,4 @@
--- That a loop reads the entries of an authorization area one after the other, and that a loop
--- writes them so.
+-- A loop reads the entries of an authorization area one after another, and a loop writes them so.
 use Rattle.std.proofs.Common.{◌≡◌, ℕ, zero, suc, ◌+◌, ◌*◌, List, [], ◌∷◌, ◌++◌, ◌<◌, ◌≤◌, length, arith, map, take, get_or, append-nil, Result, Ok, Err, refl, ap, sym, subst, ◌∙◌, append_assoc, length-append}
 use Rattle.std.proofs.lemmas.List.{take_more}
 use Rattle.std.proofs.lemmas.List.Folds.{flat_map-map}
@@ -24,7 +23,7 @@ moved : (front : List Entry) (x : Entry) (read : Result (List Entry) Rc) → beh
 moved front x (Err e) = refl
 moved front x (Ok y) = ap Ok (append_assoc front (x ∷ []) y)
 
--- one entry more
+-- one entry more is read
 pub entry_more : (front : List Entry) (m n : ℕ) (x : Entry) (left rest : List ℕ) → m ≡ suc n → 0 < length left → entry_at left ≡ Ok (x, rest) → behind (front ++ x ∷ []) (entries_in n rest) ≡ behind front (entries_in m left)
 entry_more front m n x [] rest e some is = absurd (omega arith)
 entry_more front m n x (byte ∷ bytes) rest e some is =
@@ -39,30 +38,30 @@ entry_refused front m n fault (byte ∷ bytes) e some is =
     ap (λ k. behind front (entries_in k (byte ∷ bytes))) e
     ∙ ap (λ (r : Result (Entry × List ℕ) Rc). behind front (r >>= λ first. entries_in n first.1 >>= λ others. Ok (first.0 ∷ others))) is
 
--- nothing left: there are no more entries, however many there might be
+-- where nothing is left there are no more entries, however many there might be
 pub no_entry_left : (front : List Entry) (most : ℕ) (left : List ℕ) → length left ≡ 0 → behind front (entries_in most left) ≡ Ok front
 no_entry_left front zero [] none = ap Ok (append-nil front)
 no_entry_left front (suc most) [] none = ap Ok (append-nil front)
 no_entry_left front most (byte ∷ bytes) none = absurd (omega arith)
 
--- a fourth entry
+-- a fourth entry is refused
 pub entry_too_many : (front : List Entry) (most : ℕ) (left : List ℕ) → most ≡ 0 → 0 < length left → behind front (entries_in most left) ≡ Err (plain code.Authsize)
 entry_too_many front most [] e some = absurd (omega arith)
 entry_too_many front most (byte ∷ bytes) e some = ap (λ k. behind front (entries_in k (byte ∷ bytes))) e
 
--- ---- entries, written one after the other
+-- ---- entries, written one after another
 
 abbrev pub text_in : AuthEntry → List ℕ
 text_in entry = auth_entry_text (entry_of entry)
 
--- what a loop takes for an entry beyond the last
+-- the entry that a loop takes beyond the last
 abbrev pub no_entry : AuthEntry
 no_entry = record { session = record { number = 0 }; nonce = record { ref_ptr = (0, 0); now = [] }; attributes = record { octet = 0 }; hmac = record { ref_ptr = (0, 0); now = [] } }
 
 pub entries_text-is : (entries : List AuthEntry) → entries_text (map entry_of entries) ≡ flat_map text_in entries
 entries_text-is entries = flat_map-map auth_entry_text entry_of entries
 
--- each has the sizes that all have
+-- each entry has the sizes that all have
 pub sizes_at : (entries : List AuthEntry) (i : ℕ) (d : AuthEntry) → AllByRecursion HasSizes (map entry_of entries) → i < length entries → HasSizes (entry_of (get_or entries i d))
 sizes_at [] i d all below = absurd (omega arith)
 sizes_at (entry ∷ entries) zero d all below = all.0
@@ -72,7 +71,7 @@ sizes_push : (entries : List AuthEntry) (entry : AuthEntry) → AllByRecursion H
 sizes_push [] entry all one = (one, tt)
 sizes_push (first ∷ entries) entry all one = (all.0, sizes_push entries entry all.1 one)
 
--- the sizes and the length of one entry more
+-- one entry more has its sizes, and adds its length
 pub sizes_more : (entries : List AuthEntry) (i : ℕ) (d : AuthEntry) → i < length entries → AllByRecursion HasSizes (map entry_of (take i entries)) → HasSizes (entry_of (get_or entries i d)) → AllByRecursion HasSizes (map entry_of (take (i + 1) entries))
 sizes_more entries i d below all one = subst (λ (l : List AuthEntry). AllByRecursion HasSizes (map entry_of l)) (sym (take_more entries i d below)) (sizes_push (take i entries) (get_or entries i d) all one)
 

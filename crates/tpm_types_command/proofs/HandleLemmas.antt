@@ -1,4 +1,4 @@
--- The handles of a command, read and written one after the other.
+-- The handles of a command, read and written one after another.
 use Rattle.std.proofs.Common.{◌≡◌, ℕ, zero, suc, ◌+◌, ◌*◌, ◌^◌, List, [], ◌∷◌, ◌++◌, length, Result, Ok, Err, refl, sym, ap, subst, ◌∙◌, append_assoc, arith, length-append}
 use Rattle.std.specs.List.{flat_map, AllByRecursion}
 use Rattle.std.specs.Int.{w32, to_be_bytes}
@@ -18,9 +18,9 @@ cut_at number = at (place.Handle number) (plain code.Insufficient)
 abbrev behind_first : ℕ → ℕ → ℕ × List ℕ → Result (List Handle × List ℕ) Rc
 behind_first number count first = handles_at (number + 1) count first.1 >>= λ others. Ok (record { number = first.0 } ∷ others.0, others.1)
 
--- ---- read
+-- ---- handles that are read
 
--- one handle more in front
+-- one handle more is read
 pub handle_more : (front : List Handle) (place m n x : ℕ) (text rest : List ℕ) → m ≡ suc n → or_fault (number_at w32 text) (cut_at place) ≡ Ok (x, rest) → behind (front ++ record { number = x } ∷ []) (handles_at (place + 1) n rest) ≡ behind front (handles_at place m text)
 handle_more front place m n x text rest e is =
     moved front (record { number = x }) (handles_at (place + 1) n rest)
@@ -50,7 +50,7 @@ handles_again (handle ∷ handles) place rest are =
     ap (handles_at place (suc (length handles))) (append_assoc (handle_text handle) (flat_map handle_text handles) rest)
     ∙ rw (number_or_again w32 (2 ^ 32) wide32 (cut_at place) handle.number (flat_map handle_text handles ++ rest) are.0, handles_again handles (place + 1) rest are.1) refl
 
--- ---- written
+-- ---- handles that are written
 
 pub length-handles : (handles : List Handle) → length (flat_map handle_text handles) ≡ 4 * length handles
 length-handles [] = refl

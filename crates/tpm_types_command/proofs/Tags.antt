@@ -1,4 +1,4 @@
--- The tags of commands: the one that is found has that number, and is found by it.
+-- The tags of commands: the tag that is found under a number has that number, and is found by it.
 use Rattle.std.proofs.Common.{◌≡◌, ℕ, ◌<◌, ◌^◌, Some, None, refl, arith}
 use Rattle.tpm_types.proofs.Named.{link, none}
 use Rattle.tpm_types_command.specs.declared.tag.Tag.{Tag}

@@ -18,9 +18,9 @@ entries_text entries = flat_map auth_entry_text entries
 abbrev pub area_text : List Entry → List ℕ
 area_text entries = to_be_bytes w32 (length (entries_text entries)) ++ entries_text entries
 
--- reading; every fault is AUTHSIZE
+-- ---- reading an authorization area: every fault is AUTHSIZE
 
--- the entries that a whole text is, at most this many
+-- the entries of a whole text, at most this many
 abbrev pub entries_in : ℕ → List ℕ → Result (List Entry) Rc
 entries_in most [] = Ok []
 entries_in zero (byte ∷ bytes) = Err (plain code.Authsize)
@@ -37,7 +37,7 @@ area_at text = do
   entries ← entries_in 3 bytes.0
   Ok (entries, bytes.1)
 
--- A reading gave the entries that all of these bytes are, or their fault.
+-- A reading of these bytes gave all their entries, or the fault of these.
 abbrev pub AreEntries : List ℕ → Result (ArrayVec AuthEntry) Rc → Type 0
 AreEntries bytes (Ok entries) = entries_in 3 bytes ≡ Ok (map entry_of entries.items)
 AreEntries bytes (Err fault) = entries_in 3 bytes ≡ Err fault

@@ -26,24 +26,25 @@ entry_of e = record {
   hmac = e.hmac.now;
 }
 
--- the session's handle, the nonce, the attributes, and the HMAC or password
+-- the text of an entry: the session's handle, the nonce, the attributes, and the HMAC or password
 abbrev pub auth_entry_text : Entry → List ℕ
 auth_entry_text e =
     to_be_bytes w32 e.session.number ++ sized_text e.nonce
     ++ to_be_bytes w8 e.attributes.octet ++ sized_text e.hmac
 
--- what has a text: each number fits its field
+-- An entry has a text: each number fits its field.
 pub record IsEntry (e : Entry) : Type 0 where
   pub session : e.session.number < 2 ^ 32
   pub nonce : length e.nonce < 2 ^ 16
   pub attributes : e.attributes.octet < 2 ^ 8
   pub hmac : length e.hmac < 2 ^ 16
 
--- a nonce and an HMAC of a length that two bytes can say
+-- The nonce and the HMAC of an entry have lengths that two bytes can say.
 abbrev pub HasSizes : Entry → Type 0
 HasSizes e = (length e.nonce < 2 ^ 16) × (length e.hmac < 2 ^ 16)
 
--- reading; a cut entry is AUTHSIZE wherever it is cut
+-- the entry at the front of a text, and what is after it; a cut entry is AUTHSIZE wherever it is
+-- cut
 unfoldable pub entry_at : List ℕ → Result (Entry × List ℕ) Rc
 entry_at text = do
   session ← or_fault (number_at w32 text) (plain code.Authsize)
@@ -60,7 +61,8 @@ entry_at text = do
     hmac.1,
   )
 
--- A write of an entry: all of its text at the end exactly where it has one that fits, else nothing.
+-- A write of an entry put all of its text at the end exactly where the entry has a text and it
+-- fits, and else nothing.
 abbrev pub PutsEntry : {E : Type 0} → ℕ → Entry → List ℕ → Result (Unit {0}) E → List ℕ → Type 0
 PutsEntry capacity e old result new =
     (IsOk result

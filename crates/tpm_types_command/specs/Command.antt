@@ -37,7 +37,7 @@ whole_of c = record {
   parameters = c.parameters.now;
 }
 
--- with entries it has sessions
+-- the tag of a command with these entries: it has sessions where there are entries
 abbrev pub tag_for : List Entry → Tag
 tag_for [] = NoSessions
 tag_for (entry ∷ entries) = Sessions
@@ -48,23 +48,23 @@ handle_text handle = to_be_bytes w32 handle.number
 unfoldable pub handles_text : List Handle → List ℕ
 handles_text handles = flat_map handle_text handles
 
--- the authorization area, which is there only with sessions
+-- the text of the authorization area, which is there only where there are entries
 abbrev pub sessions_text : List Entry → List ℕ
 sessions_text [] = []
 sessions_text (entry ∷ entries) = area_text (entry ∷ entries)
 
--- what stands after the header
+-- the text of what stands after a command's header
 unfoldable pub command_body_text : Whole → List ℕ
 command_body_text c = handles_text c.handles ++ sessions_text c.entries ++ c.parameters
 
--- commandSize: the whole length
+-- commandSize: the length of the whole command
 unfoldable pub command_size : Whole → ℕ
 command_size c = 10 + length (command_body_text c)
 
 unfoldable pub command_text : Whole → List ℕ
 command_text c = header_text (tag_for c.entries) (command_size c) c.code ++ command_body_text c
 
--- what has a text: a length that each size can say
+-- A command has a text: its lengths fit their size fields.
 pub record HasText (c : Whole) : Type 0 where
   pub entries : AllByRecursion HasSizes c.entries
   pub whole : command_size c < 2 ^ 32
@@ -72,8 +72,8 @@ pub record HasText (c : Whole) : Type 0 where
 abbrev pub IsHandle : Handle → Type 0
 IsHandle handle = handle.number < 2 ^ 32
 
--- what has a text that is read: as many handles as its code has, at most three entries, no more
--- bytes than a buffer's limit
+-- A command's text can be read: it has as many handles as its code says, at most three entries, and
+-- no more bytes than a buffer may have.
 pub record IsCommand (c : Whole) : Type 0 where
   pub handle_count : length c.handles ≡ handle_count c.code
   pub handles : AllByRecursion IsHandle c.handles
@@ -81,9 +81,10 @@ pub record IsCommand (c : Whole) : Type 0 where
   pub entries : AllByRecursion IsEntry c.entries
   pub size : command_size c ≤ buffer_limit
 
--- reading, with the first fault
+-- ---- reading a command, with the first fault
 
--- a number of handles, of which the first has this number among the handles of the command
+-- a number of handles at the front of a text, of which the first has this number among the
+-- command's handles, and what is after them
 abbrev pub handles_at : ℕ → ℕ → List ℕ → Result (List Handle × List ℕ) Rc
 handles_at number zero text = Ok ([], text)
 handles_at number (suc count) text = do
@@ -95,12 +96,12 @@ abbrev pub sessions_at : Tag → List ℕ → Result (List Entry × List ℕ) Rc
 sessions_at NoSessions text = Ok ([], text)
 sessions_at Sessions text = area_at text
 
--- the header, or its fault as a response code
+-- the header of a command, or its fault as a response code
 abbrev pub header_or_rc : {A : Type 0} → Result A HeaderFault → Result A Rc
 header_or_rc (Ok x) = Ok x
 header_or_rc (Err fault) = Err (header_fault_rc fault)
 
--- a command is a whole text, of which its parameters are the end
+-- the command that a whole text is; its parameters are the end of the text
 unfoldable pub command_at : List ℕ → Result (Whole × List ℕ) Rc
 command_at text = do
   header ← header_or_rc (header_at text)
@@ -116,8 +117,8 @@ command_at text = do
     [],
   )
 
--- A write of a command: all of its text at the end exactly where it has one that fits, else
--- nothing.
+-- A write of a command put all of its text at the end exactly where the command has a text and it
+-- fits, and else nothing.
 abbrev pub PutsCommand : {E : Type 0} → ℕ → Whole → List ℕ → Result (Unit {0}) E → List ℕ → Type 0
 PutsCommand capacity c old result new =
     (IsOk result ↔ (HasText c × (length old + command_size c ≤ capacity)))

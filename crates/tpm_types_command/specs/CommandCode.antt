@@ -1,5 +1,5 @@
--- What the facts of the commands say: which command has a number or a name, and what its handles and
--- its first parameter are to it. TPM 2.0 Library, Part 2, section 6.5.2 (TPM_CC), and Part 3.
+-- What the facts of the commands say: which command has a number or a name, and what a command's
+-- handles and first parameter are for. TPM 2.0 Library, Part 2, section 6.5.2 (TPM_CC), and Part 3.
 use Rattle.std.specs.Prelude.{ℕ, ◌==◌, nat_eq, is_some, count_by, Bool, true, false, List, [], ◌∷◌, length, Option, slice_get}
 use Rattle.std.specs.Cmp.Lexicographic.{pointwise}
 use Rattle.std.specs.List.{find}
@@ -15,19 +15,19 @@ use Rattle.tpm_types_command.specs.CommandFacts.{all_codes, command_facts}
 use Rattle.tpm_types_command.specs.Part.{Part}
 use Rattle.tpm_types_command.specs.Shape.{Facts, is_sized}
 
--- the number on the wire
+-- the number of a command on the wire
 abbrev pub code_number : CommandCode → ℕ
 code_number code = (command_facts code).number
 
--- the name: what stands after "TPM2_" at the head of the command's own section of Part 3
+-- the name of a command: what stands after "TPM2_" at the head of its own section of Part 3
 abbrev pub code_name : CommandCode → List ℕ
 code_name code = (command_facts code).name
 
--- the part of the device's state that its success may change
+-- the part of the device's state that a success of the command may change
 abbrev pub part_of : CommandCode → Part
 part_of code = (command_facts code).part
 
--- every other fact of a command
+-- the shape of a command: every other fact of it
 unfoldable pub shape_of : CommandCode → Facts
 shape_of code = (command_facts code).shape
 
@@ -50,13 +50,14 @@ handle_count code = length (shape_of code).handles
 abbrev pub authorized_handles : CommandCode → ℕ
 authorized_handles code = count_by (λ rule. is_some rule.role) (shape_of code).handles
 
--- the role in which the handle of a place, from 0, is authorized; the user's where it is in none
+-- the role in which the handle in a place, from 0, is authorized; USER where it needs no
+-- authorization
 abbrev pub role_at : CommandCode → ℕ → Role
 role_at code place =
     option_map_or (λ (rule : HandleRule). unwrap_or rule.role role.User)
     (slice_get (shape_of code).handles place) role.User
 
--- what it does to an NV index that authorizes it in the place of a handle, from 0
+-- what a command does to an NV index that authorizes it, as its handle in a place, from 0
 abbrev pub nv_use : Role → (reads : Bool) → NvUse
 nv_use role.Admin reads = does.Administer
 nv_use role.User true = does.Read
@@ -65,7 +66,7 @@ nv_use role.User false = does.Write
 abbrev pub nv_use_at : CommandCode → ℕ → NvUse
 nv_use_at code place = nv_use (role_at code place) (shape_of code).reads_nv
 
--- whether its first parameter is a sized buffer, which a session can encrypt
+-- whether the first parameter of a command is a sized buffer, which a session can encrypt
 abbrev first_is_sized : List ParameterKind → Bool
 first_is_sized [] = false
 first_is_sized (first ∷ others) = is_sized first

@@ -1,6 +1,6 @@
--- The facts of the commands that are served: of each its number (TPM 2.0 Library, Part 2, section
--- 6.5.2: TPM_CC), its name, the part of the device's state that its success may change, and its
--- shape (Part 3, its own section).
+-- The facts of the commands that are served: each one's number (TPM 2.0 Library, Part 2, section
+-- 6.5.2: TPM_CC), name, part of the device's state that its success may change, and shape (Part 3,
+-- its own section).
 use Rattle.tpm_types.specs.Limits.{data_limit}
 use Rattle.std.specs.Prelude.{ℕ, true, List, [], ◌∷◌, codes}
 use Prim.Native.String.{String}
@@ -21,7 +21,8 @@ pub record CommandFacts : Type 0 where
   pub part : Part
   pub shape : Facts
 
--- a line of the table: the name is what stands after "TPM2_" at the head of the command's section
+-- a line of the table of commands: the name is what stands after "TPM2_" at the head of the
+-- command's section
 abbrev pub facts : (number : ℕ) → (name : String) → Part → Facts → CommandFacts
 facts number name part shape = record {
   number = number;
@@ -30,30 +31,30 @@ facts number name part shape = record {
   shape = shape;
 }
 
--- words of the table
+-- ---- words of the table of commands
 
 -- the shape of a command that answers a sized buffer first
 abbrev pub answering : Facts → Facts
 answering shape = record shape { sized_answer = true }
 
--- and of one whose success leaves what a TPM2_Shutdown saved
+-- the shape of a command whose success leaves what a TPM2_Shutdown saved
 abbrev pub keeping : Facts → Facts
 keeping shape = record shape { keeps_shutdown = true }
 
--- and of one that may want memory
+-- the shape of a command that may want memory
 abbrev pub growing : Facts → Facts
 growing shape = record shape { grows = true }
 
--- and of one that reads the NV index that authorizes it
+-- the shape of a command that reads the NV index that authorizes it
 abbrev pub reading : Facts → Facts
 reading shape = record shape { reads_nv = true }
 
--- and of one that may have no sessions
+-- the shape of a command that may have no sessions
 abbrev pub without_sessions : Facts → Facts
 without_sessions shape = record shape { forbids_sessions = true }
 
--- and of one that may want memory for what it makes, and answers the handle of that and then a
--- sized buffer
+-- the shape of a command that may want memory for what it makes, and answers the handle of that and
+-- then a sized buffer
 abbrev pub making : Facts → Facts
 making shape = record shape { sized_answer = true; answers_handle = true; grows = true }
 
@@ -77,31 +78,33 @@ on_clear parameters = shape_with (user kind.Clear ∷ []) parameters
 abbrev pub on_nv : List ParameterKind → Facts
 on_nv parameters = shape_with (user kind.NvAuth ∷ unauthorized kind.NvIndex ∷ []) parameters
 
--- and of one that reads the index
+-- the shape of a command that reads an NV index: authHandle, nvIndex
 abbrev pub on_read_nv : List ParameterKind → Facts
 on_read_nv parameters = reading (on_nv parameters)
 
--- tpmKey, of which only TPM_RH_NULL is served, and bind
+-- the handles of TPM2_StartAuthSession: tpmKey, of which only TPM_RH_NULL is served, and bind
 abbrev pub start_handles : List HandleRule
 start_handles = unauthorized kind.Null ∷ unauthorized kind.Entity ∷ []
 
--- nonceCaller, encryptedSalt (of at most 32 bytes, as no key can decrypt one), sessionType,
--- symmetric, authHash
+-- the parameters of TPM2_StartAuthSession: nonceCaller, encryptedSalt (of at most 32 bytes, as no
+-- key can decrypt one), sessionType, symmetric, authHash
 abbrev pub start_parameters : List ParameterKind
 start_parameters =
     parameter.Buffer 32 ∷ parameter.Buffer 32 ∷ parameter.SessionType
     ∷ parameter.Symmetric ∷ parameter.Hash ∷ []
 
--- inSensitive, inPublic, outsideInfo, creationPCR
+-- the parameters of TPM2_CreatePrimary and TPM2_Create: inSensitive, inPublic, outsideInfo,
+-- creationPCR
 abbrev pub create_parameters : List ParameterKind
 create_parameters =
     parameter.SensitiveCreate ∷ parameter.Public ∷ parameter.Buffer 34 ∷ parameter.Selection ∷ []
 
--- auth, publicInfo
+-- the parameters of TPM2_NV_DefineSpace: auth, publicInfo
 abbrev pub define_parameters : List ParameterKind
 define_parameters = parameter.Buffer 32 ∷ parameter.NvPublic ∷ []
 
--- authHandle, policySession; nonceTPM, cpHashA, policyRef, expiration
+-- the handles of TPM2_PolicySecret, authHandle and policySession, and its parameters nonceTPM,
+-- cpHashA, policyRef, expiration
 abbrev pub secret_handles : List HandleRule
 secret_handles = user kind.EntityNotNull ∷ unauthorized kind.PolicySession ∷ []
 
@@ -109,11 +112,12 @@ abbrev pub secret_parameters : List ParameterKind
 secret_parameters =
     parameter.Buffer 32 ∷ parameter.Buffer 32 ∷ parameter.Buffer 32 ∷ parameter.U32 ∷ []
 
--- auth, objectHandle
+-- the handles of TPM2_EvictControl: auth, objectHandle
 abbrev pub evict_handles : List HandleRule
 evict_handles = user kind.Provision ∷ unauthorized kind.Object ∷ []
 
--- authHandle, nvIndex, policySession; operandB, offset, operation
+-- the handles of TPM2_PolicyNV, authHandle, nvIndex and policySession, and its parameters operandB,
+-- offset, operation
 abbrev pub compared_handles : List HandleRule
 compared_handles =
     user kind.NvAuth ∷ unauthorized kind.NvIndex ∷ unauthorized kind.PolicySession ∷ []
@@ -121,7 +125,7 @@ compared_handles =
 abbrev pub compared_parameters : List ParameterKind
 compared_parameters = parameter.Buffer 32 ∷ parameter.U16 ∷ parameter.Operation ∷ []
 
--- the table
+-- the table of commands
 abbrev pub command_facts : CommandCode → CommandFacts
 command_facts code.EvictControl =
     facts 0x120 "EvictControl" Persistent
@@ -222,7 +226,7 @@ command_facts code.PolicyPassword = facts 0x18c "PolicyPassword" Sessions (on_po
 command_facts code.PolicyNvWritten =
     facts 0x18f "PolicyNvWritten" Sessions (on_policy (parameter.YesNo ∷ []))
 
--- all of them, ascending by number
+-- all commands that are served, ascending by number
 abbrev pub all_codes : List CommandCode
 all_codes =
     code.EvictControl

@@ -1,5 +1,5 @@
--- The handles of a command, each of which its rule allows. TPM 2.0 Library, Part 3, section 5.4
--- (handle area validation).
+-- The handles of a command, of which each has a rule. TPM 2.0 Library, Part 3, section 5.4 (handle
+-- area validation).
 use Rattle.std.specs.Prelude.{ℕ, not, List, Result, Ok}
 use Rattle.std.specs.Int.{w32}
 use Rattle.tpm_bytes.specs.Many.{each_at}
@@ -16,17 +16,18 @@ use Rattle.tpm_types.specs.Rc.{at, plain}
 use Rattle.tpm_types_command.specs.CommandCode.{shape_of}
 use Rattle.tpm_types_command.specs.Shape.{is_of_kind}
 
--- a fault of the command's n-th handle
+-- the fault of the command's n-th handle
 abbrev pub handle_fault : ℕ → ResponseCode → Rc
 handle_fault n fault = at (place.Handle n) (plain fault)
 
--- a handle that a rule allows, the command's n-th, and what is after it
+-- the command's n-th handle, at the front of a text, which its rule has to allow, and what is after
+-- it
 unfoldable pub allowed_handle_at : ℕ → HandleRule → List ℕ → Result (Handle × List ℕ) Rc
 allowed_handle_at n rule text = do
   number ← or_fault (number_at w32 text) (handle_fault n code.Insufficient)
   allowed ← refused_if (not (is_of_kind rule.kind (numbered number.0))) (handle_fault n code.Value)
   Ok (numbered number.0, number.1)
 
--- a handle for each rule of the command
+-- the handles of a command, one for each of its rules, and what is after them
 abbrev pub allowed_handles_at : CommandCode → List ℕ → Result (List Handle × List ℕ) Rc
 allowed_handles_at code text = each_at allowed_handle_at 1 (shape_of code).handles text

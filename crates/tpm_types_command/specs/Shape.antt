@@ -12,9 +12,9 @@ use Rattle.tpm_types.specs.declared.role.Role.TheVariants as role
 use Rattle.tpm_types_command.specs.declared.shape.Shape.{Shape}
 use Rattle.tpm_types.specs.Handle.{hierarchy_auth_of, hierarchy_of, is_nv_index, is_persistent, is_policy_session, is_transient, lockout_handle, null_handle, owner_handle, pcr_of, platform_handle}
 
--- whether a handle is one of what has an authorization value, there or not: a hierarchy or lockout,
--- a PCR, an NV index (01), a transient object (80) or a persistent one (81); or TPM_RH_NULL
--- (TPMI_DH_ENTITY)
+-- whether a handle's type is that of something with an authorization value, whether it names
+-- something or not: a hierarchy or lockout, a PCR, an NV index (01), a transient object (80) or a
+-- persistent one (81); or TPM_RH_NULL (TPMI_DH_ENTITY)
 abbrev pub is_entity : Handle → Bool
 is_entity handle =
     handle.number == null_handle.number || is_some (hierarchy_auth_of handle) || is_some (pcr_of handle)
@@ -25,13 +25,13 @@ abbrev pub is_provision : Handle → Bool
 is_provision handle =
     handle.number == owner_handle.number || handle.number == platform_handle.number
 
--- whether a handle is of a kind, by Part 2, section 9: a PCR (TPMI_DH_PCR), or that or
+-- whether a handle is of a kind, by Part 2, section 9: a PCR (TPMI_DH_PCR), or a PCR or
 -- TPM_RH_NULL; TPM_RH_NULL alone, where the standard has a key too; a hierarchy or lockout
 -- (TPMI_RH_HIERARCHY_AUTH); a hierarchy or TPM_RH_NULL (TPMI_RH_HIERARCHY+); an entity as above,
 -- with TPM_RH_NULL or without; a transient object or a persistent one, there or not
 -- (TPMI_DH_OBJECT); a policy session, which a trial session is too (03: TPMI_SH_POLICY); the owner
--- or the platform; lockout (TPMI_RH_LOCKOUT); that or the platform (TPMI_RH_CLEAR); the owner, the
--- platform or an NV index (TPMI_RH_NV_AUTH); an NV index, there or not (TPMI_RH_NV_INDEX)
+-- or the platform; lockout (TPMI_RH_LOCKOUT); lockout or the platform (TPMI_RH_CLEAR); the owner,
+-- the platform or an NV index (TPMI_RH_NV_AUTH); an NV index, there or not (TPMI_RH_NV_INDEX)
 abbrev pub is_of_kind : HandleKind → Handle → Bool
 is_of_kind kind.Pcr handle = is_some (pcr_of handle)
 is_of_kind kind.PcrOrNull handle = is_some (pcr_of handle) || handle.number == null_handle.number
@@ -72,12 +72,12 @@ is_sized parameter.Operation = false
 is_sized parameter.PersistentHandle = false
 is_sized parameter.YesNo = false
 
--- a shape, wherever its lists lie in memory: its handles and who authorizes each, its parameters,
--- whether the first parameter of its answer is a sized buffer, whether a handle stands before
--- these, whether it may have no sessions, whether it may want memory, whether it reads the NV
--- index that authorizes it, where one does: any other command writes it, or administers it in that
--- role; and whether its success leaves what a TPM2_Shutdown saved, which any other one cancels
--- (Part 3, section 9.4)
+-- the shape of a command, wherever its lists lie in memory: its handles and who authorizes each,
+-- its parameters, whether the first parameter of its answer is a sized buffer, whether a handle
+-- stands before the parameters of its answer, whether it may have no sessions, whether it may want
+-- memory, whether it reads the NV index that authorizes it, where one does (any other command
+-- writes that index, or administers it in the role ADMIN), and whether its success leaves what a
+-- TPM2_Shutdown saved, which any other success cancels (Part 3, section 9.4)
 pub record Facts : Type 0 where
   pub handles : List HandleRule
   pub parameters : List ParameterKind
@@ -100,15 +100,15 @@ facts_of s = record {
   keeps_shutdown = s.keeps_shutdown;
 }
 
--- a handle that is authorized in the role USER
+-- the rule of a handle that is authorized in the role USER
 abbrev pub user : HandleKind → HandleRule
 user kind = record { kind = kind; role = Some role.User }
 
--- one that is authorized in the role ADMIN
+-- the rule of a handle that is authorized in the role ADMIN
 abbrev pub admin : HandleKind → HandleRule
 admin kind = record { kind = kind; role = Some role.Admin }
 
--- one that needs no authorization
+-- the rule of a handle that needs no authorization
 abbrev pub unauthorized : HandleKind → HandleRule
 unauthorized kind = record { kind = kind; role = None }
 

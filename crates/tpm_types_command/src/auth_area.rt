@@ -25,8 +25,8 @@ impl<'a> AuthArea<'a> {
     ghost use Rattle.tpm_types_command.specs.AuthEntry.{entry_of};
     ghost use Rattle.tpm_types_command.specs.AuthArea.{area_at};
 
-    /// Reads an area: AUTHSIZE where its size is cut, under nine or beyond the text, and where an
-    /// entry is cut or a fourth one.
+    /// Reads an authorization area: AUTHSIZE where its size is cut, under nine or beyond the text,
+    /// where an entry is cut, and where there is a fourth one.
     #[tactic(auto, unfolding(crate::specs::AuthArea::area_at))]
     pub fn read(text: &mut Cursor<'a>) -> Result<AuthArea<'a>, Rc>
         ensures { Reads (λ area. map entry_of area.entries.items) (area_at text.old)

@@ -24,12 +24,12 @@ impl<'a> AuthEntry<'a> {
 
     /// Reads an entry: AUTHSIZE where it is cut.
     pub fn read(text: &mut Cursor<'a>) -> Result<AuthEntry<'a>, Rc>
-        // Which value it is, or the fault.
+        // Says which value is read, or the fault.
         ensures exact { Reads entry_of (entry_at text.old) text.old result text.new }
-        // What is read was spelled so.
+        // A value is read only from its text.
         ensures found { IfOk result (λ entry. IsEntry (entry_of entry)
             × (text.old ≡ auth_entry_text (entry_of entry) ++ text.new)) }
-        // What is spelled so is read.
+        // A value is read from its text, whatever comes after it.
         ensures only { (entry : Entry) (rest : List ℕ) → IsEntry entry
             → text.old ≡ auth_entry_text entry ++ rest
             → Reads entry_of (Ok (entry, rest)) text.old result text.new }
@@ -64,7 +64,7 @@ impl<'a> AuthEntry<'a> {
         })
     }
 
-    /// How many bytes the entry's text has, where it has one.
+    /// How many bytes the entry's text has, if the entry has a text.
     #[tactic(auto, using(crate::proofs::EntryLaws::entry_sizes))]
     pub fn text_len(&self) -> Option<usize>
         ensures { SomeIff result (HasSizes (entry_of self.now))

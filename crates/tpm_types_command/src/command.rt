@@ -1,5 +1,5 @@
 //! A whole command: its code, handles, authorization entries and parameters (TPM 2.0 Library, Part
-//! 1, section 18). Below it stand its reader and its writer.
+//! 1, section 18). Its reader and its writer are submodules.
 
 ghost use Rattle.std.specs.Prelude.{◌≡◌, length};
 ghost use Rattle.tpm_types_command.specs.CommandCode.{handle_count};

@@ -1,5 +1,5 @@
 //! The commands that are served, each with its facts: its number (TPM_CC; TPM 2.0 Library, Part 2,
-//! section 6.5.2), its name, and its [`Shape`], which has every other one.
+//! section 6.5.2), its name, and its [`Shape`], which has every other fact.
 
 ghost use Rattle.std.specs.Prelude.{◌≡◌, ◌≤◌, ◌==◌, IfSome, Some, length, true};
 
@@ -10,8 +10,8 @@ use crate::shape::ParameterKind::{
 use crate::shape::{HandleKind, HandleRule, ParameterKind, Shape};
 use tpm_types::{DATA_LIMIT, NvUse, Role};
 
-/// The commands that are served, ascending by number. What is to be known of each stands in one line
-/// of `facts!`.
+/// The commands that are served, ascending by number. The facts of each are in one line of
+/// `facts!`.
 #[derive(Clone, Copy, Debug, PartialEq, Eq)]
 pub enum CommandCode {
     EvictControl,
@@ -146,22 +146,24 @@ const POLICY_SESSION: HandleRule = HandleRule {
 /// The most bytes of the data that a command takes.
 const DATA_SIZE: u16 = DATA_LIMIT as u16;
 
-/// inSensitive, inPublic, outsideInfo, creationPCR.
+/// The parameters of TPM2_CreatePrimary and TPM2_Create: inSensitive, inPublic, outsideInfo,
+/// creationPCR.
 const CREATE: &[ParameterKind] = &[SensitiveCreate, Public, Buffer(34), Selection];
 
-/// inPrivate, inPublic.
+/// The parameters of TPM2_Load: inPrivate, inPublic.
 const LOAD: &[ParameterKind] = &[Buffer(256), Public];
 
-/// nonceTPM, cpHashA, policyRef, expiration.
+/// The parameters of TPM2_PolicySecret: nonceTPM, cpHashA, policyRef, expiration.
 const SECRET: &[ParameterKind] = &[Buffer(32), Buffer(32), Buffer(32), U32];
 
-/// operandB, offset, operation.
+/// The parameters of TPM2_PolicyNV: operandB, offset, operation.
 const COMPARED: &[ParameterKind] = &[Buffer(32), U16, Operation];
 
-/// nonceCaller, encryptedSalt, sessionType, symmetric, authHash.
+/// The parameters of TPM2_StartAuthSession: nonceCaller, encryptedSalt, sessionType, symmetric,
+/// authHash.
 const START: &[ParameterKind] = &[Buffer(32), Buffer(32), SessionType, Symmetric, Hash];
 
-/// A shape with these handles and parameters, of which the named facts hold and no others.
+/// A shape with these handles and parameters, of which only the named facts hold.
 macro_rules! shape {
     ([$($handle:expr),*], $parameters:expr $(, $fact:ident)*) => {{
         let mut shape = Shape {
@@ -179,8 +181,8 @@ macro_rules! shape {
     }};
 }
 
-/// One column of the lines of `facts!`: all commands, the number, the name or the shape of a command,
-/// or the command of a number.
+/// One column of the lines of `facts!`: all commands, the number, the name or the shape of a
+/// command, or the command of a number.
 macro_rules! column {
     (all; $($number:literal $variant:ident $name:literal $shape:tt)*) => {
         [$(CommandCode::$variant),*]
@@ -199,9 +201,9 @@ macro_rules! column {
     };
 }
 
-/// The facts of each command, a line a command, ascending by number: its number, its variant, its
-/// name, which is what stands after "TPM2_" at the head of its section of TPM 2.0 Library, Part 3,
-/// and its shape.
+/// The facts of all commands, in a line for each, ascending by number: the command's number, its
+/// variant, its name, which is what stands after "TPM2_" at the head of its section of TPM 2.0
+/// Library, Part 3, and its shape.
 macro_rules! facts {
     ($($asked:tt)*) => {
         column! {
@@ -268,14 +270,14 @@ impl CommandCode {
     ghost use Rattle.tpm_types_command.specs.CommandCode.{authorized_handles, code_called, code_name, code_named, code_number, handle_count, has_sized_parameter, is_served, nv_use_at, role_at, shape_of};
     ghost use Rattle.tpm_types_command.specs.Shape.{facts_of};
 
-    /// All of them, ascending by number.
+    /// All commands that are served, ascending by number.
     pub const ALL: &'static [CommandCode] = &facts!(all);
 
-    /// The number on the wire.
+    /// The number of the command on the wire.
     #[tactic(auto, unfolding(crate::specs::CommandCode::code_named))]
     pub fn number(self) -> u32
         ensures value { result ≡ code_number self }
-        // The number names the command.
+        // The number names this command.
         ensures again { code_named result ≡ Some self }
     {
         facts!(number of self)
@@ -292,17 +294,17 @@ impl CommandCode {
     #[tactic(auto, using(crate::proofs::Codes::codes), unfolding(crate::specs::CommandCode::code_named))]
     pub fn named(number: u32) -> Option<CommandCode>
         ensures value { result ≡ code_named number }
-        // It has this number.
+        // The command that was found has this number.
         ensures found { IfSome result (λ code. code_number code ≡ number) }
     {
         facts!(code of number)
     }
 
-    /// The name. No two commands share one.
+    /// The name of the command. No two commands share one.
     #[tactic(auto, unfolding(crate::specs::CommandCode::code_called))]
     pub fn name(self) -> &'static str
         ensures value { result.now ≡ code_name self }
-        // No other command has it.
+        // No other command has this name.
         ensures again { code_called (code_name self) ≡ Some self }
         ensures short { length result.now ≤ 26 }
     {
@@ -320,7 +322,7 @@ impl CommandCode {
             .find(|code| name == code.name().as_bytes())
     }
 
-    /// Every other fact of the command.
+    /// The shape of the command: every fact but its number and its name.
     #[tactic(auto, unfolding(crate::specs::CommandCode::shape_of))]
     pub fn shape(self) -> Shape
         ensures value { facts_of result ≡ shape_of self }
@@ -337,7 +339,7 @@ impl CommandCode {
         self.shape().handles.len()
     }
 
-    /// How many of them need authorization.
+    /// How many of the command's handles need authorization.
     pub fn authorized_handles(self) -> usize
         ensures value { result ≡ authorized_handles self }
         ensures within { result ≤ handle_count self }
@@ -349,7 +351,7 @@ impl CommandCode {
             .count()
     }
 
-    /// The role in which the handle of this place, from 0, is authorized.
+    /// The role in which the handle in this place, from 0, is authorized.
     pub fn role_at(self, place: usize) -> Role
         ensures { result ≡ role_at self place }
     {
@@ -359,7 +361,8 @@ impl CommandCode {
         }
     }
 
-    /// What it does to an NV index that authorizes it in the place of a handle, from 0.
+    /// The use that the command makes of an NV index that authorizes it, in the place of a handle,
+    /// from 0.
     pub fn nv_use_at(self, place: usize) -> NvUse
         ensures { result ≡ nv_use_at self place }
     {
@@ -370,7 +373,7 @@ impl CommandCode {
         }
     }
 
-    /// Whether its first parameter is a sized buffer, which a session can encrypt.
+    /// Whether the command's first parameter is a sized buffer, which a session can encrypt.
     pub fn has_sized_parameter(self) -> bool
         ensures { result ≡ has_sized_parameter self }
     {

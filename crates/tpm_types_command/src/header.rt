@@ -1,5 +1,5 @@
-//! The header of a command, and its first fault in the order in which it is looked for (TPM 2.0
-//! Library, Part 1, section 18.2).
+//! The header of a command, and its first fault in the order of the checks (TPM 2.0 Library, Part
+//! 1, section 18.2).
 
 ghost use Rattle.std.specs.Prelude.{◌≡◌};
 ghost use Rattle.tpm_bytes.specs.Reading.{Reads};
@@ -11,26 +11,26 @@ use arrayvec::ArrayVec;
 use tpm_bytes::Cursor;
 use tpm_types::{BUFFER_LIMIT, Handle, Rc, ResponseCode};
 
-/// The bytes of a command's header.
+/// How many bytes a command's header has.
 pub const HEADER_SIZE: usize = 10;
 
-/// What a command's header says besides its size (TPM 2.0 Library, Part 1, section 18.2).
+/// The header of a command, without its size (TPM 2.0 Library, Part 1, section 18.2).
 #[derive(Clone, Copy, Debug, PartialEq, Eq)]
 pub struct Header {
     pub tag: Tag,
     pub code: CommandCode,
 }
 
-/// The first fault of a command's header, in the order in which it is looked for.
+/// The first fault of a command's header, in the order of the checks.
 #[derive(Clone, Copy, Debug, PartialEq, Eq)]
 pub enum HeaderFault {
-    /// Fewer bytes than a header, or more than the limit of a buffer.
+    /// The buffer has fewer bytes than a header, or more than the limit of a buffer.
     Length,
-    /// A tag that is neither of the two.
+    /// The tag is neither of the two tags of commands.
     Tag,
-    /// A commandSize that is not the buffer's length.
+    /// The commandSize is not the buffer's length.
     Size,
-    /// A command that is not served.
+    /// The command is not served.
     Code,
 }
 

@@ -3,13 +3,13 @@
 //! Whole commands (TPM 2.0 Library, Part 1, section 18): the commands that are served, their
 //! headers, handles, authorization areas and entries.
 //!
-//! Every fact of a command but its number, its name and what it does stands in its
-//! [`shape::Shape`]; all of them stand in one line a command, in [`command_code`].
+//! Every fact of a command but its number, its name and what it does is in its [`shape::Shape`];
+//! [`command_code`] has all facts of a command in one line.
 //!
-//! It stands on `tpm_types` for handles and response codes. A read gives the value or the first
+//! The crate uses `tpm_types` for handles and response codes. A read gives the value or the first
 //! fault, as the response code that the standard has for it, and a refused read or write changes
-//! nothing. Entries and commands have one text a value: what is read was spelled so, and what is
-//! spelled so is read. No call here takes memory.
+//! nothing. Entries and commands have one text for each value: a value is read only from its text,
+//! and from every such text. No call here takes memory.
 
 pub mod auth_area;
 pub mod auth_entry;

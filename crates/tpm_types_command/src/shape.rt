@@ -1,4 +1,4 @@
-//! What a command is made of: its handles and their roles, its parameters, its answer. A [`Shape`]
+//! The shape of a command: its handles and their roles, its parameters, its answer. A [`Shape`]
 //! holds every fact of a command but its number and what it does.
 
 ghost use Rattle.std.specs.Prelude.{◌≡◌};
@@ -6,7 +6,7 @@ ghost use Rattle.tpm_types_command.specs.Shape.{is_entity, is_provision};
 
 use tpm_types::{Handle, Role};
 
-/// What a handle of a command may be, by the types of TPM 2.0 Library, Part 2, section 9.
+/// The kind of a handle, by the types of TPM 2.0 Library, Part 2, section 9.
 #[derive(Clone, Copy, Debug, PartialEq, Eq)]
 pub enum HandleKind {
     /// TPMI_DH_PCR: a PCR.
@@ -39,7 +39,8 @@ pub enum HandleKind {
     NvIndex,
 }
 
-/// Whether the handle is one of an entity that has an authorization value, or TPM_RH_NULL.
+/// Whether the handle's type is that of an entity that has an authorization value, or the handle is
+/// TPM_RH_NULL.
 fn is_entity(handle: Handle) -> bool
     ensures { result ≡ is_entity handle }
 {
@@ -81,61 +82,61 @@ impl HandleKind {
     }
 }
 
-/// What a handle of a command may be, and in which role it is authorized; none where it needs no
-/// authorization.
+/// The kind of a handle of a command, and the role in which it is authorized; None where it needs
+/// no authorization.
 #[derive(Clone, Copy, Debug, PartialEq, Eq)]
 pub struct HandleRule {
     pub kind: HandleKind,
     pub role: Option<Role>,
 }
 
-/// What a parameter of a command is.
+/// The kind of a parameter of a command.
 #[derive(Clone, Copy, Debug, PartialEq, Eq)]
 pub enum ParameterKind {
-    /// TPM_SU.
+    /// A startup type: TPM_SU.
     StartupType,
-    /// TPM_SE.
+    /// A session type: TPM_SE.
     SessionType,
-    /// UINT8.
+    /// A number of one byte: UINT8.
     U8,
-    /// UINT16.
+    /// A number of two bytes: UINT16.
     U16,
-    /// UINT32.
+    /// A number of four bytes: UINT32.
     U32,
-    /// UINT64.
+    /// A number of eight bytes: UINT64.
     U64,
-    /// TPMI_ALG_HASH.
+    /// A hash algorithm: TPMI_ALG_HASH.
     Hash,
-    /// TPMI_ALG_HASH+: that, or NULL.
+    /// A hash algorithm or NULL: TPMI_ALG_HASH+.
     HashOrNull,
-    /// TPMT_SYM_DEF.
+    /// A symmetric definition: TPMT_SYM_DEF.
     Symmetric,
-    /// TPML_PCR_SELECTION.
+    /// A selection of PCRs: TPML_PCR_SELECTION.
     Selection,
-    /// TPML_DIGEST_VALUES.
+    /// A list of digests with their algorithms: TPML_DIGEST_VALUES.
     Digests,
-    /// TPML_DIGEST.
+    /// A list of digests: TPML_DIGEST.
     DigestList,
-    /// A TPM2B of at most this many bytes.
+    /// A sized buffer of at most this many bytes: a TPM2B.
     Buffer(u16),
-    /// TPM2B_SENSITIVE_CREATE.
+    /// What a caller gives for a new object: TPM2B_SENSITIVE_CREATE.
     SensitiveCreate,
-    /// TPM2B_PUBLIC.
+    /// The public area of an object: TPM2B_PUBLIC.
     Public,
-    /// TPM2B_NV_PUBLIC.
+    /// The public area of an NV index: TPM2B_NV_PUBLIC.
     NvPublic,
-    /// TPM_EO.
+    /// A comparison of two operands: TPM_EO.
     Operation,
-    /// TPMI_DH_PERSISTENT.
+    /// The handle of a persistent object: TPMI_DH_PERSISTENT.
     PersistentHandle,
-    /// TPMI_YES_NO.
+    /// A yes or a no: TPMI_YES_NO.
     YesNo,
 }
 
 impl ParameterKind {
     ghost use Rattle.tpm_types_command.specs.Shape.{is_sized};
 
-    /// Whether it is a sized buffer, a TPM2B.
+    /// Whether a parameter of this kind is a sized buffer, a TPM2B.
     pub fn is_sized(self) -> bool
         ensures { result ≡ is_sized self }
     {
@@ -172,13 +173,14 @@ pub struct Shape {
     pub sized_answer: bool,
     /// Whether a handle stands before the answer's parameters.
     pub answers_handle: bool,
-    /// Whether it may have no authorization area.
+    /// Whether the command may have no authorization area.
     pub forbids_sessions: bool,
-    /// Whether the command may want memory that is not there.
+    /// Whether the command grows something, and so may be refused memory.
     pub grows: bool,
-    /// Whether it reads the NV index that authorizes it, where one does; any other command writes
-    /// it, or is authorized in the role ADMIN.
+    /// Whether the command reads the NV index that authorizes it, where one does; any other command
+    /// writes the index, or is authorized in the role ADMIN.
     pub reads_nv: bool,
-    /// Whether its success leaves what a TPM2_Shutdown saved; that of any other command cancels it.
+    /// Whether a success of the command leaves what a TPM2_Shutdown saved; that of any other
+    /// command cancels it.
     pub keeps_shutdown: bool,
 }

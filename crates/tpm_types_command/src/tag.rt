@@ -3,7 +3,8 @@
 
 ghost use Rattle.std.specs.Prelude.{◌≡◌};
 
-/// Whether a command has authorization sessions: TPM_ST of TPM 2.0 Library, Part 2, section 6.9.
+/// The tag of a command, which says whether it has authorization sessions: TPM_ST of TPM 2.0
+/// Library, Part 2, section 6.9.
 #[derive(Clone, Copy, Debug, PartialEq, Eq)]
 pub enum Tag {
     NoSessions,
@@ -13,7 +14,7 @@ pub enum Tag {
 impl Tag {
     ghost use Rattle.tpm_types_command.specs.Tag.{tag_named, tag_number};
 
-    /// The number on the wire.
+    /// The number of the tag on the wire.
     pub fn number(self) -> u16
         ensures { result ≡ tag_number self }
     {

@@ -11,7 +11,7 @@ use Rattle.tpm_types.specs.Algorithm.{hash_number}
 abbrev pub handle_name : Handle → List ℕ
 handle_name handle = to_be_bytes w32 handle.number
 
--- a hash algorithm, and the digest of a text by it
+-- a Name that is made of a text: a hash algorithm, and the digest of the text by it
 abbrev pub hashed_name : HashAlg → List ℕ → List ℕ
 hashed_name alg text = to_be_bytes w16 (hash_number alg) ++ hash_of alg text
 

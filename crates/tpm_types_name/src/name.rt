@@ -1,5 +1,5 @@
-//! The Name of an entity, of at most 34 bytes: its handle, or a hash algorithm and a digest by it
-//! (TPM 2.0 Library, Part 1, section 16).
+//! The Name of an entity, of at most 34 bytes: its handle, or a hash algorithm and a digest by that
+//! algorithm (TPM 2.0 Library, Part 1, section 16).
 
 ghost use Rattle.std.specs.Prelude.{◌≡◌, ◌≤◌, [], length};
 ghost use Rattle.std.specs.Str.{bytes_eq};
@@ -27,7 +27,7 @@ impl Model for Name {
 }
 
 impl Default for Name {
-    /// No byte, the Name of nothing (TPM 2.0 Library, Part 1, section 16).
+    /// The empty Name, which names nothing (TPM 2.0 Library, Part 1, section 16).
     fn default() -> Name
         ensures { result ≡ [] }
     {
@@ -57,8 +57,8 @@ impl Name {
         }
     }
 
-    /// A hash algorithm, and the digest of these parts as one text by it: the Name of what has a
-    /// public area of that text.
+    /// The Name of an entity whose public area has this text, in parts: a hash algorithm, and the
+    /// digest of the text by that algorithm.
     pub fn hashed(alg: HashAlg, parts: &[&[u8]]) -> Name
         ensures { result ≡ hashed_name alg (joined_text parts.now) }
     {
@@ -76,7 +76,7 @@ impl Name {
         Name::hashed(alg, &[parent, name])
     }
 
-    /// Its bytes.
+    /// The bytes of the Name.
     pub fn as_slice(&self) -> &[u8]
         ensures value { result.now ≡ self.now }
         ensures fits { length result.now ≤ 34 }
@@ -84,7 +84,7 @@ impl Name {
         self.bytes.as_slice()
     }
 
-    /// The same Name.
+    /// A copy of the Name.
     pub fn copy(&self) -> Name
         ensures { result ≡ self.now }
     {
@@ -93,7 +93,7 @@ impl Name {
         }
     }
 
-    /// Whether the two are the same.
+    /// Whether the two Names are the same.
     pub fn is_same(&self, other: &Name) -> bool
         ensures { result ≡ bytes_eq self.now other.now }
     {

@@ -1,4 +1,4 @@
--- Public areas of NV indices: what is read was spelled so, and what is spelled so is read.
+-- Public areas of NV indices: a value is read only from its text, and from every such text.
 use Rattle.std.proofs.Common.{◌≡◌, ℕ, ◌^◌, ◌<◌, Bool, true, false, List, [], ◌++◌, length, Ok, refl, subst, append_assoc, append-nil, arith, length-append}
 use Rattle.std.specs.Prelude.{not}
 use Rattle.std.specs.Int.{w16, w32, to_be_bytes}
@@ -61,7 +61,7 @@ nv_index_spelled = record {
 
 -- ---- public areas
 
--- the fields in their order
+-- the fields of a public area, in their order
 abbrev Fields : Type 0
 Fields = (((Handle × HashAlg) × NvAttributes) × List ℕ) × ℕ
 
@@ -85,7 +85,7 @@ nv_public_spelled =
     (λ p is. record { nv_index = is.0; attributes = is.1.1.0; auth_policy = is.1.1.1.0; data_size = is.1.1.1.1.0 })
     (λ p is. (is.nv_index, (tt, (is.attributes, (is.auth_policy, (is.data_size, tt))))))
 
--- ---- the text's length
+-- ---- the length of the text
 
 pub nv_public_small : (p : NvPublic) → IsNvPublic p → length (nv_public_text p) < 2 ^ 16
 unfolding nv_public_text
@@ -94,7 +94,7 @@ nv_public_small p is =
     let policy = front ++ sized_text p.auth_policy in
     omega (arith, is.auth_policy, length-append front (sized_text p.auth_policy), length-append policy (to_be_bytes w16 p.data_size))
 
--- ---- in a sized buffer
+-- ---- public areas in a sized buffer
 
 pub sized_nv_public_spelled : Spelled (λ p. sized_text (nv_public_text p)) IsNvPublic (filled_by nv_public_at)
 sized_nv_public_spelled = filled_spelled nv_public_spelled nv_public_small

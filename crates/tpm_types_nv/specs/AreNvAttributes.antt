@@ -1,11 +1,11 @@
--- The laws of the attributes of an index: what is there after one is set or cleared.
+-- The laws of the attributes of an index: which are set after one is set or cleared.
 use Rattle.std.specs.Prelude.{◌≡◌, ◌≢◌, true, false}
 use Rattle.tpm_types_nv.specs.declared.nv_attributes.NvAttribute.{NvAttribute}
 use Rattle.tpm_types_nv.specs.declared.nv_attributes.NvAttributes.{NvAttributes}
 use Rattle.tpm_types_nv.specs.NvAttributes.{IsNvAttributes, attribute_bit, has, index_type, with_attribute, without_attribute}
 
 pub record AreNvAttributes : Type 0 where
-  -- what is set is there, what is cleared is not, and all else stays
+  -- an attribute that is set is there, one that is cleared is not, and all others stay
   pub set_there : (attributes : NvAttributes) (one : NvAttribute)
       → has (with_attribute attributes one) one ≡ true
   pub set_others : (attributes : NvAttributes) (one other : NvAttribute)
@@ -16,12 +16,12 @@ pub record AreNvAttributes : Type 0 where
   pub cleared_others : (attributes : NvAttributes) (one other : NvAttribute)
       → attribute_bit other ≢ attribute_bit one
       → has (without_attribute attributes one) other ≡ has attributes other
-  -- the type stays
+  -- the type of an index stays as an attribute is set or cleared
   pub set_type : (attributes : NvAttributes) (one : NvAttribute)
       → index_type (with_attribute attributes one) ≡ index_type attributes
   pub cleared_type : (attributes : NvAttributes) (one : NvAttribute)
       → index_type (without_attribute attributes one) ≡ index_type attributes
-  -- and what has a text still has one
+  -- attributes that have a text still have one after one is set or cleared
   pub set_named : (attributes : NvAttributes) (one : NvAttribute) → IsNvAttributes attributes
       → IsNvAttributes (with_attribute attributes one)
   pub cleared_named : (attributes : NvAttributes) (one : NvAttribute) → IsNvAttributes attributes

@@ -12,7 +12,7 @@ use Rattle.tpm_types_nv.specs.NvType.{nv_type_named, nv_type_number}
 use Rattle.tpm_types.specs.AttributeBits.{AreAttributeBits, attribute_bits_at}
 use Rattle.tpm_types.specs.declared.rc.Rc.{Rc}
 
--- which bit an attribute is
+-- the bit of an attribute, from 0
 abbrev pub attribute_bit : NvAttribute → ℕ
 attribute_bit attribute.PpWrite = 0
 attribute_bit attribute.OwnerWrite = 1
@@ -40,7 +40,7 @@ attribute_bit attribute.ReadStClear = 31
 abbrev pub has : NvAttributes → NvAttribute → Bool
 has attributes attribute = bit_at attributes.bits (attribute_bit attribute) == 1
 
--- with an attribute, and without it; every other bit stays
+-- the attributes with this one set, and with it cleared; every other bit stays
 abbrev pub with_attribute : NvAttributes → NvAttribute → NvAttributes
 with_attribute attributes attribute =
     record { bits = bit_or attributes.bits (2 ^ attribute_bit attribute) }
@@ -56,7 +56,7 @@ type_number attributes = attributes.bits / 2 ^ 4 % 2 ^ 4
 abbrev pub index_type : NvAttributes → Option NvType
 index_type attributes = nv_type_named (type_number attributes)
 
--- whether it is this type
+-- whether attributes are those of an index of this type
 abbrev pub is_of : NvAttributes → NvType → Bool
 is_of attributes type = type_number attributes == nv_type_number type
 
@@ -94,11 +94,11 @@ reserved_bits =
 abbrev pub nv_attributes_text : NvAttributes → List ℕ
 nv_attributes_text attributes = to_be_bytes w32 attributes.bits
 
--- what has a text: no reserved bit is set
+-- The attributes of an index have a text: no reserved bit is set.
 abbrev pub IsNvAttributes : NvAttributes → Type 0
 IsNvAttributes attributes = AreAttributeBits reserved_bits attributes.bits
 
--- attributes, and what is after them
+-- the attributes of an index at the front of a text, and what is after them
 unfoldable pub nv_attributes_at : List ℕ → Result (NvAttributes × List ℕ) Rc
 nv_attributes_at text = do
   bits ← attribute_bits_at reserved_bits text

@@ -1,9 +1,9 @@
-//! The laws of an NV index's attributes: what setting or clearing one leaves of the others, and of
+//! The laws of an NV index's attributes: what setting or clearing one does to the others, and to
 //! the type.
 
 ghost use Rattle.tpm_types_nv.specs.AreNvAttributes.{AreNvAttributes};
 
-/// What attributes and which type an index has after an attribute was set or cleared. It does
+/// The attributes and the type of an index after an attribute was set or cleared. The function does
 /// nothing.
 #[inline(always)]
 #[tactic(auto, using(crate::proofs::AttributeLaws::are_attributes))]

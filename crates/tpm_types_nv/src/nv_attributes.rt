@@ -40,7 +40,7 @@ pub enum NvAttribute {
 impl NvAttribute {
     ghost use Rattle.tpm_types_nv.specs.NvAttributes.{attribute_bit};
 
-    /// Which bit it is.
+    /// The bit of the attribute.
     pub fn bit(self) -> u32
         ensures value { result ≡ attribute_bit self }
         ensures small { result < 32 }
@@ -66,7 +66,7 @@ impl NvAttributes {
         (self.bits >> attribute.bit()) & 1 == 1
     }
 
-    /// With this attribute.
+    /// The attributes with this one set.
     pub fn with(self, attribute: NvAttribute) -> NvAttributes
         ensures { result ≡ with_attribute self attribute }
     {
@@ -75,7 +75,7 @@ impl NvAttributes {
         }
     }
 
-    /// Without this attribute.
+    /// The attributes with this one cleared.
     pub fn without(self, attribute: NvAttribute) -> NvAttributes
         ensures { result ≡ without_attribute self attribute }
     {

@@ -14,11 +14,11 @@ use tpm_types::{Handle, Octets, Rc, ResponseCode, hash_number, read_filled, read
 pub struct NvPublic {
     /// The handle of the index.
     pub nv_index: Handle,
-    /// The hash algorithm of its Name and of its policy, and of what it extends.
+    /// The hash algorithm of the index's Name and of its policy, and of an index that is extended.
     pub name_alg: HashAlg,
     pub attributes: NvAttributes,
     pub auth_policy: Octets<32>,
-    /// How many bytes of data it has.
+    /// How many bytes of data the index has once it is written.
     pub data_size: u16,
 }
 
@@ -29,12 +29,12 @@ impl NvPublic {
 
     /// Reads a public area: INSUFFICIENT where it is cut, and else the first fault of a field.
     pub fn read(text: &mut Cursor) -> Result<NvPublic, Rc>
-        // Which value it is, or the first fault.
+        // Says which value is read, or the first fault.
         ensures exact { Reads (λ public. public) (nv_public_at text.old) text.old result text.new }
-        // What is read was spelled so.
+        // A value is read only from its text.
         ensures found { IfOk result (λ public. IsNvPublic public
             × (text.old ≡ nv_public_text public ++ text.new)) }
-        // What is spelled so is read.
+        // A value is read from its text, whatever comes after it.
         ensures only { (public : NvPublic) (rest : List ℕ) → IsNvPublic public
             → text.old ≡ nv_public_text public ++ rest
             → Reads (λ public. public) (Ok (public, rest)) text.old result text.new }
@@ -42,7 +42,7 @@ impl NvPublic {
         NvPublic::read_fields(text)
     }
 
-    /// Reads a public area that fills a sized buffer (TPM2B_NV_PUBLIC): as
+    /// Reads a public area that fills a sized buffer (TPM2B_NV_PUBLIC), with the faults of
     /// [`tpm_types::read_filled`].
     pub fn read_sized(text: &mut Cursor) -> Result<NvPublic, Rc>
         ensures exact { Reads (λ public. public) (filled_by nv_public_at text.old) text.old
@@ -56,8 +56,8 @@ impl NvPublic {
         read_filled(text)
     }
 
-    /// Reads the handle of an index: INSUFFICIENT where it is cut, VALUE where it is not one of an
-    /// index.
+    /// Reads the handle of an index: INSUFFICIENT where it is cut, VALUE where its highest byte is
+    /// not 01.
     #[tactic(auto, unfolding(crate::specs::NvPublic::nv_index_at))]
     fn read_index(text: &mut Cursor) -> Result<Handle, Rc>
         ensures { Reads (λ handle. handle) (nv_index_at text.old) text.old result text.new }
@@ -97,7 +97,7 @@ impl NvPublic {
         })
     }
 
-    /// The same public area.
+    /// A copy of the public area.
     pub fn copy(&self) -> NvPublic
         ensures { result ≡ self.now }
     {

@@ -4,21 +4,21 @@
 ghost use Rattle.std.specs.Prelude.{◌≡◌};
 ghost use Rattle.tpm_types_nv.specs.NvType.{nv_type_named, nv_type_number};
 
-/// What an NV index holds: TPM_NT of TPM 2.0 Library, Part 2, section 13.2.
+/// The type of an NV index: TPM_NT of TPM 2.0 Library, Part 2, section 13.2.
 #[derive(Clone, Copy, Debug, PartialEq, Eq)]
 pub enum NvType {
     /// Bytes that are written and read.
     Ordinary,
     /// A number of eight bytes that only grows.
     Counter,
-    /// A number of eight bytes, bits of which are set.
+    /// A number of eight bytes, of which bits are set.
     Bits,
     /// A digest, which is extended.
     Extend,
 }
 
 impl NvType {
-    /// Its number.
+    /// The number of the type.
     pub fn number(self) -> u32
         ensures { result ≡ nv_type_number self }
     {

@@ -1,4 +1,4 @@
--- Creation data: what is read was spelled so, and what is spelled so is read.
+-- Creation data: a value is read only from its text, and from every such text.
 use Rattle.std.proofs.Common.{ℕ, ◌^◌, ◌<◌, List, ◌++◌, length, Option, refl, arith, length-append}
 use Rattle.std.specs.Int.{w8, w16, to_be_bytes}
 use Rattle.tpm_bytes.specs.Writing.{sized_text}
@@ -18,7 +18,7 @@ use Rattle.tpm_types.proofs.FilledLaws.{filled_spelled}
 use Rattle.tpm_types.proofs.HashLaws.{hash_or_null_spelled}
 use Rattle.tpm_types.proofs.Spelled.{Spelled, all_read, first, respelled, seven_texts, then}
 
--- the fields in their order
+-- the fields of creation data, in their order
 abbrev Fields : Type 0
 Fields = (((((List BankSelection × List ℕ) × ℕ) × Option HashAlg) × List ℕ) × List ℕ) × List ℕ
 
@@ -48,7 +48,7 @@ creation_data_spelled =
     (λ c is. record { pcr_select = is.0; pcr_digest = is.1.0; locality = is.1.1.0; parent_name = is.1.1.1.1.0; parent_qualified_name = is.1.1.1.1.1.0; outside_info = is.1.1.1.1.1.1.0 })
     (λ c is. (is.pcr_select, (is.pcr_digest, (is.locality, (tt, (is.parent_name, (is.parent_qualified_name, (is.outside_info, tt))))))))
 
--- ---- in a sized buffer
+-- ---- creation data in a sized buffer
 
 pub creation_data_small : (c : CreationData) → IsCreationData c → length (creation_data_text c) < 2 ^ 16
 unfolding creation_data_text

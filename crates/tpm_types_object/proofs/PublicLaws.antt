@@ -1,4 +1,4 @@
--- Public areas: what is read was spelled so, and what is spelled so is read.
+-- Public areas: a value is read only from its text, and from every such text.
 use Rattle.std.proofs.Common.{◌≡◌, ℕ, ◌^◌, ◌<◌, ◌≤◌, cond, List, [], ◌++◌, length, Result, Ok, Err, refl, sym, ap, subst, ◌∙◌, append_assoc, arith, inl, inr, length-append}
 use Rattle.std.specs.Prelude.{◌==◌}
 use Rattle.std.specs.Int.{w16, to_be_bytes}
@@ -111,7 +111,7 @@ parameters_spelled type = record {
 
 -- ---- public areas
 
--- the fields after the type, in their order
+-- the fields of a public area after its type, in their order
 abbrev Fields : Type 0
 Fields = (((HashAlg × ℕ) × List ℕ) × PublicParameters) × List ℕ
 
@@ -141,7 +141,7 @@ public_spelled =
     (λ p. six_texts (object_type_text (object_type p)) (to_be_bytes w16 (hash_number p.name_alg)) (attributes_text p.attributes) (sized_text p.auth_policy) (parameters_text p.parameters) (sized_text p.unique))
     (λ p is. is.1) (λ p is. (tt, is))
 
--- ---- the text's length
+-- ---- the length of the text
 
 length-symmetric_text : length (symmetric_text symmetric.Aes128Cfb) ≡ 6
 unfolding symmetric_text
@@ -161,7 +161,7 @@ public_small p is =
     let parameters = policy ++ parameters_text p.parameters in
     omega (arith, is.auth_policy, is.unique, parameters_small p.parameters, length-append front (sized_text p.auth_policy), length-append policy (parameters_text p.parameters), length-append parameters (sized_text p.unique))
 
--- ---- in a sized buffer
+-- ---- public areas in a sized buffer
 
 abbrev pub sized_public_text : Public → List ℕ
 sized_public_text p = sized_text (public_text p)

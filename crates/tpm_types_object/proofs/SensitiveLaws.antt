@@ -1,4 +1,5 @@
--- Sensitive areas, and what the caller gives to a new one: what is read was spelled so, and what is spelled so is read.
+-- Sensitive areas, and what the caller gives to a new one: a value is read only from its text, and
+-- from every such text.
 use Rattle.std.proofs.Common.{ℕ, ◌^◌, ◌<◌, List, ◌++◌, length, refl, arith, length-append}
 use Rattle.tpm_bytes.specs.Writing.{sized_text}
 use Rattle.tpm_types_object.specs.declared.public.ObjectType.{ObjectType}
@@ -12,7 +13,7 @@ use Rattle.tpm_types_object.proofs.ObjectFields.{object_type_spelled}
 use Rattle.tpm_types.proofs.FilledLaws.{filled_spelled}
 use Rattle.tpm_types.proofs.Spelled.{Spelled, all_read, first, four_texts, respelled, then, two_texts}
 
--- the fields in their order
+-- the fields of a sensitive area, in their order
 abbrev Fields : Type 0
 Fields = ((ObjectType × List ℕ) × List ℕ) × List ℕ
 
@@ -33,7 +34,7 @@ sensitive_spelled =
     (λ s is. record { auth_value = is.1.0; seed_value = is.1.1.0; sensitive = is.1.1.1.0 })
     (λ s is. (tt, (is.auth_value, (is.seed_value, (is.sensitive, tt)))))
 
--- ---- in a sized buffer
+-- ---- sensitive areas in a sized buffer
 
 pub sensitive_small : (s : Sensitive) → IsSensitive s → length (sensitive_text s) < 2 ^ 16
 unfolding sensitive_text
@@ -48,7 +49,7 @@ sized_sensitive_text s = sized_text (sensitive_text s)
 pub sized_sensitive_spelled : Spelled sized_sensitive_text IsSensitive (filled_by sensitive_at)
 sized_sensitive_spelled = filled_spelled sensitive_spelled sensitive_small
 
--- ---- what the caller gives
+-- ---- what a caller gives for a new object
 
 abbrev given_of : SensitiveValues → List ℕ × List ℕ
 given_of s = (s.user_auth, s.«data»)

@@ -11,15 +11,15 @@ use Rattle.tpm_types.specs.Buffer.{buffer_at}
 use Rattle.tpm_types.specs.PcrSelection.{IsSelection, selection_at, selection_text}
 use Rattle.tpm_types.specs.Rc.{plain}
 
--- the selected PCRs and the digest of their values, the locality, the algorithm of the parent's
--- Name, that Name and the qualified one, and what the caller adds
+-- the text of creation data: the selected PCRs and the digest of their values, the locality, the
+-- algorithm of the parent's Name, that Name and the qualified one, and what the caller adds
 unfoldable pub creation_data_text : CreationData → List ℕ
 creation_data_text c =
     selection_text c.pcr_select.banks.items ++ sized_text c.pcr_digest ++ to_be_bytes w8 c.locality
     ++ to_be_bytes w16 (hash_or_null_number c.parent_name_alg) ++ sized_text c.parent_name
     ++ sized_text c.parent_qualified_name ++ sized_text c.outside_info
 
--- what has a text
+-- Creation data have a text.
 pub record IsCreationData (c : CreationData) : Type 0 where
   pub pcr_select : IsSelection c.pcr_select.banks.items
   pub pcr_digest : length c.pcr_digest ≤ 32
@@ -28,7 +28,7 @@ pub record IsCreationData (c : CreationData) : Type 0 where
   pub parent_qualified_name : length c.parent_qualified_name ≤ 34
   pub outside_info : length c.outside_info ≤ 34
 
--- creation data, and what is after them
+-- the creation data at the front of a text, and what is after them
 unfoldable pub creation_data_at : List ℕ → Result (CreationData × List ℕ) Rc
 creation_data_at text = do
   pcr_select ← selection_at text

@@ -7,7 +7,7 @@ use Rattle.tpm_types_object.specs.declared.object_attributes.ObjectAttribute.The
 use Rattle.tpm_types.specs.AttributeBits.{AreAttributeBits, attribute_bits_at}
 use Rattle.tpm_types.specs.declared.rc.Rc.{Rc}
 
--- which bit an attribute is
+-- the bit of an attribute, from 0
 abbrev pub attribute_bit : ObjectAttribute → ℕ
 attribute_bit attribute.FixedTpm = 1
 attribute_bit attribute.StClear = 2
@@ -25,7 +25,7 @@ attribute_bit attribute.Sign = 18
 abbrev pub has : ℕ → ObjectAttribute → Bool
 has attributes attribute = bit_at attributes (attribute_bit attribute) == 1
 
--- all of them
+-- all attributes of an object
 abbrev pub all_attributes : List ObjectAttribute
 all_attributes =
     attribute.FixedTpm
@@ -48,10 +48,10 @@ reserved_bits = 2 ^ 32 - 1 - sum_by (λ one. 2 ^ attribute_bit one) all_attribut
 abbrev pub attributes_text : ℕ → List ℕ
 attributes_text attributes = to_be_bytes w32 attributes
 
--- what has a text: no reserved bit is set
+-- The attributes of an object have a text: no reserved bit is set.
 abbrev pub IsAttributes : ℕ → Type 0
 IsAttributes attributes = AreAttributeBits reserved_bits attributes
 
--- attributes, and what is after them
+-- the attributes of an object at the front of a text, and what is after them
 abbrev pub attributes_at : List ℕ → Result (ℕ × List ℕ) Rc
 attributes_at text = attribute_bits_at reserved_bits text

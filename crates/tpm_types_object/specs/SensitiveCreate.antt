@@ -8,7 +8,8 @@ use Rattle.tpm_types.specs.declared.rc.Rc.{Rc}
 use Rattle.tpm_types_object.specs.declared.sensitive_create.SensitiveCreate.{SensitiveCreate}
 use Rattle.tpm_types.specs.Buffer.{buffer_at}
 
--- the values, wherever their bytes lie in memory (the standard's `data` is a word of this language)
+-- the values that a caller gives, wherever their bytes lie in memory (the standard's `data` is a
+-- word of this language)
 pub record SensitiveValues : Type 0 where
   pub user_auth : List ℕ
   pub «data» : List ℕ
@@ -16,16 +17,17 @@ pub record SensitiveValues : Type 0 where
 abbrev pub sensitive_values_of : SensitiveCreate → SensitiveValues
 sensitive_values_of s = record { user_auth = s.user_auth.now; «data» = s.«data».now }
 
--- the authorization value, and the key or the data to seal
+-- the text of the values that a caller gives: the authorization value, and the key or the data to
+-- seal
 abbrev pub sensitive_create_text : SensitiveValues → List ℕ
 sensitive_create_text s = sized_text s.user_auth ++ sized_text s.«data»
 
--- what has a text
+-- The values that a caller gives have a text.
 pub record IsSensitiveCreate (s : SensitiveValues) : Type 0 where
   pub user_auth : length s.user_auth ≤ 32
   pub «data» : length s.«data» ≤ sensitive_limit
 
--- the values, and what is after them
+-- the values of a caller at the front of a text, and what is after them
 unfoldable pub sensitive_create_at : List ℕ → Result (SensitiveValues × List ℕ) Rc
 sensitive_create_at text = do
   user_auth ← buffer_at 32 text

@@ -1,5 +1,5 @@
-//! What a new object was made with: PCRs, locality, parent and what the caller adds
-//! (TPMS_CREATION_DATA; TPM 2.0 Library, Part 2, section 15.1).
+//! Creation data, which say how an object was created: PCRs, locality, parent and what the caller
+//! adds (TPMS_CREATION_DATA; TPM 2.0 Library, Part 2, section 15.1).
 
 ghost use Rattle.std.specs.Prelude.{◌≡◌, ℕ, ◌≤◌, List, ◌++◌, length, Ok, IfOk};
 ghost use Rattle.tpm_bytes.specs.Reading.{AreBytes, Reads};
@@ -11,19 +11,20 @@ use tpm_types::{
     Octets, PcrSelection, Rc, ResponseCode, hash_or_null_number, read_filled, read_hash_or_null,
 };
 
-/// What a new object was made with: TPMS_CREATION_DATA of TPM 2.0 Library, Part 2, section 15.1.
+/// Creation data, which say how an object was created: TPMS_CREATION_DATA of TPM 2.0 Library, Part
+/// 2, section 15.1.
 #[derive(Drop)]
 pub struct CreationData {
     pub pcr_select: PcrSelection,
     /// The digest of the selected PCRs.
     pub pcr_digest: Octets<32>,
-    /// A bit for each locality (TPMA_LOCALITY, section 8.5).
+    /// The localities, a bit for each (TPMA_LOCALITY, section 8.5).
     pub locality: u8,
-    /// None where the parent is a hierarchy.
+    /// The nameAlg of the parent; None where the parent is a hierarchy.
     pub parent_name_alg: Option<HashAlg>,
     pub parent_name: Octets<34>,
     pub parent_qualified_name: Octets<34>,
-    /// What the caller adds.
+    /// The data that the caller adds.
     pub outside_info: Octets<34>,
 }
 
@@ -34,13 +35,13 @@ impl CreationData {
 
     /// Reads creation data: INSUFFICIENT where they are cut, and else the first fault of a field.
     pub fn read(text: &mut Cursor) -> Result<CreationData, Rc>
-        // Which value it is, or the first fault.
+        // Says which value is read, or the first fault.
         ensures exact { Reads (λ creation. creation) (creation_data_at text.old)
             text.old result text.new }
-        // What is read was spelled so.
+        // A value is read only from its text.
         ensures found { IfOk result (λ creation. IsCreationData creation
             × (text.old ≡ creation_data_text creation ++ text.new)) }
-        // What is spelled so is read.
+        // A value is read from its text, whatever comes after it.
         ensures only { (creation : CreationData) (rest : List ℕ) → IsCreationData creation
             → text.old ≡ creation_data_text creation ++ rest
             → Reads (λ creation. creation) (Ok (creation, rest)) text.old result text.new }
@@ -48,7 +49,7 @@ impl CreationData {
         CreationData::read_fields(text)
     }
 
-    /// Reads creation data that fill a sized buffer (TPM2B): as [`read_filled`].
+    /// Reads creation data that fill a sized buffer (TPM2B), with the faults of [`read_filled`].
     pub fn read_sized(text: &mut Cursor) -> Result<CreationData, Rc>
         ensures exact { Reads (λ creation. creation) (filled_by creation_data_at text.old) text.old
             result text.new }

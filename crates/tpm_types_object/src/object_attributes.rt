@@ -7,7 +7,7 @@ use std::marker::Model;
 use tpm_bytes::Cursor;
 use tpm_types::{Rc, read_attribute_bits};
 
-/// The bits that are no attribute.
+/// The bits of 32 that are no attribute.
 const RESERVED_BITS: u32 = 0xfff8_f309;
 
 /// An attribute of an object, by its bit: TPMA_OBJECT of TPM 2.0 Library, Part 2, section 8.3.
@@ -29,7 +29,7 @@ pub enum ObjectAttribute {
 impl ObjectAttribute {
     ghost use Rattle.tpm_types_object.specs.ObjectAttributes.{attribute_bit};
 
-    /// Which bit it is.
+    /// The bit of the attribute.
     pub fn bit(self) -> u32
         ensures value { result ≡ attribute_bit self }
         ensures small { result < 32 }
@@ -61,14 +61,14 @@ impl Model for ObjectAttributes {
 impl ObjectAttributes {
     ghost use Rattle.tpm_types_object.specs.ObjectAttributes.{IsAttributes, attributes_at, has};
 
-    /// No attribute.
+    /// The attributes of an object that has none.
     pub fn none() -> ObjectAttributes
         ensures { result ≡ 0 }
     {
         ObjectAttributes { bits: 0 }
     }
 
-    /// The number of their bits.
+    /// The number of the attributes' bits.
     pub fn bits(self) -> u32
         ensures value { result ≡ self }
         ensures is_attributes { IsAttributes self }

@@ -24,7 +24,7 @@ pub enum ObjectType {
 impl ObjectType {
     ghost use Rattle.tpm_types_object.specs.Public.{object_type_at, object_type_named, object_type_number};
 
-    /// The number on the wire.
+    /// The number of the type on the wire.
     pub fn number(self) -> u16
         ensures { result ≡ object_type_number self }
     {
@@ -45,7 +45,7 @@ impl ObjectType {
         }
     }
 
-    /// Reads an object type: INSUFFICIENT where it is cut, TYPE where it is none.
+    /// Reads an object type: INSUFFICIENT where it is cut, TYPE where it is not served.
     #[tactic(auto, unfolding(crate::specs::Public::object_type_at))]
     pub fn read(text: &mut Cursor) -> Result<ObjectType, Rc>
         ensures { Reads (λ kind. kind) (object_type_at text.old) text.old result text.new }
@@ -62,12 +62,13 @@ impl ObjectType {
     }
 }
 
-/// What a KEYEDHASH object is used for: TPMT_KEYEDHASH_SCHEME (Part 2, section 11.1).
+/// The scheme of a KEYEDHASH, which says what it is used for: TPMT_KEYEDHASH_SCHEME (Part 2,
+/// section 11.1).
 #[derive(Clone, Copy, Debug, PartialEq, Eq)]
 pub enum KeyedHashScheme {
-    /// TPM_ALG_NULL: any use.
+    /// No scheme is set (TPM_ALG_NULL): the object may be used for any.
     Null,
-    /// TPM_ALG_HMAC: HMACs by this hash algorithm.
+    /// The object is a key of HMACs by this hash algorithm (TPM_ALG_HMAC).
     Hmac(HashAlg),
 }
 
@@ -75,7 +76,7 @@ impl KeyedHashScheme {
     ghost use Rattle.tpm_types_object.specs.Public.{scheme_at, scheme_text};
 
     /// Reads a scheme: INSUFFICIENT where it is cut, SCHEME where it is neither NULL nor HMAC, and
-    /// HASH where the algorithm of the latter is not served.
+    /// HASH where the algorithm of HMAC is not served.
     #[tactic(auto, unfolding(crate::specs::Public::scheme_at))]
     pub fn read(text: &mut Cursor) -> Result<KeyedHashScheme, Rc>
         ensures { Reads (λ scheme. scheme) (scheme_at text.old) text.old result text.new }
@@ -121,7 +122,7 @@ impl KeyedHashScheme {
     }
 }
 
-/// What the public area says of an object of its type: TPMU_PUBLIC_PARMS (Part 2, section 12.2.3).
+/// The parameters of an object of a type: TPMU_PUBLIC_PARMS (Part 2, section 12.2.3).
 #[derive(Clone, Copy, Debug, PartialEq, Eq)]
 pub enum PublicParameters {
     KeyedHash(KeyedHashScheme),
@@ -132,7 +133,7 @@ pub enum PublicParameters {
 impl PublicParameters {
     ghost use Rattle.tpm_types_object.specs.Public.{parameters_at, parameters_text, sym_cipher_at, type_of_parameters};
 
-    /// The type whose parameters they are.
+    /// The type of object whose parameters these are.
     pub fn object_type(self) -> ObjectType
         ensures { result ≡ type_of_parameters self }
     {
@@ -192,7 +193,7 @@ impl PublicParameters {
 /// The public area of an object: TPMT_PUBLIC (Part 2, section 12.2.4).
 #[derive(Drop)]
 pub struct Public {
-    /// The hash algorithm of its Name and of its policy.
+    /// The hash algorithm of the object's Name and of its policy.
     pub name_alg: HashAlg,
     pub attributes: ObjectAttributes,
     pub auth_policy: Octets<32>,
@@ -207,12 +208,12 @@ impl Public {
 
     /// Reads a public area: INSUFFICIENT where it is cut, and else the first fault of a field.
     pub fn read(text: &mut Cursor) -> Result<Public, Rc>
-        // Which value it is, or the first fault.
+        // Says which value is read, or the first fault.
         ensures exact { Reads (λ public. public) (public_at text.old) text.old result text.new }
-        // What is read was spelled so.
+        // A value is read only from its text.
         ensures found { IfOk result (λ public. IsPublic public
             × (text.old ≡ public_text public ++ text.new)) }
-        // What is spelled so is read.
+        // A value is read from its text, whatever comes after it.
         ensures only { (public : Public) (rest : List ℕ) → IsPublic public
             → text.old ≡ public_text public ++ rest
             → Reads (λ public. public) (Ok (public, rest)) text.old result text.new }
@@ -220,7 +221,7 @@ impl Public {
         Public::read_fields(text)
     }
 
-    /// Reads a public area that fills a sized buffer (TPM2B): as [`read_filled`].
+    /// Reads a public area that fills a sized buffer (TPM2B), with the faults of [`read_filled`].
     pub fn read_sized(text: &mut Cursor) -> Result<Public, Rc>
         ensures exact { Reads (λ public. public) (filled_by public_at text.old) text.old
             result text.new }
@@ -262,7 +263,7 @@ impl Public {
         self.parameters.object_type()
     }
 
-    /// The same public area.
+    /// A copy of the public area.
     pub fn copy(&self) -> Public
         ensures { result ≡ self.now }
     {

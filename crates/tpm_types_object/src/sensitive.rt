@@ -13,9 +13,9 @@ use tpm_types::{Octets, Rc, SENSITIVE_LIMIT, read_filled};
 #[derive(Drop)]
 pub struct Sensitive {
     pub object_type: ObjectType,
-    /// As it was written: zeros at its end stay.
+    /// The authorization value as it was written: zeros at its end stay.
     pub auth_value: Octets<32>,
-    /// The seed of a storage key, else what hides `sensitive` in the public area.
+    /// The seed of a storage key, or else the value that hides `sensitive` in the public area.
     pub seed_value: Octets<32>,
     /// The key, or the sealed data.
     pub sensitive: Octets<SENSITIVE_LIMIT>,
@@ -26,15 +26,15 @@ impl Sensitive {
     ghost use Rattle.tpm_types.specs.Filled.{filled_by};
     ghost use Rattle.tpm_types_object.specs.declared.sensitive.Sensitive.{Sensitive};
 
-    /// Reads a sensitive area: INSUFFICIENT where it is cut, TYPE, and SIZE where a buffer is too
-    /// long.
+    /// Reads a sensitive area: INSUFFICIENT where it is cut, TYPE where its type is not served, and
+    /// SIZE where a buffer is too long.
     pub fn read(text: &mut Cursor) -> Result<Sensitive, Rc>
-        // Which value it is, or the first fault.
+        // Says which value is read, or the first fault.
         ensures exact { Reads (λ area. area) (sensitive_at text.old) text.old result text.new }
-        // What is read was spelled so.
+        // A value is read only from its text.
         ensures found { IfOk result (λ area. IsSensitive area
             × (text.old ≡ sensitive_text area ++ text.new)) }
-        // What is spelled so is read.
+        // A value is read from its text, whatever comes after it.
         ensures only { (area : Sensitive) (rest : List ℕ) → IsSensitive area
             → text.old ≡ sensitive_text area ++ rest
             → Reads (λ area. area) (Ok (area, rest)) text.old result text.new }
@@ -42,7 +42,8 @@ impl Sensitive {
         Sensitive::read_fields(text)
     }
 
-    /// Reads a sensitive area that fills a sized buffer (TPM2B): as [`read_filled`].
+    /// Reads a sensitive area that fills a sized buffer (TPM2B), with the faults of
+    /// [`read_filled`].
     pub fn read_sized(text: &mut Cursor) -> Result<Sensitive, Rc>
         ensures exact { Reads (λ area. area) (filled_by sensitive_at text.old) text.old
             result text.new }
@@ -74,7 +75,7 @@ impl Sensitive {
         })
     }
 
-    /// The same sensitive area.
+    /// A copy of the sensitive area.
     pub fn copy(&self) -> Sensitive
         ensures { result ≡ self.now }
     {
@@ -91,7 +92,7 @@ impl Sensitive {
     #[tactic(auto, unfolding(crate::specs::Sensitive::sensitive_text))]
     pub fn text(&self) -> Sink<200>
         ensures value { result ≡ sensitive_text self.now }
-        // None of its buffers is longer than it may be.
+        // No buffer of the area is longer than it may be.
         ensures fits { IsSensitive self.now }
     {
         let mut text = Sink::new();

@@ -10,8 +10,8 @@ ghost use Rattle.tpm_types.specs.Filled.{filled_by};
 use tpm_bytes::{Cursor, Readable, Sink};
 use tpm_types::{Rc, SENSITIVE_LIMIT, read_buffer, read_filled};
 
-/// What the caller gives to a new object's sensitive area: TPMS_SENSITIVE_CREATE of TPM 2.0
-/// Library, Part 2, section 11.1.15.
+/// The values that a caller gives for a new object's sensitive area: TPMS_SENSITIVE_CREATE of TPM
+/// 2.0 Library, Part 2, section 11.1.15.
 #[derive(Clone, Copy)]
 pub struct SensitiveCreate<'a> {
     pub user_auth: &'a [u8],
@@ -26,14 +26,14 @@ impl<'a> SensitiveCreate<'a> {
 
     /// Reads the values: INSUFFICIENT where they are cut, SIZE where one is too long.
     pub fn read(text: &mut Cursor<'a>) -> Result<SensitiveCreate<'a>, Rc>
-        // Which values they are, or the first fault.
+        // Says which values are read, or the first fault.
         ensures exact { Reads sensitive_values_of (sensitive_create_at text.old) text.old
             result text.new }
         ensures fits { IfOk result (λ given. IsSensitiveCreate (sensitive_values_of given)) }
-        // What is read was spelled so.
+        // A value is read only from its text.
         ensures found { IfOk result (λ given.
             text.old ≡ sensitive_create_text (sensitive_values_of given) ++ text.new) }
-        // What is spelled so is read.
+        // A value is read from its text, whatever comes after it.
         ensures only { (given : SensitiveValues) (rest : List ℕ) → IsSensitiveCreate given
             → text.old ≡ sensitive_create_text given ++ rest
             → Reads sensitive_values_of (Ok (given, rest)) text.old result text.new }
@@ -41,7 +41,7 @@ impl<'a> SensitiveCreate<'a> {
         SensitiveCreate::read_fields(text)
     }
 
-    /// Reads values that fill a sized buffer (TPM2B): as [`read_filled`].
+    /// Reads values that fill a sized buffer (TPM2B), with the faults of [`read_filled`].
     pub fn read_sized(text: &mut Cursor<'a>) -> Result<SensitiveCreate<'a>, Rc>
         ensures exact { Reads sensitive_values_of (filled_by sensitive_create_at text.old) text.old
             result text.new }

@@ -9,7 +9,7 @@ use Rattle.std.specs.Option.{option_map_or}
 use Rattle.std.proofs.lemmas.Bool.{cases_eq, eq-eqb, ne_eqb, leb-true, leb-false, false≢true}
 use Rattle.tpm_wire.specs.Stream.{Cut, Cutting, CutsTo, Stream, buffer_size, command_size, cut_at, cut_of, cut_with, cut_within, fed, is_last, is_size, is_whole, next_of, opened, size_by, uncut, with_byte, with_rest}
 
--- ---- what the first six bytes say
+-- ---- the size of a buffer, from its first six bytes
 
 size_longer : (bytes more : List ℕ) (n : ℕ) → buffer_size bytes ≡ Some n → buffer_size (bytes ++ more) ≡ Some n
 unfolding command_size
@@ -58,13 +58,14 @@ size_bounds size =
 some_is : {X : Type 0} (x y : X) → Some x ≡ Some y → x ≡ y
 some_is x y e = cc
 
--- a buffer has at least six bytes and at most 4,096, and where it has none yet its size is not known
+-- a buffer has at least six bytes and at most 4,096, and while bytes are missing of its first six
+-- its size is not known
 buffer_bounds : (bytes : List ℕ) (n : ℕ) → buffer_size bytes ≡ Some n → (6 ≤ n) × (n ≤ buffer_limit)
 unfolding command_size
 buffer_bounds (t ∷ u ∷ a ∷ b ∷ c ∷ d ∷ bytes) n is = rw (← some_is _ _ is) (size_bounds (from_be_bytes w32 (a ∷ b ∷ c ∷ d ∷ [])))
 buffer_bounds bytes n is = absurd cc
 
--- ---- whole or not
+-- ---- buffers that are whole, and those that are not
 
 whole_at : (bytes : List ℕ) (n : ℕ) → buffer_size bytes ≡ Some n → is_whole bytes ≡ (n == length bytes)
 whole_at bytes n is = ap (λ (o : Option ℕ). option_map_or (λ size. size == length bytes) o false) is
@@ -90,7 +91,7 @@ completes done rest byte is = rw is refl
 length-one : (rest : List ℕ) (byte : ℕ) → length (rest ++ byte ∷ []) ≡ length rest + 1
 length-one rest byte = length-append rest (byte ∷ [])
 
--- bytes that complete no buffer
+-- bytes that complete no buffer leave the cut's buffers
 grows : (done : List (List ℕ)) (rest more all : List ℕ) → rest ++ more ≡ all → ((n : ℕ) → buffer_size all ≡ Some n → length all < n) → fold with_byte (begun done rest) more ≡ begun done all
 grows done rest [] all is less = ap (begun done) (sym (append-nil rest) ∙ is)
 grows done rest (byte ∷ more) all is less =
@@ -113,7 +114,7 @@ whole_later grown more all n same size less =
     not_whole grown (λ m own.
     let e = some_is m n (sym (size_longer grown more m own) ∙ ap buffer_size same ∙ size) in omega (arith, e, less))
 
--- a buffer that is whole, and the others
+-- a buffer that is whole, and the buffers after it
 ends_here : (done : List (List ℕ)) (grown more all : List ℕ) (n : ℕ) → grown ++ more ≡ all → length grown ≡ n → 6 ≤ n → fold with_byte (uncut (done ++ grown ∷ []) (is_last grown)) more ≡ fold with_byte (uncut (done ++ take n all ∷ []) (is_last all)) (drop n all)
 ends_here done grown more all n same here six =
     let front : take n all ≡ grown = rw (← here, ← same) (take-append_seam grown more) in
@@ -121,7 +122,7 @@ ends_here done grown more all n same here six =
     let last : is_last all ≡ is_last grown = rw (← same) (last_shorter grown more (omega (arith, here, six))) in
     rw (front, behind, last) refl
 
--- bytes that complete one, and the others after it
+-- bytes that complete a buffer, and the buffers after it
 completed : (done : List (List ℕ)) (rest more all : List ℕ) (n : ℕ) → rest ++ more ≡ all → buffer_size all ≡ Some n → length rest < n → n ≤ length all → fold with_byte (begun done rest) more ≡ fold with_byte (uncut (done ++ take n all ∷ []) (is_last all)) (drop n all)
 completed done rest [] all n is size less fits = absurd (omega (arith, ap length is, length-append rest []))
 completed done rest (byte ∷ more) all n is size less fits =
@@ -138,7 +139,7 @@ completed done rest (byte ∷ more) all n is size less fits =
           ∙ completed done grown more all n same size below fits
     ]
 
--- one byte adds a buffer at most
+-- one byte adds at most one buffer
 rest_stays : (b : Bool) (c : Cutting) (rest : List ℕ) (last : Bool) → (more : List (List ℕ)) × ((if b then record { buffers = c.buffers ++ rest ∷ []; rest = []; ended = last } else record c { rest = rest }).buffers ≡ c.buffers ++ more)
 rest_stays true c rest last = (rest ∷ [], refl)
 rest_stays false c rest last = ([], sym (append-nil c.buffers))
@@ -151,9 +152,9 @@ byte_stays c byte = by c.ended
     by true = ([], sym (append-nil c.buffers))
     by false = rest_stays (is_whole (c.rest ++ byte ∷ [])) c (c.rest ++ byte ∷ []) (is_last (c.rest ++ byte ∷ []))
 
--- ---- the next buffer
+-- ---- the next buffer of a stream
 
--- where it is whole
+-- the next buffer, where it is whole
 next_if : (done : List (List ℕ)) (taken : List ℕ) (n : ℕ) (c : Cut) → buffer_size taken ≡ Some n → cut_within n (is_last taken) taken ≡ Some c → cut_with done (record { taken = taken; ended = false }) ≡ cut_with (done ++ c.buffer ∷ []) c.after
 next_if done taken n c size is = by (nat_le n (length taken)) refl is
   where
@@ -163,14 +164,14 @@ next_if done taken n c size is = by (nat_le n (length taken)) refl is
         ∙ ap (λ (x : Cut). cut_with (done ++ x.buffer ∷ []) x.after) (some_is _ _ e)
     by false fits e = absurd cc
 
--- what is next, by the size
+-- the next buffer, by its size
 abbrev next_by : List ℕ → Option ℕ → Option Cut
 next_by taken size = option_and_then (λ n. cut_within n (is_last taken) taken) size
 
 next_is : (taken : List ℕ) (size : Option ℕ) (o : Option Cut) → buffer_size taken ≡ size → next_by taken (buffer_size taken) ≡ o → next_by taken size ≡ o
 next_is taken size o is e = sym (ap (next_by taken) is) ∙ e
 
--- What is cut next stands after the buffers before it.
+-- The next buffer of a stream comes after the buffers before it.
 pub cut_next : (done : List (List ℕ)) (s : Stream) (c : Cut) → next_of s ≡ Some c → cut_with done s ≡ cut_with (done ++ c.buffer ∷ []) c.after
 cut_next done s c is = by s.ended s.taken (buffer_size s.taken) refl is
   where
@@ -179,7 +180,7 @@ cut_next done s c is = by s.ended s.taken (buffer_size s.taken) refl is
     by false taken None size e = absurd (let f = next_is taken None (Some c) size e in cc)
     by false taken (Some n) size e = next_if done taken n c size (next_is taken (Some n) (Some c) size e)
 
--- ---- no next buffer
+-- ---- a stream without a next buffer
 
 stays_ended : (done : List (List ℕ)) (rest bytes : List ℕ) → fold with_byte (record { buffers = done; rest = rest; ended = true }) bytes ≡ record { buffers = done; rest = rest ++ bytes; ended = true }
 unfolding with_byte
@@ -196,11 +197,11 @@ too_few n taken is = by (nat_le n (length taken)) refl is
     by true fits e = absurd cc
     by false fits e = leb-false n (length taken) fits
 
--- and are fewer than any size that is known
+-- where no buffer is next, the bytes are fewer than the size, if that is known
 waits_for : (taken : List ℕ) → next_of (record { taken = taken; ended = false }) ≡ None → (n : ℕ) → buffer_size taken ≡ Some n → length taken < n
 waits_for taken none n size = too_few n taken (next_is taken (Some n) None size none)
 
--- Where no buffer is next, the stream is cut as far as it comes.
+-- Where no buffer is next, all bytes of the stream are left over in its cut.
 pub cut_last : (done : List (List ℕ)) (s : Stream) → next_of s ≡ None → cut_with done s ≡ record { buffers = done; rest = s.taken; ended = s.ended }
 cut_last done s none = by s.ended s.taken none
   where
@@ -208,7 +209,7 @@ cut_last done s none = by s.ended s.taken none
     by true taken e = stays_ended done [] taken
     by false taken e = grows done [] taken taken refl (waits_for taken e)
 
--- a size is known from six bytes on
+-- the size of a buffer is known from six bytes on
 size_known : (bytes : List ℕ) → buffer_size bytes ≡ None → length bytes < 6
 unfolding command_size
 size_known (t ∷ u ∷ a ∷ b ∷ c ∷ d ∷ bytes) is = absurd cc
@@ -228,7 +229,7 @@ next_room s none lives = by s.ended s.taken (buffer_size s.taken) refl none live
     by false taken None size e lives = omega (arith, size_known taken size)
     by false taken (Some n) size e lives = omega (arith, waits_for taken e n size, buffer_bounds taken n size)
 
--- ---- what a next buffer takes
+-- ---- the bytes that a next buffer takes
 
 cut_shorter : (n : ℕ) (taken : List ℕ) (c : Cut) → 6 ≤ n → cut_within n (is_last taken) taken ≡ Some c → length c.after.taken < length taken
 cut_shorter n taken c six is = by (nat_le n (length taken)) refl is
@@ -248,16 +249,17 @@ next_shorter s c is = by s.ended s.taken (buffer_size s.taken) refl is
 
 -- ---- streams that go on
 
--- A stream with more bytes is cut on.
+-- The cut of a stream with more bytes goes on from the cut of the stream.
 pub cut_fed : (done : List (List ℕ)) (s : Stream) (bytes : List ℕ) → fold with_byte (cut_with done s) bytes ≡ cut_with done (fed s bytes)
 cut_fed done s bytes = sym (fold-append with_byte (uncut done s.ended) s.taken bytes)
 
--- All that was read is cut into these buffers, and then this is left.
+-- All bytes that were read are cut into these buffers, and this stream is left, after one more read
+-- too.
 pub read_more : (read bytes : List ℕ) (done : List (List ℕ)) (s : Stream) → cut_of read ≡ cut_with done s → cut_of (read ++ bytes) ≡ cut_with done (fed s bytes)
 read_more read bytes done s is =
     fold-append with_byte (uncut [] false) read bytes ∙ ap (λ (c : Cutting). fold with_byte c bytes) is ∙ cut_fed done s bytes
 
--- and one buffer more
+-- a stream is cut into one buffer more
 pub cuts_one : (s t : Stream) (done : List (List ℕ)) (u : Stream) (c : Cut) → CutsTo s done t → next_of t ≡ Some c → u ≡ c.after → CutsTo s (done ++ c.buffer ∷ []) u
 cuts_one s t done u c to is same before =
     to before ∙ cut_next (before ++ done) t c is
@@ -267,12 +269,12 @@ cuts_one s t done u c to is same before =
 pub cuts_none : (s : Stream) → CutsTo s [] s
 cuts_none s before = ap (λ (l : List (List ℕ)). cut_with l s) (sym (append-nil before))
 
--- a stream that was read on and cut on
+-- a stream of which more was read, and more buffers were cut
 pub read_on : (read bytes : List ℕ) (done more : List (List ℕ)) (s t u : Stream) → cut_of read ≡ cut_with done s → t ≡ fed s bytes → CutsTo t more u → cut_of (read ++ bytes) ≡ cut_with (done ++ more) u
 read_on read bytes done more s t u is same to =
     read_more read bytes done s is ∙ ap (cut_with done) (sym same) ∙ to done
 
--- The buffers so far stay in front.
+-- The buffers of a cut stay in front, whatever bytes come.
 pub buffers_stay : (c : Cutting) (bytes : List ℕ) → (more : List (List ℕ)) × ((fold with_byte c bytes).buffers ≡ c.buffers ++ more)
 buffers_stay c [] = ([], sym (append-nil c.buffers))
 buffers_stay c (byte ∷ bytes) =
@@ -280,7 +282,7 @@ buffers_stay c (byte ∷ bytes) =
     let others = buffers_stay (with_byte c byte) bytes in
     (first.0 ++ others.0, others.1 ∙ ap (λ (l : List (List ℕ)). l ++ others.0) first.1 ∙ append_assoc c.buffers first.0 others.0)
 
--- A new stream waits.
+-- A new stream has no next buffer.
 pub next_opened : next_of opened ≡ None
 unfolding command_size
 next_opened = refl

@@ -23,7 +23,7 @@ use Rattle.tpm_wire.specs.declared.host.Host.{Host}
 use Rattle.tpm_wire.proofs.Cutting.{buffers_stay, cut_next, cuts_one, read_on}
 use Rattle.tpm_wire.proofs.Folds.{folds_on}
 
--- ---- executions behind others
+-- ---- executions after others
 
 pub buffers_more : (first more : List Execution) → buffers_of (first ++ more) ≡ buffers_of first ++ buffers_of more
 buffers_more first more = map-append (λ (one : Execution). buffer_in one.event) first more
@@ -38,7 +38,7 @@ written_more held mid holds first more written also =
 pub asks_more : {F : Type 0} (g : Asking F) (asked at asking : F) (first more : List Execution) → AsksForEach g asked first at → AsksForEach g at more asking → AsksForEach g asked (first ++ more) asking
 asks_more g asked at asking first more asks also = folds_on (Asks g) asked at asking first more asks also
 
--- a stream that was read on and executed on
+-- a stream of which more was read, and more buffers were executed
 pub cut_more : (read bytes : List ℕ) (first more : List Execution) (s t u : Stream) → cut_of read ≡ cut_with (buffers_of first) s → t ≡ fed s bytes → CutsTo t (buffers_of more) u → cut_of (read ++ bytes) ≡ cut_with (buffers_of (first ++ more)) u
 cut_more read bytes first more s t u is same to =
     read_on read bytes (buffers_of first) (buffers_of more) s t u is same to
@@ -46,7 +46,7 @@ cut_more read bytes first more s t u is same to =
 
 -- ---- one execution more
 
--- that of a buffer with what the host said
+-- the execution of a buffer with what the host said
 abbrev pub execution_of : Record → List ℕ → Host → Record → Outcome → Execution
 execution_of old buffer host new outcome =
     record { before = old; event = given buffer host; seen = outcome_step new outcome }
@@ -72,12 +72,12 @@ pub written_one : (held mid holds : Option (List ℕ)) (executions : List Execut
 written_one held mid holds executions r new buffer host outcome written also =
     subst (Appends held holds) (sym (responses_one executions (execution_of r buffer host new outcome))) (Appends-trans _ _ _ _ _ written also)
 
--- The last response was lost, of which a part was written.
+-- The writer failed at the last response, of which a part was written.
 pub lost_last : (held mid holds : Option (List ℕ)) (executions : List Execution) (r new : Record) (buffer : List ℕ) (host : Host) (outcome : Outcome) → Appends held mid (responses_of executions) → AppendsFront mid holds outcome.response.items → LosesLast held holds (executions ++ execution_of r buffer host new outcome ∷ [])
 lost_last held mid holds executions r new buffer host outcome written cut =
     (executions, execution_of r buffer host new outcome, refl, cut.0, cut.1, cut.2, Appends-trans _ _ _ _ _ written cut.3)
 
--- ---- ends
+-- ---- how serving ends
 
 are_first : (cut : Cutting) (done : List (List ℕ)) (left : Stream) → cut ≡ cut_with done left → AreFirst done cut.buffers
 are_first cut done left is =
@@ -89,7 +89,7 @@ are_fewer cut done left c is next =
     let first = are_first cut (done ++ c.buffer ∷ []) c.after (is ∙ cut_next done left c next) in
     (c.buffer, first.0, first.1 ∙ append_assoc done (c.buffer ∷ []) first.0)
 
--- The last response was lost after those of other executions too.
+-- The writer failed at the last response, after other executions too.
 loses_behind : (held mid holds : Option (List ℕ)) (first more : List Execution) → Appends held mid (responses_of first) → LosesLast mid holds more → LosesLast held holds (first ++ more)
 loses_behind held mid holds first more written (answered, lost, are, front, rest, cut, also) = (
   first ++ answered,
@@ -103,7 +103,7 @@ loses_behind held mid holds first more written (answered, lost, are, front, rest
       (Appends-trans _ _ _ _ _ written also),
 )
 
--- The last response was held back after those of other executions too.
+-- The last response was held back, after other executions too.
 holds_back_behind : (held mid holds : Option (List ℕ)) (first more : List Execution) → Appends held mid (responses_of first) → HoldsLastBack mid holds more → HoldsLastBack held holds (first ++ more)
 holds_back_behind held mid holds first more written (answered, last, are, also) = (
   first ++ answered,
@@ -112,7 +112,7 @@ holds_back_behind held mid holds first more written (answered, last, are, also) 
   written_more held mid holds first answered written also,
 )
 
--- Where a part of what was read was not executed to its end, the whole was not.
+-- Where serving a part of what was read ended so, serving the whole did.
 pub ends_so : {F : Type 0} (g : Asking F) (held mid holds : Option (List ℕ)) (before after reader : Marks) (cut : Cutting) (asked at : F) (first more : List Execution) (asking : F) (left : Stream) (e : ServeFault) → cut ≡ cut_with (buffers_of (first ++ more)) left → AsksForEach g asked first at → Appends held mid (responses_of first) → Finishes g mid holds before after at more asking left (Err e) → Ends g held holds reader after cut asked (first ++ more) asking (Err e)
 ends_so g held mid holds before after reader cut asked at first more asking left fault.Write is asks written f =
     (are_first cut (buffers_of (first ++ more)) left is, f.1, asks_more g asked at asking first more asks f.0, loses_behind held mid holds first more written f.2)
@@ -124,7 +124,7 @@ ends_so g held mid holds before after reader cut asked at first more asking left
 ends_so g held mid holds before after reader cut asked at first more asking left fault.Full is asks written f = absurd f
 ends_so g held mid holds before after reader cut asked at first more asking left fault.Read is asks written f = absurd f
 
--- ---- saves
+-- ---- how a device is saved
 
 pub saves_one : {S : Type 0} (saves : S → Record → S → Type 0) (old mid new : S) (executions : List Execution) (r after : Record) (buffer : List ℕ) (host : Host) (outcome : Outcome) → SavesEach saves old executions mid → saves mid after new → SavesEach saves old (executions ++ execution_of r buffer host after outcome ∷ []) new
 saves_one {S} saves old mid new executions r after buffer host outcome saved also =
@@ -134,7 +134,7 @@ pub saves_more : {S : Type 0} (saves : S → Record → S → Type 0) (old mid n
 saves_more {S} saves old mid new first more saved also =
     folds_on (λ (p : S) (one : Execution) (q : S). saves p one.seen.after q) old mid new first more saved also
 
--- How it finished, where the response of one execution more was not delivered.
+-- Serving finished so, where the response of one execution more was not delivered.
 pub unanswered : {F S : Type 0} (g : Asking F) (saves : S → Record → S → Type 0) (failed : S → Bool) (held mid holds : Option (List ℕ)) (before at after : Marks) (asked asking : F) (saver told new : S) (executions : List Execution) (r left : Record) (buffer : List ℕ) (host : Host) (outcome : Outcome) (stream : Stream) (e : ServeFault) → AsksForEach g asked (executions ++ execution_of r buffer host left outcome ∷ []) asking → Appends held mid (responses_of executions) → SavesEach saves saver executions told → Delivers saves failed mid holds at after left outcome.response.items told (Err e) new → Finishes g held holds before after asked (executions ++ execution_of r buffer host left outcome ∷ []) asking stream (Err e) × Saves saves failed saver (executions ++ execution_of r buffer host left outcome ∷ []) new (Err e)
 unanswered g saves failed held mid holds before at after asked asking saver told new executions r left buffer host outcome stream fault.Write asks written saved delivers =
     ((asks, delivers.2, lost_last held mid holds executions r left buffer host outcome written delivers.1), saves_one saves saver told new executions r left buffer host outcome saved delivers.0)
@@ -155,7 +155,7 @@ saves_so saves failed old mid new first more fault.Read saved also = saves_more 
 saves_so saves failed old mid new first more fault.Write saved also = saves_more saves old mid new first more saved also
 saves_so saves failed old mid new first more fault.Host saved also = saves_more saves old mid new first more saved also
 
--- What cannot fail never ends so.
+-- Where no save can fail, serving never ends since one did.
 pub never_unsaved : {S : Type 0} (saves : S → Record → S → Type 0) (old new : S) (executions : List Execution) (result : Result ℕ ServeFault) → Saves saves (λ _. false) old executions new result → result ≢ Err fault.Save
 never_unsaved saves old new executions (Ok count) saved = λ is. cc
 never_unsaved saves old new executions (Err fault.Save) (others, last, are, at, also, fails) = λ is. false≢true fails

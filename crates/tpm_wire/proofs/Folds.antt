@@ -1,4 +1,4 @@
--- Folds one after another.
+-- Folds of a relation, one after another.
 use Rattle.std.proofs.Common.{List, [], ◌∷◌, ◌++◌, sym, subst}
 use Rattle.std.specs.List.{FoldsTo}
 

@@ -1,4 +1,4 @@
--- What turns do to a machine that follows a history.
+-- The history of a machine after turns of connections.
 use Rattle.std.proofs.Common.{◌≡◌, ℕ, Bool, Option, Some, None, Result, Ok, Err, sym, subst}
 use Rattle.tpm_containers.specs.Slots.{at_place}
 use Rattle.tpm_step.specs.Step.{outcome_step}

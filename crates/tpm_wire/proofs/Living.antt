@@ -1,4 +1,5 @@
--- Where a schedule of calls leads: one lemma a call, and then all calls.
+-- The machine and the connections after a schedule of calls: one lemma for each call, and then all
+-- calls.
 use Rattle.std.proofs.Common.{◌≡◌, ◌≢◌, ℕ, zero, suc, ◌+◌, ◌<◌, Bool, true, false, List, [], ◌∷◌, ◌++◌, length, map, take, Option, Some, None, Result, Ok, Err, slice_set, refl, sym, ap, ◌∙◌, subst, append_assoc, get_or, length-append, inl, inr}
 use Rattle.std.specs.Prelude.{◌⊎◌, if◌then◌else◌}
 use Rattle.std.specs.List.{AllZip, FoldsTo}
@@ -29,7 +30,7 @@ use Rattle.tpm_wire.specs.declared.turn.Turn.TheVariants.{Answer, Ended, Wants}
 use Rattle.tpm_wire.proofs.Cutting.{buffers_stay, cut_next, read_more}
 use Rattle.tpm_wire.proofs.Folds.{folds_on}
 
--- the streams and the lives of all numbers: as many of both, and each connection is served
+-- The streams and the lives are as many, and each connection is served.
 record Serve (streams : List (Option Stream)) (lives : List (Option Life)) : Type 0 where
   pub many : length lives ≡ length streams
   pub each : (number : ℕ) → IsServed (at_place streams number) (at_place lives number)
@@ -64,12 +65,12 @@ life_of stream (Some l) served = (l, refl, served)
 life_at : (streams : List (Option Stream)) (lives : List (Option Life)) (n : ℕ) (s : Stream) → Serve streams lives → at_place streams n ≡ Some s → (l : Life) × (at_place lives n ≡ Some l) × IsServed (Some s) (Some l)
 life_at streams lives n s so is = life_of s (at_place lives n) (subst (λ (x : Option Stream). IsServed x (at_place lives n)) is (so.each n))
 
--- what an event does to a record, be it a record of a device or not
+-- An event has this effect on a record, be it a record of a device or not.
 abbrev Happens : Bool → Record → Event → Record → Type 0
 Happens can old (Executed plain_event outcome) new = Executes can old plain_event (outcome_step new outcome)
 Happens can old PowerCycled new = new ≡ cycled old
 
--- the wire and the lives, after a call that led over these events
+-- A call led the machine over these events, and the streams and lives are those after it.
 record Led (can : Bool) (old new : Wire) (lives : List (Option Life)) (events : List Event) : Type 0 where
   pub machine : FoldsTo (Happens can) old.machine events new.machine
   pub served : Serve new.streams lives
@@ -80,7 +81,7 @@ stays can old new lives so same = record {
   served = rw same so;
 }
 
--- ---- a call
+-- ---- one call
 
 opening_led : (can : Bool) (old new : Wire) (lives : List (Option Life)) (connection : ConnectionNumber) → Serve old.streams lives → Does can old (Opening (Ok connection)) new → Led can old new (slice_set lives (number_of connection) (Some new_life)) []
 opening_led can old new lives connection so did = record {
@@ -215,7 +216,7 @@ schedule_led can old new lives (call ∷ calls) so run =
       served = others.served;
     }
 
--- no connection and no life under eight numbers
+-- where all eight numbers are free, no connection has to be served
 none_served : (n number : ℕ) → IsServed (at_place (free {X = Stream} n) number) (at_place (free {X = Life} n) number)
 none_served zero number = tt
 none_served (suc n) zero = tt
@@ -224,11 +225,11 @@ none_served (suc n) (suc number) = none_served n number
 new_served : (r : Record) → Serve (new_wire r).streams (free 8)
 new_served r = record { many = refl; each = none_served 8 }
 
--- where a schedule leads from a new mux
+-- a schedule leads a new mux over its events, with each connection served
 led_anew : (can : Bool) (r : Record) (calls : List Call) (new : Wire) → Schedules can (new_wire r) calls new → Led can (new_wire r) new (lives_after_all (free 8) calls) (events_in (free 8) calls)
 led_anew can r calls new run = schedule_led can (new_wire r) new (free 8) calls (new_served r) run
 
--- Each connection is served.
+-- Each connection is served after every schedule.
 pub schedules_served : SchedulesAreServed
 schedules_served can r calls new run = (led_anew can r calls new run).served.each
 
@@ -246,7 +247,7 @@ executions_of can old new (PowerCycled ∷ events) is run =
     let (executions, are, leads) = executions_of can (cycled old) new events executes.is_record others in
     (power_cycle old ∷ executions, (refl, are), (refl, executes, leads))
 
--- The machine is where the events lead.
+-- The machine is where the events of a schedule lead.
 pub schedules_lead : SchedulesLead
 schedules_lead can r calls new is run =
     let (executions, are, leads) = executions_of can r new.machine (events_in (free 8) calls) is (led_anew can r calls new run).machine in
@@ -265,7 +266,7 @@ happens_run r new (Executed plain_event outcome ∷ events) run =
 happens_run r new (PowerCycled ∷ events) run =
     happens_run run.0 new events run.2 ∙ ap (λ (m : Record). after_all m (map plain_event_of events)) run.1
 
--- Where no memory can be refused, the events are a run.
+-- Where no memory can be refused, the events of a schedule are a run.
 pub schedules_run : SchedulesAreRuns
 schedules_run r calls new run =
     happens_run r new.machine (events_in (free 8) calls) (led_anew false r calls new run).machine

@@ -1,5 +1,5 @@
--- Schedules of calls, and what they come to: which buffers of which connection are executed, and
--- where that leads the machine.
+-- Schedules of calls, and their effect: which buffers of which connection are executed, and to
+-- which record of the machine that leads.
 use Rattle.std.specs.Prelude.{◌≡◌, ℕ, Bool, false, List, [], ◌∷◌, ◌++◌, length, take, map, slice_set, slice_get}
 use Rattle.std.specs.Prelude.{Option, Some, None, option_map, unwrap_or, Result, Ok}
 use Rattle.std.specs.List.{AllZip, FoldsTo}
@@ -32,7 +32,7 @@ pub data Call : Type 0 where
   PowerCycling : Call
   Closing : (connection : ConnectionNumber) (result : Result (Unit {0}) NoConnection) → Call
 
--- What a call does; can says whether memory can be refused.
+-- What a call does. `can` says whether memory can be refused.
 abbrev pub Does : Bool → Wire → Call → Wire → Type 0
 Does can old (Opening result) new = Opens old result new
 Does can old (Feeding connection piece result) new =
@@ -48,8 +48,8 @@ Schedules can old calls new = FoldsTo (Does can) old calls new
 
 -- ---- what the calls and their answers alone say
 
--- a connection since it was opened: all bytes that it took, and all outcomes that its turns
--- answered, in order
+-- the life of a connection since it was opened: all bytes that it took, and all outcomes that its
+-- turns answered, in order
 pub record Life : Type 0 where
   pub bytes : List ℕ
   pub answers : List Outcome
@@ -57,11 +57,11 @@ pub record Life : Type 0 where
 abbrev pub new_life : Life
 new_life = record { bytes = []; answers = [] }
 
--- with the life under a number changed
+-- the lives with the one of a number changed
 abbrev pub with_life : List (Option Life) → ℕ → (Life → Life) → List (Option Life)
 with_life lives number change = slice_set lives number (option_map change (at_place lives number))
 
--- the lives of the connections that are open, under their numbers, after a call; one that was
+-- the lives of the connections that are open, under their numbers, after a call; a call that was
 -- refused, or took nothing, or waits, leaves them
 abbrev pub lives_after : List (Option Life) → Call → List (Option Life)
 lives_after lives (Opening (Ok connection)) = slice_set lives (number_of connection) (Some new_life)
@@ -72,7 +72,7 @@ lives_after lives (Turning connection host (Ok (Answer outcome))) =
 lives_after lives (Closing connection (Ok done)) = slice_set lives (number_of connection) None
 lives_after lives call = lives
 
--- after all of these calls
+-- the lives of the connections that are open, after all of these calls
 abbrev pub lives_after_all : List (Option Life) → List Call → List (Option Life)
 lives_after_all lives [] = lives
 lives_after_all lives (call ∷ calls) = lives_after_all (lives_after lives call) calls
@@ -98,14 +98,14 @@ events_of lives (Turning connection host (Ok (Answer outcome))) =
 events_of lives PowerCycling = PowerCycled ∷ []
 events_of lives call = []
 
--- those of a schedule, in order
+-- the events of a schedule, in order
 abbrev pub events_in : List (Option Life) → List Call → List Event
 events_in lives [] = []
 events_in lives (call ∷ calls) = events_of lives call ++ events_in (lives_after lives call) calls
 
--- ---- the laws
+-- ---- the laws of schedules
 
--- An execution is that of an event: of its buffer, with its outcome, or of power that was cycled.
+-- An execution is that of an event: of the event's buffer, with its outcome, or of a power cycle.
 abbrev pub IsOf : Event → Execution → Type 0
 IsOf (Executed plain_event outcome) one =
     (one.event ≡ plain_event) × (one.seen ≡ outcome_step one.seen.after outcome)
@@ -127,8 +127,8 @@ SchedulesLead = (can : Bool) (r : Record) (calls : List Call) (new : Wire)
     → IsRecord r → Schedules can (new_wire r) calls new
     → EventsLead can r (events_in (free 8) calls) new.machine
 
--- A connection's buffers were executed in order, one an answer, as far as the answers go, and what
--- it holds is what is left of its bytes after them.
+-- A connection's buffers were executed in order, one for each answer, as far as the answers go, and
+-- the connection holds what is left of its bytes after them.
 abbrev pub IsServed : Option Stream → Option Life → Type 0
 IsServed None None = Unit {0}
 IsServed (Some s) (Some l) =

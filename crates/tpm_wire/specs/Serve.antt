@@ -31,7 +31,7 @@ buffer_in Cycled = []
 abbrev pub buffers_of : List Execution → List (List ℕ)
 buffers_of executions = map (λ (one : Execution). buffer_in one.event) executions
 
--- their responses, one behind the other
+-- the responses of executions, one after another
 abbrev pub responses_of : List Execution → List ℕ
 responses_of executions = flat_map (λ (one : Execution). one.seen.response) executions
 
@@ -46,18 +46,18 @@ abbrev pub Asks : {F : Type 0} → Asking F → F → Execution → F → Type 0
 Asks g old one new =
     (host : Host) × Called g old tt (Ok host) new × (one.event ≡ given (buffer_in one.event) host)
 
--- It was asked so for each of these executions, in order.
+-- The host was asked so for each of these executions, in order.
 abbrev pub AsksForEach : {F : Type 0} → Asking F → F → List Execution → F → Type 0
 AsksForEach g old executions new = FoldsTo (Asks g) old executions new
 
--- It was asked once more after these, and answered a fault.
+-- The host was asked once for each of these executions, and then once more, and answered a fault.
 abbrev pub AsksInVain : {F : Type 0} → Asking F → F → List Execution → F → Type 0
 AsksInVain {F} g old executions new =
     (last : F) × AsksForEach g old executions last × (e : HostFault) × Called g last tt (Err e) new
 
--- ---- its parts
+-- ---- the steps of serving
 
--- One read, for which a stream's room was all lent.
+-- One read of a stream, for which all the room of the stream was lent.
 abbrev pub Fills : Option (List ℕ) → Option (List ℕ) → Marks → Marks
     → Stream → Result ℕ Failed → Stream → Type 0
 Fills had has before after old (Err failed) new =
@@ -68,9 +68,9 @@ Fills had has before after old (Ok count) new =
     × (length new.taken ≤ buffer_limit)
     × (after ≡ after_read {E = Failed} before (Ok count) (buffer_limit - length old.taken))
 
--- One response: a saver was told the device, and then the response was written whole. Where the
--- device was not saved, nothing was written; where the writer failed, a part of the response from
--- its front.
+-- One response was delivered: a saver was told the device, and then the response was written whole.
+-- Where the device was not saved, nothing was written; where the writer failed, a part of the
+-- response from its front.
 abbrev pub Delivers : {S : Type 0} → (S → Record → S → Type 0) → (S → Bool)
     → Option (List ℕ) → Option (List ℕ) → Marks → Marks
     → Record → List ℕ → S → Result (Unit {0}) ServeFault → S → Type 0
@@ -83,21 +83,22 @@ Delivers saves failed held holds before after r response old (Err fault.Write) n
 Delivers saves failed held holds before after r response old (Err e) new = ⊥
 
 -- The writer failed at the response of the last execution: all responses before were written whole,
--- and of this one a part from its front, perhaps none of it.
+-- and of the last a part from its front, perhaps none of it.
 abbrev pub LosesLast : Option (List ℕ) → Option (List ℕ) → List Execution → Type 0
 LosesLast held holds executions =
     (answered : List Execution) × (lost : Execution) × (executions ≡ answered ++ lost ∷ [])
     × (front : List ℕ) × (rest : List ℕ) × (lost.seen.response ≡ front ++ rest)
     × Appends held holds (responses_of answered ++ front)
 
--- The last execution was not answered: all responses before were written whole, and nothing of its
--- own.
+-- The last execution was not answered: all responses before it were written whole, and nothing of
+-- its own.
 abbrev pub HoldsLastBack : Option (List ℕ) → Option (List ℕ) → List Execution → Type 0
 HoldsLastBack held holds executions =
     (answered : List Execution) × (last : Execution) × (executions ≡ answered ++ last ∷ [])
     × Appends held holds (responses_of answered)
 
--- All buffers that are whole were executed, these, and the responses written: how that finished.
+-- All buffers that are whole were executed, which are these executions, and the responses were
+-- written: how that finished.
 abbrev pub Finishes : {F : Type 0} → Asking F → Option (List ℕ) → Option (List ℕ)
     → Marks → Marks → F → List Execution → F → Stream → Result ℕ ServeFault → Type 0
 Finishes g held holds before after asked executions asking left (Ok count) =
@@ -114,17 +115,17 @@ Finishes g held holds before after asked executions asking left (Err e) = ⊥
 
 -- ---- what is read
 
--- Of all buffers these are the first, and perhaps there are others.
+-- These buffers are the first of all, and perhaps there are others.
 abbrev pub AreFirst : List (List ℕ) → List (List ℕ) → Type 0
 AreFirst done buffers = (others : List (List ℕ)) × (buffers ≡ done ++ others)
 
--- how many bytes more there is room for, where each whole buffer was executed
+-- how many bytes more a connection has room for, where each whole buffer was executed
 abbrev pub room_left : Cutting → ℕ
 room_left cut = buffer_limit - length cut.rest
 
--- One read gave a piece, of at least one byte and at most as many as there was room for. It was
--- made only since the stream went on after what was read before, and all buffers that this holds
--- whole are among those that were executed.
+-- One read gave a piece, of at least one byte and at most as many as there was room for. The read
+-- was made only since the stream went on after what was read before, and all buffers that are whole
+-- in what was read before are among those that were executed.
 abbrev pub ReadsPiece : (done : List (List ℕ)) → (old piece new : List ℕ) → Type 0
 ReadsPiece done old piece new =
     (new ≡ old ++ piece) × (0 < length piece) × (length piece ≤ room_left (cut_of old))
@@ -132,27 +133,28 @@ ReadsPiece done old piece new =
 
 -- ---- how serving ends
 
--- These are the first buffers, and there is one more at least.
+-- These buffers are the first of all, and there is at least one more.
 abbrev pub AreFewer : List (List ℕ) → List (List ℕ) → Type 0
 AreFewer done buffers =
     (next : List ℕ) × (others : List (List ℕ)) × (buffers ≡ done ++ next ∷ others)
 
--- The reader ended, at a read that had all the room that there was; or the stream did.
+-- The reader ended, at a read that had all the room that there was; or the stream ended.
 abbrev pub IsAtEnd : Marks → Cutting → Type 0
 IsAtEnd reader cut =
     ((reader.ended ≡ true) × (reader.room ≡ room_left cut)) ⊎ (cut.ended ≡ true)
 
--- The reader failed, at a read that had all the room that there was; or it gave bytes in as many
--- reads as one connection may have.
+-- The reader failed, at a read that had all the room that there was; or the reader gave bytes in as
+-- many reads as one connection may have.
 abbrev pub ReadsNoMore : Marks → Cutting → Type 0
 ReadsNoMore reader cut =
     ((reader.failed ≡ true) × (reader.room ≡ room_left cut)) ⊎ (reader.reads ≡ 1048576)
 
--- At the end of what the reader gives, or of the stream itself: all buffers were executed and all
--- responses written. Where the reader failed, or gave bytes in as many reads as one connection may
--- have: the same. Where the writer failed: some buffers were executed, the last without its whole
--- response. Where the device was not saved: some, the last without its response. Where the host
--- answered a fault: those before the next buffer, which is whole, with their responses.
+-- How serving ended. At the end of what the reader gives, or of the stream itself: all buffers were
+-- executed and all responses written. Where the reader failed, or gave bytes in as many reads as
+-- one connection may have: all buffers were executed and all responses written, too. Where the
+-- writer failed: some buffers were executed, the last without its whole response. Where the device
+-- was not saved: some were executed, the last without its response. Where the host answered a
+-- fault: those before the next buffer, which is whole, with their responses.
 abbrev pub Ends : {F : Type 0} → Asking F → Option (List ℕ) → Option (List ℕ)
     → Marks → Marks → Cutting → F → List Execution → F → Result ℕ ServeFault → Type 0
 Ends g held holds reader writer cut asked executions asking (Ok count) =
@@ -173,9 +175,10 @@ Ends g held holds reader writer cut asked executions asking (Err fault.Host) =
 Ends g held holds reader writer cut asked executions asking (Err fault.Full) = ⊥
 
 -- A connection was served: pieces were read of the reader, each in one read and no more of them
--- than one connection may have. Joined they are cut into buffers, and the first of these were
--- executed. The executions lead from the machine before to the machine after. Where a history leads
--- to the machine before, they are a stretch of events after that history. Serving ended so.
+-- than one connection may have. The pieces, joined, are cut into buffers, and the first of these
+-- were executed. The executions lead from the machine before to the machine after. Where a history
+-- leads to the machine before, they are a stretch of events after that history. Ends says how
+-- serving ended.
 pub record Serves {F : Type 0} (g : Asking F) (can : Bool) (had has held holds : Option (List ℕ))
     (reader writer : Marks) (old : Record) (asked : F) (result : Result ℕ ServeFault)
     (new : Record) (asking : F) : Type 0
@@ -199,8 +202,8 @@ abbrev pub SavesEach : {S : Type 0} → (S → Record → S → Type 0) → S �
 SavesEach saves old executions new =
     FoldsTo (λ before (one : Execution) after. saves before one.seen.after after) old executions new
 
--- A saver was told the device as each left it. Where serving ended since the device was not saved,
--- the saver was told so of all but the last, and failed.
+-- A saver was told the device as each of these executions left it. Where serving ended since the
+-- device was not saved, the saver was told so of all but the last, and failed.
 abbrev pub Saves : {S : Type 0} → (S → Record → S → Type 0) → (S → Bool)
     → S → List Execution → S → Result ℕ ServeFault → Type 0
 Saves {S} saves failed old executions new (Err fault.Save) =

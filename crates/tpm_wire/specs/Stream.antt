@@ -18,8 +18,8 @@ command_size bytes = None
 abbrev pub is_size : ℕ → Bool
 is_size size = nat_le 10 size && nat_le size buffer_limit
 
--- how many bytes the buffer has whose commandSize is this: that many, or, where no buffer can have
--- that size, the six that end with it
+-- how many bytes a buffer with this commandSize has: that many, or, where no buffer can have that
+-- size, the six bytes that end with commandSize
 abbrev pub size_by : ℕ → ℕ
 size_by size = if is_size size then size else 6
 
@@ -27,32 +27,32 @@ size_by size = if is_size size then size else 6
 abbrev pub buffer_size : List ℕ → Option ℕ
 buffer_size bytes = option_map size_by (command_size bytes)
 
--- whether no buffer comes after the one that begins with these bytes, since its commandSize is
--- none
+-- whether no buffer comes after the one that begins with these bytes, since no buffer can have the
+-- size that its commandSize says
 abbrev pub is_last : List ℕ → Bool
 is_last bytes = option_map_or (λ size. not (is_size size)) (command_size bytes) false
 
--- whether a buffer is whole: it has as many bytes as it is to have
+-- whether a buffer is whole: it has as many bytes as its commandSize says
 abbrev pub is_whole : List ℕ → Bool
 is_whole bytes = option_map_or (λ size. size == length bytes) (buffer_size bytes) false
 
 -- ---- the cut of a stream
 
--- how a stream is cut: its whole buffers in order, the bytes after them, and whether it has ended:
--- no buffer comes any more
+-- the cut of a stream: its whole buffers in order, the bytes after them, and whether it has ended,
+-- so that no buffer comes any more
 pub record Cutting : Type 0 where
   pub buffers : List (List ℕ)
   pub rest : List ℕ
   pub ended : Bool
 
--- with these bytes after its buffers, which are a buffer if they are a whole one
+-- a cut with these bytes after its buffers, which become one more buffer if they are a whole one
 abbrev pub with_rest : Cutting → List ℕ → Cutting
 with_rest c rest =
     if is_whole rest
     then record { buffers = c.buffers ++ rest ∷ []; rest = []; ended = is_last rest }
     else record c { rest = rest }
 
--- with one byte more
+-- a cut with one more byte of the stream
 unfoldable pub with_byte : Cutting → ℕ → Cutting
 with_byte c byte =
     let rest = c.rest ++ byte ∷ [] in
@@ -62,42 +62,43 @@ with_byte c byte =
 abbrev pub uncut : List (List ℕ) → Bool → Cutting
 uncut buffers ended = record { buffers = buffers; rest = []; ended = ended }
 
--- the cut of a stream: byte by byte
+-- the cut of a stream of these bytes, taken byte by byte
 abbrev pub cut_of : List ℕ → Cutting
 cut_of bytes = fold with_byte (uncut [] false) bytes
 
 -- ---- what a connection holds of its stream
 
--- the bytes taken and not yet executed, and whether no buffer comes any more
+-- what a connection holds of its stream: the bytes taken and not yet executed, and whether no
+-- buffer comes any more
 pub record Stream : Type 0 where
   pub taken : List ℕ
   pub ended : Bool
 
--- that of a new connection
+-- the stream of a new connection
 abbrev pub opened : Stream
 opened = record { taken = []; ended = false }
 
--- how many of a number of bytes fit
+-- how many of a number of bytes fit into a stream
 abbrev pub fitting : Stream → ℕ → ℕ
 fitting s count = min count (buffer_limit - length s.taken)
 
--- with these bytes taken
+-- a stream that has taken these bytes too
 abbrev pub fed : Stream → List ℕ → Stream
 fed s bytes = record s { taken = s.taken ++ bytes }
 
--- a buffer, and the stream after it
+-- a buffer that is cut off a stream, and the stream after it
 pub record Cut : Type 0 where
   pub buffer : List ℕ
   pub after : Stream
 
--- a number of bytes at the front as a buffer, and whether it is the last
+-- the cut of a number of bytes at the front as a buffer, which may be the last
 abbrev pub cut_at : ℕ → Bool → List ℕ → Cut
 cut_at size last bytes = record {
   buffer = take size bytes;
   after = record { taken = drop size bytes; ended = last };
 }
 
--- the same, where there are enough
+-- the cut of a number of bytes at the front as a buffer, where there are enough
 abbrev pub cut_within : ℕ → Bool → List ℕ → Option Cut
 cut_within size last bytes =
     if nat_le size (length bytes) then Some (cut_at size last bytes) else None
@@ -108,17 +109,17 @@ next_of s =
     if s.ended then None
     else option_and_then (λ size. cut_within size (is_last s.taken) s.taken) (buffer_size s.taken)
 
--- The front is that of the next buffer, or there is none.
+-- The front of a stream is that of its next buffer, or there is no next buffer.
 abbrev pub IsFront : Stream → Option Front → Type 0
 IsFront s None = next_of s ≡ None
 IsFront s (Some f) = (f.size ≤ length s.taken) × (next_of s ≡ Some (cut_at f.size f.last s.taken))
 
--- ---- both
+-- ---- the cut, and what a connection holds
 
--- the cut of a stream of which these buffers were executed and this is left
+-- the cut of a stream of which these buffers were executed and this stream is left
 abbrev pub cut_with : List (List ℕ) → Stream → Cutting
 cut_with done s = fold with_byte (uncut done s.ended) s.taken
 
--- What is left of a stream is cut into these buffers, and then this is left.
+-- The first stream is cut into these buffers, and then the second is left.
 abbrev pub CutsTo : Stream → List (List ℕ) → Stream → Type 0
 CutsTo old done new = (before : List (List ℕ)) → cut_with before old ≡ cut_with (before ++ done) new

@@ -18,28 +18,29 @@ use Rattle.tpm_wire.specs.declared.number.ConnectionNumber.{ConnectionNumber}
 use Rattle.tpm_wire.specs.declared.turn.Turn.{Turn}
 use Rattle.tpm_wire.specs.declared.turn.Turn.TheVariants.{Wants, Answer, Ended}
 
--- the machine's record, and for each of eight numbers the stream of the connection that is open
--- under it, if one is
+-- a machine and its connections: the machine's record, and for each of eight numbers the stream of
+-- the connection that is open under it, if one is
 pub record Wire : Type 0 where
   pub machine : Record
   pub streams : List (Option Stream)
 
--- what a `Mux` is seen as, by what its machine's keep is seen as
+-- the machine and the connections of a `Mux`, by a function that gives the record of its machine's
+-- keep
 abbrev pub wire_of : {K S O P N : Type 0} → (K → Record) → Mux K S O P N → Wire
 wire_of record_of mux = record {
   machine = state_of record_of mux.machine;
   streams = mux.connections;
 }
 
--- no connection is open
+-- a machine to which no connection is open
 abbrev pub new_wire : Record → Wire
 new_wire r = record { machine = r; streams = free 8 }
 
--- with this stream, or none, under a number
+-- the machine and its connections with this stream, or none, under a number
 abbrev pub with_stream : Wire → ℕ → Option Stream → Wire
 with_stream w number stream = record w { streams = slice_set w.streams number stream }
 
--- A connection was opened under the lowest free number, or all eight are open.
+-- A connection was opened under the lowest free number, or all eight numbers are in use.
 abbrev pub Opens : Wire → Result ConnectionNumber Full → Wire → Type 0
 Opens old (Ok connection) new =
     (lowest_free old.streams ≡ Some (number_of connection))
@@ -51,7 +52,7 @@ abbrev pub Refuses : {X : Type 0} → Wire → Result X NoConnection → Wire �
 Refuses old (Ok x) new = ⊥
 Refuses old (Err e) new = new ≡ old
 
--- The stream took as many bytes of a piece as fit, and it was told how many.
+-- The stream took as many bytes of a piece as fit, and the call told how many.
 abbrev pub FeedsAt : Option Stream → Wire → ℕ → List ℕ → Result ℕ NoConnection → Wire → Type 0
 FeedsAt None old number piece result new = Refuses old result new
 FeedsAt (Some s) old number piece result new =
@@ -66,19 +67,19 @@ Feeds old number piece result new =
 abbrev pub given : List ℕ → Host → PlainEvent
 given buffer host = Given buffer (locality_number host.locality) host.elapsed_ms host.random
 
--- No buffer is whole, and nothing changed.
+-- No buffer of the stream is whole, and nothing changed.
 abbrev pub Waits : Stream → Wire → Result Turn NoConnection → Wire → Type 0
 Waits s old result new = (result ≡ Ok (if s.ended then Ended else Wants)) × (new ≡ old)
 
--- The buffer that was cut was executed with what the host says, and the stream after it is left;
--- can says whether memory can be refused.
+-- The buffer that was cut was executed with what the host says, and the stream after it is left.
+-- `can` says whether memory can be refused.
 abbrev pub AnswersTurn : Bool → Cut → Wire → ℕ → Host → Result Turn NoConnection → Wire → Type 0
 AnswersTurn can c old number host (Ok (Answer outcome)) new =
     Executes can old.machine (given c.buffer host) (outcome_step new.machine outcome)
     × (new.streams ≡ slice_set old.streams number (Some c.after))
 AnswersTurn can c old number host result new = ⊥
 
--- The next buffer was executed, if one is whole.
+-- The next buffer of the connection was executed, if one is whole.
 abbrev pub TurnsBy : Bool → Option Cut → Stream
     → Wire → ℕ → Host → Result Turn NoConnection → Wire → Type 0
 TurnsBy can None s old number host result new = Waits s old result new
@@ -94,7 +95,7 @@ abbrev pub Turns : Bool → Wire → ℕ → Host → Result Turn NoConnection �
 Turns can old number host result new =
     TurnsAt can (at_place old.streams number) old number host result new
 
--- The connection was closed.
+-- The connection was closed, or no connection is open under the number.
 abbrev pub ClosesAt : Option Stream → Wire → ℕ → Result (Unit {0}) NoConnection → Wire → Type 0
 ClosesAt None old number result new = Refuses old result new
 ClosesAt (Some s) old number result new = (result ≡ Ok tt) × (new ≡ with_stream old number None)

@@ -1,5 +1,5 @@
-//! A connection: the bytes that it has taken and that were not yet executed, from which it gives
-//! one buffer after the other.
+//! A connection: it holds the bytes that it has taken and that were not yet executed, and gives one
+//! buffer of them after another.
 
 ghost use Rattle.tpm_types.specs.Limits.{buffer_limit};
 ghost use Rattle.std.specs.Prelude.{◌≡◌, ◌+◌, ◌≤◌, drop, false, length, take};
@@ -29,7 +29,7 @@ impl Model for Connection {
 }
 
 impl Connection {
-    /// One without bytes.
+    /// A new connection, which has taken no bytes.
     pub(crate) fn new() -> Connection
         ensures { result ≡ opened }
     {
@@ -46,7 +46,7 @@ impl Connection {
         self.ended
     }
 
-    /// How many bytes fit.
+    /// How many bytes more the connection can take.
     pub(crate) fn room(&self) -> usize
         ensures { result + length self.now.taken ≡ buffer_limit }
     {
@@ -64,7 +64,7 @@ impl Connection {
         count
     }
 
-    /// The front of the next buffer, if that is whole.
+    /// The front of the next buffer, if the buffer is whole.
     pub(crate) fn front(&self) -> Option<Front>
         ensures { IsFront self.now result }
     {
@@ -81,7 +81,7 @@ impl Connection {
         self.taken.as_slice()
     }
 
-    /// Lets the buffer in front go, and closes up what is left.
+    /// Drops the buffer in front, and moves the bytes after it up.
     pub(crate) fn pass(&mut self, front: Front)
         requires { front.size ≤ length self.old.taken }
         ensures { self.new ≡ (cut_at front.size front.last self.old.taken).after }
@@ -91,7 +91,7 @@ impl Connection {
     }
 }
 
-/// Removes a number of bytes in front, and moves the others up.
+/// Removes a number of bytes at the front, and moves the others up.
 fn remove_front(bytes: &mut ArrayVec<u8, BUFFER_LIMIT>, count: usize)
     requires { count ≤ array_vec_len bytes.old }
     ensures { bytes.new.items ≡ drop count bytes.old.items }

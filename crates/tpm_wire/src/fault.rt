@@ -1,14 +1,14 @@
 //! Why a connection is not opened, is not there, or is not served to its end.
 
-/// Eight connections are open, and there cannot be one more.
+/// The fault that eight connections are open, and there cannot be one more.
 #[derive(Clone, Copy, Debug, PartialEq, Eq)]
 pub struct Full;
 
-/// No connection is open under the number.
+/// The fault that no connection is open under the number.
 #[derive(Clone, Copy, Debug, PartialEq, Eq)]
 pub struct NoConnection;
 
-/// The host has no random bytes or no time to give.
+/// The fault that the host has no random bytes or no time to give.
 #[derive(Clone, Copy, Debug, PartialEq, Eq)]
 pub struct HostFault;
 

@@ -8,7 +8,7 @@ use tpm_types::BUFFER_LIMIT;
 /// The fewest bytes of a command: those of its header.
 const HEADER_SIZE: usize = 10;
 
-/// The bytes of a command up to its size, and with it.
+/// Where commandSize ends in the bytes of a command.
 const SIZE_END: usize = 6;
 
 /// How many bytes in front of a connection are its next buffer, and whether no buffer comes after
@@ -19,7 +19,7 @@ pub(crate) struct Front {
     pub last: bool,
 }
 
-/// The front of these bytes, if they hold the buffer whole that begins with them.
+/// The front of these bytes, if they hold a whole buffer.
 #[tactic(auto, unfolding(crate::specs::Stream::command_size))]
 pub(crate) fn front_of(bytes: &[u8]) -> Option<Front>
     ensures { IsFront (record { taken = bytes.now; ended = false }) result }

@@ -1,9 +1,10 @@
-//! What the host says of a command: its locality, the time that has passed, and random bytes.
+//! The values that the host gives for a command: its locality, the time that has passed, and random
+//! bytes.
 
 use tpm_types::Locality;
 
-/// What the host says of a command: where it comes from, the milliseconds since the command before
-/// it, and the random bytes that it may draw.
+/// The values that the host gives for a command: where it comes from, the milliseconds since the
+/// command before it, and the random bytes that it may draw.
 #[derive(Clone, Copy)]
 pub struct Host {
     pub locality: Locality,

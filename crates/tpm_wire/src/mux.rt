@@ -27,8 +27,8 @@ use tpm_step::{Event, Outcome};
 /// How many connections can be open.
 const CONNECTION_LIMIT: usize = 8;
 
-/// A machine, and up to eight connections to it. What happens to the machine is what its
-/// connections' turns execute, and power cycles.
+/// A machine, and up to eight connections to it. Only the connections' turns and power cycles
+/// happen to the machine.
 #[derive(Drop)]
 pub struct Mux<K: Keep> {
     pub(crate) machine: Machine<K>,
@@ -60,7 +60,7 @@ impl<K: Keep> Mux<K> {
         &self.machine
     }
 
-    /// Opens a connection under the lowest free number, without bytes.
+    /// Opens a connection under the lowest free number, which has taken no bytes.
     pub fn open(&mut self) -> Result<ConnectionNumber, Full>
         ensures { Opens (wire_of K.record_of self.old) result (wire_of K.record_of self.new) }
     {
@@ -86,8 +86,8 @@ impl<K: Keep> Mux<K> {
         }
     }
 
-    /// Executes the connection's next buffer with what the host says, if that is whole, and no
-    /// other.
+    /// Executes the connection's next buffer with what the host says, if the buffer is whole, and
+    /// no other.
     pub fn turn(&mut self, connection: ConnectionNumber, host: Host) -> Result<Turn, NoConnection>
         ensures turns { Turns K.can_refuse (wire_of K.record_of self.old) (number_of connection)
             host result (wire_of K.record_of self.new) }
@@ -102,7 +102,7 @@ impl<K: Keep> Mux<K> {
         self.take_turn(connection, host)
     }
 
-    /// The same, without what is said of histories.
+    /// Takes a turn as [`Mux::turn`] does; the contract says nothing of histories.
     #[inline(always)]
     fn take_turn(&mut self, connection: ConnectionNumber, host: Host) -> Result<Turn, NoConnection>
         ensures { Turns K.can_refuse (wire_of K.record_of self.old) (number_of connection) host
@@ -126,12 +126,12 @@ impl<K: Keep> Mux<K> {
         }
     }
 
-    /// Power goes off and on again; the connections keep their bytes.
+    /// Cycles the machine's power; the connections keep their bytes.
     pub fn power_cycle(&mut self)
         ensures cycled { wire_of K.record_of self.new ≡ record (wire_of K.record_of self.old)
             { machine = cycled (wire_of K.record_of self.old).machine } }
 
-        // Where the machine followed a history, it follows that with one power cycle more.
+        // Where the machine followed a history, it follows the history with one power cycle more.
         ensures history { (history : History)
             → Follows (wire_of K.record_of self.old).machine history
             → Follows (wire_of K.record_of self.new).machine (PowerCycled ∷ history) }
@@ -161,7 +161,7 @@ pub(crate) fn free_place(places: &[Option<Connection>]) -> Option<usize>
     places.iter().position(|place| place.is_none())
 }
 
-/// What a turn gives where no buffer is whole.
+/// The turn that is given where no buffer is whole.
 fn waiting(connection: &Connection) -> Turn
     ensures { result ≡ (if connection.now.ended then Ended else Wants) }
 {
@@ -172,7 +172,7 @@ fn waiting(connection: &Connection) -> Turn
     }
 }
 
-/// Executes the buffer in front of a connection, where it lies, and lets it go.
+/// Executes the buffer in front of a connection in its place, and drops it.
 pub(crate) fn execute_front<K: Keep>(
     machine: &mut Machine<K>,
     connection: &mut Connection,

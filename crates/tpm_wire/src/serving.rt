@@ -25,12 +25,12 @@ use tpm_saver::{Saver, SavesNothing};
 use tpm_step::Outcome;
 use tpm_types::BUFFER_LIMIT;
 
-/// In how many reads one connection may give bytes.
+/// The most reads in which one connection may give bytes.
 const READS: u32 = 1_048_576;
 
 /// Serves one connection: executes the buffers that it reads, each with what the host says once it
-/// is whole, writes their responses, and says how many those are. The connection is one more beside
-/// those of the mux while it is served, and closed however that ends.
+/// is whole, writes their responses, and says how many there were. While the connection is served
+/// it is one more than those of the mux, and it is closed however that ends.
 pub fn serve<K: Keep, R: Read, W: Write, H: FnMut() -> Result<Host, HostFault>>(
     mux: &mut Mux<K>,
     reader: &mut Tap<R>,
@@ -56,8 +56,9 @@ pub fn serve<K: Keep, R: Read, W: Write, H: FnMut() -> Result<Host, HostFault>>(
     serve_saving(mux, reader, writer, host, &mut SavesNothing)
 }
 
-/// The same, where a saver is told of the device before the response of each command is written.
-/// Where it cannot save, nothing of that response is written.
+/// Serves one connection as [`serve`] does, where a saver is told of the device before the response
+/// of each command is written. Where the device cannot be saved, nothing of that response is
+/// written.
 pub fn serve_saving<K: Keep, R: Read, W: Write, H: FnMut() -> Result<Host, HostFault>, S: Saver>(
     mux: &mut Mux<K>,
     reader: &mut Tap<R>,
@@ -129,7 +130,7 @@ fn serve_connection<K: Keep, R: Read, W: Write, H: FnMut() -> Result<Host, HostF
 }
 
 /// Executes all buffers that a connection holds whole, has the device saved after each, writes
-/// their responses, and says how many those are. One outcome serves for all.
+/// their responses, and says how many there were. All of them use one outcome in turn.
 fn answer_whole<K: Keep, W: Write, H: FnMut() -> Result<Host, HostFault>, S: Saver>(
     machine: &mut Machine<K>,
     connection: &mut Connection,
@@ -168,7 +169,7 @@ fn answer_whole<K: Keep, W: Write, H: FnMut() -> Result<Host, HostFault>, S: Sav
     Ok(answered)
 }
 
-/// Has the device saved, and then writes its response.
+/// Has the device saved, and then writes the response.
 fn deliver<K: Keep, W: Write, S: Saver>(
     machine: &Machine<K>,
     response: &[u8],

@@ -1,14 +1,14 @@
-//! What a turn of a connection gives: nothing yet, an outcome, or the end.
+//! What a turn of a connection gives: no outcome yet, an outcome, or the end.
 
 use tpm_step::Outcome;
 
 /// What a turn of a connection gave.
 #[derive(Drop)]
 pub enum Turn {
-    /// Its next buffer is not whole yet.
+    /// The connection's next buffer is not whole yet.
     Wants,
-    /// Its next buffer was executed.
+    /// The connection's next buffer was executed, with this outcome.
     Answer(Outcome),
-    /// No buffer comes any more: the last one had a size that no buffer has.
+    /// No buffer comes any more: the last one had a size that no buffer can have.
     Ended,
 }

@@ -9,34 +9,34 @@ use std::test::Fail;
 use tpm_record::Keep;
 use tpm_wire::{ConnectionNumber, Full, Mux, NoConnection, Turn};
 
-/// TPM2_Startup, and TPM2_GetRandom of one and of two bytes.
+/// The buffers of TPM2_Startup, and of TPM2_GetRandom of one and of two bytes.
 const FIRST: &[u8] = &[
     0x80, 1, 0, 0, 0, 12, 0, 0, 1, 0x44, 0, 0, 0x80, 1, 0, 0, 0, 12, 0, 0, 1, 0x7b, 0, 1, 0x80, 1,
     0, 0, 0, 12, 0, 0, 1, 0x7b, 0, 2,
 ];
 
-/// TPM2_GetRandom of three, four and five bytes.
+/// The buffers of TPM2_GetRandom of three, four and five bytes.
 const SECOND: &[u8] = &[
     0x80, 1, 0, 0, 0, 12, 0, 0, 1, 0x7b, 0, 3, 0x80, 1, 0, 0, 0, 12, 0, 0, 1, 0x7b, 0, 4, 0x80, 1,
     0, 0, 0, 12, 0, 0, 1, 0x7b, 0, 5,
 ];
 
-/// A success, a byte and two bytes.
+/// The responses to the first buffers: a success, one random byte and two random bytes.
 const FIRST_ANSWERS: &[u8] = &[
     0x80, 1, 0, 0, 0, 10, 0, 0, 0, 0, 0x80, 1, 0, 0, 0, 13, 0, 0, 0, 0, 0, 1, 7, 0x80, 1, 0, 0, 0,
     14, 0, 0, 0, 0, 0, 2, 7, 7,
 ];
 
-/// Three, four and five bytes.
+/// The responses to the second buffers: three, four and five random bytes.
 const SECOND_ANSWERS: &[u8] = &[
     0x80, 1, 0, 0, 0, 15, 0, 0, 0, 0, 0, 3, 7, 7, 7, 0x80, 1, 0, 0, 0, 16, 0, 0, 0, 0, 0, 4, 7, 7,
     7, 7, 0x80, 1, 0, 0, 0, 17, 0, 0, 0, 0, 0, 5, 7, 7, 7, 7, 7,
 ];
 
-/// TPM_RC_COMMAND_SIZE.
+/// The response TPM_RC_COMMAND_SIZE.
 const WRONG_SIZE: &[u8] = &[0x80, 1, 0, 0, 0, 10, 0, 0, 1, 0x42];
 
-/// Feeds a byte, and adds the response to the others, if a turn then answers.
+/// Feeds a byte, and adds the response of a turn to the others, if the turn answers.
 fn add_answer<K: Keep>(
     mux: &mut Mux<K>,
     connection: ConnectionNumber,
@@ -79,7 +79,7 @@ fn has_ended<K: Keep>(mux: &mut Mux<K>, connection: ConnectionNumber) -> bool {
     matches!(turn(mux, connection), Ok(Turn::Ended))
 }
 
-/// A connection that begins with this size.
+/// Checks that a connection ends whose first buffer has this commandSize.
 fn end_by<K: Keep, R: Abort>(rt: &R, mux: &mut Mux<K>, size: [u8; 4]) -> Result<(), Fail> {
     let connection = mux.open()?;
     check(rt, feed(mux, connection, &[0x80, 1]), Ok(2));

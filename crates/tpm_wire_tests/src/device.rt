@@ -1,5 +1,5 @@
-//! A device, what its host says, and what is sent to it. These functions say nothing of what they
-//! give, so that a test is proved without a look at the bytes.
+//! A device, its host, and the bytes that are sent to it. The contracts of these functions say
+//! nothing, so that a test is proved without a look at the bytes.
 
 use std::alloc::Global;
 use std::test::Fail;
@@ -16,7 +16,7 @@ pub fn mux<K: Keep>(alloc: Global) -> Result<Mux<K>, Fail> {
     Ok(Mux::new(Machine::manufacture(alloc, &[0; 256])?))
 }
 
-/// From locality 0, without time.
+/// The values of the host for a command from locality 0, with no time elapsed.
 pub fn host() -> Host {
     Host {
         locality: Locality::new(0).unwrap(),

@@ -13,8 +13,8 @@ use tpm_bytes::Tap;
 use tpm_record::Keep;
 use tpm_wire::{Host, HostFault, Mux, ServeFault, serve};
 
-/// TPM2_Startup, TPM2_GetRandom of two bytes, TPM2_PCR_Reset by a password, TPM2_Startup again, a
-/// wrong tag, and a size of five.
+/// The buffers of TPM2_Startup, TPM2_GetRandom of two bytes, TPM2_PCR_Reset by a password,
+/// TPM2_Startup again, a command with a wrong tag, and one with a size of five.
 const STREAM: &[u8] = &[
     0x80, 1, 0, 0, 0, 12, 0, 0, 1, 0x44, 0, 0, 0x80, 1, 0, 0, 0, 12, 0, 0, 1, 0x7b, 0, 2, 0x80, 2,
     0, 0, 0, 27, 0, 0, 1, 0x3d, 0, 0, 0, 16, 0, 0, 0, 9, 0x40, 0, 0, 9, 0, 0, 1, 0, 0, 0x80, 1, 0,
@@ -24,7 +24,8 @@ const STREAM: &[u8] = &[
 /// Where each of these buffers ends.
 const BUFFER_ENDS: [usize; 6] = [12, 24, 51, 63, 73, 79];
 
-/// A success alone, two bytes, a success with an entry, INITIALIZE, BAD_TAG and COMMAND_SIZE.
+/// The responses to these buffers: a success alone, two random bytes, a success with an entry,
+/// INITIALIZE, BAD_TAG and COMMAND_SIZE.
 const RESPONSES: &[u8] = &[
     0x80, 1, 0, 0, 0, 10, 0, 0, 0, 0, 0x80, 1, 0, 0, 0, 14, 0, 0, 0, 0, 0, 2, 7, 7, 0x80, 2, 0, 0,
     0, 19, 0, 0, 0, 0, 0, 0, 0, 0, 0, 0, 1, 0, 0, 0x80, 1, 0, 0, 0, 10, 0, 0, 1, 0, 0, 0xc4, 0, 0,
@@ -53,7 +54,7 @@ struct Allowance {
     values: usize,
 }
 
-/// Nothing fails.
+/// The allowance under which nothing fails.
 const ALL: Allowance = Allowance {
     size: READ_SIZE,
     reads: READS,
@@ -61,7 +62,7 @@ const ALL: Allowance = Allowance {
     values: 6,
 };
 
-/// Gives the stream, while reads are left.
+/// A reader that gives the stream, while reads are left.
 #[derive(Drop)]
 struct Reader<'a> {
     left: &'a [u8],
@@ -83,7 +84,7 @@ impl Read for Reader<'_> {
     }
 }
 
-/// Takes what is written, while writes are left.
+/// A writer that takes what is written, while writes are left.
 #[derive(Drop)]
 struct Writer {
     taken: Vec<u8>,
@@ -106,12 +107,12 @@ impl Write for Writer {
     }
 }
 
-/// What became of a connection.
+/// The outcome of serving a connection.
 #[derive(Drop)]
 struct Served {
     ended: Result<u64, ServeFault>,
     written: Vec<u8>,
-    /// How many commands the device has executed: each takes a millisecond.
+    /// How many commands the device has executed: each is given a millisecond of time.
     executed: u64,
     /// Whether the number of the connection is free again.
     closed: bool,
@@ -164,7 +165,8 @@ fn ends_within(ends: [usize; 6], bytes: usize) -> u64 {
     count
 }
 
-/// What holds however a connection ends: its number is free, and the first responses were written.
+/// Checks what holds however a connection ends: its number is free, and the first responses were
+/// written.
 fn check_end<R: Abort>(rt: &R, served: &Served, ended: Result<u64, ServeFault>) {
     check(rt, served.ended, ended);
     check(rt, served.closed, true);
@@ -210,7 +212,7 @@ fn each_read_fails(rt: HostRuntime) -> Result<(), Fail> {
     run_over_both::<EachRead, HostRuntime>(&rt, rt.alloc())
 }
 
-/// The command whose response was lost has run.
+/// A trial in which each write fails in turn: the command whose response was lost has run.
 struct EachWrite;
 
 impl Trial for EachWrite {
@@ -230,7 +232,7 @@ fn each_write_fails(rt: HostRuntime) -> Result<(), Fail> {
     run_over_both::<EachWrite, HostRuntime>(&rt, rt.alloc())
 }
 
-/// The command whose values the host did not give has not run.
+/// A trial in which each value of the host fails in turn: the command without a value has not run.
 struct EachValue;
 
 impl Trial for EachValue {

@@ -1,5 +1,5 @@
-//! Three connections that measure into PCRs, in several orders: what TPM2_PCR_Read then answers is
-//! the fold of what was accepted.
+//! Three connections that measure into PCRs, in several orders: TPM2_PCR_Read then answers the
+//! value that the accepted commands make.
 
 use super::comparison::check;
 use super::device::{STARTUP, answer, feed, mux};
@@ -11,19 +11,19 @@ use tpm_mac::{Digest, HashAlg, digest_parts};
 use tpm_record::Keep;
 use tpm_wire::{ConnectionNumber, Mux};
 
-/// What a command measures into PCR 16, in the bank of SHA-256.
+/// A measurement that a command makes into PCR 16, in the bank of SHA-256.
 #[derive(Clone, Copy)]
 enum Measurement {
-    /// TPM2_PCR_Extend by a digest of 32 bytes, each this one.
+    /// TPM2_PCR_Extend by a digest of 32 bytes, of which each is this one.
     Extend(u8),
     /// TPM2_PCR_Event of this byte.
     Event(u8),
-    /// TPM2_PCR_Reset.
+    /// TPM2_PCR_Reset of PCR 16.
     Reset,
 }
 
-/// What stands before the parameters of a command on PCR 16: its header, the handle, and the area
-/// of an empty password.
+/// The front of a command on PCR 16, before its parameters: its header, the handle, and the area of
+/// an empty password.
 fn header(size: u8, code: u8) -> [u8; 27] {
     [
         0x80, 2, 0, 0, 0, size, 0, 0, 1, code, 0, 0, 0, 16, 0, 0, 0, 9, 0x40, 0, 0, 9, 0, 0, 1, 0,
@@ -32,7 +32,7 @@ fn header(size: u8, code: u8) -> [u8; 27] {
 }
 
 impl Measurement {
-    /// The value of the PCR after it, by the definition.
+    /// The value of the PCR after the measurement, by the definition.
     fn fold(self, old: Digest) -> Digest {
         let hash = HashAlg::Sha256;
         match self {
@@ -45,7 +45,7 @@ impl Measurement {
         }
     }
 
-    /// Feeds its command.
+    /// Feeds the measurement's command to a connection.
     fn feed<K: Keep>(self, mux: &mut Mux<K>, connection: ConnectionNumber) -> Result<(), Fail> {
         match self {
             Measurement::Extend(byte) => {
@@ -65,7 +65,7 @@ impl Measurement {
     }
 }
 
-/// The value of PCR 16 at first.
+/// The value of PCR 16 at first: zeros.
 fn zeros() -> Digest {
     let mut value = Digest::new();
     let _ = value.try_extend_from_slice(&[0; 32]);
@@ -80,7 +80,7 @@ enum Sender {
     Third,
 }
 
-/// What each sends, in turn.
+/// What each of the three connections sends, in turn.
 const IN_TURN: &[(Sender, Measurement)] = &[
     (Sender::First, Measurement::Extend(1)),
     (Sender::Second, Measurement::Event(3)),
@@ -90,7 +90,7 @@ const IN_TURN: &[(Sender, Measurement)] = &[
     (Sender::Third, Measurement::Extend(5)),
 ];
 
-/// The same, in reverse turn.
+/// What each of the three connections sends, in reverse turn.
 const IN_REVERSE_TURN: &[(Sender, Measurement)] = &[
     (Sender::Third, Measurement::Extend(4)),
     (Sender::Second, Measurement::Event(3)),
@@ -100,7 +100,7 @@ const IN_REVERSE_TURN: &[(Sender, Measurement)] = &[
     (Sender::First, Measurement::Event(2)),
 ];
 
-/// The same, one after another.
+/// What each of the three connections sends, one connection after another.
 const ONE_AFTER_ANOTHER: &[(Sender, Measurement)] = &[
     (Sender::First, Measurement::Extend(1)),
     (Sender::First, Measurement::Event(2)),
@@ -115,10 +115,10 @@ const READ: &[u8] = &[
     0x80, 1, 0, 0, 0, 20, 0, 0, 1, 0x7e, 0, 0, 0, 1, 0, 0x0b, 3, 0, 0, 1,
 ];
 
-/// What stands before the value in its answer.
+/// How many bytes stand before the value in the answer of TPM2_PCR_Read.
 const BEFORE_VALUE: usize = 30;
 
-/// Feeds what each sends in an order, and compares what TPM2_PCR_Read then answers.
+/// Feeds what each connection sends in an order, and compares what TPM2_PCR_Read then answers.
 fn measure<K: Keep, R: Abort>(
     rt: &R,
     alloc: Global,

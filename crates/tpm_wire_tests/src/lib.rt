@@ -1,9 +1,9 @@
 #![tactic(auto)]
 
-//! What no clause says of connections: that calls succeed where they can, and readers, writers and
-//! hosts that fail.
+//! Tests of connections, for what no clause says: that calls succeed where they can, and readers,
+//! writers and hosts that fail.
 //!
-//! It stands on `tpm_wire`, and nothing stands on it.
+//! The crate uses `tpm_wire`, and no crate uses it.
 
 #[cfg(test)]
 mod comparison;

@@ -1,5 +1,5 @@
 //! Connections that are not served to their end: one beside eight others, one without end, and one
-//! to a device that cannot be saved any more.
+//! to a device that can no longer be saved.
 
 use super::comparison::check;
 use super::device::{host, mux};
@@ -15,13 +15,13 @@ use tpm_record::Keep;
 use tpm_saver::{Saver, Unsaved};
 use tpm_wire::{Mux, ServeFault, serve, serve_saving};
 
-/// TPM2_SelfTest(YES), a byte a read, without end.
+/// A reader of TPM2_SelfTest(YES) without end, one byte at each read.
 #[derive(Drop)]
 struct Repeated {
     next: usize,
 }
 
-/// What is repeated.
+/// The buffer that is repeated: TPM2_SelfTest(YES).
 const SELF_TEST: [u8; 11] = [0x80, 1, 0, 0, 0, 11, 0, 0, 1, 0x43, 1];
 
 impl Read for Repeated {
@@ -35,7 +35,7 @@ impl Read for Repeated {
     }
 }
 
-/// Counts the bytes that are written.
+/// A writer that counts the bytes that are written.
 #[derive(Drop)]
 struct Counted {
     bytes: usize,
@@ -63,7 +63,7 @@ struct Ended {
     written: usize,
 }
 
-/// Serves what is repeated to a machine with its connections.
+/// Serves the repeated buffer to a machine with its connections.
 fn serve_repeated<K: Keep>(mux: &mut Mux<K>) -> Ended {
     let mut reader = Tap::new(Repeated { next: 0 });
     let mut writer = Tap::new(Counted { bytes: 0 });
@@ -107,7 +107,7 @@ impl Trial for WithoutEnd {
         check(rt, ended.outcome, Err(ServeFault::Read));
         check(rt, ended.reads, 1_048_576);
         check(rt, ended.failed, false);
-        // A response of ten bytes to each of 95,325 commands.
+        // The responses of ten bytes to each of 95,325 commands.
         check(rt, ended.written, 953_250);
         Ok(())
     }
@@ -118,7 +118,7 @@ fn a_client_without_end_is_cut_off(rt: HostRuntime) -> Result<(), Fail> {
     run_over_both::<WithoutEnd, HostRuntime>(&rt, rt.alloc())
 }
 
-/// Saves as often as it may, and then fails.
+/// A saver that saves as often as it may, and then fails.
 #[derive(Drop)]
 struct Saves {
     left: u64,
@@ -160,7 +160,8 @@ impl Trial for ThreeSaves {
         };
         let outcome = serve_saving(&mut mux, &mut reader, &mut writer, &mut ask, &mut saves);
         check(rt, outcome, Err(ServeFault::Save));
-        // The fourth command was executed, and has no response: each is eleven bytes, one a read.
+        // The fourth command was executed, and has no response: each command has eleven bytes, one
+        // at each read.
         check(rt, reader.reads(), 44);
         check(rt, writer.into_inner().bytes, 30);
         Ok(())

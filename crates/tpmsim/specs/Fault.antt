@@ -16,12 +16,12 @@ use Rattle.tpmsim_arguments.specs.declared.fault.ArgumentFault.TheVariants as wo
 use Rattle.tpmsim_script.specs.declared.fault.ScriptFault.{ScriptFault}
 use Rattle.tpmsim_script.specs.declared.fault.ScriptFault.TheVariants.{Line, Read, TooManyLines, Write, Save, NoMemory}
 
--- Memory of an error of that kind, and else the other fault
+-- the fault Memory where an error is of that kind, and else the other fault
 abbrev pub fault_or : Fault → ErrorKind → Fault
 fault_or otherwise OutOfMemory = Memory
 fault_or otherwise _ = otherwise
 
--- the fault of words that are refused: they are none of the program's, or memory ran out
+-- the fault of words that are refused: they are not the program's, or memory ran out
 abbrev pub fault_of_arguments : ArgumentFault → Fault
 fault_of_arguments words.Usage = Usage
 fault_of_arguments words.NoMemory = Memory
@@ -44,13 +44,13 @@ abbrev pub fault_of_spelling : SpellFault → Fault
 fault_of_spelling spelling.NoLine = NoLine
 fault_of_spelling spelling.NoMemory = Memory
 
--- the fault of a file that was not opened as an image: memory ran out, or it is none
+-- the fault of a file that was not opened as an image: memory ran out, or the file is no image
 abbrev pub fault_of_image : ImageFault → Fault
 fault_of_image image.NoMemory = Memory
 fault_of_image fault = Image fault
 
 -- the exit status: 2 where what was asked for makes no sense, 3 where a file, a socket, a stream or
--- memory refused it, 4 where an image is none
+-- memory refused it, 4 where a file that should be an image is not
 abbrev pub status_of : Fault → ℕ
 status_of Usage = 2
 status_of (ScriptLine number) = 2

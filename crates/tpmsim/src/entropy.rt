@@ -1,4 +1,4 @@
-//! The file of random bytes, and a new device that is made of some.
+//! The file of random bytes, and a new device that is made of its bytes.
 
 use crate::fault::Fault;
 use std::fs::File;
@@ -17,7 +17,7 @@ pub struct Entropy {
 }
 
 impl Entropy {
-    /// Opens the file at this path, which may be a device or a pipe, and no folder.
+    /// Opens the file at this path, which may be a device or a pipe, but not a folder.
     pub fn open(rt: &HostRuntime, path: &str) -> Result<Entropy, Fault> {
         let file = open_bytes(rt, path).map_err(|error| Fault::of_io(error, Fault::Entropy))?;
         let reader = BufReader::with_capacity(rt.alloc(), READ_SIZE, file).map_err(
@@ -33,7 +33,7 @@ impl Entropy {
         Ok(random)
     }
 
-    /// A new device, of the next random bytes.
+    /// A new device, manufactured with the next random bytes.
     pub fn manufacture(&mut self, rt: &HostRuntime) -> Result<Machine<SlotKeep>, Fault> {
         let random = self
             .random()
@@ -42,7 +42,7 @@ impl Entropy {
     }
 }
 
-/// Opens what is at a path, if that has bytes to read: a folder can be opened, and never read.
+/// Opens the file at a path, if it has bytes to read: a folder can be opened, and never read.
 fn open_bytes(rt: &HostRuntime, path: &str) -> io::Result<File> {
     let file = fs::open(rt, path)?;
     if file.metadata()?.is_dir() {

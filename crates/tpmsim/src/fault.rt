@@ -12,24 +12,24 @@ use tpm_text::AsmFault;
 use tpmsim_arguments::ArgumentFault;
 use tpmsim_script::ScriptFault;
 
-/// Why the program failed. It prints as the line on standard error says it.
+/// Why the program failed. The fault prints as the line on standard error says it.
 #[derive(Clone, Copy, Debug, PartialEq, Eq)]
 pub enum Fault {
-    /// The command line is none of the program's.
+    /// The command line is not one of the program's.
     Usage,
-    /// The line of this number, from 1, is none of a script's lines.
+    /// The line of this number, from 1, is not one that a script may have.
     ScriptLine(u32),
     /// The line to be assembled spells no command.
     Asm(AsmFault),
     /// There is no line that spells the buffer.
     NoLine,
-    /// The file of the image holds none.
+    /// The file of the image holds no image.
     Image(ImageFault),
     /// A file, or standard input or output, could not be opened, read or written.
     File,
     /// The socket could not be made, or could not take a connection.
     Socket,
-    /// The file of random bytes could not be opened, or has no more of them.
+    /// The file of random bytes could not be opened, or has too few bytes left.
     Entropy,
     Memory,
 }
@@ -49,7 +49,7 @@ impl Fault {
     }
 
     /// The exit status: 2 where what was asked for makes no sense, 3 where a file, a socket, a
-    /// stream or memory refused it, 4 where an image is none.
+    /// stream or memory refused it, 4 where a file that should be an image is not.
     pub fn status(self) -> u8
         ensures { result ≡ status_of self }
     {

@@ -1,4 +1,4 @@
-//! The folder of a path, as far as its last slash.
+//! The folder of a path: all of the path up to its last slash.
 
 /// The front of a path that names the folder of its file: all up to the last slash and with it, or
 /// nothing where the path is a name alone.

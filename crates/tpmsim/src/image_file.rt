@@ -17,20 +17,22 @@ use tpm_record::{Keep, SlotKeep};
 /// seeds and every authorization value.
 const OWNER_ALONE: u32 = 0o600;
 
-/// The file of an image, which no other run has while this is there. It has the paths that a save
-/// needs, so that a save takes no memory: once a device is served, it is not lost for want of memory.
+/// The file of an image, which no other run has while this value is there. It has the paths that a
+/// save needs, so that a save takes no memory: once a device is served, it is not lost for want of
+/// memory.
 #[derive(Drop)]
 pub struct ImageFile<'a> {
     path: &'a str,
-    /// The new file beside it.
+    /// The path of the new file, in the same folder.
     new: String,
     folder: String,
     _lock: ImageLock,
 }
 
 impl<'a> ImageFile<'a> {
-    /// Takes the file at this path, whether there is one or not. The lock is on a file beside it,
-    /// since each save puts another file in its place. Where another run has it, nothing is touched.
+    /// Takes the file at this path, whether there is one or not. The lock is on another file in the
+    /// same folder, since each save puts another file in its place. Where another run has it,
+    /// nothing is touched.
     pub fn take(rt: &HostRuntime, path: &'a str) -> Result<ImageFile<'a>, Fault> {
         let folder = folder_of(path);
         let new = format!(in rt.alloc(); "{path}.new")?;
@@ -54,8 +56,8 @@ impl<'a> ImageFile<'a> {
         }
     }
 
-    /// Writes the image of a device to the new file, forces that to the disk, and puts it in the
-    /// place of the old one, of which the folder is forced to the disk too. Where a fault comes
+    /// Writes the image of a device to the new file, forces that file to the disk, and puts it in
+    /// the place of the old one; then the folder is forced to the disk too. Where a fault comes
     /// before that, the old image stays.
     pub fn save<K: Keep>(&self, rt: &HostRuntime, machine: &Machine<K>) -> Result<(), Fault> {
         write_image(rt, self.new.as_str(), machine)?;
@@ -65,8 +67,8 @@ impl<'a> ImageFile<'a> {
     }
 }
 
-/// Takes the lock of an image, where its path may have one. What is no regular file is never opened,
-/// as a pipe would wait for whoever writes to it.
+/// Takes the lock of an image, where its path may have one. Only a regular file is opened: a pipe
+/// would wait for whoever writes to it.
 fn lock_image(rt: &HostRuntime, path: &str, lock: &str) -> io::Result<ImageLock> {
     match fs::metadata(rt, path) {
         Ok(metadata) if !metadata.is_file() => return Err(io::Error::from(ErrorKind::InvalidInput)),
@@ -88,8 +90,8 @@ fn write_image<K: Keep>(rt: &HostRuntime, path: &str, machine: &Machine<K>) -> R
         .map_err(|error| Fault::of_io(error, Fault::File))
 }
 
-/// A new file, its owner's alone. What is at the path is removed: a file that a killed run left, or
-/// a link, and not what the link leads to.
+/// Makes a new file that only its owner may use. What is at the path is removed: a file that a
+/// killed run left, or a link, but not what the link leads to.
 fn create_anew(rt: &HostRuntime, path: &str) -> io::Result<File> {
     match fs::remove_file(rt, path) {
         Err(error) if error.kind() != ErrorKind::NotFound => return Err(error),

@@ -11,13 +11,14 @@ use tpm_machine::Machine;
 use tpm_record::Keep;
 use tpm_saver::{Saver, Unsaved};
 
-/// What saves the device of a script. It notes what it wrote last, so that a command that changes
-/// nothing but the clock costs no save, and a device that is in the file no second one.
+/// A saver of a script's device. It notes what it wrote last, so that a command that changes
+/// nothing but the clock costs no save, and a device that is in the file already is not written
+/// again.
 #[derive(Drop)]
 pub struct ImageSaver<'a> {
     rt: &'a HostRuntime,
     file: ImageFile<'a>,
-    /// What the device of the file keeps but for its clock, where that is known.
+    /// What the device of the file keeps, without its clock, where that is known.
     kept: KeptText,
     /// The clock of the device that was written last, where nothing failed since.
     clock: Option<u64>,
@@ -26,7 +27,7 @@ pub struct ImageSaver<'a> {
 }
 
 impl<'a> ImageSaver<'a> {
-    /// One that has saved nothing.
+    /// A saver that has saved nothing.
     pub fn new(rt: &'a HostRuntime, file: ImageFile<'a>) -> ImageSaver<'a> {
         ImageSaver {
             rt,
@@ -37,8 +38,8 @@ impl<'a> ImageSaver<'a> {
         }
     }
 
-    /// Takes note that this device is the one of the file. It is written anew all the same where
-    /// its clock is saved too: the file may be of an older version, or open to others.
+    /// Takes note that this device is the one of the file. The file is written anew all the same
+    /// where the clock is to be saved too: it may be of an older version, or open to others.
     pub fn opened<K: Keep>(&mut self, machine: &Machine<K>)
         ensures { self.new ≡ record self.old { kept = kept_text (state_of K.record_of machine.now) } }
     {
@@ -60,8 +61,8 @@ impl<'a> ImageSaver<'a> {
         }
     }
 
-    /// Writes a device, and notes its clock. Where that fails, it forgets what the file has, so
-    /// that the next save writes.
+    /// Writes a device, and notes its clock. Where the write fails, the saver forgets what the file
+    /// has, so that the next save writes.
     fn write<K: Keep>(&mut self, machine: &Machine<K>) -> Result<(), Unsaved>
         ensures written { OnOk result (self.new
             ≡ record self.old { clock = Some (state_of K.record_of machine.now).fixed.clock }) }

@@ -9,10 +9,10 @@
 //! prints the command in hex, `line` the line, and `--help` a help. A run that fails says why in
 //! one line on standard error, and its exit status says of what kind that is ([`fault`]).
 //!
-//! It stands on tpmsim_arguments for its words, on tpmsim_script for scripts, on `tpm_text` and
-//! `tpm_line` for lines, on `tpm_image` for a device that is kept, and on `tpm_wire` for one that
-//! is served. Here is what touches files, sockets and clocks; what the device answers is proved in the
-//! crates below.
+//! The program uses tpmsim_arguments for its words, tpmsim_script for scripts, `tpm_text` and
+//! `tpm_line` for lines, `tpm_image` for a device that is kept, and `tpm_wire` for one that is
+//! served. All that touches files, sockets and clocks is here; what the device answers is proved in
+//! the crates below.
 
 mod entropy;
 mod fault;

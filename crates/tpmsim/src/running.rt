@@ -1,4 +1,4 @@
-//! The running of a script, on a device that is kept in a file, or on one that nobody keeps.
+//! How the program runs a script, on a device that is kept in a file, or on one that nobody keeps.
 
 use crate::entropy::Entropy;
 use crate::fault::Fault;
@@ -12,7 +12,7 @@ use tpm_saver::Saver;
 use tpmsim_arguments::Storage;
 use tpmsim_script::{new_machine, run_device, run_script};
 
-/// Runs the script of a file, or on standard input, on a new device that nobody keeps.
+/// Runs a script, from a file or from standard input, on a new device that nobody keeps.
 pub fn run_alone(rt: &HostRuntime, script: &str, trace: bool) -> Result<(), Fault> {
     let output = &mut Tap::new(rt.stdout());
     if script == "-" {
@@ -25,7 +25,7 @@ pub fn run_alone(rt: &HostRuntime, script: &str, trace: bool) -> Result<(), Faul
 }
 
 /// Runs the script on the device whose image is in a file, or on a new one where there is no such
-/// file, and saves it there on the way and in the end.
+/// file, and saves the device there on the way and in the end.
 pub fn run_kept(
     rt: &HostRuntime,
     script: &str,
@@ -53,7 +53,8 @@ pub fn run_kept(
     }
 }
 
-/// A new device, of the first random bytes of a file, or else of the bytes 00 to ff.
+/// A new device, manufactured with the first random bytes of a file, or else with the bytes 00 to
+/// ff.
 fn manufacture(
     rt: &HostRuntime,
     entropy: &mut Option<Entropy>,
@@ -64,7 +65,7 @@ fn manufacture(
     }
 }
 
-/// Plays the script of a file, or on standard input, on a device.
+/// Plays a script, from a file or from standard input, on a device.
 fn play<S: Saver>(
     rt: &HostRuntime,
     machine: Machine<SlotKeep>,

@@ -1,5 +1,5 @@
-//! The serving of a device on a socket, one connection after another, with its image saved after
-//! each, and where that is asked for before each response too.
+//! How the program serves a device on a socket, one connection after another, with its image saved
+//! after each connection, and where that is asked for before each response too.
 
 use crate::entropy::Entropy;
 use crate::fault::Fault;
@@ -33,7 +33,8 @@ pub fn serve_device(rt: &HostRuntime, service: &Service) -> Result<(), Fault> {
     serve_machine(rt, service, machine, &mut source, &mut saver)
 }
 
-/// Serves a machine on the socket. Removes the socket's file in the end, if it is still at its path.
+/// Serves a machine on the socket. Removes the socket's file in the end, if it is still at its
+/// path.
 fn serve_machine<K: Keep>(
     rt: &HostRuntime,
     service: &Service,
@@ -71,8 +72,8 @@ fn serve_connections<K: Keep>(
     Ok(())
 }
 
-/// Saves the device behind a connection, its clock too, and says why the program ends, if it does.
-/// A device that could not be saved before a response is not tried again: what was answered is in
+/// Saves the device after a connection, its clock too, and says why the program ends, if it does. A
+/// device that could not be saved before a response is not saved again: all that was answered is in
 /// the image.
 fn save_behind<K: Keep>(
     served: Result<u64, ServeFault>,
@@ -100,7 +101,8 @@ fn exchange<K: Keep>(
     serve(mux, &mut Tap::new(stream), &mut Tap::new(stream), &mut host)
 }
 
-/// The same, with the device saved before each response that tells of a change.
+/// Executes the commands of a connection, and answers them, with the device saved before each
+/// response that tells of a change.
 fn exchange_saving<K: Keep>(
     rt: &HostRuntime,
     stream: &UnixStream,

@@ -1,4 +1,4 @@
-//! The socket on which a device is served, which is its owner's alone from the moment it is there.
+//! The socket on which a device is served: only its owner may use it, from the moment it is there.
 
 use crate::fault::Fault;
 use crate::folder::folder_of;
@@ -8,7 +8,7 @@ use std::os::unix::fs::{DirBuilderExt, FileTypeExt, MetadataExt, PermissionsExt}
 use std::os::unix::net::{SocketAddr, UnixListener, UnixStream};
 use std::{fs, io};
 
-/// A socket that takes connections, and which file it is.
+/// A socket that takes connections, and the identity of its file.
 #[derive(Drop)]
 pub struct Socket {
     listener: UnixListener,
@@ -16,13 +16,13 @@ pub struct Socket {
 }
 
 impl Socket {
-    /// The next connection.
+    /// Takes the next connection.
     pub fn accept(&self) -> io::Result<UnixStream> {
         let (stream, _) = self.listener.accept()?;
         Ok(stream)
     }
 
-    /// Removes the socket's file from this path. What has taken its place there stays.
+    /// Removes the socket's file from this path. A file that has taken its place there stays.
     pub fn remove(&self, rt: &HostRuntime, path: &str) {
         match identity_at(rt, path) {
             Ok(identity) if identity == self.identity => {
@@ -33,14 +33,14 @@ impl Socket {
     }
 }
 
-/// What tells a file from all others: its device and its inode.
+/// The identity of a file, which tells it from all others: its device and its inode.
 #[derive(Clone, Copy, Debug, PartialEq, Eq)]
 struct Identity {
     device: u64,
     inode: u64,
 }
 
-/// Which file is at a path.
+/// The identity of the file at a path.
 fn identity_at(rt: &HostRuntime, path: &str) -> io::Result<Identity> {
     let metadata = fs::symlink_metadata(rt, path)?;
     Ok(Identity {
@@ -49,8 +49,8 @@ fn identity_at(rt: &HostRuntime, path: &str) -> io::Result<Identity> {
     })
 }
 
-/// A socket at this path, which is its owner's alone from the moment it is there. One that is there
-/// already and at which nobody answers is replaced.
+/// A socket at this path, which only its owner may use, from the moment it is there. A socket that
+/// is there already and at which nobody answers is replaced.
 pub fn bind(rt: &HostRuntime, path: &str) -> Result<Socket, Fault> {
     let bound = bind_aside(rt, path);
     bound.map_err(|error| Fault::of_io(error, Fault::Socket))
@@ -69,19 +69,20 @@ fn bind_aside(rt: &HostRuntime, path: &str) -> io::Result<Socket> {
     bound
 }
 
-/// A folder that nobody else may enter, and the path of a socket in it.
+/// A folder that nobody else may enter, and the path of a socket in this folder.
 #[derive(Drop)]
 struct Aside {
     folder: String,
     socket: String,
 }
 
-/// How many names a folder beside the socket may have.
+/// How many names are tried for a folder beside the socket.
 const FOLDERS: u8 = 100;
 
 impl Aside {
-    /// Makes such a folder in the one that this front of a path names. Its name is short, since few
-    /// bytes fit into the address of a socket; one that is there is left alone.
+    /// Makes a folder that nobody else may enter, in the folder that this front of a path names.
+    /// Its name is short, since few bytes fit into the address of a socket; a folder that is there
+    /// is left alone.
     fn make(rt: &HostRuntime, front: &str) -> io::Result<Aside> {
         for number in 0..FOLDERS {
             let folder = format!(in rt.alloc(); "{front}.{number}")?;

@@ -1,5 +1,5 @@
-//! What the host gives for each command: random bytes from a file, the time that has passed, and a
-//! locality.
+//! The values that the host gives for each command: random bytes from a file, the time that has
+//! passed, and a locality.
 
 ghost use Rattle.std.specs.Prelude.{◌≡◌, IfOk, ℕ};
 ghost use Rattle.tpmsim.specs.Stopwatch.{after_command, told};
@@ -11,7 +11,7 @@ use std::time::{Clock, Instant};
 use tpm_types::Locality;
 use tpm_wire::Host;
 
-/// Where the values of each command come from: the file of random bytes, and the clock of the host.
+/// The source of the values of each command: the file of random bytes, and the clock of the host.
 #[derive(Drop)]
 pub struct Source {
     entropy: Entropy,
@@ -20,7 +20,7 @@ pub struct Source {
 }
 
 impl Source {
-    /// That of commands from this locality, with random bytes of this file.
+    /// The source for commands from this locality, with random bytes of this file.
     pub fn new(entropy: Entropy, locality: Locality) -> Source
         ensures { result.locality ≡ locality }
     {
@@ -31,7 +31,7 @@ impl Source {
         }
     }
 
-    /// The values of the next command, which came now. Its locality is always the same, and its
+    /// The values of the next command, which came now. The locality is always the same, and the
     /// time is what the stopwatch tells at some time of the host's clock.
     pub fn host(&mut self, clock: &impl Clock) -> io::Result<Host>
         ensures locality { IfOk result (λ host. host.locality ≡ self.old.locality) }

@@ -1,4 +1,4 @@
-//! How many milliseconds each command is told, so that no time is told twice.
+//! The elapsed time of each command, of which no millisecond is told twice.
 
 ghost use Rattle.std.specs.Prelude.{◌≡◌, None};
 ghost use Rattle.std.specs.Time.{instant_nanos};
@@ -7,8 +7,8 @@ ghost use Rattle.tpmsim.specs.Stopwatch.{after_command, told};
 use std::marker::Model;
 use std::time::Instant;
 
-/// How much time commands were told. Contracts see when the first command came, and how many of the
-/// milliseconds since then were told or dropped.
+/// A stopwatch, which knows how much time commands were told. Contracts see when the first command
+/// came, and how many of the milliseconds since then were told or dropped.
 #[derive(Drop)]
 pub struct Stopwatch {
     first: Option<Instant>,
@@ -26,7 +26,7 @@ impl Model for Stopwatch {
 }
 
 impl Stopwatch {
-    /// Before the first command.
+    /// A stopwatch before the first command.
     pub fn new() -> Stopwatch
         ensures { result ≡ record { first = None; passed = 0 } }
     {
@@ -36,8 +36,9 @@ impl Stopwatch {
         }
     }
 
-    /// How many milliseconds a command is told that comes now: 0 the first, and each later one
-    /// those since the first that no command was told, 2^32 - 1 at most. The others are dropped.
+    /// The milliseconds that a command is told that comes now: 0 for the first command, and for
+    /// each later one those since the first that no command was told, 2^32 - 1 at most. The others
+    /// are dropped.
     pub fn tell(&mut self, now: Instant) -> u32
         ensures value { result ≡ told (instant_nanos now) self.old }
         ensures after { self.new ≡ after_command (instant_nanos now) self.old }

@@ -1,4 +1,4 @@
--- What a command line is answered by, from what clap finds in its words.
+-- The answer to a command line, from what clap finds in its words.
 use Rattle.std.proofs.Common.{◌≡◌, ◌≢◌, ◌⊎◌, ◌∙◌, ap, inl, inr, refl, sym, true, false, Bool, codes, List, Option, Some, None, Result, Ok, Err, ok_or, option_and_then, option_map, if◌then◌else◌}
 use Rattle.std.specs.Str.{bytes_eq}
 use Rattle.clap.specs.Words.{IsAmong, Row, Text, fault_of, first_of, is_simple, is_simple_and_free, subcommand_of}
@@ -15,7 +15,7 @@ use Rattle.tpmsim_arguments.specs.declared.arguments.Arguments.TheVariants as ar
 use Rattle.tpmsim_arguments.specs.declared.fault.ArgumentFault.{ArgumentFault}
 use Rattle.tpmsim_arguments.specs.declared.fault.ArgumentFault.TheVariants.{Usage, NoMemory}
 
--- the program is a command line whose matches clap gives as a function of the words
+-- clap gives the matches of the program's command line as a function of the words
 pub program_is_simple : is_simple program ≡ true
 unfolding clap_on_literals
 program_is_simple = refl
@@ -32,7 +32,7 @@ not_found : {X : Type 0} (found : Option X) → ok_or found Usage ≡ Err Usage 
 not_found None e = refl
 not_found (Some y) e = absurd cc
 
--- no command asks for a text of clap's
+-- no command line that clap takes asks for a text of clap's
 no_run : (kind : ErrorKind) (trace : Bool) (script : Option Text) (storage : Option (Option Stored))
     → option_and_then (λ s. option_and_then (λ kept. Some (run s trace kept)) storage) script ≡ Some (tell kind) → ⊥
 no_run kind trace None storage e = cc
@@ -61,7 +61,7 @@ none_tells kind (Some command) e =
     (run_in rows) (first_of (codes "line") rows) (first_of (codes "hex") rows) (service_in rows)
     (no_run kind (is_set (codes "trace") rows) (first_of (codes "script") rows) (storage_in rows)) e
 
--- clap takes the words, and its matches are read
+-- the answer where clap takes the words, and its matches are read
 pub taken : (words : List Text) (r : Result Arguments ArgumentFault) → AreTaken words
     → Gives asked (ok_or (asked_by words) Usage) r → Answers words r
 taken words (Ok (arguments.Run script trace storage)) right e = (right, found_is _ _ e)
@@ -72,7 +72,7 @@ taken words (Ok (arguments.Tell error)) right e = absurd (none_tells _ (subcomma
 taken words (Err Usage) right e = inr (right, not_found _ e)
 taken words (Err NoMemory) right e = tt
 
--- clap refuses the words, and not for help or the version
+-- the answer where clap refuses the words, and not for help or the version
 pub refused : (words : List Text) (kind : ErrorKind) (fault : ArgumentFault) → fault ≡ fault_of_words kind
     → (kind ≡ OutOfMemory) ⊎ IsAmong kind (fault_of program words) → kind ≢ DisplayHelp → kind ≢ DisplayVersion
     → Answers words (Err fault)
@@ -83,7 +83,7 @@ refused words kind Usage is (inl out) help version =
 refused words kind Usage is (inr among) help version =
     inl (kind, among, λ wish. elim wish [ inl h ↦ help h | inr v ↦ version v ])
 
--- what is neither help nor the version is no wish
+-- where it is false that a kind of error is neither help nor the version, it is one of the two
 is_wish : (kind : ErrorKind) → ((kind ≢ DisplayHelp) × (kind ≢ DisplayVersion) → ⊥) → IsTold kind
 is_wish DisplayHelp never = inl refl
 is_wish DisplayVersion never = inr refl
@@ -103,7 +103,7 @@ is_wish Io never = absurd (never (λ e. cc, λ e. cc))
 is_wish Format never = absurd (never (λ e. cc, λ e. cc))
 is_wish OutOfMemory never = absurd (never (λ e. cc, λ e. cc))
 
--- clap refuses the words for help or the version, which it tells
+-- the answer where clap refuses the words for help or the version, which it tells
 pub told : (words : List Text) (kind : ErrorKind) → (kind ≡ OutOfMemory) ⊎ IsAmong kind (fault_of program words)
     → ((kind ≢ DisplayHelp) × (kind ≢ DisplayVersion) → ⊥) → IsAmong kind (fault_of program words) × IsTold kind
 told words kind (inr among) never = (among, is_wish kind never)

@@ -1,4 +1,4 @@
--- What a command has after an argument or a subcommand is added.
+-- The arguments and subcommands of a command after one is added.
 use Rattle.std.proofs.Common.{◌≡◌, ◌∙◌, ap, ap₂, refl, true, false, not, ◌&&◌, Bool}
 use Rattle.clap.specs.Words.{AddsArg, AddsSubcommand, App, Rule, Shape, app_of, rule_of, shape_of, with_rule, with_subcommand}
 use Rattle.clap.specs.declared.builder.arg.Arg.{Arg}

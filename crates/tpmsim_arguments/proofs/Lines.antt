@@ -10,7 +10,7 @@ use Rattle.tpmsim_arguments.specs.Answers.{AreTaken}
 use Rattle.tpmsim_arguments.specs.Invocation.{Invocation, asked_by, assemble, run, serve, spell}
 use Rattle.tpmsim_arguments.specs.Lines.{AskFor, AskForDevice, AskForSavedDevice, AskForService, IsScript, asm_line, begins_with_hyphen, kept_line, line_line, run_line, joined_line, saving_line, trace_line}
 
--- a word that begins with no hyphen is no name of an argument
+-- a word that begins with no hyphen is not the name of an argument
 no_hyphen : (word : Text) → begins_with_hyphen word ≡ false → strip_byte 45 word ≡ None
 no_hyphen [] e = refl
 no_hyphen (byte ∷ rest) e = rw e refl
@@ -52,7 +52,7 @@ device_is_kept name image entropy script (inr e) = rw e (refl, refl)
 locality_is : (number : ℕ) → number ≤ 4 → locality_of number ≡ Some number
 locality_is number small = rw (le-leb number 4 small) refl
 
--- a service with these numbers, if they are some
+-- what a service with these numbers is asked for by, if both are numbers
 abbrev pub with_numbers : (socket image entropy : Text) → Option ℕ → Option ℕ → Bool → Option Invocation
 with_numbers socket image entropy locality connections saves = option_map serve (option_and_then (λ l. option_and_then (λ c.
     Some (record { socket = socket; image = image; entropy = entropy; locality = l; connections = c; saves_each = saves })) connections)

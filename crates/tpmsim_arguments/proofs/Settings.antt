@@ -1,4 +1,4 @@
--- `serve` with its settings, each in a word of its own.
+-- The command `serve` with its settings, each in a word of its own.
 use Rattle.std.proofs.Common.{◌≡◌, ◌∙◌, ◌++◌, ap, refl, sym, subst, true, false, Bool, codes, fold, List, [], ◌∷◌, Some, None, append-nil, append_assoc, is_some, find, unwrap_or}
 use Rattle.clap.specs.Words.{Row, Rule, Shape, Text}
 use Rattle.clap.specs.Kinds.{Kinds, or_else}
@@ -14,12 +14,12 @@ use Rattle.tpmsim_arguments.specs.CommandLine.{program}
 use Rattle.tpmsim_arguments.specs.Lines.{AskForDevice, NoneBeginsWithHyphen, begins_with_hyphen, serve_line}
 use Rattle.tpmsim_arguments.proofs.Lines.{device_is_asked_for, no_end, no_long, no_short, with_numbers}
 
--- ---- one word at a time
+-- ---- one word of the walk at a time
 
 abbrev held_at : List Row → Text → List Text → Held
 held_at rows id values = record { rows = rows; pending = Some (id, values); skip = 0 }
 
--- the walk when an option has these values
+-- the state of the walk when an option has these values
 abbrev walk_at : List Row → Text → List Text → Waiting → Walk
 walk_at rows id values waiting = record {
   held = held_at rows id values;
@@ -50,7 +50,7 @@ level : (s : Shape) (names : Names) (words : List Text) (sub : Bool) (below : Ki
     → level_fault s names nothing_held words sub below ≡ []
 level s names words sub below w f e b r = rw (f, e, b) r
 
--- ---- the words of the program
+-- ---- the words before the settings
 
 -- a walk that has met a subcommand keeps the words after it
 abbrev stopped_at : Text → List Text → Walk
@@ -171,7 +171,7 @@ given₅ s i e l n p = value_walked serve_shape.rules (rows₄ s i e l) (codes "
 abbrev ended : (s i e l n : Text) → Walk
 ended s i e l n = walk_at (rows₄ s i e l) (codes "connections") (n ∷ []) idle
 
--- one word less to go
+-- one word less is left for the walk
 ahead : (w v : Walk) (word : Text) (rest : List Text) → W w word ≡ v → fold W w (word ∷ rest) ≡ fold W v rest
 ahead w v word rest e = ap (λ x. fold W x rest) e
 

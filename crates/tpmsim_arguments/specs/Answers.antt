@@ -1,4 +1,4 @@
--- What a command line is answered by.
+-- The answers to a command line.
 use Rattle.std.specs.Prelude.{◌≡◌, ◌⊎◌, List, [], Some, None, Result, Ok, Err}
 use Rattle.clap.specs.Words.{IsAmong, Text, fault_of, kind_of}
 use Rattle.clap.specs.declared.error.kind.ErrorKind.{ErrorKind}
@@ -10,11 +10,11 @@ use Rattle.tpmsim_arguments.specs.declared.arguments.Arguments.TheVariants.{Tell
 use Rattle.tpmsim_arguments.specs.declared.fault.ArgumentFault.{ArgumentFault}
 use Rattle.tpmsim_arguments.specs.declared.fault.ArgumentFault.TheVariants.{Usage, NoMemory}
 
--- clap finds no fault with the words
+-- clap finds no fault with these words.
 abbrev pub AreTaken : List Text → Type 0
 AreTaken words = fault_of program words ≡ []
 
--- help or the version is wanted, which is told, and no mistake
+-- Clap's text is wanted, help or the version, and its error is no mistake of the user.
 abbrev pub IsTold : ErrorKind → Type 0
 IsTold kind = (kind ≡ DisplayHelp) ⊎ (kind ≡ DisplayVersion)
 
@@ -22,8 +22,9 @@ abbrev pub HaveMistake : List Text → Type 0
 HaveMistake words =
     (kind : ErrorKind) × IsAmong kind (fault_of program words) × (IsTold kind → ⊥)
 
--- What is given is what the words ask for; or clap's text, where it finds that one is wanted. Usage
--- is for words with a mistake, and for words that ask for nothing, as with a locality above 4.
+-- The answer is what the words ask for; or clap's text, where clap finds that one is wanted. Usage
+-- is answered to words with a mistake, and to words that ask for nothing, as with a locality above
+-- 4.
 abbrev pub Answers : List Text → Result Arguments ArgumentFault → Type 0
 Answers words (Ok (Tell error)) =
     IsAmong (kind_of error) (fault_of program words) × IsTold (kind_of error)

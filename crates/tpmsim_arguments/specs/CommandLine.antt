@@ -4,11 +4,11 @@ use Rattle.clap.specs.Words.{App, Rule, Shape, Text, new_rule, with_subcommand}
 use Rattle.clap.specs.Simple.{new_shape}
 use Rattle.clap.specs.declared.builder.action.ArgAction.TheVariants.{Set, SetTrue}
 
--- --NAME, which may be left out
+-- the rule of a flag: --NAME, which may be left out
 abbrev pub flag : Text → Rule
 flag name = record (new_rule name) { long = Some name; action = Some SetTrue }
 
--- a value in its place, which has to be given
+-- the rule of a value in its place, which has to be given
 abbrev pub operand : Text → Rule
 operand name = record (new_rule name) {
   action = Some Set;
@@ -16,11 +16,11 @@ operand name = record (new_rule name) {
   required = true;
 }
 
--- --NAME with a value, which has to be given
+-- the rule of --NAME with a value, which has to be given
 abbrev pub setting : Text → Rule
 setting name = record (operand name) { long = Some name }
 
--- --NAME with a value, which may be left out
+-- the rule of --NAME with a value, which may be left out
 abbrev pub choice : Text → Rule
 choice name = record (setting name) { required = false }
 
@@ -28,21 +28,21 @@ choice name = record (setting name) { required = false }
 abbrev pub with_arguments : Text → List Rule → Shape
 with_arguments name rules = record (new_shape name) { rules = rules }
 
--- run [--trace] [--image FILE] [--entropy FILE] SCRIPT
+-- the command run [--trace] [--image FILE] [--entropy FILE] SCRIPT
 abbrev pub run_command : Shape
 run_command = with_arguments (codes "run") (flag (codes "trace") ∷ choice (codes "image")
     ∷ choice (codes "entropy") ∷ operand (codes "script") ∷ [])
 
--- asm LINE
+-- the command asm LINE
 abbrev pub asm_command : Shape
 asm_command = with_arguments (codes "asm") (operand (codes "line") ∷ [])
 
--- line HEX
+-- the command line HEX
 abbrev pub line_command : Shape
 line_command = with_arguments (codes "line") (operand (codes "hex") ∷ [])
 
--- serve --socket PATH --image FILE --entropy FILE --locality NUMBER --connections NUMBER
---     [--save-each]
+-- the command serve --socket PATH --image FILE --entropy FILE --locality NUMBER --connections
+-- NUMBER [--save-each]
 abbrev pub serve_command : Shape
 serve_command = with_arguments (codes "serve") (setting (codes "socket")
     ∷ setting (codes "image") ∷ setting (codes "entropy") ∷ setting (codes "locality")

@@ -4,7 +4,7 @@ use Rattle.clap.specs.declared.error.kind.ErrorKind.TheVariants as refused
 use Rattle.tpmsim_arguments.specs.declared.fault.ArgumentFault.{ArgumentFault}
 use Rattle.tpmsim_arguments.specs.declared.fault.ArgumentFault.TheVariants.{Usage, NoMemory}
 
--- the fault of words that clap refuses for this reason: memory ran out, or they are none of the
+-- the fault of words that clap refuses for this reason: memory ran out, or they are not the
 -- program's
 abbrev pub fault_of_words : clap.ErrorKind → ArgumentFault
 fault_of_words refused.OutOfMemory = NoMemory

@@ -13,7 +13,7 @@ use Rattle.tpmsim_arguments.specs.declared.arguments.Arguments.TheVariants as ar
 use Rattle.tpmsim_arguments.specs.declared.service.Service.{Service}
 use Rattle.tpmsim_arguments.specs.declared.storage.Storage.{Storage}
 
--- what a device is served with
+-- the paths and numbers with which a device is served
 pub record Served : Type 0 where
   pub socket : Text
   pub image : Text
@@ -28,9 +28,9 @@ pub record Stored : Type 0 where
   pub image : Text
   pub entropy : Option Text
 
--- to run a script, with its trace or without, on a device that is kept or on one that is not; to
--- print the buffer of a line; to print the line of a buffer; to serve a device; to tell a text of
--- clap's, its help or the version
+-- what a command line asks for: to run a script, with its trace or without, on a device that is
+-- kept or on one that is not; to print the buffer of a line; to print the line of a buffer; to
+-- serve a device; to tell a text of clap's, its help or the version
 pub data Invocation : Type 0 where
   run : Text → Bool → Option Stored → Invocation
   assemble : Text → Invocation
@@ -38,14 +38,14 @@ pub data Invocation : Type 0 where
   serve : Served → Invocation
   tell : ErrorKind → Invocation
 
--- ---- by the words
+-- ---- what words ask for
 
--- a flag is set where it was given: clap finds "true" for it then, and else "false"
+-- whether a flag was given: clap finds "true" for it then, and else "false"
 abbrev pub is_set : Text → List Row → Bool
 is_set flag rows =
     option_map_or (λ text. bytes_eq text (codes "true")) (first_of flag rows) false
 
--- the number that decimal digits write
+-- the number that the decimal digits of an argument write
 abbrev pub number_in : Text → List Row → Option ℕ
 number_in name rows = option_and_then decimal_of (first_of name rows)
 
@@ -69,7 +69,8 @@ service_in rows = do
     saves_each = is_set (codes "save-each") rows;
   })
 
--- Where the device is kept, which may be nowhere. None of random bytes without an image.
+-- the files of a device that is kept, or none where it is not kept; a file of random bytes without
+-- an image is refused
 abbrev pub stored_by : (image entropy : Option Text) → Option (Option Stored)
 stored_by (Some image) entropy = Some (Some (record { image = image; entropy = entropy }))
 stored_by None (Some entropy) = None
@@ -84,7 +85,7 @@ run_in rows = do
   storage ← storage_in rows
   Some (run script (is_set (codes "trace") rows) storage)
 
--- what a command of this name asks for, with these matches
+-- what a command of this name asks for, with these matches of clap's
 abbrev pub asked_of : Text → List Row → Option Invocation
 asked_of name rows = if bytes_eq name (codes "run") then run_in rows
     else (if bytes_eq name (codes "asm") then option_map assemble (first_of (codes "line") rows)
@@ -98,7 +99,7 @@ asked_in = option_and_then (λ command. asked_of command.0 command.1)
 abbrev pub asked_by : List Text → Option Invocation
 asked_by words = asked_in (subcommand_of program words)
 
--- ---- as the code gives it
+-- ---- what the code gives for words
 
 abbrev pub served : Service → Served
 served service = record {

@@ -6,11 +6,11 @@ use Rattle.tpm_text.specs.Number.{decimal_of}
 use Rattle.tpmsim_arguments.specs.Answers.{AreTaken}
 use Rattle.tpmsim_arguments.specs.Invocation.{Invocation, asked_by, serve}
 
--- clap takes the words, and this is what they ask for
+-- clap takes these words, and this is what they ask for.
 abbrev pub AskFor : List Text → Invocation → Type 0
 AskFor words asked = AreTaken words × (asked_by words ≡ Some asked)
 
--- a hyphen (45) begins the name of an argument
+-- whether a word begins with a hyphen (45), as the name of an argument does
 abbrev pub begins_with_hyphen : Text → Bool
 begins_with_hyphen [] = false
 begins_with_hyphen (byte ∷ rest) = byte == 45
@@ -18,54 +18,55 @@ begins_with_hyphen (byte ∷ rest) = byte == 45
 abbrev pub NoneBeginsWithHyphen : List Text → Type 0
 NoneBeginsWithHyphen = AllByRecursion (λ word. begins_with_hyphen word ≡ false)
 
--- a word that begins with no hyphen, or is one: then it stands for standard input
+-- A word that can name a script: it begins with no hyphen, or is a hyphen alone, which stands for
+-- standard input.
 abbrev pub IsScript : Text → Type 0
 IsScript script = (begins_with_hyphen script ≡ false) ⊎ (script ≡ codes "-")
 
--- NAME asm LINE
+-- the command line NAME asm LINE
 abbrev pub asm_line : (name line : Text) → List Text
 asm_line name line = name ∷ codes "asm" ∷ line ∷ []
 
--- NAME run SCRIPT
+-- the command line NAME run SCRIPT
 abbrev pub run_line : (name script : Text) → List Text
 run_line name script = name ∷ codes "run" ∷ script ∷ []
 
--- NAME run --trace SCRIPT
+-- the command line NAME run --trace SCRIPT
 abbrev pub trace_line : (name script : Text) → List Text
 trace_line name script = name ∷ codes "run" ∷ codes "--trace" ∷ script ∷ []
 
--- NAME line HEX
+-- the command line NAME line HEX
 abbrev pub line_line : (name digits : Text) → List Text
 line_line name digits = name ∷ codes "line" ∷ digits ∷ []
 
--- NAME run --trace --image=IMAGE --entropy=ENTROPY SCRIPT
+-- the command line NAME run --trace --image=IMAGE --entropy=ENTROPY SCRIPT
 abbrev pub kept_line : (name image entropy script : Text) → List Text
 kept_line name image entropy script = name ∷ codes "run" ∷ codes "--trace"
     ∷ (codes "--image=" ++ image) ∷ (codes "--entropy=" ++ entropy) ∷ script ∷ []
 
--- NAME serve --socket SOCKET --image IMAGE --entropy ENTROPY --locality LOCALITY
---     --connections CONNECTIONS
+-- the command line NAME serve --socket SOCKET --image IMAGE --entropy ENTROPY --locality LOCALITY
+-- --connections CONNECTIONS
 abbrev pub serve_line : (name socket image entropy locality connections : Text) → List Text
 serve_line name socket image entropy locality connections = name ∷ codes "serve"
     ∷ codes "--socket" ∷ socket ∷ codes "--image" ∷ image ∷ codes "--entropy" ∷ entropy
     ∷ codes "--locality" ∷ locality ∷ codes "--connections" ∷ connections ∷ []
 
--- the same with each value in the word of its name, as --socket=SOCKET
+-- the command line of serve with each value in the word of its name, as --socket=SOCKET
 abbrev pub joined_line : (name socket image entropy locality connections : Text) → List Text
 joined_line name socket image entropy locality connections = name ∷ codes "serve"
     ∷ (codes "--socket=" ++ socket) ∷ (codes "--image=" ++ image)
     ∷ (codes "--entropy=" ++ entropy) ∷ (codes "--locality=" ++ locality)
     ∷ (codes "--connections=" ++ connections) ∷ []
 
--- the same with --save-each in front
+-- the command line of serve with --save-each in front of the other arguments
 abbrev pub saving_line : (name socket image entropy locality connections : Text) → List Text
 saving_line name socket image entropy locality connections = name ∷ codes "serve"
     ∷ codes "--save-each" ∷ (codes "--socket=" ++ socket) ∷ (codes "--image=" ++ image)
     ∷ (codes "--entropy=" ++ entropy) ∷ (codes "--locality=" ++ locality)
     ∷ (codes "--connections=" ++ connections) ∷ []
 
--- the words ask for a device with these paths, with these numbers where they are some, and saved
--- before each response or not
+-- These words ask for a device with these paths, and with these numbers where the words are
+-- numbers, which is saved before each response or not.
 abbrev pub AskForService : (words : List Text)
     (socket image entropy locality connections : Text) (saves_each : Bool) → Type 0
 AskForService words socket image entropy locality connections saves_each = (place count : ℕ)
@@ -79,13 +80,13 @@ AskForService words socket image entropy locality connections saves_each = (plac
       saves_each = saves_each;
     }))
 
--- the same where nothing is said of when it is saved
+-- These words ask for a device that is not saved before each response.
 abbrev pub AskForDevice : (words : List Text) (socket image entropy locality connections : Text)
     → Type 0
 AskForDevice words socket image entropy locality connections =
     AskForService words socket image entropy locality connections false
 
--- the same where it is to be saved before each response
+-- These words ask for a device that is saved before each response.
 abbrev pub AskForSavedDevice : (words : List Text)
     (socket image entropy locality connections : Text) → Type 0
 AskForSavedDevice words socket image entropy locality connections =

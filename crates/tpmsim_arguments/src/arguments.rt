@@ -38,9 +38,9 @@ pub enum Arguments<'a> {
     Spell {
         digits: &'a str,
     },
-    /// To serve a device on a socket.
+    /// To serve a device on a socket, with these settings.
     Serve(Service<'a>),
-    /// To print its help or its version, which clap tells in place of matches.
+    /// To print the program's help or its version, which clap tells in place of matches.
     Tell(clap::Error),
 }
 
@@ -122,8 +122,8 @@ fn run_of<'a>(options: &ArgMatches<'a>) -> Option<Arguments<'a>>
     })
 }
 
-/// Where the matches of `run` want the device kept, which may be nowhere. Random bytes without an
-/// image are none of what can be asked for.
+/// Where the matches of `run` want the device kept, which may be nowhere. A file of random bytes
+/// without an image cannot be asked for.
 fn storage_of<'a>(options: &ArgMatches<'a>) -> Option<Option<Storage<'a>>>
     ensures { option_map (option_map stored) result ≡ storage_in (rows_of (found_of options.now)) }
 {
@@ -247,7 +247,7 @@ fn line_command<'a>(alloc: Global) -> Result<Command<'a>, AllocError>
         .arg(digits)
 }
 
-/// The command `serve`, with what its help says around its options, and none of these.
+/// The command `serve`, with its help around its options, and without the options.
 fn serve_without_options<'a>(alloc: Global) -> Command<'a>
     ensures { app_of result ≡ new_app (codes "serve") }
 {

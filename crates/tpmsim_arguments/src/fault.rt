@@ -4,10 +4,10 @@ ghost use Rattle.std.specs.Prelude.{◌≡◌};
 
 use std::alloc::AllocError;
 
-/// Why the words of a command line are refused.
+/// The reason why the words of a command line are refused.
 #[derive(Clone, Copy, Debug, PartialEq, Eq)]
 pub enum ArgumentFault {
-    /// They are none of the program's.
+    /// The words are not one of the program's command lines.
     Usage,
     NoMemory,
 }

@@ -1,4 +1,4 @@
-//! The law that command lines, as people write them, ask for what they say.
+//! The law that usual command lines ask for what they say.
 
 ghost use Rattle.std.specs.Prelude.{◌≡◌, ◌∷◌, List, [], None, Some, ℕ, false, true};
 ghost use Rattle.tpmsim_arguments.specs.Invocation.{assemble, run, spell};
@@ -8,9 +8,8 @@ ghost use Rattle.tpmsim_arguments.specs.Lines.{begins_with_hyphen, joined_line, 
 ghost use Rattle.tpmsim_arguments.specs.Lines.{line_line, run_line, saving_line};
 ghost use Rattle.tpmsim_arguments.specs.Lines.{serve_line, trace_line};
 
-/// Command lines as people write them ask for what they say, where no word but the names of
-/// settings begins with a hyphen; a script may be one hyphen. A value that is joined to its name
-/// may be any text.
+/// Usual command lines ask for what they say, where no word but the names of settings begins with a
+/// hyphen; a script may be one hyphen. A value that is joined to its name may be any text.
 #[inline(always)]
 pub fn usual_line_laws()
     ensures asm { (name line : List ℕ) → begins_with_hyphen line ≡ false

@@ -1,12 +1,11 @@
 #![tactic(auto)]
 
-//! The command line of the simulator: what its words ask for ([`arguments`]), what a device on a
-//! socket is served with ([`service`]), where that of a script is kept ([`storage`]), and why words
-//! are refused ([`fault`]).
+//! The command line of the simulator: what its words ask for ([`arguments`]), with which settings a
+//! device is served on a socket ([`service`]), where the device of a script is kept ([`storage`]),
+//! and why words are refused ([`fault`]).
 //!
-//! It stands on `clap`, which matches the words, and opens no file. What words ask for is what
-//! `specs/` says of them; of the lines that people write, [`laws`] says that they ask for what they
-//! say.
+//! The crate uses `clap`, which matches the words, and opens no file. `specs/` defines what words
+//! ask for; [`laws`] says that the lines that people write ask for what they say.
 
 pub mod arguments;
 pub mod fault;

@@ -1,9 +1,9 @@
-//! What a device on a socket is served with: its files, the locality, how many connections, and
-//! when it is saved.
+//! The settings with which a device is served on a socket: its files, the locality, how many
+//! connections, and when it is saved.
 
 use tpm_types::Locality;
 
-/// What a device is served with.
+/// The settings with which a device is served.
 #[derive(Clone, Copy)]
 pub struct Service<'a> {
     /// The path of the socket.
@@ -16,6 +16,6 @@ pub struct Service<'a> {
     pub locality: Locality,
     /// How many connections are served before the program ends.
     pub connections: u32,
-    /// Whether the device is saved before each response, and not after each connection alone.
+    /// Whether the device is saved before each response, and not only after each connection.
     pub saves_each: bool,
 }

@@ -5,6 +5,6 @@
 pub struct Storage<'a> {
     /// The path of the file that holds the device's image between two runs.
     pub image: &'a str,
-    /// The path of the file whose first random bytes a new device is made of.
+    /// The path of the file whose first random bytes make a new device.
     pub entropy: Option<&'a str>,
 }

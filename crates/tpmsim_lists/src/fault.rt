@@ -11,11 +11,12 @@ use tpmsim_script::ScriptFault;
 /// Why the program failed.
 #[derive(Clone, Copy, Debug, PartialEq, Eq)]
 pub enum Fault {
-    /// The command line is none of the program's.
+    /// The command line is not one of the program's.
     Usage,
-    /// The script has a line that is none, or could not be read, or its responses not written.
+    /// The script has a line that no script may have, or could not be read, or its responses could
+    /// not be written.
     Script,
-    /// The line spells no command.
+    /// The line in words spells no command.
     Line,
     /// The file holds no image.
     Image,
@@ -25,7 +26,7 @@ pub enum Fault {
 }
 
 impl Fault {
-    /// What standard error says.
+    /// The word for the fault on standard error.
     pub fn name(self) -> &'static str {
         match self {
             Fault::Usage => "usage",

@@ -1,11 +1,11 @@
 #![tactic(auto)]
 
-//! What `tpmsim` does, but with the device's state in lists that grow, and not in fixed places. It
-//! is there for the tests: `tools/scripts.sh` compares what the two print of scripts, and
-//! tests/lists_starved.sh refuses it memory.
+//! A program that does what `tpmsim` does, with the device's state in lists that grow, and not in
+//! fixed places. It is there for the tests: `tools/scripts.sh` compares what the two programs print
+//! of scripts, and tests/lists_starved.sh refuses it memory.
 //!
-//! With no words it runs the script on standard input. `open FILE` opens the device whose image is
-//! in a file, and prints its image; so it prints what is in the file. `line LINE` executes a
+//! Without arguments it runs the script on standard input. `open FILE` opens the device whose image
+//! is in a file, and prints its image; so it prints what is in the file. `line LINE` executes a
 //! command in words on a new device, and prints its trace.
 
 mod fault;
@@ -32,14 +32,14 @@ fn main(rt: HostRuntime) -> ExitCode {
     }
 }
 
-/// Does what the command line says, in lists. No other function here names their keep: one that
-/// does is slow to prove, whatever it does with it.
+/// Does what the command line says, with the state in lists. No other function here names the type
+/// of the state: a function that does is slow to prove, whatever it does.
 fn try_main(rt: &HostRuntime) -> Result<(), Fault> {
     let words: Vec<String> = env::args(rt)?.collect(rt.alloc())?;
     perform::<ListKeep>(rt, words.as_slice())
 }
 
-/// Does what the words say.
+/// Does what the words of the command line say.
 fn perform<K: Keep>(rt: &HostRuntime, words: &[String]) -> Result<(), Fault> {
     match words {
         [_] => run::<K>(rt),

@@ -22,13 +22,14 @@ use Rattle.tpmsim_script.proofs.Doing.{lt_none}
 
 -- ---- one line more
 
--- a text lost its first lines
+-- A text lost these first lines.
 abbrev pub LosesLines : Option (List ℕ) → List (List ℕ) → Option (List ℕ) → Type 0
 LosesLines None lines new = Unit {0}
 LosesLines (Some text) lines None = ⊥
 LosesLines (Some text) lines (Some rest) = lines_of text ≡ lines ++ lines_of rest
 
--- the lines of a run so far, up to the one of this number: what is left of the text, and what they printed
+-- The lines of a run so far, up to the one of this number: what is left of the text, and what the
+-- lines printed.
 pub record SoFar {S : Type 0} (saves saves_change : S → Record → S → Type 0) (text here first now : Option (List ℕ)) (number : ℕ) (start at : Kept S) : Type 0 where
   pub lines : List (List ℕ)
   pub print : List ℕ
@@ -51,7 +52,7 @@ begun saves saves_change text first start = record {
   printed = nothing_printed_yet first;
 }
 
--- lines, and then one line more
+-- lines are played, and then one line more
 plays_on : {S : Type 0} (saves saves_change : S → Record → S → Type 0) (old : Kept S) (lines : List (List ℕ)) (text : List ℕ) (mid : Kept S) (line more : List ℕ) (new : Kept S)
     → PlaysLines saves saves_change old lines text mid → PlaysLine saves saves_change mid line more new → PlaysLines saves saves_change old (lines ++ line ∷ []) (text ++ more) new
 plays_on saves saves_change old [] text mid line more new h one =
@@ -89,9 +90,9 @@ went_on saves saves_change text here rest first now held mid number start at q t
   printed = printed_on first now held mid so.print did.0.text so.printed same did.2;
 }
 
--- ---- the end at a line
+-- ---- a run that ends at a line
 
--- the first line that is left is this
+-- the first line that is left of the text is this
 left_from : (text here rest : Option (List ℕ)) (lines : List (List ℕ)) (line : List ℕ) (P : List (List ℕ) → Type 0) → LosesLines text lines here → LosesFirstLine here line rest → ((others : List (List ℕ)) → P (line ∷ others))
     → IfSome text (λ text. (rest : List (List ℕ)) × (lines_of text ≡ lines ++ rest) × P rest)
 left_from None here rest lines line P h k p = tt
@@ -145,7 +146,7 @@ stopped saves saves_change text left here rest first now held new writer number 
   last = tt;
 }
 
--- ---- the end where there is no line
+-- ---- a run that ends where there is no line
 
 -- the first line that is left is too long
 left_long : (text here left : Option (List ℕ)) (lines : List (List ℕ)) (p : Playing) (number : ℕ) → LosesLines text lines here → IfSome here BeginsTooLong
@@ -159,7 +160,7 @@ left_start None left start h = tt
 left_start (Some here) None start h = absurd h
 left_start (Some here) (Some left) start h = ap lines_of h
 
--- the reader failed behind the start of a line
+-- the reader failed after the start of a line
 left_unread : (text here left : Option (List ℕ)) (lines : List (List ℕ)) (p : Playing) → LosesLines text lines here → LosesStart here left
     → IfSome text (λ text. (rest : List (List ℕ)) × (lines_of text ≡ lines ++ rest) × Leaves (Err fault.Read) left p rest)
 left_unread None here left lines p h k = tt
@@ -246,7 +247,7 @@ failed saves saves_change text left here rest first now new writer number start 
 
 -- ---- the end after the last line that a script may have
 
--- there is a line more
+-- there is one line more than a script may have
 left_more : (text here rest left : Option (List ℕ)) (lines : List (List ℕ)) (line : List ℕ) (p : Playing) → LosesLines text lines here → LosesFirstLine here line rest
     → IfSome text (λ text. (rest : List (List ℕ)) × (lines_of text ≡ lines ++ rest) × Leaves (Err fault.TooManyLines) left p rest)
 left_more text here rest left lines line p h k = left_from text here rest lines line (Leaves (Err fault.TooManyLines) left p) h k (λ others. (line, others, refl))
@@ -296,14 +297,15 @@ pub told_said : {S : Type 0} (saves saves_change : S → Record → S → Type 0
     → line_meaning line ≡ Some said → Told (Tells saves saves_change (Some said) device old) old result new → Told (Tells saves saves_change (line_meaning line) device old) old result new
 told_said saves saves_change line said device old result new e told = subst (λ m. Told (Tells saves saves_change m device old) old result new) (sym e) told
 
--- and of this line
+-- the saver was told of this line, at this point of the script
 pub told_there : {S : Type 0} (saves saves_change : S → Record → S → Type 0) (line said : List ℕ) (device : Record) (old : S) (result : Result (Unit {0}) LineFault) (new : S)
     → said ≡ line → Told (Tells saves saves_change (line_meaning said) device old) old result new → Told (Tells saves saves_change (line_meaning line) device old) old result new
 told_there saves saves_change line said device old result new e told = subst (λ l. Told (Tells saves saves_change (line_meaning l) device old) old result new) e told
 
--- ---- a whole run: nothing was read or held at its start, and then the last lines are written and the device is saved
+-- ---- a whole run: nothing was read or held at its start, and then the last lines are written and
+-- the device is saved
 
--- what was left is this
+-- the text that was left at the start is this
 pub begun_at : {S : Type 0} (saves saves_change : S → Record → S → Type 0) (before text left held old new : Option (List ℕ)) (writer : Marks) (q p : Playing) (saver : S) (result : Result (Unit {0}) ScriptFault) (Last : Kept S → Type 0)
     → before ≡ text → held ≡ old → q ≡ p → KeepsDevice saves saves_change before left held new writer (kept q saver) result Last → KeepsDevice saves saves_change text left old new writer (kept p saver) result Last
 begun_at saves saves_change before text left held old new writer q p saver result Last a b c h =
@@ -316,7 +318,7 @@ others_yet : (text : Option (List ℕ)) (lines : List (List ℕ)) (P Q : List (L
 others_yet None lines P Q q h = tt
 others_yet (Some text) lines P Q q h = (h.0, h.1, q h.0)
 
--- the same lines, with another end
+-- the same lines were played, with another end
 recast : {S : Type 0} (saves saves_change : S → Record → S → Type 0) (text left old mid new : Option (List ℕ)) (start : Kept S) (result other : Result (Unit {0}) ScriptFault) (Last Next : Kept S → Type 0)
     → (h : Played saves saves_change text left old mid start result Last) → Counts other (length h.lines) → ((rest : List (List ℕ)) → Leaves other left h.end.playing rest) → Writes other old new h.print → Next h.end
     → Played saves saves_change text left old new start other Next
@@ -344,7 +346,7 @@ renewed saves saves_change text left old mid new start result Last Next h writte
   last = last;
 }
 
--- all was written, and the device saved
+-- all responses were written, and the device was saved
 pub ran_well : {S : Type 0} (saves saves_change : S → Record → S → Type 0) (text left old mid new : Option (List ℕ)) (was writer : Marks) (start at : Kept S) (result : Result (Unit {0}) ScriptFault) (Last : Kept S → Type 0)
     → KeepsDevice saves saves_change text left old mid was start result (λ end. end ≡ at) → Keeps mid new → writer ≡ was → Last at → KeepsDevice saves saves_change text left old new writer start result Last
 ran_well saves saves_change text left old mid new was writer start at (Ok done) Last h same marks last =
@@ -362,7 +364,7 @@ ran_well saves saves_change text left old mid new was writer start at (Err fault
     renewed saves saves_change text left old mid new start (Err fault.Save) (λ end. Unit {0}) (λ end. Unit {0}) all (printed_yet old mid new all.print all.written same) tt
 ran_well saves saves_change text left old mid new was writer start at (Err fault.NoMemory) Last h same marks last = tt
 
--- the last lines were not written, and the device was saved
+-- the last responses were not written, and the device was saved
 last_unwritten : {S : Type 0} (saves saves_change : S → Record → S → Type 0) (text left old mid new : Option (List ℕ)) (was writer : Marks) (start at : Kept S) (result : Result (Unit {0}) ScriptFault) (Last : Kept S → Type 0)
     → KeepsDevice saves saves_change text left old mid was start result (λ end. end ≡ at) → is_unsaved result ≡ false → OnNoMemory result ⊥ → CutOff mid new → Last at
     → KeepsDevice saves saves_change text left old new writer start (Err fault.Write) Last
@@ -386,7 +388,7 @@ ran_unwritten saves saves_change text left old mid new was writer start at resul
     subst (λ r. KeepsDevice saves saves_change text left old new writer start r Last) (sym e)
     (last_unwritten saves saves_change text left old mid new was writer start at result Last h was_saved memory cut last)
 
--- all was written, and a save failed
+-- all responses were written, and a save failed
 written_unsaved : {S : Type 0} (saves saves_change : S → Record → S → Type 0) (text left old mid new : Option (List ℕ)) (reader was writer : Marks) (unsaved : Bool) (start at : Kept S) (result : Result (Unit {0}) ScriptFault) (Last : Kept S → Type 0)
     → KeepsDevice saves saves_change text left old mid was start result (λ end. end ≡ at) → AreTheirs result reader was unsaved → OnNoMemory result ⊥ → Keeps mid new → writer ≡ was
     → KeepsDevice saves saves_change text left old new writer start (Err fault.Save) Last
@@ -405,7 +407,7 @@ written_unsaved saves saves_change text left old mid new reader was writer unsav
     renewed saves saves_change text left old mid new start (Err fault.Save) (λ end. Unit {0}) (λ end. Unit {0}) all (printed_yet old mid new all.print all.written same) tt
 written_unsaved saves saves_change text left old mid new reader was writer unsaved start at (Err fault.NoMemory) Last h theirs memory same marks = absurd memory
 
--- whatever became of the last lines, a save failed
+-- a save failed, whether the last responses were written or not
 pub ran_unsaved : {S : Type 0} (saves saves_change : S → Record → S → Type 0) (text left old mid new : Option (List ℕ)) (reader was writer : Marks) (unsaved : Bool) (start at : Kept S) (result flushed : Result (Unit {0}) ScriptFault) (Last : Kept S → Type 0)
     → KeepsDevice saves saves_change text left old mid was start result (λ end. end ≡ at) → AreTheirs result reader was unsaved → OnNoMemory result ⊥
     → OnOk flushed (Keeps mid new) → OnOk flushed (writer ≡ was) → OnErr flushed (writer.failed ≡ true)

@@ -1,4 +1,4 @@
--- How a text falls into lines.
+-- How a text is cut into lines.
 use Rattle.std.proofs.Common.{◌≡◌, ℕ, ◌+◌, ◌-◌, ◌<◌, ◌≤◌, ◌==◌, Bool, true, false, cond, List, [], ◌∷◌, ◌++◌, length, take, drop, get_or, Option, Some, None, IfSome, refl, sym, ap, ◌∙◌, subst, append_assoc, append-nil, drop-drop, length-append, arith}
 use Rattle.std.specs.List.{onto_first, position, slice_range}
 use Rattle.std.proofs.lemmas.Bool.{eqb-true}
@@ -22,7 +22,7 @@ IsWithin byte = is_break byte ≡ false
 onto_line : (byte : ℕ) (text : List ℕ) → is_break byte ≡ false → lines_of (byte ∷ text) ≡ onto_first byte (lines_of text)
 onto_line byte text e = ap (λ b. cond b ([] ∷ lines_of text) (onto_first byte (lines_of text))) e
 
--- a line and its 0a
+-- the first line of a text that has a 0a
 line_ended : (line rest : List ℕ) → IsUnbroken line → lines_of (line ++ 10 ∷ rest) ≡ line ∷ lines_of rest
 line_ended [] rest h = refl
 line_ended (byte ∷ line) rest h = onto_line byte (line ++ 10 ∷ rest) (All-head IsWithin byte line h) ∙ ap (onto_first byte) (line_ended line rest (All-tail IsWithin byte line h))
@@ -45,7 +45,7 @@ begun_first : (byte : ℕ) (lines : List (List ℕ)) → (line : List ℕ) × (r
 begun_first byte [] = (byte ∷ [], [], refl, omega arith)
 begun_first byte (line ∷ lines) = (byte ∷ line, lines, refl, omega arith)
 
--- what holds no 0a begins a line
+-- bytes without a 0a begin a line
 line_begun : (byte : ℕ) (line more : List ℕ) → IsUnbroken (byte ∷ line) → BeginsWith (byte ∷ line ++ more) (length (byte ∷ line))
 line_begun byte [] more h =
     let first = begun_first byte (lines_of more) in
@@ -54,12 +54,12 @@ line_begun byte (next ∷ line) more h =
     let rest = line_begun next line more (All-tail IsWithin byte (next ∷ line) h) in
     (byte ∷ rest.0, rest.1, onto_line byte (next ∷ line ++ more) (All-head IsWithin byte (next ∷ line) h) ∙ ap (onto_first byte) rest.2, omega (arith, rest.3))
 
--- so where it is over the limit, the line is
+-- where the start of a line is over the limit, the line is too long
 too_long : (line more : List ℕ) → IsUnbroken line → 65536 < length line → BeginsTooLong (line ++ more)
 too_long [] more h l = absurd (omega arith)
 too_long (byte ∷ line) more h l = let begun = line_begun byte line more h in (begun.0, begun.1, begun.2, omega (arith, begun.3))
 
--- what stands before the first 0a, and after it
+-- the bytes before the first 0a, and those after it
 before_break : (rest : List ℕ) (at : ℕ) → position is_break rest ≡ Some at → IsUnbroken (take at rest)
 before_break rest at e = λ k d l. let found = position-Some is_break rest at d e in
     let short : k < at = omega (arith, length-take-le at rest (omega (arith, found.0))) in
@@ -74,7 +74,8 @@ at_break rest at e =
 no_break : (rest : List ℕ) → position is_break rest ≡ None → IsUnbroken rest
 no_break rest e = λ k d l. fails_before_first is_break rest k d (grind (arith, common_steps))
 
--- what is found in the bytes that were read after the start of a line, whatever follows them
+-- ---- what is found in the bytes that were read after the start of a line, whatever comes after
+-- them
 
 regrouped : (a b c d : List ℕ) → a ++ ((b ++ c) ++ d) ≡ (a ++ b) ++ (c ++ d)
 regrouped a b c d = simp append_assoc
@@ -98,7 +99,7 @@ found_too_long line rest more at h e long =
     ap (λ l. line ++ (l ++ more)) (sym (take-append-drop at rest)) ∙ regrouped line (take at rest) (drop at rest) more in
     subst BeginsTooLong (sym cut) (too_long (line ++ take at rest) (drop at rest ++ more) front (omega (arith, size)))
 
--- the line goes on
+-- the line goes on after all bytes that were read
 pub found_more : (line rest : List ℕ) → IsUnbroken line → position is_break rest ≡ None → IsUnbroken (line ++ rest)
 found_more line rest h e = All-append IsWithin line rest h (no_break rest e)
 
@@ -108,7 +109,7 @@ found_no_end line rest more h e long =
     let whole = found_more line rest h e in
     subst BeginsTooLong (append_assoc line rest more) (too_long (line ++ rest) more whole (omega (arith, length-append line rest)))
 
--- the line is the last
+-- the line is the last one of the text
 pub found_last : (line rest more : List ℕ) → IsUnbroken line → position is_break rest ≡ None → more ≡ [] → 0 < length (line ++ rest)
     → lines_of (line ++ (rest ++ more)) ≡ (line ++ rest) ∷ lines_of ([] ++ more)
 found_last line rest more h e none some =
@@ -121,7 +122,7 @@ rest_behind bytes from count end h =
     let size : end - from ≡ count + (end - (from + count)) = omega arith in
     sym (ap (λ n. drop count (take n (drop from bytes))) size ∙ drop-take count (end - (from + count)) (drop from bytes) ∙ ap (λ l. take (end - (from + count)) l) (drop-drop count from bytes))
 
--- what stands next where no 0a was read
+-- what is found where no 0a was read
 pub stopped_finds : (old new : Lines) (ended : Bool) (line : List ℕ) → old.ended ≡ ended → line_of new ≡ line → line_of new ≡ line_of old ++ rest_of old → rest_of new ≡ []
     → IsUnbroken (line_of old) → position is_break (rest_of old) ≡ None → length (line_of new) ≤ 65536 → Finds old (next_at ended line) new
 stopped_finds old new false line e l whole behind h none short = (whole, behind, subst IsUnbroken (sym whole) (found_more (line_of old) (rest_of old) h none), e, short)
@@ -131,7 +132,7 @@ stopped_finds old new true (byte ∷ line) e l whole behind h none short = λ mo
     found_last (line_of old) (rest_of old) more h none (follows e) some
     ∙ ap (λ (x : List ℕ). x ∷ lines_of ([] ++ more)) (sym whole) ∙ ap (λ (rest : List ℕ). line_of new ∷ lines_of (rest ++ more)) (sym behind)
 
--- what is left of a script begins too long where what was read does
+-- a text that is left begins with a line that is too long, where what was read of it does
 pub too_long_left : (left remaining : Option (List ℕ)) (line rest : List ℕ) → Keeps left (prepend_known (line ++ rest) remaining) → ((more : List ℕ) → BeginsTooLong (line ++ (rest ++ more)))
     → IfSome left BeginsTooLong
 too_long_left None remaining line rest h long = tt

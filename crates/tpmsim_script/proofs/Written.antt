@@ -1,15 +1,15 @@
--- What was printed, written in part and held in part.
+-- A text that was printed, of which a part is written and the rest is held.
 use Rattle.std.proofs.Common.{◌≡◌, ℕ, ◌+◌, ◌≤◌, List, [], ◌++◌, length, take, Option, Some, None, sym, ap, ◌∙◌, append_assoc, append-nil, length-append}
 use Rattle.std.proofs.lemmas.List.{length-take-le, take-take, take_at}
 use Rattle.std.specs.Io.KnownBytes.{Appends, Keeps, append_known}
 
--- what was held was written
+-- the text that was held was written
 pub written : (old new : Option (List ℕ)) (held : List ℕ) → Appends old new held → Keeps (append_known old held) (append_known new [])
 written None new held h = tt
 written (Some old) None held h = absurd h
 written (Some old) (Some new) held h = append-nil new ∙ h
 
--- more is held
+-- more text is held
 pub held : (known : Option (List ℕ)) (old more : List ℕ) → Appends (append_known known old) (append_known known (old ++ more)) more
 held None old more = tt
 held (Some known) old more = sym (append_assoc known old more)

@@ -3,11 +3,11 @@ use Rattle.std.specs.Prelude.{◌≡◌, ℕ, List, ◌++◌, take, Option, Some
 use Rattle.std.specs.Io.KnownBytes.{append_known}
 use Rattle.tpmsim_script.specs.declared.answers.Answers.{Answers}
 
--- the text that is not written yet
+-- the text of the responses that is not written yet
 abbrev pub backlog : Answers → List ℕ
 backlog answers = take answers.used answers.text.items
 
--- what the writer holds, where that is known, and after it the backlog
+-- what the writer holds, where that is known, with the text after it that is not written yet
 abbrev pub printout : Option (List ℕ) → Answers → Option (List ℕ)
 printout contents answers = append_known contents (backlog answers)
 

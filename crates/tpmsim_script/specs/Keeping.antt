@@ -1,5 +1,5 @@
--- How a script keeps its device: what saves it was told the device line by line, and of what was
--- told the text was written.
+-- How a script keeps its device: the saver was told the device line by line, and only of what the
+-- saver was told the text was written.
 use Rattle.std.specs.Prelude.{◌≡◌, ℕ, ◌+◌, Bool, true, false, List, [], ◌∷◌, ◌++◌, length}
 use Rattle.std.specs.Prelude.{Option, Some, None, IfSome, Result, Ok, Err}
 use Rattle.std.specs.Io.KnownBytes.{Appends, append_known}
@@ -13,7 +13,7 @@ use Rattle.tpmsim_script.specs.Script.{Effect, Playing, perform_line}
 use Rattle.tpmsim_script.specs.declared.fault.ScriptFault.{ScriptFault}
 use Rattle.tpmsim_script.specs.declared.fault.ScriptFault.TheVariants as fault
 
--- a script that is being played, and what saves its device
+-- a script that is being played, and its device's saver
 pub record Kept (S : Type 0) : Type 0 where
   pub playing : Playing
   pub saver : S
@@ -21,8 +21,9 @@ pub record Kept (S : Type 0) : Type 0 where
 abbrev pub kept : {S : Type 0} → Playing → S → Kept S
 kept playing saver = record { playing = playing; saver = saver }
 
--- What the saver was told after a line, with the device that the line left: of a command the
--- device, of a power cycle its clock too. After another line the saver is as before.
+-- What the saver was told of the device that a line left: after a command, that the device may have
+-- changed; after a power cycle, the device, its clock too. After another line the saver is as
+-- before.
 abbrev pub Tells : {S : Type 0} → (saves saves_change : S → Record → S → Type 0)
     → Option Meaning → Record → S → S → Type 0
 Tells saves saves_change (Some (Executes digits)) device old new = saves_change old device new
@@ -30,13 +31,13 @@ Tells saves saves_change (Some (ExecutesWords words)) device old new = saves_cha
 Tells saves saves_change (Some CyclesPower) device old new = saves old device new
 Tells saves saves_change other device old new = new ≡ old
 
--- A line was played: it is not bad, it prints this text, and the saver was told.
+-- A line was played: it is not bad, it prints this text, and the saver was told of it.
 pub record PlaysLine {S : Type 0} (saves saves_change : S → Record → S → Type 0)
     (old : Kept S) (line text : List ℕ) (new : Kept S) : Type 0 where
   pub performed : perform_line old.playing line ≡ Some (record { text = text; next = new.playing })
   pub told : Tells saves saves_change (line_meaning line) new.playing.device old.saver new.saver
 
--- Lines were played in order, and this is all that they print.
+-- Lines were played in order, and this text is all that they print.
 abbrev pub PlaysLines : {S : Type 0} → (saves saves_change : S → Record → S → Type 0)
     → Kept S → List (List ℕ) → List ℕ → Kept S → Type 0
 PlaysLines saves saves_change old [] text new = (text ≡ []) × (new ≡ old)
@@ -51,9 +52,9 @@ Counts (Err (fault.Line number)) count = number ≡ count + 1
 Counts (Err fault.TooManyLines) count = count ≡ 1048576
 Counts other count = Unit {0}
 
--- Which lines were not played, from this state on: none where the run ended well, those from the
--- bad line on, those from the start of a line on that the reader gave before it failed (left is
--- what it has left), or some where there are too many.
+-- Which lines were not played, from this state on: none where the run ended well; those from the
+-- bad line on; those from the start of a line on that the reader gave before it failed (left is
+-- what the reader has left); or some where there are too many.
 abbrev pub Leaves : Result (Unit {0}) ScriptFault → (left : Option (List ℕ)) → Playing
     → List (List ℕ) → Type 0
 Leaves (Ok done) left p rest = rest ≡ []
@@ -66,7 +67,7 @@ Leaves (Err fault.TooManyLines) left p rest =
     (line : List ℕ) × (others : List (List ℕ)) × (rest ≡ line ∷ others)
 Leaves (Err other) left p rest = Unit {0}
 
--- What was written of this text: all of it, or where the writer failed a part from the front.
+-- This text was written: all of it, or where the writer failed a part from its front.
 abbrev pub Writes : Result (Unit {0}) ScriptFault
     → Option (List ℕ) → Option (List ℕ) → List ℕ → Type 0
 Writes (Err fault.Write) old new text = CutOff (append_known old text) new
@@ -87,10 +88,10 @@ pub record Played {S : Type 0} (saves saves_change : S → Record → S → Type
   pub written : Writes result old new print
   pub last : Last end
 
--- A run kept its device: what was written is what the lines print that were played, and so were
--- told to the saver; where they ended, Last holds. Where a save failed, the line that it was for
--- is none of them, and nothing that it prints was written; Last may not hold then, and of a writer
--- that failed too nothing is said.
+-- A run kept its device: what was written is what the lines print that were played, and of which
+-- the saver was told; of the end of these Last holds. Where a save failed, the line that the save
+-- was for is not among them, and nothing that it prints was written; then nothing is said of Last,
+-- and if the writer failed too, nothing of what was written.
 abbrev pub KeepsDevice : {S : Type 0} → (saves saves_change : S → Record → S → Type 0)
     → (text left old new : Option (List ℕ)) → (writer : Marks) → Kept S
     → Result (Unit {0}) ScriptFault → (Last : Kept S → Type 0) → Type 0

@@ -1,4 +1,4 @@
--- What a line of a script says, and how a text falls into lines.
+-- The meaning of a script's line, and how a text is cut into lines.
 use Rattle.std.specs.Prelude.{◌≡◌, ℕ, ◌+◌, ◌==◌, if◌then◌else◌}
 use Rattle.std.specs.Prelude.{List, [], ◌∷◌, take, drop, codes, Result, Ok, Err}
 use Rattle.std.specs.Prelude.{Option, Some, None, option_map, option_and_then}
@@ -16,9 +16,8 @@ abbrev pub lines_of : List ℕ → List (List ℕ)
 lines_of [] = []
 lines_of (byte ∷ text) = if byte == 10 then [] ∷ lines_of text else onto_first byte (lines_of text)
 
--- What a line says: a command in hex, which is not looked at here, or in words, which are not
--- either; the locality of later commands; the milliseconds before the next one; entropy, in hex; a
--- power cycle; or nothing.
+-- What a line says: a command in hex, or in words, neither of which is read here; the locality of
+-- later commands; the milliseconds before the next one; entropy, in hex; a power cycle; or nothing.
 pub data Meaning : Type 0 where
   Executes : (digits : List ℕ) → Meaning
   ExecutesWords : (words : List ℕ) → Meaning
@@ -28,7 +27,7 @@ pub data Meaning : Type 0 where
   CyclesPower : Meaning
   DoesNothing : Meaning
 
--- the bytes that hex digits write, of either case; None of an odd number of them, and of other
+-- the bytes that hex digits of either case write; None of an odd number of digits, and of other
 -- characters
 abbrev pub bytes_of : List ℕ → Option (List ℕ)
 bytes_of digits = result_ok (decode_of digits)
@@ -40,7 +39,7 @@ meaning_alone word =
     else if is_word (codes "power") word then Some CyclesPower
     else None
 
--- what a word says with what stands after its space
+-- what a line says that is a word, a space and an argument
 unfoldable pub meaning_with : List ℕ → List ℕ → Option Meaning
 meaning_with word argument =
     if is_word (codes "cmd") word then Some (Executes argument)
@@ -51,13 +50,13 @@ meaning_with word argument =
     else if is_word (codes "entropy") word then Some (SetsEntropy argument)
     else None
 
--- what a text says whose first space, if it has one, stands at this place, and ends the word
+-- what a text says whose first space, if it has one, stands at this place and ends the first word
 abbrev pub meaning_by : Option ℕ → List ℕ → Option Meaning
 meaning_by None text = meaning_alone text
 meaning_by (Some space) text = meaning_with (take space text) (drop (space + 1) text)
 
--- what a line says; None where it is bad. An empty line, and one that begins with #, is good and
--- does nothing
+-- what a line says; None where the line is bad. An empty line, and one that begins with #, is good
+-- and does nothing
 unfoldable pub line_meaning : List ℕ → Option Meaning
 line_meaning [] = Some DoesNothing
 line_meaning (first ∷ text) =
@@ -74,13 +73,13 @@ meaning_of (code.Entropy digits) = SetsEntropy digits.now
 meaning_of code.PowerCycle = CyclesPower
 meaning_of code.Nothing = DoesNothing
 
--- the hex digits that a line holds, not decoded; none of another line
+-- the hex digits that a line holds, not decoded; empty where the line is no command in hex
 abbrev pub hex_of : Meaning → List ℕ
 hex_of (Executes digits) = digits
 hex_of (SetsEntropy digits) = digits
 hex_of other = []
 
--- A reading gave what a text says, or refused it where it is bad.
+-- A reading gave what a text says, or refused the text where it is bad.
 abbrev pub Tells : {X Y E : Type 0} → (X → Y) → Result X E → Option Y → Type 0
 Tells view (Ok x) says = says ≡ Some (view x)
 Tells view (Err e) says = says ≡ None

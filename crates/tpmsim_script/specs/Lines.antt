@@ -8,7 +8,7 @@ use Rattle.tpmsim_script.specs.declared.lines.Lines.{Lines}
 use Rattle.tpmsim_script.specs.declared.lines.Next.{Next}
 use Rattle.tpmsim_script.specs.declared.lines.Next.TheVariants.{Line, TooLong, Incomplete, End}
 
--- the line that was found last, or what has come of the next one
+-- the line that was found last, or what has come so far of the next one
 abbrev pub line_of : Lines → List ℕ
 line_of lines = lines.line.items
 
@@ -16,17 +16,18 @@ line_of lines = lines.line.items
 abbrev pub rest_of : Lines → List ℕ
 rest_of lines = slice_range lines.bytes.items lines.next lines.filled
 
--- no byte ends a line
+-- No byte of these ends a line.
 abbrev pub IsUnbroken : List ℕ → Type 0
 IsUnbroken bytes = All (λ byte. (byte == 10) ≡ false) bytes
 
--- what stands next after the last byte that was read
+-- what is found after the last byte that was read: more may come, or the reader has ended, at the
+-- end of a line or not
 abbrev pub next_at : Bool → List ℕ → Next
 next_at false line = Incomplete
 next_at true [] = End
 next_at true (byte ∷ line) = Line
 
--- what more the reader may give: nothing where it has ended
+-- The reader may give these bytes more: none where it has ended.
 abbrev pub MayFollow : Lines → List ℕ → Type 0
 MayFollow lines more = lines.ended ≡ true → more ≡ []
 
@@ -36,8 +37,8 @@ BeginsTooLong text =
     (line : List ℕ) × (rest : List (List ℕ))
     × (lines_of text ≡ line ∷ rest) × (65536 < length line)
 
--- What was found: whatever the reader gives yet, the next line is this, or is too long, or is not
--- whole yet, or there is none.
+-- What was found: whatever the reader gives from now on, the next line is this, or is too long, or
+-- is not whole yet, or there is no next line.
 abbrev pub Finds : Lines → Next → Lines → Type 0
 Finds old Line new = (more : List ℕ) → MayFollow old more
     → lines_of (line_of old ++ (rest_of old ++ more))
@@ -48,7 +49,7 @@ Finds old Incomplete new =
     × IsUnbroken (line_of new) × (old.ended ≡ false) × (length (line_of new) ≤ 65536)
 Finds old End new = (line_of old ++ rest_of old ≡ []) × (rest_of new ≡ []) × (old.ended ≡ true)
 
--- A buffer that says that its reader has ended is right.
+-- Where the buffer of lines says that its reader has ended, the reader has.
 abbrev pub Agrees : Option (List ℕ) → Lines → Type 0
 Agrees remaining lines = lines.ended ≡ true → IsAtEnd remaining
 
@@ -57,12 +58,12 @@ Agrees remaining lines = lines.ended ≡ true → IsAtEnd remaining
 abbrev pub text_left : Option (List ℕ) → Lines → Option (List ℕ)
 text_left remaining lines = prepend_known (rest_of lines) remaining
 
--- A text lost its first line.
+-- A text lost its first line, which is this.
 abbrev pub LosesFirstLine : Option (List ℕ) → List ℕ → Option (List ℕ) → Type 0
 LosesFirstLine None line new = Unit {0}
 LosesFirstLine (Some text) line None = ⊥
 LosesFirstLine (Some text) line (Some rest) = lines_of text ≡ line ∷ lines_of rest
 
--- A text lost the start of a line: nothing of it ends one.
+-- A text lost bytes at its front of which none ends a line.
 abbrev pub LosesStart : Option (List ℕ) → Option (List ℕ) → Type 0
 LosesStart old new = (start : List ℕ) × IsUnbroken start × Consumes old new start

@@ -1,4 +1,4 @@
--- What a player is seen as, and what a line did.
+-- The state of a player, and what a line did.
 use Rattle.std.specs.Prelude.{◌≡◌, ℕ, Bool, true, List, Option, Some, None, Result, Ok, Err}
 use Rattle.std.specs.Io.KnownBytes.{Appends, append_known}
 use Rattle.tpm_bytes.specs.Tap.{Marks}
@@ -10,14 +10,14 @@ use Rattle.tpmsim_script.specs.declared.line_fault.LineFault.{LineFault}
 use Rattle.tpmsim_script.specs.declared.line_fault.LineFault.TheVariants.{Bad, Write, Save}
 use Rattle.tpmsim_script.specs.declared.player.Player.{Player}
 
--- how a script is being played, by the record that its device's keep stands for
+-- the script that a player is playing, by a function that gives the record of its device's keep
 abbrev pub playing_of : {K S O P N : Type 0} → (K → Record) → Player K S O P N → Playing
 playing_of record_of player =
     playing player.traced player.script (state_of record_of player.machine)
 
--- A line had its effect and printed its text, from known bytes to known ones; or the writer failed,
--- and the text was cut off; or the line is bad, and did and printed nothing. Where the saver failed,
--- nothing was printed.
+-- A line had its effect and printed its text after known bytes; or the writer failed, and the text
+-- was cut off; or the line is bad, and did and printed nothing. Where the saver failed, nothing was
+-- printed.
 abbrev pub Did : Option Effect
     → Option (List ℕ) → Playing
     → Result (Unit {0}) LineFault → Option (List ℕ) → Playing → Type 0
@@ -38,7 +38,7 @@ Told tells old (Err Bad) new = new ≡ old
 Told tells old (Err Write) new = tells new
 Told tells old (Err Save) new = Unit {0}
 
--- Write is answered only where the writer failed, and Save only where the saver did.
+-- The fault Write is answered only where the writer failed, and Save only where the saver did.
 abbrev pub IsTheirs : Result (Unit {0}) LineFault → (writer : Marks) → (unsaved : Bool) → Type 0
 IsTheirs (Err Write) writer unsaved = writer.failed ≡ true
 IsTheirs (Err Save) writer unsaved = unsaved ≡ true

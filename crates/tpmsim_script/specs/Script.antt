@@ -19,8 +19,8 @@ use Rattle.tpmsim_script.specs.Line.{bytes_of, line_meaning, lines_of}
 use Rattle.tpmsim_script.specs.declared.script.Script.{Script}
 
 -- A script that is being played: whether its events are traced, the locality of its commands, the
--- sum of the waits since the last one, across power cycles, the random bytes of each, and the
--- device.
+-- sum of the waits since the last command, across power cycles, the random bytes of each command,
+-- and the device.
 pub record Playing : Type 0 where
   pub traced : Bool
   pub locality : ℕ
@@ -28,7 +28,7 @@ pub record Playing : Type 0 where
   pub random : List ℕ
   pub device : Record
 
--- what the code's script means, with whether it is traced and the record of its device
+-- the script that the code plays, with whether it is traced and the record of its device
 abbrev pub playing : Bool → Script → Record → Playing
 playing traced script device = record {
   traced = traced;
@@ -42,11 +42,11 @@ playing traced script device = record {
 abbrev pub script_bytes : List ℕ
 script_bytes = range_with_len 0 256
 
--- the device of a script where none is given
+-- the device of a script where no image is given
 abbrev pub new_device : Record
 new_device = manufactured script_bytes
 
--- at first locality 0, no time, random bytes that are all 0, and this device
+-- a script at its start: locality 0, no time waited, random bytes that are all 0, and this device
 unfoldable pub at_first : (traced : Bool) → (device : Record) → Playing
 at_first traced device = record {
   traced = traced;
@@ -56,30 +56,31 @@ at_first traced device = record {
   device = device;
 }
 
--- the 256 random bytes that these bytes make, over and over
+-- the 256 random bytes of these bytes, repeated
 unfoldable pub repeated : List ℕ → List ℕ
 repeated entropy =
     map (λ place. slice_index entropy (place % length entropy)) (range_with_len 0 256)
 
--- what a line does: what it prints, and how the script goes on
+-- the effect of a line: what it prints, and how the script goes on
 pub record Effect : Type 0 where
   pub text : List ℕ
   pub next : Playing
 
--- a response in lower-case hex, and the end of its line
+-- a response in lower-case hex, with the end of its line
 abbrev pub printed_response : List ℕ → List ℕ
 printed_response response = encode_lower response ++ 10 ∷ []
 
--- a line that prints nothing
+-- the effect of a line that prints nothing
 abbrev pub silence : Playing → Effect
 silence p = record { text = []; next = p }
 
--- the trace of an event with this outcome, and the end of its line; nothing where none is traced
+-- the trace of an event with this outcome, with the end of its line; nothing where events are not
+-- traced
 unfoldable pub printed_trace : (traced : Bool) → PlainEvent → Stepped → List ℕ
 printed_trace traced event s =
     if traced then trace_text event s.row s.response ++ 10 ∷ [] else []
 
--- what a command with this outcome does
+-- the effect of a command with this outcome
 abbrev pub answer : Playing → PlainEvent → Stepped → Effect
 answer p event s = record {
   text = printed_trace p.traced event s ++ printed_response s.response;
@@ -90,11 +91,11 @@ answer p event s = record {
 abbrev pub command_of : Playing → List ℕ → PlainEvent
 command_of p buffer = Given buffer p.locality p.waited p.random
 
--- what a command does
+-- the effect of a command
 abbrev pub execute : Playing → List ℕ → Effect
 execute p buffer = answer p (command_of p buffer) (step p.device (command_of p buffer))
 
--- what a power cycle does, with the outcome of one
+-- the effect of a power cycle with this outcome
 abbrev pub cycle_to : Playing → Stepped → Effect
 cycle_to p s = record {
   text = printed_trace p.traced Cycled s;
@@ -109,13 +110,13 @@ wait p milliseconds =
     if nat_lt (p.waited + milliseconds) (2 ^ 32)
     then Some (silence (record p { waited = p.waited + milliseconds })) else None
 
--- 1 to 256 bytes
+-- the effect of setting the random bytes, from 1 to 256 bytes
 abbrev pub set_entropy : Playing → List ℕ → Option Effect
 set_entropy p entropy =
     if nat_lt 0 (length entropy) && nat_le (length entropy) 256
     then Some (silence (record p { random = repeated entropy })) else None
 
--- what is said, performed; None where it cannot be
+-- the effect of what a line says; None where it cannot be performed
 abbrev pub perform : Playing → Meaning → Option Effect
 perform p (Executes digits) = option_map (execute p) (bytes_of digits)
 perform p (ExecutesWords words) = option_map (execute p) (result_ok (assembled words))
@@ -125,7 +126,7 @@ perform p (SetsEntropy digits) = option_and_then (set_entropy p) (bytes_of digit
 perform p CyclesPower = Some (cycle p)
 perform p DoesNothing = Some (silence p)
 
--- what a line does; None where it is bad, as every line of over 65,536 bytes is
+-- the effect of a line; None where the line is bad, as every line of over 65,536 bytes is
 unfoldable pub perform_line : Playing → List ℕ → Option Effect
 perform_line p line =
     if nat_le (length line) 65536 then option_and_then (perform p) (line_meaning line) else None
@@ -143,21 +144,21 @@ abbrev pub output_with : Option Effect → ℕ → (Playing → Output) → Outp
 output_with None number rest = record { text = []; bad = Some number }
 output_with (Some effect) number rest = output_before effect.text (rest effect.next)
 
--- the lines from this number on
+-- what these lines print, of which the first has this number
 abbrev pub play : Playing → ℕ → List (List ℕ) → Output
 play p number [] = record { text = []; bad = None }
 play p number (line ∷ lines) =
     output_with (perform_line p line) number (λ next. play next (number + 1) lines)
 
--- This is what was written after what the writer held (old), and the number of the first bad
+-- This output was written after what the writer held (old), and this is the number of the first bad
 -- line, if there is one.
 abbrev pub IsOutput : Option (List ℕ) → Option (List ℕ) → Option ℕ → Output → Type 0
 IsOutput old new bad output = Appends old new output.text × (output.bad ≡ bad)
 
 -- A run wrote, after what the writer held (old), what the lines of the text print when they are
 -- played from p on, the first of them under this number; and bad is the number of the first bad
--- one, if there is one. Nothing is said where it is not known what the reader gives, and nothing of
--- the writing where it is not known what the writer holds.
+-- line, if there is one. Nothing is said where it is not known what the reader gives, and nothing
+-- of the writing where it is not known what the writer holds.
 abbrev pub Plays : Option (List ℕ) → Option (List ℕ) → Option (List ℕ)
     → Playing → ℕ → Option ℕ → Type 0
 Plays None old new p number bad = Unit {0}

@@ -13,7 +13,7 @@ use tpm_bytes::{Failed, Tap};
 /// How many bytes of text are held before they are written.
 const CAPACITY: usize = 65_536;
 
-/// Lines of text, and responses that are written in lower-case hex, one a line.
+/// Lines of text, and responses that are written in lower-case hex, one on each line.
 #[derive(Drop)]
 pub struct Answers {
     text: Vec<u8>,
@@ -69,7 +69,7 @@ impl Answers {
         Ok(())
     }
 
-    /// Makes room for a line of this many bytes with its end.
+    /// Makes room for a line of this many bytes, including its end.
     fn make_room<W: Write>(&mut self, writer: &mut Tap<W>, size: usize) -> Result<(), Failed>
         requires { size ≤ CAPACITY }
         ensures failed { OnErr result ((marks_of writer.new).failed ≡ true) }
@@ -105,7 +105,7 @@ impl Answers {
         self.used = end;
     }
 
-    /// Writes all lines so far. Those that an error cut off are not written again.
+    /// Writes all lines so far. Lines that an error cut off are not written again.
     pub fn flush<W: Write>(&mut self, writer: &mut Tap<W>) -> Result<(), Failed>
         ensures unmarked { OnOk result (marks_of writer.new ≡ marks_of writer.old) }
         ensures failed { OnErr result ((marks_of writer.new).failed ≡ true) }
@@ -142,7 +142,7 @@ impl Answers {
     }
 }
 
-/// A response in lower-case hex, and the end of its line.
+/// Writes a response in lower-case hex, with the end of its line, to `line`.
 fn print(response: &[u8], line: &mut [u8])
     requires { length line.old ≡ 2 * length response.now + 1 }
     ensures { line.new ≡ printed_response response.now }
@@ -152,7 +152,7 @@ fn print(response: &[u8], line: &mut [u8])
     end[0] = b'\n';
 }
 
-/// A text, and the end of its line.
+/// Writes a text, with the end of its line, to `line`.
 fn print_text(text: &[u8], line: &mut [u8])
     requires { length line.old ≡ length text.now + 1 }
     ensures { line.new ≡ text.now ++ 10 ∷ [] }

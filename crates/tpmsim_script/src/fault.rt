@@ -9,11 +9,11 @@ use tpm_bytes::NoMemory;
 /// written, but for those that a `Write` or a `Save` fault cut off.
 #[derive(Clone, Copy, Debug, PartialEq, Eq)]
 pub enum ScriptFault {
-    /// The line of this number, from 1, is none of a script's lines.
+    /// The line of this number, from 1, is not one that a script may have.
     Line(u32),
-    /// The reader failed. The whole lines of what it had given were run.
+    /// The reader failed. The whole lines that it had given were run.
     Read,
-    /// There are more lines than a script may have. As many as it may have were run.
+    /// There are more lines than a script may have. As many lines as a script may have were run.
     TooManyLines,
     /// The responses could not be written.
     Write,

@@ -1,7 +1,7 @@
 #![tactic(auto)]
 
-//! Scripts of commands: [`run::run_device`] plays one on a device and writes what it answers, and
-//! [`run::run_script`] on a new device.
+//! Scripts of commands: [`run::run_device`] plays a script on a device and writes what the device
+//! answers, and [`run::run_script`] on a new device.
 //!
 //! A script is a text whose lines are read one after another ([`lines`], [`line`]), set what the
 //! next command is given ([`script`]) and are performed on the device ([`player`]), a command in
@@ -9,11 +9,11 @@
 //! ([`answers`]) that is written before more of the script is read ([`run`]). A saver is told the
 //! device on the way.
 //!
-//! It stands on `tpm_machine` for the device, on `tpm_saver` for what saves it, on `tpm_text` for
-//! commands in words and traces, and on `tpm_hex`. What is written is what `specs/` says that the
-//! script prints, to its end or to its first bad line, for a device that is never refused memory;
-//! whatever the fault, the lines before it were run, and the saver was told the device at each of
-//! them. But for the device's own, memory is taken at the start alone.
+//! The crate uses `tpm_machine` for the device, `tpm_saver` for its savers, `tpm_text` for commands
+//! in words and traces, and `tpm_hex`. What is written is what `specs/` says that the script
+//! prints, to its end or to its first bad line, for a device that is never refused memory; whatever
+//! the fault, the lines before it were run, and the saver was told the device at each of them.
+//! Memory is taken only at the start, but for that of the device itself.
 
 mod answers;
 pub mod fault;

@@ -28,12 +28,13 @@ pub enum Line<'a> {
     Nothing,
 }
 
-/// The line is none of a script's lines.
+/// The fault that a line is not one that a script may have.
 #[derive(Clone, Copy, Debug, PartialEq, Eq)]
 pub struct BadLine;
 
 impl<'a> Line<'a> {
-    /// Reads a line, given without its 0a. Hex and the words of a command are not looked at yet.
+    /// Reads a line, given without its 0a. The hex digits, or the words, of a command are not
+    /// looked at yet.
     #[tactic(auto, unfolding(crate::specs::Line::line_meaning), using(crate::proofs::SaidLemmas::said_by_words))]
     pub fn parse(text: &'a [u8]) -> Result<Line<'a>, BadLine>
         ensures meaning { Tells meaning_of result (line_meaning text.now) }
@@ -45,7 +46,7 @@ impl<'a> Line<'a> {
         Line::by_words(text)
     }
 
-    /// A line that begins with a word, which the first space ends.
+    /// Reads a line that begins with a word, which the first space ends.
     fn by_words(text: &'a [u8]) -> Result<Line<'a>, BadLine>
         ensures meaning { Tells meaning_of result
             (meaning_by (position (λ byte. byte == 32) text.now) text.now) }
@@ -57,7 +58,7 @@ impl<'a> Line<'a> {
         }
     }
 
-    /// A line of one word.
+    /// Reads a line of one word.
     #[tactic(auto, unfolding(crate::specs::Line::meaning_alone))]
     fn alone(word: &'a [u8]) -> Result<Line<'a>, BadLine>
         ensures meaning { Tells meaning_of result (meaning_alone word.now) }
@@ -72,7 +73,7 @@ impl<'a> Line<'a> {
         }
     }
 
-    /// A word, and what stands after its space.
+    /// Reads a line of a word and an argument, which stands after the space.
     #[tactic(auto, unfolding(crate::specs::Line::meaning_with))]
     fn with(word: &'a [u8], argument: &'a [u8]) -> Result<Line<'a>, BadLine>
         ensures meaning { Tells meaning_of result (meaning_with word.now argument.now) }
@@ -95,8 +96,8 @@ impl<'a> Line<'a> {
     }
 }
 
-/// The bytes that hex digits of either case write, in a room that is large enough. It refuses other
-/// digits, and an odd number of them.
+/// Writes the bytes that hex digits of either case spell to a room that is large enough. Other
+/// digits, and an odd number of them, are refused.
 pub fn decode<'a>(digits: &[u8], room: &'a mut [u8]) -> Result<&'a [u8], BadLine>
     requires { length digits.now ≤ 2 * length room.old + 1 }
     ensures { Tells (λ bytes. bytes.now) result (bytes_of digits.now) }

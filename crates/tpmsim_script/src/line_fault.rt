@@ -5,12 +5,12 @@ ghost use Rattle.std.specs.Prelude.{◌≡◌};
 use crate::fault::ScriptFault;
 use crate::line::BadLine;
 
-/// Why a script is stopped at a line.
+/// The reason why a script is stopped at a line.
 #[derive(Clone, Copy, Debug, PartialEq, Eq)]
 pub enum LineFault {
-    /// It is none of a script's lines.
+    /// The line is not one that a script may have.
     Bad,
-    /// Its response, or one before it, could not be written.
+    /// The line's response, or one before it, could not be written.
     Write,
     /// The device could not be saved.
     Save,

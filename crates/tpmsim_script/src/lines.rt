@@ -1,4 +1,4 @@
-//! The cutting of a text into lines, in memory that does not depend on the text.
+//! The lines of a text, cut in memory that does not depend on the text.
 
 ghost use Rattle.std.specs.Prelude.{◌≡◌, ◌≤◌, vec_len};
 ghost use Rattle.tpmsim_script.specs.declared.lines.TheConstants.{CAPACITY, LINE_LIMIT};
@@ -12,10 +12,10 @@ use tpm_text::position_of;
 /// How many bytes a line may have, without the 0a at its end.
 pub const LINE_LIMIT: usize = 65_536;
 
-/// How many bytes are read at one go.
+/// How many bytes are read at once.
 const CAPACITY: usize = 65_536;
 
-/// What stands next among the bytes that were read.
+/// What comes next among the bytes that were read.
 #[derive(Clone, Copy, Debug, PartialEq, Eq)]
 pub enum Next {
     /// A whole line, which [`Lines::line`] gives.
@@ -24,19 +24,19 @@ pub enum Next {
     TooLong,
     /// The start of a line, or nothing: more bytes have to be read.
     Incomplete,
-    /// Nothing, and no bytes follow.
+    /// The end: nothing, and no bytes follow.
     End,
 }
 
-/// The line has more than [`LINE_LIMIT`] bytes.
+/// The fault that a line has more than [`LINE_LIMIT`] bytes.
 #[derive(Clone, Copy, Debug, PartialEq, Eq)]
 struct TooLong;
 
-/// The lines of a text, each of which ends with 0a, but for the last, which need not. The memory
-/// that it takes does not depend on the text.
+/// The lines of a text, each of which ends with 0a, but for the last, which need not. The memory of
+/// this type does not depend on the text.
 #[derive(Drop)]
 pub struct Lines {
-    /// The line that was found last, or what has come of the next one.
+    /// The line that was found last, or what has come so far of the next one.
     line: ArrayVec<u8, 65536>,
     bytes: Vec<u8>,
     /// Which of the bytes were read and belong to no line yet.
@@ -78,7 +78,7 @@ impl Lines {
         self.line.as_slice()
     }
 
-    /// Goes past the line that was found last.
+    /// Drops the line that was found last.
     pub fn next(&mut self)
         ensures line { line_of self.new ≡ [] }
         ensures rest { rest_of self.new ≡ rest_of self.old }
@@ -87,7 +87,7 @@ impl Lines {
         self.line.clear();
     }
 
-    /// Adds what was read to the line, up to its end if that was read.
+    /// Adds the bytes that were read to the line, up to the end of the line if that was read.
     pub fn find(&mut self) -> Next
         requires { IsUnbroken (line_of self.old) }
         ensures found { Finds self.old result self.new }
@@ -122,7 +122,7 @@ impl Lines {
         Ok(())
     }
 
-    /// Adds all of the bytes to the line.
+    /// Adds all of the bytes that were read to the line.
     fn take_rest(&mut self) -> Result<(), TooLong>
         ensures line { OnOk result (line_of self.new ≡ line_of self.old ++ rest_of self.old) }
         ensures rest { OnOk result (rest_of self.new ≡ []) }
@@ -135,7 +135,7 @@ impl Lines {
         self.take(count, count)
     }
 
-    /// What stands next where all bytes that were read belong to the line.
+    /// What comes next where all bytes that were read belong to the line.
     fn stopped(&self) -> Next
         ensures { result ≡ next_at self.now.ended (line_of self.now) }
     {

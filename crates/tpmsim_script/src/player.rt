@@ -30,15 +30,15 @@ use tpm_saver::Saver;
 use tpm_step::{Event, Outcome};
 use tpm_text::{trace_text, traceable_laws};
 
-/// A device, by a way of keeping its state, and what the lines of a script so far say of its next
-/// command.
+/// A device, generic in the type that keeps its state, and what the lines of a script so far say of
+/// its next command.
 #[derive(Drop)]
 pub struct Player<K: Keep> {
     /// Whether the trace of each event is printed.
     traced: bool,
     script: Script,
     machine: Machine<K>,
-    /// That of the event before, which the next is written over.
+    /// The outcome of the event before, which the next is written over.
     outcome: Outcome,
     pub answers: Answers,
 }
@@ -60,7 +60,7 @@ impl<K: Keep> Player<K> {
         })
     }
 
-    /// The device.
+    /// The device that plays the script.
     pub fn machine(&self) -> &Machine<K>
         ensures { result.now ≡ self.now.machine }
     {
@@ -68,8 +68,8 @@ impl<K: Keep> Player<K> {
     }
 
     /// Does what a line says, and prints the response to a command, and traces where they are asked
-    /// for. What is written in hex or in words goes to `room`. Of a keep that can be refused memory
-    /// no effect is said.
+    /// for. What is written in hex or in words goes to `room`. Where memory can be refused, the
+    /// contract says no effect.
     #[tactic(auto, using(crate::proofs::Doing::unsaid_done))]
     pub fn line<W: Write, S: Saver>(
         &mut self,
@@ -109,7 +109,7 @@ impl<K: Keep> Player<K> {
         self.answers.flush(writer).map_err(|_| ScriptFault::Write)
     }
 
-    /// Does what was said.
+    /// Does what a line says.
     #[tactic(auto, using(crate::proofs::Doing::nothing_printed))]
     fn perform<W: Write, S: Saver>(
         &mut self,

@@ -1,5 +1,5 @@
-//! The memory to which a line's hex is decoded, or its words are assembled, taken once for all
-//! lines.
+//! The memory to which a line's hex is decoded, or the command of its words is assembled, taken
+//! once for all lines.
 
 ghost use Rattle.std.specs.Prelude.{◌≡◌, ◌≤◌, length, vec_len};
 ghost use Rattle.std.specs.Result.{result_ok};
@@ -11,10 +11,10 @@ use crate::line::{BadLine, decode};
 use std::alloc::{AllocError, Global};
 use tpm_text::{Draft, assemble_in};
 
-/// How many bytes a line can write in hex.
+/// How many bytes the hex of a line can write.
 const DECODED_LIMIT: usize = 32_768;
 
-/// Room for what a line writes, in hex or in words.
+/// Room for the bytes that a line writes, in hex or in words.
 #[derive(Drop)]
 pub struct Room {
     decoded: Vec<u8>,
@@ -31,8 +31,8 @@ impl Room {
         })
     }
 
-    /// The bytes that hex digits of either case write. It refuses other digits, and an odd number
-    /// of them.
+    /// The bytes that hex digits of either case write. Other digits, and an odd number of them, are
+    /// refused.
     pub fn decode(&mut self, digits: &[u8]) -> Result<&[u8], BadLine>
         requires { length digits.now ≤ 65536 }
         ensures { Tells (λ bytes. bytes.now) result (bytes_of digits.now) }
@@ -40,7 +40,7 @@ impl Room {
         decode(digits, &mut self.decoded)
     }
 
-    /// The command that words spell. It refuses words that spell none.
+    /// The command that words spell. Words that spell no command are refused.
     pub fn assemble(&mut self, words: &[u8]) -> Result<&[u8], BadLine>
         ensures { Tells (λ bytes. bytes.now) result (result_ok (assembled words.now)) }
     {

@@ -63,21 +63,21 @@ pub fn new_machine<K: Keep>(alloc: Global) -> Result<Machine<K>, NoMemory>
     Machine::manufacture(alloc, &first_bytes())
 }
 
-/// The bytes 00 to ff.
+/// The bytes 00 to ff, with which a new device of scripts is manufactured.
 fn first_bytes() -> [u8; 256]
     ensures { result ≡ script_bytes }
 {
     array::from_fn(|place| place as u8)
 }
 
-/// Runs the script that `reader` gives on a device, whose state is kept by `K`, and writes the
-/// response to each command to `writer`; with `trace` the trace of each command before its
-/// response, and that of each power cycle. The device is saved before a response goes out, where
-/// something changed that has to be saved; at each power cycle; and at the end, whatever that was.
-/// But for the keep memory is taken at the start alone. Whatever the fault, the lines before it
-/// were run, and their responses written, but for those that a `Write` or a `Save` fault cut off;
-/// where there are both, it is `Save`. Of a script of more than [`SCRIPT_LINES`] lines the first
-/// [`SCRIPT_LINES`] are run.
+/// Runs the script that `reader` gives on a device, whose state is a `K`, and writes the response
+/// to each command to `writer`; with `trace` the trace of each command before its response, and
+/// that of each power cycle. The device is saved before a response goes out, where something
+/// changed that has to be saved; at each power cycle; and at the end, whatever the end was. Memory
+/// is taken only at the start, but for that of the device's state. Whatever the fault, the lines
+/// before it were run, and their responses written, but for those that a `Write` or a `Save` fault
+/// cut off; where there are both, the fault is `Save`. Of a script of more than [`SCRIPT_LINES`]
+/// lines the first [`SCRIPT_LINES`] are run.
 pub fn run_device<K: Keep, S: Saver, R: Read, W: Write>(
     alloc: Global,
     machine: Machine<K>,
@@ -86,35 +86,35 @@ pub fn run_device<K: Keep, S: Saver, R: Read, W: Write>(
     writer: &mut Tap<W>,
     trace: bool,
 ) -> Result<(), ScriptFault>
-    // What is written is what the script prints, to its end or up to its first bad line. This is
-    // said of a keep that can never be refused memory.
+    // What is written is what the script prints, to its end or up to its first bad line, where
+    // memory can never be refused.
     ensures played { K.can_refuse ≡ false → Ran (Plays (R.remaining (device_of reader.old))
         (W.contents (device_of writer.old)) (W.contents (device_of writer.new))
         (at_first trace (state_of K.record_of machine)) 1) result }
 
-    // Where the reader failed, the whole lines of what it had given were played and written, and
-    // only the start of one more was not.
+    // Where the reader failed, the whole lines that it had given were played and written, and only
+    // the start of one more was not.
     ensures read { K.can_refuse ≡ false → OnUnread result (PlaysToFailure
         (R.remaining (device_of reader.old)) (R.remaining (device_of reader.new))
         (W.contents (device_of writer.old)) (W.contents (device_of writer.new))
         (at_first trace (state_of K.record_of machine))) }
 
-    // There are too many lines only where as many as a script may have were played and written, and
-    // one more is there.
+    // The fault of too many lines is answered only where as many as a script may have were played
+    // and written, and one more is there.
     ensures too_many { K.can_refuse ≡ false → OnTooMany result (PlaysAllAllowed
         (R.remaining (device_of reader.old)) (W.contents (device_of writer.old)) (W.contents (device_of writer.new))
         (at_first trace (state_of K.record_of machine))) }
 
-    // The saver was told the device at each line that was played, and at last where they ended;
-    // what was written is what these lines print, up to the first whose save failed.
+    // The saver was told the device at each line that was played, and at last where the lines
+    // ended; what was written is what these lines print, up to the first whose save failed.
     ensures kept { K.can_refuse ≡ false → KeepsDevice S.saves S.saves_change
         (R.remaining (device_of reader.old)) (R.remaining (device_of reader.new))
         (W.contents (device_of writer.old)) (W.contents (device_of writer.new)) (marks_of writer.new)
         (kept (at_first trace (state_of K.record_of machine)) saver.old) result
         (λ end. S.saves end.saver end.playing.device saver.new) }
 
-    // Read is answered only where the reader failed, Write only where the writer did, and Save only
-    // where the saver did.
+    // The fault Read is answered only where the reader failed, Write only where the writer did, and
+    // Save only where the saver did.
     ensures failed { AreTheirs result (marks_of reader.new) (marks_of writer.new)
         (S.has_failed saver.new) }
 
@@ -143,7 +143,7 @@ fn is_unsaved(outcome: Result<(), ScriptFault>) -> bool
     matches!(outcome, Err(ScriptFault::Save))
 }
 
-/// A script, and what plays it.
+/// A script, and its player.
 #[derive(Drop)]
 struct Run<K: Keep> {
     lines: Lines,

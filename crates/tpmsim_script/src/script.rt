@@ -24,7 +24,7 @@ pub struct Script {
 }
 
 impl Script {
-    /// Locality 0, no time, and random bytes that are all 0.
+    /// The start of a script: locality 0, no time waited, and random bytes that are all 0.
     pub fn new() -> Script
         ensures locality { locality_number result.locality ≡ 0 }
         ensures time { result.waited ≡ 0 }
@@ -54,7 +54,7 @@ impl Script {
         Ok(())
     }
 
-    /// Sets what the random bytes repeat: 1 to 256 bytes.
+    /// Sets the bytes, 1 to 256 of them, that the random bytes repeat.
     pub fn set_entropy(&mut self, entropy: &[u8]) -> Result<(), BadLine>
         ensures fits { IsOk result
             ↔ ((0 < length entropy.now) × (length entropy.now ≤ RANDOM_BYTES)) }
@@ -68,7 +68,7 @@ impl Script {
         Ok(())
     }
 
-    /// The event of this command, now.
+    /// The event of this command, with what the script has set, at this point of the script.
     pub fn command<'a>(&mut self, buffer: &'a [u8]) -> Event<'a>
         ensures event { result
             ≡ Event.Command buffer.entry self.old.locality self.old.waited self.old.random }
@@ -79,7 +79,7 @@ impl Script {
     }
 }
 
-/// 256 bytes: the given ones, over and over.
+/// The 256 random bytes that the given ones make, repeated.
 pub fn repeated(entropy: &[u8]) -> [u8; 256]
     requires { 0 < length entropy.now }
     ensures { result ≡ repeated entropy.now }

@@ -1,9 +1,9 @@
 #![tactic(auto)]
 
-//! What no clause says and no script under `tests/` shows of scripts and lines: readers and writers
-//! that fail, and that there is a buffer and a trace where there is memory.
+//! Tests of scripts and lines, for what no clause says and no script under `tests/` shows: readers
+//! and writers that fail, and that there is a buffer and a trace where there is memory.
 //!
-//! It stands on tpmsim_script and `tpm_text`, and nothing stands on it.
+//! The crate uses tpmsim_script and `tpm_text`, and no crate uses it.
 
 #[cfg(test)]
 mod comparison;

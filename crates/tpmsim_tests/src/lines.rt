@@ -1,4 +1,4 @@
-//! Commands in words, and traces.
+//! Tests of commands in words, and of traces.
 
 use std::alloc::Global;
 use std::process::Abort;

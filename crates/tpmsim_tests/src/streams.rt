@@ -1,4 +1,4 @@
-//! Readers, writers and savers that fail, or stop and go on.
+//! Tests with readers, writers and savers that fail, or stop and go on.
 
 ghost use Rattle.std.specs.Prelude.{◌≡◌, OnErr, true};
 
@@ -21,14 +21,14 @@ const SUCCESS: &[u8] = b"80010000000a00000000\n";
 
 const SUCCESS_AND_COMMAND_SIZE: &[u8] = b"80010000000a00000000\n80010000000a00000142\n";
 
-/// What a reader does at a call.
+/// What a reader does at one call.
 #[derive(Clone, Copy)]
 enum Turn {
     Gives(&'static [u8]),
     Fails,
 }
 
-/// Takes its turns, one a call, and then gives nothing.
+/// A reader that takes these turns, one at each call, and then gives nothing.
 #[derive(Drop)]
 struct Reader<'a> {
     turns: &'a [Turn],
@@ -51,7 +51,7 @@ impl Read for Reader<'_> {
     }
 }
 
-/// What a script came to, and what it wrote.
+/// The outcome of a script, and what it wrote.
 #[derive(Drop)]
 struct Told {
     outcome: Result<(), ScriptFault>,
@@ -90,7 +90,7 @@ fn a_reader_is_not_asked_again(rt: HostRuntime) -> Result<(), Fail> {
     run_over_both::<ReaderThatEnds, HostRuntime>(&rt, rt.alloc())
 }
 
-/// Takes at most `room` bytes, five at a time, and then fails.
+/// A writer that takes at most `room` bytes, five at a time, and then fails.
 #[derive(Drop)]
 struct Narrow {
     taken: Vec<u8>,
@@ -131,7 +131,7 @@ fn run_narrow<K: Keep>(alloc: Global, room: usize, flushes: bool) -> Told {
     Told { outcome, written }
 }
 
-/// Compares what came of a script, which wrote this many bytes from the front of its responses.
+/// Checks the outcome of a script, which wrote this many bytes from the front of its responses.
 fn check_told<R: Abort>(rt: &R, told: &Told, outcome: Result<(), ScriptFault>, written: usize) {
     check(rt, told.outcome, outcome);
     check(
@@ -199,7 +199,7 @@ impl Saver for Shelf {
     }
 }
 
-/// Runs a script on a device that such a saver keeps.
+/// Runs a script on a device that is kept by a saver with this room.
 fn run_saved<K: Keep>(alloc: Global, room: u32) -> Result<Told, Fail> {
     let machine: Machine<K> = new_machine(alloc)?;
     let is_full = false;

@@ -70,9 +70,9 @@ class Commands:
             nv.start_up(self.indices)
         if was_saved == Saved.STATE:
             self.restart_count = min(self.restart_count + 1, LAST_COUNT)
-        else:
-            self.reset(random)
-        return Answer()
+            return Answer()
+        self.reset(random)
+        return Answer(drawn=2 * SECRET_BYTES)
 
     def restore_pcrs(self):
         for algorithm, values in self.saved_banks.items():

@@ -19,12 +19,12 @@ impl<'a> Command<'a> {
     /// Reads a command that is the whole rest of the text, within the limit of a buffer: its
     /// header's first fault, INSUFFICIENT at the first handle that is cut, or AUTHSIZE.
     pub fn read(text: &mut Cursor<'a>) -> Result<Command<'a>, Rc>
-        // Which command or which fault it is.
+        // Says which command is read, or the first fault.
         ensures exact { Reads whole_of (command_at text.old) text.old result text.new }
-        // What is read was spelled so, all of it.
+        // A command is read only from a text that is its own as a whole.
         ensures found { IfOk result (λ command. IsCommand (whole_of command)
             × (text.old ≡ command_text (whole_of command)) × (text.new ≡ [])) }
-        // What is spelled so is read.
+        // Every text of a command is read as that command.
         ensures only { (command : Whole) → IsCommand command → text.old ≡ command_text command
             → Reads whole_of (Ok (command, [])) text.old result text.new }
     {
@@ -72,7 +72,8 @@ fn read_handles(text: &mut Cursor, count: usize) -> Result<ArrayVec<Handle, 3>, 
     Ok(handles)
 }
 
-/// Reads the entries of the authorization area, which is there where the tag says so.
+/// Reads the entries of the authorization area, which is there where the tag says that there are
+/// sessions.
 pub fn read_sessions<'a>(text: &mut Cursor<'a>, tag: Tag) -> Result<ArrayVec<AuthEntry<'a>, 3>, Rc>
     ensures { Reads (λ entries. map entry_of entries.items) (sessions_at tag text.old)
         text.old result text.new }

@@ -19,7 +19,7 @@ use tpm_bytes::{Full, Sink};
 use tpm_types::Handle;
 
 impl Command<'_> {
-    /// Whether the command has sessions.
+    /// The tag of the command: it has sessions where it has entries.
     pub fn tag(&self) -> Tag
         ensures { result ≡ tag_for (map entry_of self.now.entries.items) }
     {
@@ -30,7 +30,7 @@ impl Command<'_> {
         }
     }
 
-    /// How many bytes the command's text has, where it has one: commandSize.
+    /// How many bytes the command's text has, if the command has a text: commandSize.
     pub fn text_len(&self) -> Option<usize>
         ensures { SomeIff result (HasText (whole_of self.now)) (command_size (whole_of self.now)) }
     {
@@ -62,7 +62,7 @@ impl Command<'_> {
     }
 }
 
-/// How many bytes the entries' texts have, where each entry has one.
+/// How many bytes the entries' texts have, if each entry has a text.
 fn entries_len(entries: &[AuthEntry]) -> Option<usize>
     requires { length entries.now ≤ 3 }
     ensures value { SomeIff result (AllByRecursion HasSizes (map entry_of entries.now))
@@ -76,7 +76,7 @@ fn entries_len(entries: &[AuthEntry]) -> Option<usize>
     Some(bytes)
 }
 
-/// Writes the entries after the size of their area, which stands there only where entries do.
+/// How many bytes the authorization area's text has, which is there only where there are entries.
 fn sessions_len(entries: &[AuthEntry]) -> Option<usize>
     requires { length entries.now ≤ 3 }
     ensures value { SomeIff result (AllByRecursion HasSizes (map entry_of entries.now))

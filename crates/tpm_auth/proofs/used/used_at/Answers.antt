@@ -7,22 +7,22 @@ use Rattle.tpm_auth.proofs.used.used_at.Goals as goal
 
 pub returns-in-Some : goal.returns-in-Some
 returns-in-Some c r is =
-    let command = whole_of c.args.sent.command.now in
+    let command = whole_of c.args.sent.now.command.now in
     let place = c.args.place in
     let first = c.authorized.result.now in
     let lookup = c.in-Some.ensures.lookup in
     let name = c.get-in-Some.ensures.lookup in
     let here = slice_get_read first (length first) place c.in-Some.resolved.now refl lookup.3.0 lookup.1 in
-    used_in r command.handles c.args.sent.names.now c.args.sent.resolved.now (authorized_handles command.code) place (record {
+    used_in r command.handles c.args.sent.now.names.now c.args.sent.now.resolved.now (authorized_handles command.code) place (record {
       resolved = c.in-Some.resolved.now;
       name = c.get-in-Some.result;
     }) is.found is.named (ap (λ l. slice_get l place) (sym c.authorized.ensures) ∙ here) (name_read _ _ _ _ _ name.1 name.3)
 
 pub returns-in-None : goal.returns-in-None
 returns-in-None c r is =
-    let command = whole_of c.args.sent.command.now in
+    let command = whole_of c.args.sent.now.command.now in
     let place = c.args.place in
     let first = c.authorized.result.now in
     let lookup = c.in-None.ensures.lookup in
     let none = slice_get_past first place lookup.3 in
-    nothing_in r command.handles c.args.sent.resolved.now (authorized_handles command.code) place is.found (ap (λ l. slice_get l place) (sym c.authorized.ensures) ∙ none)
+    nothing_in r command.handles c.args.sent.now.resolved.now (authorized_handles command.code) place is.found (ap (λ l. slice_get l place) (sym c.authorized.ensures) ∙ none)

@@ -5,9 +5,9 @@ use Rattle.tpm_image.specs.NonVolatile.{kept_of}
 use Rattle.tpm_image.specs.declared.version.Version.TheVariants.{Two}
 use Rattle.tpm_image.proofs.image.save.Goals as goal
 
--- what went out is a front of the image, of which the head and the rest are the parts
+-- The part of the image that went out is its front: a part of the head, or the head and a part of
+-- the rest.
 pub returns-clause-cut_off : goal.returns-clause-cut_off
-unfolding image_text
 returns-clause-cut_off g c =
-    let same : c.as_slice-4.result.now ++ c.as_slice-5.result.now ≡ image_text Two (kept_of (g.K.Keep.record_of c.args.machine.now.keep)) = search rules in
+    let same : c.as_slice.result.now ++ c.as_slice-2.result.now ≡ image_text Two (kept_of (g.K.Keep.record_of c.args.machine.now.keep)) = search rules in
     subst (λ (l : List ℕ). OnErr c.send.result (AppendsFront (g.D.Write.contents (device_of c.args.tap.now)) (g.D.Write.contents (device_of c.send.new.tap)) l)) same c.send.ensures.cut_off

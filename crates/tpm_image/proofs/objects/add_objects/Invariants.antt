@@ -6,7 +6,7 @@ use Rattle.tpm_image.specs.Filling.{AllBelow}
 use Rattle.tpm_image.proofs.EntriesLaws.{entries_left}
 use Rattle.tpm_image.proofs.objects.add_objects.Given as goal
 
--- what is left to read, after the objects so far, is what there was to read
+-- The objects so far, and those that are left to be read, are all that there were to read.
 abbrev pub invariant-loop : goal.invariant-loop
 invariant-loop g l = record {
   joined : entries_left object_in l.count l.counter l.lowest (g.P.PersistentObjects.entries l.objects) l.text ≡ passing (ascend_from 0) (many_at object_in l.count) l.fn.text;

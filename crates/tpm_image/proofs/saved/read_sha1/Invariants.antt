@@ -3,7 +3,7 @@ use Rattle.tpm_image.specs.Body.{bank_in}
 use Rattle.tpm_image.proofs.BankLaws.{values_left}
 use Rattle.tpm_image.proofs.saved.read_sha1.Given as goal
 
--- what is left to read, after the values so far, is what there was to read
+-- The values so far, and those that are left to be read, are all that there were to read.
 abbrev pub invariant-loop-place : goal.invariant-loop-place
 invariant-loop-place l = record {
   joined : values_left 20 l.place l.values.sha1 l.ahead ≡ bank_in 20 l.fn.text;

@@ -2,7 +2,7 @@ use Rattle.std.proofs.Common.{◌≡◌, ◌≤◌, ◌+◌, ◌++◌, drop, len
 use Rattle.tpm_nv.specs.Head.{kept_bytes, total}
 use Rattle.tpm_nv.proofs.clear.keep_bytes.Given as goal
 
--- what is kept so far, and what is left, decide about the whole
+-- The bytes that are kept so far, and those of the indices that are left, make the whole.
 abbrev pub invariant-loop-head : goal.invariant-loop-head
 invariant-loop-head g l =
     (kept_bytes l.heads (g.R.Area.bytes l.initial.area) ≡ take l.kept (g.R.Area.bytes l.area) ++ kept_bytes (drop l.head-index l.heads) (drop l.start (g.R.Area.bytes l.area)))

@@ -29,6 +29,7 @@ returns g c =
     let tells = execution_tells can old event x executes in
     record {
       executes = executes;
+      drawn = done.ensures.drawn;
       history = tells.history;
       counters = tells.counters;
       pcrs = tells.pcrs;

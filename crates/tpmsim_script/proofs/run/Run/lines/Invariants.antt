@@ -9,8 +9,8 @@ use Rattle.tpmsim_script.specs.Keeping.{kept}
 use Rattle.tpmsim_script.proofs.Keeping.{SoFar}
 use Rattle.tpmsim_script.proofs.run.Run.lines.Given as goal
 
--- what is left to be played decides about the whole, and so far the device was kept, where no
--- memory can be refused
+-- The lines that are left to be played decide about the whole, and so far the device was kept,
+-- where no memory can be refused.
 abbrev pub invariant-loop-number : goal.invariant-loop-number
 invariant-loop-number g l =
     let remaining = g.R.Read.remaining in

@@ -6,7 +6,8 @@ use Rattle.tpmsim_script.specs.Lines.{Agrees, IsUnbroken, line_of, rest_of, text
 use Rattle.tpmsim_script.specs.Player.{playing_of}
 use Rattle.tpmsim_script.proofs.run.Run.next_line.Given as goal
 
--- what has come of the line and what is left are what was left, and nothing that was printed is lost
+-- The line so far, and what is left of the text, are what was left before, and nothing that was
+-- printed is lost.
 abbrev pub invariant-loop-self : goal.invariant-loop-self
 invariant-loop-self g l =
     record {

@@ -1,0 +1,297 @@
+/* A device of libtpms and one of libtpmsim in one process, which in_process.py measures. It reads
+ * lines:
+ *
+ *     use DEVICE                      which device the lines behind speak of
+ *     cmd HEX                         prints the response
+ *     power                           takes the power of the device and gives it back
+ *     time COUNT HEX..                executes these commands in turn, so many times
+ *     session COUNT HANDLE NONCE      executes TPM2_PCR_Reset so many times by this HMAC session
+ *     save|open|new|cycle COUNT       does that so many times with a device of libtpmsim
+ *
+ * DEVICE is tpms, sim, which is that of libtpmsim with fresh bytes for those that a command drew,
+ * or still, which is the same device with random bytes that stay. The last three kinds of lines
+ * print how many nanoseconds passed. A command that is refused ends the program. */
+#define _GNU_SOURCE
+#include "tpmsim.h"
+#include <libtpms/tpm_error.h>
+#include <libtpms/tpm_library.h>
+#include <libtpms/tpm_memory.h>
+#include <libtpms/tpm_nvfilename.h>
+#include <openssl/hmac.h>
+#include <openssl/sha.h>
+#include <stdio.h>
+#include <stdlib.h>
+#include <string.h>
+#include <sys/random.h>
+#include <time.h>
+
+enum { RANDOM_BYTES = 256, RESPONSE_BYTES = 4096, MOST_BUFFERS = 8, IMAGE_BYTES = 1 << 16 };
+enum target { TPMS, SIM, STILL } target;
+
+static void fail(const char *what) {
+    fprintf(stderr, "in_process: %s\n", what);
+    exit(1);
+}
+
+static uint64_t now(void) {
+    struct timespec told;
+    clock_gettime(CLOCK_MONOTONIC, &told);
+    return (uint64_t)told.tv_sec * 1000000000u + (uint64_t)told.tv_nsec;
+}
+
+/* What libtpms keeps: the state of each name, in memory. */
+static struct state {
+    char name[32];
+    unsigned char *bytes;
+    uint32_t size;
+} states[4];
+
+static struct state *state_of(const char *name) {
+    for (struct state *it = states; it < states + 4; it++)
+        if (!it->name[0] || strcmp(it->name, name) == 0) return it;
+    fail("libtpms keeps too many states");
+    return NULL;
+}
+
+static TPM_RESULT nothing(void) { return TPM_SUCCESS; }
+
+static TPM_RESULT load(unsigned char **bytes, uint32_t *size, uint32_t number, const char *name) {
+    (void)number;
+    struct state *state = state_of(name);
+    if (!state->bytes) return TPM_RETRY;
+    if (TPM_Malloc(bytes, state->size) != TPM_SUCCESS) return TPM_SIZE;
+    memcpy(*bytes, state->bytes, state->size);
+    *size = state->size;
+    return TPM_SUCCESS;
+}
+
+static TPM_RESULT store(const unsigned char *bytes, uint32_t size, uint32_t number,
+                        const char *name) {
+    (void)number;
+    struct state *state = state_of(name);
+    if (state->size != size) state->bytes = realloc(state->bytes, size);
+    if (!state->bytes) return TPM_SIZE;
+    snprintf(state->name, sizeof state->name, "%s", name);
+    memcpy(state->bytes, bytes, size);
+    state->size = size;
+    return TPM_SUCCESS;
+}
+
+static TPM_RESULT forget(uint32_t number, const char *name, TPM_BOOL must_exist) {
+    (void)number;
+    (void)must_exist;
+    struct state *state = state_of(name);
+    free(state->bytes);
+    state->bytes = NULL;
+    state->size = 0;
+    return TPM_SUCCESS;
+}
+
+static TPM_RESULT locality(TPM_MODIFIER_INDICATOR *told, uint32_t number) {
+    (void)number;
+    *told = 0;
+    return TPM_SUCCESS;
+}
+
+static TPM_RESULT presence(TPM_BOOL *told, uint32_t number) {
+    (void)number;
+    *told = FALSE;
+    return TPM_SUCCESS;
+}
+
+static void start_libtpms(void) {
+    static struct libtpms_callbacks callbacks = {
+        .sizeOfStruct = sizeof callbacks,
+        .tpm_nvram_init = nothing,
+        .tpm_nvram_loaddata = load,
+        .tpm_nvram_storedata = store,
+        .tpm_nvram_deletename = forget,
+        .tpm_io_init = nothing,
+        .tpm_io_getlocality = locality,
+        .tpm_io_getphysicalpresence = presence,
+    };
+    if (TPMLIB_ChooseTPMVersion(TPMLIB_TPM_VERSION_2) != TPM_SUCCESS ||
+        TPMLIB_RegisterCallbacks(&callbacks) != TPM_SUCCESS || TPMLIB_MainInit() != TPM_SUCCESS)
+        fail("libtpms does not start");
+}
+
+/* The device of libtpmsim, and what is handed to it. */
+static struct tpmsim device;
+static uint8_t random_bytes[RANDOM_BYTES], room[RESPONSE_BYTES];
+static uint64_t last_ms;
+
+static void renew(size_t count) {
+    if (getrandom(random_bytes, count, 0) != (ssize_t)count) fail("there are no random bytes");
+}
+
+/* The latest response. */
+static const unsigned char *response;
+static uint32_t response_size;
+
+/* At the first use of an algorithm libtpms tests itself, and wants the command once more. */
+static void execute_by_libtpms(unsigned char *buffer, uint32_t size) {
+    static unsigned char *kept;
+    static uint32_t kept_room;
+    do {
+        if (TPMLIB_Process(&kept, &response_size, &kept_room, buffer, size) != TPM_SUCCESS)
+            fail("libtpms does not answer");
+        response = kept;
+    } while (response_size >= 10 && memcmp(response + 6, "\0\0\x09\x22", 4) == 0);
+}
+
+static void execute(unsigned char *buffer, uint32_t size) {
+    if (target == TPMS) {
+        execute_by_libtpms(buffer, size);
+        return;
+    }
+    struct tpmsim_answered answered;
+    uint64_t ms = now() / 1000000;
+    if (tpmsim_execute(&device, buffer, size, 0, (uint32_t)(ms - last_ms), random_bytes, room,
+                       &answered) != TPMSIM_DONE)
+        fail("libtpmsim does not execute");
+    if (target == SIM && answered.drawn) renew(answered.drawn);
+    last_ms = ms;
+    response = room;
+    response_size = (uint32_t)answered.size;
+}
+
+static void check_success(void) {
+    if (response_size >= 10 && memcmp(response + 6, "\0\0\0\0", 4) == 0) return;
+    fprintf(stderr, "device %d answers %02x%02x\n", (int)target, response[8], response[9]);
+    fail("a command is refused");
+}
+
+static uint32_t read_hex(const char *hex, unsigned char *bytes) {
+    uint32_t size = 0;
+    for (unsigned byte; sscanf(hex, "%2x", &byte) == 1; hex += 2) bytes[size++] = (uint8_t)byte;
+    return size;
+}
+
+static void print_response(void) {
+    for (uint32_t i = 0; i < response_size; i++) printf("%02x", response[i]);
+    putchar('\n');
+}
+
+static void time_commands(char *words) {
+    static unsigned char buffers[MOST_BUFFERS][RESPONSE_BYTES];
+    uint32_t sizes[MOST_BUFFERS], count = 0;
+    char *rest, *word = strtok_r(words, " ", &rest);
+    long times = atol(word);
+    while ((word = strtok_r(NULL, " ", &rest)) && count < MOST_BUFFERS) {
+        sizes[count] = read_hex(word, buffers[count]);
+        count++;
+    }
+    uint64_t begun = now();
+    for (long i = 0; i < times; i++)
+        for (uint32_t it = 0; it < count; it++) {
+            execute(buffers[it], sizes[it]);
+            check_success();
+        }
+    printf("%llu\n", (unsigned long long)(now() - begun));
+}
+
+/* TPM2_PCR_Reset of PCR 16, with an entry of an HMAC session with nonces of 16 bytes, whose key is
+ * empty. The time that the caller takes for its HMAC does not count. */
+enum { RESET_BYTES = 75, NONCE = 16, CALLER_NONCE_AT = 24, HMAC_AT = 43, TPM_NONCE_AT = 16 };
+
+static void authorize(unsigned char *buffer, const unsigned char *tpm_nonce) {
+    unsigned char text[65];
+    SHA256((const unsigned char *)"\0\0\1\x3d\0\0\0\x10", 8, text);
+    memcpy(text + 32, buffer + CALLER_NONCE_AT, NONCE);
+    memcpy(text + 48, tpm_nonce, NONCE);
+    text[64] = 1;
+    HMAC(EVP_sha256(), "", 0, text, sizeof text, buffer + HMAC_AT, NULL);
+}
+
+static void time_session(char *words) {
+    unsigned char buffer[RESET_BYTES] = {0x80, 2, 0, 0, 0,  RESET_BYTES, 0, 0, 1,
+                                         0x3d, 0, 0, 0, 16, 0,           0, 0, 57};
+    char *rest, *word = strtok_r(words, " ", &rest);
+    long times = atol(word);
+    unsigned char tpm_nonce[NONCE];
+    read_hex(strtok_r(NULL, " ", &rest), buffer + 18);
+    read_hex(strtok_r(NULL, " ", &rest), tpm_nonce);
+    buffer[23] = NONCE;
+    buffer[40] = 1;
+    buffer[42] = 32;
+    uint64_t passed = 0;
+    for (long i = 0; i < times; i++) {
+        memcpy(buffer + CALLER_NONCE_AT, &i, sizeof i);
+        authorize(buffer, tpm_nonce);
+        uint64_t begun = now();
+        execute(buffer, RESET_BYTES);
+        passed += now() - begun;
+        check_success();
+        memcpy(tpm_nonce, response + TPM_NONCE_AT, NONCE);
+    }
+    printf("%llu\n", (unsigned long long)passed);
+}
+
+static void cycle_power(void) {
+    if (target != TPMS) {
+        tpmsim_power_cycle(&device);
+        return;
+    }
+    TPMLIB_Terminate();
+    if (TPMLIB_MainInit() != TPM_SUCCESS) fail("libtpms does not start again");
+}
+
+/* Times a call of libtpmsim that is no command. */
+static void time_call(const char *call, long times) {
+    static uint8_t image[IMAGE_BYTES];
+    struct tpmsim other = {0};
+    size_t size = tpmsim_save(&device, image, IMAGE_BYTES);
+    uint64_t begun = now();
+    for (long i = 0; i < times; i++) {
+        uint8_t told = 0;
+        if (strcmp(call, "save") == 0)
+            size = tpmsim_save(&device, image, IMAGE_BYTES);
+        else if (strcmp(call, "open") == 0)
+            told = tpmsim_open(&other, image, size);
+        else if (strcmp(call, "new") == 0)
+            told = tpmsim_manufacture(&other, random_bytes);
+        else
+            told = i ? tpmsim_power_cycle(&other) : tpmsim_open(&other, image, size);
+        if (told != TPMSIM_DONE || size > IMAGE_BYTES) fail("a call is refused");
+    }
+    printf("%llu\n", (unsigned long long)(now() - begun));
+    tpmsim_free(&other);
+}
+
+static void follow(char *line) {
+    static unsigned char buffer[RESPONSE_BYTES];
+    char *rest = strchr(line, ' ');
+    if (rest) *rest++ = '\0';
+    if (strcmp(line, "use") == 0)
+        target = strcmp(rest, "tpms") == 0 ? TPMS : strcmp(rest, "sim") == 0 ? SIM : STILL;
+    else if (strcmp(line, "cmd") == 0) {
+        execute(buffer, read_hex(rest, buffer));
+        print_response();
+    } else if (strcmp(line, "power") == 0)
+        cycle_power();
+    else if (strcmp(line, "time") == 0)
+        time_commands(rest);
+    else if (strcmp(line, "session") == 0)
+        time_session(rest);
+    else
+        time_call(line, atol(rest));
+    fflush(stdout);
+}
+
+int main(void) {
+    char *line = NULL;
+    size_t line_room = 0;
+    start_libtpms();
+    renew(RANDOM_BYTES);
+    if (tpmsim_manufacture(&device, random_bytes) != TPMSIM_DONE) fail("no device is made");
+    renew(RANDOM_BYTES);
+    last_ms = now() / 1000000;
+    while (getline(&line, &line_room, stdin) >= 0) {
+        line[strcspn(line, "\n")] = '\0';
+        follow(line);
+    }
+    free(line);
+    tpmsim_free(&device);
+    TPMLIB_Terminate();
+    return 0;
+}

@@ -1,0 +1,206 @@
+"""Measures libtpmsim beside libtpms, both in one process, and prints a table:
+
+    python3 in_process.py PROGRAM [ROUNDS]
+
+PROGRAM is made of in_process.c. In each round every row is measured with each device in turn. A
+figure is the median of the rounds, in microseconds; the least is in brackets.
+"""
+
+import pathlib
+import statistics
+import subprocess
+import sys
+from dataclasses import dataclass, field
+
+TOP = pathlib.Path(__file__).resolve().parent.parent
+sys.path.append(str(TOP / "tests" / "outside" / "device"))
+
+import lines
+
+ROUNDS = 15
+TARGETS = "tpms", "sim", "still"
+SUCCESS = "00000000"
+
+STORAGE_KEY = "0025000b0003047200000006008000430000"
+HMAC_KEY = "0008000b0004005200000005000b0000"
+SEALED = "0008000b00000052000000100000"
+SECRET, DATA, LARGE = "5a" * 32, "22" * 64, "33" * 1024
+SESSION = f"StartAuthSession NULL NULL {'00' * 16} - {{}} null sha256"
+BY_SESSION = "PCR_Reset by an HMAC session"
+PARENT, KEY, LOADED = "80000000", "80000001", "80000002"
+
+# TPM2_PCR_Allocate of the banks of SHA-1 and SHA-256 and of no other, which are those of libtpmsim.
+BANKS = "00000004000403ffffff000b03ffffff000c03000000000d03000000"
+ALLOCATE = f"8002000000370000012b4000000c00000009400000090000000000{BANKS}"
+
+PREPARED = [
+    "Startup 0",
+    "NV_DefineSpace OWNER pw:- - 01000000000b0002000200000040",
+    f"NV_Write OWNER 01000000 pw:- {DATA} 0",
+    f"CreatePrimary OWNER pw:- 00000000 {STORAGE_KEY} - -",
+]
+CREATE = f"Create {PARENT} pw:- 00000020{SECRET} {{}} - -"
+
+
+def hex_of(words: str) -> str:
+    return lines.assemble(words.encode("ascii")).hex()
+
+
+class Program:
+    """The program that has both devices."""
+
+    def __init__(self, path: str) -> None:
+        process = subprocess.Popen(
+            [path], stdin=subprocess.PIPE, stdout=subprocess.PIPE, text=True
+        )
+        assert process.stdin and process.stdout
+        self.lines, self.answers = process.stdin, process.stdout
+
+    def tell(self, line: str) -> None:
+        self.lines.write(line + "\n")
+        self.lines.flush()
+
+    def ask(self, line: str) -> str:
+        self.tell(line)
+        answer = self.answers.readline().strip()
+        if not answer:
+            sys.exit(f"no answer to {line[:100]}")
+        return answer
+
+    def command(self, buffer: str) -> str:
+        """The response to a command, which has to be a success."""
+        response = self.ask(f"cmd {buffer}")
+        if response[12:20] != SUCCESS:
+            sys.exit(f"{buffer[:100]} is answered {response[:20]}")
+        return response
+
+    def created(self, public: str) -> str:
+        """The areas of a new object, as TPM2_Load wants them."""
+        response = self.command(hex_of(CREATE.format(public)))[28:]
+        end = 4
+        for _ in range(2):
+            end += 2 * int(response[end - 4 : end], 16) + 4
+        return response[: end - 4]
+
+    def load(self, areas: str) -> str:
+        """A command that loads an object under the storage key."""
+        size = 10 + 4 + 4 + 9 + len(areas) // 2
+        return f"8002{size:08x}00000157{PARENT}00000009400000090000000000{areas}"
+
+
+@dataclass
+class Row:
+    """What is measured: its name, how often in a round, for each device the line that does it, and
+    as how many of what the name says that counts.
+    """
+
+    name: str
+    count: int
+    tells: dict[str, str]
+    times_each: int = 1
+    times: dict[str, list[float]] = field(default_factory=lambda: {it: [] for it in TARGETS})
+
+    def measure(self, program: Program, target: str) -> None:
+        program.tell(f"use {target}")
+        verb, _, rest = self.tells[target].partition(" ")
+        nanoseconds = int(program.ask(f"{verb} {self.count} {rest}"))
+        self.times[target].append(nanoseconds / self.count / self.times_each / 1000)
+
+    def forget(self) -> None:
+        for times in self.times.values():
+            times.clear()
+
+    def line(self) -> str:
+        cells = [f"{statistics.median(it):.2f} ({min(it):.2f})" for it in self.times.values()]
+        return f"| {self.name} | {' | '.join(cells)} | {self.ratio():.2f} |"
+
+    def ratio(self) -> float:
+        tpms, sim = (statistics.median(self.times[it]) for it in ("tpms", "sim"))
+        return tpms / sim
+
+
+def in_words(name: str, count: int, *commands: str, times_each: int = 1) -> Row:
+    words = "time " + " ".join(hex_of(it) for it in commands)
+    return Row(name, count, {it: words for it in TARGETS}, times_each)
+
+
+def prepare(program: Program, target: str) -> str:
+    """Makes what the rows need, and the line that seals, which is another for each device."""
+    program.tell(f"use {target}")
+    for words in PREPARED:
+        program.command(hex_of(words))
+    program.command(program.load(program.created(HMAC_KEY)))
+    load = program.load(program.created(SEALED))
+    flush, unseal = hex_of(f"FlushContext 0x{LOADED}"), hex_of(f"Unseal {LOADED} pw:-")
+    return f"time {hex_of(CREATE.format(SEALED))} {load} {unseal} {flush}"
+
+
+def rows(seals: dict[str, str]) -> list[Row]:
+    writes = [f"NV_Write OWNER 01000000 pw:- {it * 64} 0" for it in ("22", "44")]
+    read = "PCR_Read sha256:0,1,2,3,4,5,6,7"
+    policy = [SESSION.format(1), "PolicyPCR 03000000 - sha256:0,1,2,3", "FlushContext 0x03000000"]
+    return [
+        in_words("GetRandom of 32 bytes", 2000, "GetRandom 32"),
+        in_words("PCR_Read of eight", 2000, read),
+        in_words("PCR_Extend of one bank", 2000, f"PCR_Extend 00000010 pw:- sha256:{SECRET}"),
+        in_words("PCR_Event of 1,024 bytes", 500, f"PCR_Event 00000010 pw:- {LARGE}"),
+        in_words("NV_Read of 64 bytes", 2000, "NV_Read OWNER 01000000 pw:- 64 0"),
+        in_words("NV_Write of 64 bytes", 500, *writes, times_each=2),
+        in_words("HMAC of 1,024 bytes", 500, f"HMAC {KEY} pw:- {LARGE} sha256"),
+        Row(BY_SESSION, 500, {}),
+        in_words("StartAuthSession, PolicyPCR and FlushContext", 500, *policy),
+        Row("Create, Load, Unseal and FlushContext", 200, seals),
+    ]
+
+
+def next_session(program: Program, target: str) -> str:
+    """The line of a new HMAC session, whose nonce is known."""
+    program.tell(f"use {target}")
+    session = program.command(hex_of(SESSION.format(0)))
+    return f"session {session[20:28]} {session[32:64]}"
+
+
+def measure(program: Program, row: Row, target: str) -> None:
+    """Measures a row once. One by an HMAC session has a new one each time."""
+    if row.name != BY_SESSION:
+        row.measure(program, target)
+        return
+    row.tells[target] = next_session(program, target)
+    row.measure(program, target)
+    program.command(hex_of(f"FlushContext 0x{row.tells[target].split(' ')[1]}"))
+
+
+def print_calls(program: Program, rounds: int) -> None:
+    program.tell("use still")
+    for call, count in ("save", 500), ("open", 500), ("new", 500), ("cycle", 2000):
+        times = [int(program.ask(f"{call} {count}")) / count / 1000 for _ in range(rounds)]
+        print(f"{call}: {statistics.median(times):.2f} ({min(times):.2f})")
+
+
+def main() -> None:
+    program = Program(sys.argv[1])
+    rounds = int(sys.argv[2]) if len(sys.argv) > 2 else ROUNDS
+    program.tell("use tpms")
+    for buffer in hex_of("Startup 0"), ALLOCATE, hex_of("Shutdown 0"):
+        program.command(buffer)
+    program.tell("power")
+    seals = {it: prepare(program, it) for it in ("tpms", "sim")}
+    table = rows({**seals, "still": seals["sim"]})
+    for number in range(rounds + 1):
+        for row in table:
+            for target in TARGETS:
+                measure(program, row, target)
+        # In the first round libtpms still tests itself.
+        if number == 0:
+            for row in table:
+                row.forget()
+    print("| commands | libtpms | libtpmsim | with random bytes that stay | ratio |")
+    print("|---|---|---|---|---|")
+    for row in table:
+        print(row.line())
+    mean = statistics.geometric_mean(row.ratio() for row in table)
+    print(f"geometric mean of the ratios: {mean:.2f}")
+    print_calls(program, rounds)
+
+
+main()

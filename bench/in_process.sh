@@ -1,0 +1,31 @@
+#!/bin/sh
+# Measures the library beside libtpms, both in one process: ten rows of commands, with their ratios;
+# what save, open, a new device and a power cycle take; and how much stack and memory the calls
+# take. Needs python3, a C compiler, Debian's libtpms-dev and libssl-dev, and the library in dist/.
+# in_process.c has the devices, in_process.py measures. Not part of the gate.
+#
+#   bench/in_process.sh [ROUNDS]
+set -eu
+
+top=$(CDPATH='' cd "$(dirname "$0")/.." && pwd -P)
+dist=${DIST:-$top/dist}
+folder=$(mktemp -d)
+trap 'rm -rf "$folder"' EXIT
+export PYTHONPATH="$top/tests/outside/device" PYTHONDONTWRITEBYTECODE=1
+
+# compile CALLER SOURCE WORDS..: compiles a caller over the archive.
+compile() {
+    caller=$folder/$1
+    source=$2
+    shift 2
+    cc -std=c11 -O2 -Wall -Wextra -Werror -I"$dist" -o "$caller" "$source" "$dist/libtpmsim.a" "$@"
+}
+
+compile in_process "$top/bench/in_process.c" -ltpms -lcrypto
+compile stack "$top/tests/library/stack.c" -pthread
+compile devices "$top/tests/library/devices.c"
+
+python3 "$top/bench/in_process.py" "$folder/in_process" "$@"
+python3 "$top/tests/library/scripts.py" --figures "$top/tests" "$folder/stack"
+"$folder/devices" 1000 figures
+wc -c "$dist/libtpmsim.a" "$dist/libtpmsim.so.0"

@@ -1,0 +1,4 @@
+pub mod Held
+pub mod State
+pub mod Told
+pub mod Version

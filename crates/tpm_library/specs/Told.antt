@@ -1,0 +1,32 @@
+-- The numbers that calls answer.
+use Rattle.std.specs.Prelude.{◌≡◌, ℕ, Option, Some, Result, Ok, Err}
+use Rattle.tpm_image.specs.declared.fault.ImageFault.{ImageFault}
+use Rattle.tpm_image.specs.declared.fault.ImageFault.TheVariants as fault
+use Rattle.tpm_library.specs.declared.device.Device.{Device}
+
+abbrev pub done : ℕ
+done = 0
+
+abbrev pub no_device : ℕ
+no_device = 1
+
+abbrev pub no_locality : ℕ
+no_locality = 2
+
+abbrev pub no_memory : ℕ
+no_memory = 3
+
+-- why a device is not opened
+abbrev pub fault_number : ImageFault → ℕ
+fault_number fault.Short = 4
+fault_number fault.Magic = 5
+fault_number fault.Version = 6
+fault_number fault.Length = 7
+fault_number fault.Digest = 8
+fault_number fault.Body = 9
+fault_number fault.NoMemory = no_memory
+
+-- What was opened is told by its number: a holder has the device, or what it had before.
+abbrev pub Tells : Result Device ImageFault → (old new : Option Device) → (told : ℕ) → Type 0
+Tells (Ok device) old new told = (told ≡ done) × (new ≡ Some device)
+Tells (Err fault) old new told = (told ≡ fault_number fault) × (new ≡ old)

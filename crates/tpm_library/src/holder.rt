@@ -1,0 +1,82 @@
+//! What C holds of a device: one pointer.
+
+ghost use Rattle.std.specs.Prelude.{◌≡◌};
+ghost use Rattle.std.specs.Option.{MatchOption};
+ghost use Rattle.std.specs.declared.option.Option.{Option};
+ghost use Rattle.std.specs.declared.option.Option.TheVariants.{None, Some};
+ghost use Rattle.tpm_library.specs.Held.{held};
+ghost use Rattle.tpm_library.specs.contracts.device.Device.{the_row as device_row};
+ghost use Rattle.tpm_library.specs.declared.device.Device.{Device};
+
+use crate::device::Device;
+use std::alloc::Global;
+use std::marker::Model;
+use std::mem;
+
+/// What C holds of a device: a pointer to the box of it, which the holder owns; or null, and no
+/// device. C sees one pointer, since an allocator has no bytes.
+#[repr(C)]
+#[derive(Drop)]
+pub struct Holder {
+    at: *mut u8,
+    alloc: Global,
+    ghost device: { Option Device },
+}
+
+impl Model for Holder {
+    ghost also_owns = { λ h. held device_row h.alloc h.at h.device };
+}
+
+impl Holder {
+    /// A holder with no device.
+    pub fn empty(alloc: Global) -> Holder
+        ensures { result.device ≡ None }
+    {
+        Holder {
+            at: std::ptr::null_mut(),
+            alloc,
+        }
+    }
+
+    /// A holder with this device.
+    pub fn of(device: Box<Device>) -> Holder
+        ensures { result.device ≡ Some device.value }
+    {
+        let (at, alloc) = Box::into_raw_with_allocator(device);
+        Holder {
+            at: at as *mut u8,
+            alloc,
+        }
+    }
+
+    /// The device, if there is one.
+    pub fn into_box(self) -> Option<Box<Device>>
+        ensures { MatchOption result (self.device ≡ None) (λ b. self.device ≡ Some b.value) }
+    {
+        let Holder { at, alloc } = self;
+        if at.is_null() {
+            None
+        } else {
+            Some(unsafe { Box::from_raw(alloc, at as *mut Device) })
+        }
+    }
+
+    /// Takes the device out, if there is one. There is none left.
+    pub fn take(&mut self, alloc: Global) -> Option<Box<Device>>
+        ensures taken { MatchOption result (self.old.device ≡ None)
+            (λ b. self.old.device ≡ Some b.value) }
+        ensures left { self.new.device ≡ None }
+    {
+        mem::replace(self, Holder::empty(alloc)).into_box()
+    }
+
+    /// Puts a device in. What was there is freed.
+    pub fn put(&mut self, device: Box<Device>)
+        ensures { self.new.device ≡ Some device.value }
+    {
+        let _before = mem::replace(self, Holder::of(device)).into_box();
+    }
+}
+
+/// The device may be used and freed in another thread than the one that made it.
+unsafe impl Send for Holder {}

@@ -1,0 +1,127 @@
+#![tactic(auto)]
+
+//! libtpmsim: the calls of tpm_library under the names that C links. Each export calls the function
+//! of its name and states its clauses again. An allocator has no bytes, so C passes nothing for it.
+//! `library/tpmsim.h` declares them for C, and says what a caller owes.
+
+ghost use Rattle.std.specs.Prelude.{◌≡◌, ◌≢◌, ◌<◌, ◌∷◌, [], drop, false, true};
+ghost use Rattle.std.specs.Option.{MatchOption};
+ghost use Rattle.std.specs.declared.option.Option.TheVariants.{None, Some};
+ghost use Rattle.std.specs.declared.result.Result.{Result};
+ghost use Rattle.tpm_history.specs.Follows.{After, Follows};
+ghost use Rattle.tpm_history.specs.History.{History, PowerCycled};
+ghost use Rattle.tpm_image.specs.Image.{IsImage, image_text};
+ghost use Rattle.tpm_image.specs.NonVolatile.{kept_of};
+ghost use Rattle.tpm_image.specs.Opening.{Opens};
+ghost use Rattle.tpm_image.specs.Saving.{PutsFront};
+ghost use Rattle.tpm_image.specs.declared.fault.ImageFault.{ImageFault as Fault};
+ghost use Rattle.tpm_image.specs.declared.version.Version.{Version};
+ghost use Rattle.tpm_image.specs.declared.version.Version.TheVariants.{Two};
+ghost use Rattle.tpm_machine.specs.Drawn.{drawn_by};
+ghost use Rattle.tpm_record.specs.IsRecord.{IsRecord};
+ghost use Rattle.tpm_record.specs.Record.{Record, manufactured};
+ghost use Rattle.tpm_step.specs.Events.{Cycled, Given};
+ghost use Rattle.tpm_step.specs.Execution.{Executes};
+ghost use Rattle.tpm_library.specs.State.{command_seen, cycle_seen, record_of};
+ghost use Rattle.tpm_library.specs.Told.{Tells, done, no_device, no_locality, no_memory};
+ghost use Rattle.tpm_library.specs.Version.{version_number};
+ghost use Rattle.tpm_library.specs.declared.device.Device.{Device};
+
+use std::alloc::Global;
+use tpm_library::{Answered, Holder};
+
+/// The version, with 256 times the number behind the first point, and 65,536 times that before it.
+#[unsafe(no_mangle)]
+pub extern "C" fn tpmsim_version() -> u32
+    ensures { result ≡ version_number 0 1 0 }
+{
+    tpm_library::version()
+}
+
+/// Makes a new device of 256 random bytes, in place of the holder's own.
+#[unsafe(no_mangle)]
+pub extern "C" fn tpmsim_manufacture(alloc: Global, holder: &mut Holder, random: &[u8; 256]) -> u8
+    ensures made { result ≡ done → (device : Device) × (holder.new.device ≡ Some device)
+        × (record_of device ≡ manufactured random.now) × Follows (record_of device) [] }
+    ensures refused { result ≢ done
+        → (result ≡ no_memory) × (holder.new.device ≡ holder.old.device) }
+{
+    tpm_library::manufacture(alloc, holder, random)
+}
+
+/// Executes a command.
+#[unsafe(no_mangle)]
+pub extern "C" fn tpmsim_execute(
+    alloc: Global,
+    holder: &mut Holder,
+    buffer: &[u8],
+    locality: u8,
+    elapsed_ms: u32,
+    random: &[u8; 256],
+    response: &mut [u8; 4096],
+    answered: &mut Answered,
+) -> u8
+    ensures executes { result ≡ done → (before : Device) × (after : Device)
+        × (holder.old.device ≡ Some before) × (holder.new.device ≡ Some after)
+        × Executes false (record_of before) (Given buffer.now locality elapsed_ms random.now)
+        (command_seen response.new answered.new after)
+        × After Follows (record_of before) (Given buffer.now locality elapsed_ms random.now)
+        (command_seen response.new answered.new after)
+        × (answered.new.drawn ≡ drawn_by (record_of before)
+        (Given buffer.now locality elapsed_ms random.now) answered.new.check) }
+    ensures rest { result ≡ done
+        → drop answered.new.size response.new ≡ drop answered.new.size response.old }
+    ensures refused { result ≢ done → (holder.new.device ≡ holder.old.device)
+        × (response.new ≡ response.old) × (answered.new ≡ answered.old) }
+    ensures told { result ≢ done → result ≢ no_locality
+        → (result ≡ no_device) × (holder.old.device ≡ None) }
+    ensures locality { result ≡ no_locality → 4 < locality }
+{
+    tpm_library::execute(
+        alloc, holder, buffer, locality, elapsed_ms, random, response, answered,
+    )
+}
+
+/// Takes power away and gives it back.
+#[unsafe(no_mangle)]
+pub extern "C" fn tpmsim_power_cycle(alloc: Global, holder: &mut Holder) -> u8
+    ensures executes { MatchOption holder.old.device (holder.new.device ≡ None) (λ before.
+        (after : Device) × (holder.new.device ≡ Some after)
+        × Executes false (record_of before) Cycled (cycle_seen after)
+        × After Follows (record_of before) Cycled (cycle_seen after)) }
+    ensures told { MatchOption holder.old.device (result ≡ no_device) (λ before. result ≡ done) }
+{
+    tpm_library::power_cycle(alloc, holder)
+}
+
+/// Writes the image of the device to a room, if that has as many bytes.
+#[unsafe(no_mangle)]
+pub extern "C" fn tpmsim_save(alloc: Global, holder: &mut Holder, room: &mut [u8]) -> usize
+    ensures saved { MatchOption holder.old.device ((result ≡ 0) × (room.new ≡ room.old))
+        (λ device. PutsFront (image_text Two (kept_of (record_of device))) room.old result
+        room.new) }
+    ensures kept { holder.new.device ≡ holder.old.device }
+{
+    tpm_library::save(alloc, holder, room)
+}
+
+/// Opens a device from its image, in place of the holder's own.
+#[unsafe(no_mangle)]
+pub extern "C" fn tpmsim_open(alloc: Global, holder: &mut Holder, image: &[u8]) -> u8
+    ensures opens { (opened : Result Device Fault) × Opens record_of true image.now opened
+        × Tells opened holder.old.device holder.new.device result }
+    ensures history { result ≡ done → (version : Version) (r : Record) (history : History)
+        → IsRecord r → Follows r history → IsImage version (kept_of r) image.now
+        → (device : Device) × (holder.new.device ≡ Some device)
+        × Follows (record_of device) (PowerCycled ∷ history) }
+{
+    tpm_library::open(alloc, holder, image)
+}
+
+/// Frees the device, if there is one.
+#[unsafe(no_mangle)]
+pub extern "C" fn tpmsim_free(alloc: Global, holder: &mut Holder)
+    ensures { holder.new.device ≡ None }
+{
+    tpm_library::free(alloc, holder);
+}

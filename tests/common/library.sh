@@ -1,0 +1,16 @@
+# What the tests of the library share. Each is given the archive, beside which stand the shared
+# object and the header, and reads this file behind cases.sh.
+# shellcheck shell=sh disable=SC2034,SC2154 # cases.sh has `program` and `room`
+dist=$(dirname "$(readlink -f "$program")")
+archive=$dist/libtpmsim.a
+shared=$dist/libtpmsim.so.0
+sources=$tests/library
+sanitizers='-g -fsanitize=address,undefined -fno-sanitize-recover=all'
+
+# compile CALLER SOURCE WORDS..: compiles a caller in C, for which each warning is an error.
+compile() {
+    caller=$room/$1
+    source=$sources/$2.c
+    shift 2
+    cc -std=c11 -O1 -Wall -Wextra -Werror -I"$dist" -pthread -o "$caller" "$source" "$@" || exit 1
+}

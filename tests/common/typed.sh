@@ -1,0 +1,35 @@
+# What the tests share that type the lines of a page: they read it behind cases.sh, which gives
+# `room`.
+# shellcheck shell=sh disable=SC2154 # cases.sh has `room`
+
+# type_lines PAGE: types the lines of a page that are to be typed: each prints what stands below it
+# there. A line begins with `$ `; the lines with `> ` after it belong to it. It says how many there
+# are.
+type_lines() {
+    # N.typed is the line number N, and N.wanted what it is to print.
+    awk -v room="$room" '
+        /^```/ { shown = !shown; typed = ""; next }
+        !shown { next }
+        /^\$ / {
+            typed = room "/" ++lines
+            print substr($0, 3) >(typed ".typed")
+            printf "" >(typed ".wanted")
+            next
+        }
+        typed == "" { next }
+        /^> / { print substr($0, 3) >(typed ".typed"); next }
+        { print >(typed ".wanted") }
+    ' "$1"
+
+    lines=0
+    wrong=0
+    while [ -e "$room/$((lines + 1)).typed" ]; do
+        lines=$((lines + 1))
+        timeout 60 sh "$room/$lines.typed" >"$room/output" 2>&1 </dev/null
+        cmp -s "$room/$lines.wanted" "$room/output" && continue
+        wrong=$((wrong + 1))
+        printf 'wrong: %s\n' "$(head -n 1 "$room/$lines.typed")"
+        diff "$room/$lines.wanted" "$room/output"
+    done
+    echo "$lines lines typed, $wrong wrong"
+}

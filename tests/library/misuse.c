@@ -1,0 +1,191 @@
+/* Each misuse of the library that has a result, and what it is: one line each. The first argument
+ * is a file with an image whose digest is right, and whose body is none. Linked with --wrap for
+ * malloc and realloc, so that it counts the calls that take memory, and refuses one of them. */
+#include "common.h"
+
+void *__real_malloc(size_t size);
+void *__real_realloc(void *memory, size_t size);
+void *__wrap_malloc(size_t size);
+void *__wrap_realloc(void *memory, size_t size);
+
+/* How often memory was asked for, and the number of the call that is refused, 0 for none. */
+static unsigned asked, refused;
+
+static int is_refused(void) {
+    asked++;
+    return asked == refused;
+}
+
+void *__wrap_malloc(size_t size) { return is_refused() ? NULL : __real_malloc(size); }
+
+void *__wrap_realloc(void *memory, size_t size) {
+    return is_refused() ? NULL : __real_realloc(memory, size);
+}
+
+static uint8_t random_bytes[RANDOM_BYTES], response[RESPONSE_BYTES];
+
+/* The room for images, and two images: that of the device before a call and behind it. */
+enum { ROOM = 4096 };
+static uint8_t image[ROOM], before[ROOM], behind[ROOM];
+
+/* The image of the tests' device, from its head on, and how many bytes it has. */
+static size_t image_size;
+
+/* A call that is refused leaves the holder's device as it was: its image says so, and so does the
+ * pointer, which a caller must not look at, but a test may. */
+static void *kept_pointer;
+
+static void keep(struct tpmsim *device) {
+    kept_pointer = device->private_;
+    must(tpmsim_save(device, before, ROOM) == image_size, "the image has another size");
+}
+
+static const char *as_it_was(struct tpmsim *device) {
+    must(device->private_ == kept_pointer, "the holder has another device");
+    must(tpmsim_save(device, behind, ROOM) == image_size, "the image has another size");
+    must(memcmp(before, behind, image_size) == 0, "the device is another one");
+    return "the device is as it was";
+}
+
+/* Executes GetRandom where it is refused: neither the response nor what is answered is written. */
+static unsigned refused_command(struct tpmsim *device, uint8_t locality) {
+    struct tpmsim_answered answered;
+    memset(&answered, FILLED, sizeof answered);
+    memset(response, FILLED, sizeof response);
+    uint8_t told = tpmsim_execute(device, GET_RANDOM, sizeof GET_RANDOM, locality, 1, random_bytes,
+                                  response, &answered);
+    must(is_filled(response, sizeof response), "a response is written");
+    must(answered.size == answered.drawn && is_filled((uint8_t *)&answered.size, sizeof(size_t)) &&
+             is_filled((uint8_t *)&answered.code, sizeof answered.code) && answered.check == FILLED,
+         "something is answered");
+    return told;
+}
+
+static void without_a_device(void) {
+    struct tpmsim none = {0};
+    memset(image, FILLED, ROOM);
+    printf("no device: execute %u, ", refused_command(&none, 0));
+    printf("power_cycle %u, ", tpmsim_power_cycle(&none));
+    printf("save %zu, ", tpmsim_save(&none, image, ROOM));
+    must(is_filled(image, ROOM), "an image is written");
+    tpmsim_free(&none);
+    must(none.private_ == NULL, "the holder has a device");
+    puts("free; nothing is written, and there is none");
+}
+
+static void of_localities(struct tpmsim *device) {
+    keep(device);
+    printf("locality 5: %u, ", refused_command(device, 5));
+    printf("locality 255: %u; ", refused_command(device, 255));
+    puts(as_it_was(device));
+}
+
+/* A buffer that is no command is executed, and refused in the response. */
+static void of_buffers(struct tpmsim *device) {
+    static const size_t sizes[] = {0, 1, 9, 4097, 1000000};
+    uint8_t *buffer = taken(1000000);
+    memset(buffer, FILLED, 1000000);
+    memcpy(buffer, GET_RANDOM, sizeof GET_RANDOM);
+    keep(device);
+    for (size_t i = 0; i < sizeof sizes / sizeof *sizes; i++) {
+        struct tpmsim_answered it = answered_by(device, buffer, sizes[i], response);
+        printf("a buffer of %zu bytes: %03x, row %08x %u, %zu drawn; %s\n", sizes[i],
+               (unsigned)code_of(response), (unsigned)it.code, it.check, it.drawn,
+               as_it_was(device));
+    }
+    free(buffer);
+}
+
+static void of_rooms(struct tpmsim *device) {
+    for (int more = -1; more <= 1; more++) {
+        size_t room = more < 0 ? image_size - 1 : image_size + (size_t)more;
+        memset(image, FILLED, ROOM);
+        size_t size = tpmsim_save(device, image, room);
+        must(size == image_size, "the image has another size");
+        must(is_filled(image + (room < size ? 0 : size), ROOM - (room < size ? 0 : size)),
+             "something is written that is no part of the image");
+        printf("save where the room is %s: the image's size, and %s\n",
+               more < 0 ? "one byte too small"
+               : more   ? "one byte larger"
+                        : "exact",
+               is_filled(image, size) ? "nothing is written" : "the image is written");
+    }
+    printf("save in no room: %s\n",
+           tpmsim_save(device, image, 0) == image_size ? "the image's size" : "WRONG");
+}
+
+/* Opens the image from a copy of this size, in which a byte is changed. */
+static void open_changed(struct tpmsim *device, const char *label, size_t size, size_t place) {
+    keep(device);
+    memcpy(image, before, image_size);
+    image[place] ^= 1;
+    printf("open %s: %u; ", label, tpmsim_open(device, image, size));
+    puts(as_it_was(device));
+}
+
+static void of_images(struct tpmsim *device, const char *file) {
+    open_changed(device, "of nothing", 0, 0);
+    open_changed(device, "of 41 bytes", 41, 0);
+    open_changed(device, "of another magic", image_size, 0);
+    open_changed(device, "of another version", image_size, 5);
+    open_changed(device, "of one byte less", image_size - 1, 20);
+    open_changed(device, "of one byte more", image_size + 1, 20);
+    open_changed(device, "of another digest", image_size, image_size - 1);
+    open_changed(device, "of another body", image_size, 20);
+    FILE *stream = fopen(file, "rb");
+    must(stream != NULL, "the file is not there");
+    size_t size = fread(image, 1, ROOM, stream);
+    fclose(stream);
+    keep(device);
+    printf("open of a body that is none: %u; ", tpmsim_open(device, image, size));
+    puts(as_it_was(device));
+}
+
+/* Calls one that takes memory, each time with the next request refused, until it is done. */
+static void starve(struct tpmsim *device, const char *label, int opens) {
+    uint8_t told = TPMSIM_NO_MEMORY;
+    keep(device);
+    for (unsigned number = 1; told != TPMSIM_DONE; number++) {
+        asked = 0;
+        refused = number;
+        told = opens ? tpmsim_open(device, before, image_size)
+                     : tpmsim_manufacture(device, random_bytes);
+        must(asked >= number || told == TPMSIM_DONE, "a call is refused with all its memory");
+        refused = 0;
+        if (told == TPMSIM_DONE) break;
+        printf("%s, request %u is refused: %u; ", label, number, told);
+        puts(as_it_was(device));
+    }
+    printf("%s: %u\n", label, told);
+}
+
+static void of_memory(struct tpmsim *device) {
+    asked = 0;
+    answered_by(device, GET_RANDOM, sizeof GET_RANDOM, response);
+    tpmsim_save(device, image, ROOM);
+    tpmsim_power_cycle(device);
+    printf("execute, save and power_cycle: they take memory %u times\n", asked);
+    starve(device, "manufacture", 0);
+    starve(device, "open", 1);
+}
+
+int main(int count, char **words) {
+    struct tpmsim device = {0};
+    must(count == 2, "usage: misuse FILE");
+    count_up(random_bytes, 0);
+    start_new(&device, 0);
+    image_size = tpmsim_save(&device, image, 0);
+    must(0 < image_size && image_size < ROOM, "the image is too large");
+    printf("version %s\n",
+           tpmsim_version() == TPMSIM_VERSION_NUMBER ? "of the header" : "WRONG");
+    without_a_device();
+    of_localities(&device);
+    of_buffers(&device);
+    of_rooms(&device);
+    of_images(&device, words[1]);
+    of_memory(&device);
+    tpmsim_free(&device);
+    tpmsim_free(&device);
+    printf("freed twice: execute %u\n", refused_command(&device, 0));
+    return 0;
+}

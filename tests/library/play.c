@@ -1,0 +1,130 @@
+/* Plays a script over the library:
+ *
+ *     play <SCRIPT
+ *
+ * The lines are those of a script without words: `cmd HEX`, `loc N`, `wait MS`, `entropy HEX` with
+ * 256 bytes, `power`. Of each command it prints the response, the row's code and check, and how
+ * many random bytes were drawn; at the end the device's image, and the image of the device that is
+ * opened from that.
+ *
+ * A twin executes the same commands with other bytes behind those that were drawn, and has to
+ * answer the same. */
+#define _POSIX_C_SOURCE 200809L
+#include "common.h"
+
+struct player {
+    struct tpmsim device, twin;
+    uint8_t locality;
+    uint32_t elapsed;
+    uint8_t random[RANDOM_BYTES];
+};
+
+static struct tpmsim_answered executed(struct player *player, struct tpmsim *device,
+                                       const uint8_t *buffer, size_t size, const uint8_t *random,
+                                       uint8_t *response) {
+    struct tpmsim_answered answered;
+    memset(response, FILLED, RESPONSE_BYTES);
+    uint8_t told = tpmsim_execute(device, buffer, size, player->locality, player->elapsed, random,
+                                  response, &answered);
+    must(told == TPMSIM_DONE, "a command is not executed");
+    must(answered.size <= RESPONSE_BYTES, "a response is too long");
+    must(answered.drawn <= RANDOM_BYTES, "more random bytes are drawn than there are");
+    must(is_filled(response + answered.size, RESPONSE_BYTES - answered.size),
+         "something is written behind a response");
+    return answered;
+}
+
+/* The twin is told the bytes that the device drew, and behind them others. */
+static void execute_twin(struct player *player, const uint8_t *buffer, size_t size,
+                         struct tpmsim_answered wanted, const uint8_t *response) {
+    uint8_t random[RANDOM_BYTES], given[RESPONSE_BYTES];
+    for (size_t i = 0; i < RANDOM_BYTES; i++)
+        random[i] = i < wanted.drawn ? player->random[i] : (uint8_t)~player->random[i];
+    struct tpmsim_answered answered = executed(player, &player->twin, buffer, size, random, given);
+    must(answered.size == wanted.size && memcmp(given, response, wanted.size) == 0 &&
+             answered.code == wanted.code && answered.check == wanted.check &&
+             answered.drawn == wanted.drawn,
+         "bytes behind those that were drawn matter");
+}
+
+static void execute(struct player *player, const char *hex) {
+    uint8_t response[RESPONSE_BYTES], *buffer = taken(strlen(hex) / 2);
+    size_t size = hex_bytes(hex, buffer);
+    struct tpmsim_answered answered =
+        executed(player, &player->device, buffer, size, player->random, response);
+    execute_twin(player, buffer, size, answered, response);
+    free(buffer);
+    player->elapsed = 0;
+    put_hex(response, answered.size);
+    printf(" %08x %u %u\n", (unsigned)answered.code, (unsigned)answered.check,
+           (unsigned)answered.drawn);
+}
+
+static void play(struct player *player, const char *line) {
+    if (strcmp(line, "cmd") == 0)
+        execute(player, "");
+    else if (strncmp(line, "cmd ", 4) == 0)
+        execute(player, line + 4);
+    else if (strncmp(line, "loc ", 4) == 0)
+        player->locality = (uint8_t)atoi(line + 4);
+    else if (strncmp(line, "wait ", 5) == 0)
+        player->elapsed += (uint32_t)strtoul(line + 5, NULL, 10);
+    else if (strncmp(line, "entropy ", 8) == 0 && strlen(line + 8) == 2 * RANDOM_BYTES)
+        hex_bytes(line + 8, player->random);
+    else if (strcmp(line, "power") == 0)
+        must(tpmsim_power_cycle(&player->device) == TPMSIM_DONE &&
+                 tpmsim_power_cycle(&player->twin) == TPMSIM_DONE,
+             "the power does not come back");
+    else
+        must(0, "a line is none");
+}
+
+/* The image of a device, which is written where there is room for all of it alone. */
+static uint8_t *image_of(struct tpmsim *device, size_t *size) {
+    uint8_t none = 0;
+    *size = tpmsim_save(device, &none, 0);
+    uint8_t *image = taken(*size);
+    must(tpmsim_save(device, image, *size) == *size, "an image has another size each time");
+    return image;
+}
+
+static void print_image(const char *label, const uint8_t *image, size_t size) {
+    printf("%s ", label);
+    put_hex(image, size);
+    putchar('\n');
+}
+
+static void print_images(struct player *player) {
+    size_t size, twin_size, opened_size;
+    uint8_t *image = image_of(&player->device, &size);
+    uint8_t *twin = image_of(&player->twin, &twin_size);
+    must(size == twin_size && memcmp(image, twin, size) == 0,
+         "bytes behind those that were drawn are kept");
+    must(tpmsim_open(&player->twin, image, size) == TPMSIM_DONE, "an image does not open");
+    uint8_t *opened = image_of(&player->twin, &opened_size);
+    print_image("image", image, size);
+    print_image("opened", opened, opened_size);
+    free(image);
+    free(twin);
+    free(opened);
+}
+
+int main(void) {
+    struct player player = {0};
+    uint8_t random[RANDOM_BYTES];
+    count_up(random, 0);
+    must(tpmsim_manufacture(&player.device, random) == TPMSIM_DONE &&
+             tpmsim_manufacture(&player.twin, random) == TPMSIM_DONE,
+         "a device is not made");
+    char *line = NULL;
+    size_t room = 0;
+    while (getline(&line, &room, stdin) >= 0) {
+        line[strcspn(line, "\n")] = '\0';
+        play(&player, line);
+    }
+    free(line);
+    print_images(&player);
+    tpmsim_free(&player.device);
+    tpmsim_free(&player.twin);
+    return 0;
+}

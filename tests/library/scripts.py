@@ -1,0 +1,204 @@
+"""Scripts over the library:
+
+    python3 scripts.py TESTS STACK PLAYER..       compares
+    python3 scripts.py --figures TESTS STACK      tells how much stack each call takes
+    python3 scripts.py --lines SCRIPT             prints a script without words, for play.c
+
+Each script of the folder TESTS, and of the examples beside it, that is to end well is played by
+each PLAYER, which play.c is the source of. What one prints has to be what stands in the files
+beside the script, and what the device in Python tells of the same commands: each response, row and
+count of random bytes that were drawn, and the images at the end. STACK, of stack.c, plays them too,
+and no call may take more stack than tpmsim.h says.
+"""
+
+import pathlib
+import subprocess
+import sys
+from collections.abc import Iterator
+
+from device import Device, Outcome
+from image import image, open_image
+from player import Player
+
+SECONDS = 60
+MEMORY, ACTIONS = 255, 20
+MOST_STACK = 64 * 1024
+
+
+def fail(words: str) -> None:
+    sys.exit(f"WRONG: {words}")
+
+
+def check_number(check: str) -> int:
+    """The number by which a row tells a check."""
+    if check == "ok":
+        return 0
+    if check == "M":
+        return MEMORY
+    return int(check[1:]) + (0 if check[0] == "G" else ACTIONS)
+
+
+class Counted(Device):
+    """The device in Python, which counts the random bytes that a command draws."""
+
+    drawn = 0
+
+    def execute(self, *words: object) -> Outcome:
+        self.drawn = 0
+        return super().execute(*words)
+
+    def accepted(self, command: object, shown: object, plain: object, answer, random: bytes):
+        self.drawn = answer.drawn
+        return super().accepted(command, shown, plain, answer, random)
+
+    def draw_nonces(self, command, random: bytes) -> None:
+        super().draw_nonces(command, random)
+        sessions = [self.sessions.get(entry.handle) for entry in command.entries]
+        self.drawn += sum(len(it.nonce_tpm) for it in sessions if it)
+
+
+class Lines(Player):
+    """What a script is without words, and what a player has to print of each command."""
+
+    def __init__(self) -> None:
+        super().__init__()
+        self.device = Counted()
+        self.plain: list[str] = []
+        self.wanted: list[str] = []
+        self.play(b"entropy 00")
+
+    def told(self, word: bytes, argument: bytes) -> list[str]:
+        elapsed = self.elapsed
+        nothing = super().told(word, argument)
+        if word == b"loc":
+            self.plain.append(f"loc {self.locality}")
+        elif word == b"wait":
+            self.plain.append(f"wait {self.elapsed - elapsed}")
+        else:
+            self.plain.append(f"entropy {self.random.hex()}")
+        return nothing
+
+    def executed(self, buffer: bytes) -> list[str]:
+        self.plain.append(f"cmd {buffer.hex()}".rstrip())
+        traced, response = super().executed(buffer)
+        name, _, _, check, _ = traced.split(" ")
+        code = 0 if name == "?" else int.from_bytes(buffer[6:10], "big")
+        row = f"{code:08x} {check_number(check)}"
+        self.wanted.append(f"{response} {row} {self.device.drawn}")
+        return [traced, response]
+
+    def play(self, line: bytes) -> list[str]:
+        printed = super().play(line)
+        if line == b"power":
+            self.plain.append("power")
+        return printed
+
+
+class Script:
+    """A script, which the device in Python has played."""
+
+    def __init__(self, path: pathlib.Path) -> None:
+        self.path = path
+        lines, self.printed = Lines(), []
+        for line in path.read_bytes().removesuffix(b"\n").split(b"\n"):
+            self.printed += lines.play(line)
+        saved = image(lines.device)
+        opened = image(open_image(saved))
+        self.plain = "".join(line + "\n" for line in lines.plain)
+        self.wanted = [*lines.wanted, f"image {saved.hex()}", f"opened {opened.hex()}"]
+
+    def fail(self, words: str) -> None:
+        fail(f"{self.path.name}: {words}")
+
+    def run(self, program: str) -> list[str]:
+        """What a program prints of the script."""
+        ran = subprocess.run(
+            [program], input=self.plain, capture_output=True, text=True, timeout=SECONDS
+        )
+        if ran.returncode or ran.stderr:
+            self.fail(f"{program}: status {ran.returncode}: {ran.stderr[:2000]}")
+        return ran.stdout.splitlines()
+
+    def check(self, player: str) -> None:
+        given = self.run(player)
+        for number, (one, other) in enumerate(zip(self.wanted, given), 1):
+            if one != other:
+                self.fail(f"command {number}: wanted {one[:200]}, given {other[:200]}")
+        if len(given) != len(self.wanted):
+            self.fail(f"{len(self.wanted)} lines are wanted, and {len(given)} given")
+        self.check_files(given[:-2])
+
+    def check_files(self, given: list[str]) -> None:
+        """Compares what was printed of the commands with the files beside the script."""
+        responses = "".join(line.split(" ")[0] + "\n" for line in given)
+        if self.path.with_suffix(".out").read_text("ascii") != responses:
+            self.fail("the responses are other than those of its file")
+        trace = self.path.with_suffix(".trace")
+        traced = "".join(line + "\n" for line in self.printed)
+        if trace.exists() and trace.read_text("ascii") != traced:
+            self.fail("the rows are other than those of its file")
+
+
+class Stack:
+    """The most stack that each call took so far, with the command where it is an execution."""
+
+    def __init__(self, program: str) -> None:
+        self.program = program
+        self.most: dict[str, tuple[int, str]] = {}
+
+    def play(self, script: Script) -> None:
+        for line in script.run(self.program):
+            call, size, *code = line.split(" ")
+            self.most[call] = max(self.most.get(call, (0, "")), (int(size), " ".join(code)))
+
+    def figures(self) -> Iterator[str]:
+        for call, (size, code) in self.most.items():
+            yield f"{call}: {size:,} bytes" + (f", command {code}" if code else "")
+
+    def check(self) -> None:
+        for call, (size, _) in sorted(self.most.items()):
+            if not 0 < size <= MOST_STACK:
+                fail(f"{call} takes {size} bytes of stack")
+            print(f"{call} takes no more stack than it may")
+
+
+def ends_well(script: pathlib.Path) -> bool:
+    status = script.with_suffix(".status")
+    return not status.exists() or status.read_text("ascii").strip() == "0"
+
+
+def scripts_of(tests: pathlib.Path) -> Iterator[Script]:
+    found = sorted([*tests.glob("*.tpm"), *(tests.parent / "examples").glob("*.tpm")])
+    for path in found:
+        if ends_well(path):
+            yield Script(path)
+
+
+def compare(tests: pathlib.Path, program: str, players: list[str]) -> None:
+    stack, count = Stack(program), 0
+    for script in scripts_of(tests):
+        for player in players:
+            script.check(player)
+        stack.play(script)
+        count += 1
+    if not count or not players:
+        fail("nothing is played")
+    for player in players:
+        print(f"{pathlib.Path(player).name}: each script is answered as it is to be")
+    stack.check()
+
+
+def main() -> None:
+    match sys.argv[1:]:
+        case ["--lines", path]:
+            print(Script(pathlib.Path(path)).plain, end="")
+        case ["--figures", tests, program]:
+            stack = Stack(program)
+            for script in scripts_of(pathlib.Path(tests)):
+                stack.play(script)
+            print("\n".join(stack.figures()))
+        case [tests, program, *players]:
+            compare(pathlib.Path(tests), program, players)
+
+
+main()

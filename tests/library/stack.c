@@ -1,0 +1,111 @@
+/* Tells how much stack each call takes at most, and of which command that of an execution is:
+ *
+ *     stack <SCRIPT
+ *
+ * The lines are those that play.c reads. Each call runs in a thread whose stack was painted before;
+ * what it painted over counts, less what a thread takes that calls nothing. */
+#define _DEFAULT_SOURCE
+#include "common.h"
+#include <pthread.h>
+#include <sys/mman.h>
+
+enum { STACK_BYTES = 512 * 1024 };
+enum call { NOTHING, MANUFACTURE, EXECUTE, POWER_CYCLE, SAVE, OPEN, FREE, CALLS };
+static const char *const NAMES[CALLS] = {"nothing", "manufacture", "execute", "power_cycle",
+                                         "save",    "open",        "free"};
+
+/* What the thread calls, and the most that each call took so far. */
+static struct tpmsim device;
+static struct tpmsim_answered answered;
+static uint8_t random_bytes[RANDOM_BYTES], response[RESPONSE_BYTES], locality;
+static uint8_t *buffer, *image;
+static size_t size, image_size;
+static uint32_t elapsed, most_code;
+static uint8_t *stack;
+static size_t most[CALLS];
+
+static void *called(void *place) {
+    switch (*(enum call *)place) {
+    case MANUFACTURE: tpmsim_manufacture(&device, random_bytes); break;
+    case EXECUTE:
+        tpmsim_execute(&device, buffer, size, locality, elapsed, random_bytes, response, &answered);
+        break;
+    case POWER_CYCLE: tpmsim_power_cycle(&device); break;
+    case SAVE: image_size = tpmsim_save(&device, image, image_size); break;
+    case OPEN: tpmsim_open(&device, image, image_size); break;
+    case FREE: tpmsim_free(&device); break;
+    default: break;
+    }
+    return NULL;
+}
+
+/* Runs a call, counts the bytes of its stack, and paints them again. */
+static void run(enum call call) {
+    pthread_t thread;
+    pthread_attr_t attributes;
+    must(pthread_attr_init(&attributes) == 0 &&
+             pthread_attr_setstack(&attributes, stack, STACK_BYTES) == 0 &&
+             pthread_create(&thread, &attributes, called, &call) == 0 &&
+             pthread_join(thread, NULL) == 0,
+         "there is no thread");
+    pthread_attr_destroy(&attributes);
+    size_t at = 0;
+    while (at < STACK_BYTES && stack[at] == FILLED) at++;
+    if (STACK_BYTES - at > most[call]) {
+        most[call] = STACK_BYTES - at;
+        if (call == EXECUTE) most_code = answered.code;
+    }
+    memset(stack + at, FILLED, STACK_BYTES - at);
+}
+
+static void play(const char *line) {
+    if (strncmp(line, "cmd", 3) == 0) {
+        const char *hex = line[3] ? line + 4 : "";
+        buffer = taken(strlen(hex) / 2);
+        size = hex_bytes(hex, buffer);
+        run(EXECUTE);
+        free(buffer);
+        elapsed = 0;
+    } else if (strncmp(line, "loc ", 4) == 0)
+        locality = (uint8_t)atoi(line + 4);
+    else if (strncmp(line, "wait ", 5) == 0)
+        elapsed += (uint32_t)strtoul(line + 5, NULL, 10);
+    else if (strncmp(line, "entropy ", 8) == 0)
+        hex_bytes(line + 8, random_bytes);
+    else if (strcmp(line, "power") == 0)
+        run(POWER_CYCLE);
+}
+
+static void save_and_open(void) {
+    image_size = tpmsim_save(&device, response, 0);
+    image = taken(image_size);
+    run(SAVE);
+    run(OPEN);
+    run(FREE);
+    free(image);
+}
+
+int main(void) {
+    stack = mmap(NULL, STACK_BYTES, PROT_READ | PROT_WRITE, MAP_PRIVATE | MAP_ANONYMOUS, -1, 0);
+    must(stack != MAP_FAILED, "there is no memory");
+    memset(stack, FILLED, STACK_BYTES);
+    count_up(random_bytes, 0);
+    run(NOTHING);
+    run(NOTHING);
+    run(MANUFACTURE);
+    char *line = NULL;
+    size_t room = 0;
+    while (getline(&line, &room, stdin) >= 0) {
+        line[strcspn(line, "\n")] = '\0';
+        play(line);
+    }
+    free(line);
+    save_and_open();
+    for (int call = MANUFACTURE; call < CALLS; call++) {
+        if (most[call] == 0) continue;
+        printf("%s %zu", NAMES[call], most[call] - most[NOTHING]);
+        if (call == EXECUTE) printf(" %08x", (unsigned)most_code);
+        putchar('\n');
+    }
+    return 0;
+}

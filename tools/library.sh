@@ -1,0 +1,98 @@
+#!/bin/sh
+# Makes the library in dist/: libtpmsim.a, libtpmsim.so.0, tpmsim.h and tpmsim.pc; and the library's
+# lines in dist/PROVED, which name the kit, and the checksums of the sources and of the first two.
+#
+# The exports are proved and compiled over the crates below them, as `rt ci` left these here, where
+# no source is newer; else over a copy of them, which is proved first. Needs `rt`, git, a C compiler
+# and Debian's binutils.
+set -u
+cd "$(dirname "$0")/.." && top=$(pwd -P) || exit 1
+. tools/proved.sh
+. tools/proving.sh
+exports=tpmsim_library
+below=$(crates_below "$exports") || exit 1
+work=$(mktemp -d) || exit 1
+trap 'rm -rf "$work"' EXIT
+log=$work/log
+
+# fail REASON: ends the script, and shows what was logged last.
+fail() {
+    [ ! -s "$log" ] || tail -n 20 "$log" >&2
+    echo "$0: $1" >&2
+    exit 1
+}
+
+# Whether each crate below the exports stands built here, and no source of it is newer.
+are_built() {
+    for crate in $below; do
+        is_newest "crates/$crate/out/rlib/$crate.rlib/format" "$crate" || return 1
+    done
+}
+
+# Proves the exports and all below them in a copy.
+prove() {
+    echo "tpmsim: proving what the library stands on; from nothing this takes half an hour" >&2
+    crates="$below $exports"
+    total=$(echo "$crates" | wc -w)
+    (copy_crates "$work/copy" && cd "$work/copy" && prove_all)
+    tail -n 1 "$log" | grep -q ' 0 failed' || fail 'not everything is proved'
+}
+
+# compile REPOSITORY: proves the exports over the crates that are built there, and compiles them, by
+# the words that `rt` uses for a static library.
+compile() {
+    set -- "$1/crates" --crate-name "$exports" src/lib.rt --crate-type staticlib \
+        --extern "std=$kit/rlibs/std.rlib" -L "dependency=$kit/rlibs"
+    folder=$1
+    shift
+    for crate in $(uses "$exports"); do
+        set -- "$@" --extern "$crate=$folder/$crate/out/rlib/$crate.rlib"
+    done
+    for crate in $below; do
+        set -- "$@" -L "dependency=$folder/$crate/out/rlib"
+    done
+    (cd "$folder/$exports" && rattle build "$@" --links "$exports=" --backend llvm \
+        --antt-project "$kit/rattle/logic/antt-project.json" --logic-built "$kit/logic_built" \
+        --toolchain "$kit/toolchain" -o "$work/exports.a") >>"$log" 2>&1
+}
+
+# Puts the archive together, of what was compiled and of the kit's way to the C library's allocator;
+# and the shared object of the same.
+link() (
+    mkdir "$work/objects" && cd "$work/objects" && ar x "$work/exports.a" &&
+        ar x "$kit/c/liblibc_c.a" heap.pic.o && ar rcsD "$work/libtpmsim.a" ./*.o &&
+        cc -shared -nostartfiles -Wl,-soname,libtpmsim.so.0 -Wl,--build-id=none -Wl,-z,defs \
+            -Wl,-z,relro -Wl,-z,now "-Wl,--version-script=$top/library/tpmsim.map" \
+            -o "$work/libtpmsim.so.0" ./*.o && strip --strip-unneeded "$work/libtpmsim.so.0" &&
+        chmod 644 "$work"/libtpmsim.*
+) >>"$log" 2>&1
+
+# Writes the library's lines of dist/PROVED behind those of the program.
+tell_proved() {
+    version=$(rt version) || return 1
+    {
+        [ ! -f "$proved" ] || sed '/^library /d' "$proved"
+        echo "library kit: $version"
+        echo "library sources: $made_of"
+        echo "library archive: $(checksum <"$archive")"
+        echo "library shared object: $(checksum <"$shared")"
+    } >"$proved.new" && mv "$proved.new" "$proved"
+}
+
+# Puts everything in its place.
+deliver() {
+    mkdir -p dist && mv "$work/libtpmsim.a" "$archive" && mv "$work/libtpmsim.so.0" "$shared" &&
+        cp library/tpmsim.h library/tpmsim.pc dist/ && tell_proved
+}
+
+for tool in rt rattle git cc ar strip; do
+    command -v "$tool" >/dev/null || fail "$tool is missing"
+done
+kit=$(readlink -f "$(command -v rattle)") && kit=${kit%/bin/*} || exit 1
+made_of=$(sources_checksum "$exports") || exit 1
+repository=$top
+are_built || { repository=$work/copy && prove; }
+compile "$repository" || fail 'the exports are not compiled'
+link || fail 'the library is not put together'
+[ "$made_of" = "$(sources_checksum "$exports")" ] || fail 'a source changed meanwhile'
+deliver || fail 'dist/ is not written'

@@ -1,0 +1,35 @@
+# What the scripts share that prove crates in a copy, build.sh and library.sh. They read it by `.`
+# in the repository's folder, and set `crates`, the crates to be proved, `total`, their number, and
+# `log`, a file.
+# shellcheck shell=sh disable=SC2154 # the names above
+
+# copy_crates FOLDER: copies these crates to a folder, without the wrong bodies, which only the gate
+# tries.
+copy_crates() {
+    mkdir -p "$1/crates" && cp HANDLES "$1" || return 1
+    for crate in $crates; do
+        tar cf - --exclude=out --exclude=must-fail "crates/$crate" | (cd "$1" && tar xf -) &&
+            grep "^$crate[ :]" crates.txt >>"$1/crates.txt" || return 1
+    done
+}
+
+# Logs what `rt` prints, and says which crates are proved.
+tell() {
+    number=0
+    while IFS= read -r line; do
+        printf '%s\n' "$line" >>"$log"
+        case $line in
+        'rt: '*' proved' | 'rt: '*' is kept: '*)
+            crate=${line#rt: }
+            number=$((number + 1))
+            echo "tpmsim: ${crate%% *} is proved, $number of $total" >&2
+            ;;
+        esac
+    done
+}
+
+# Proves the crates in this folder, side by side where they do not stand on each other. What it
+# leaves says whether it could.
+prove_all() {
+    git init --quiet && rt ci </dev/null 2>&1 | tell
+}
