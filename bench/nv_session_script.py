@@ -10,16 +10,12 @@ is asked for by its own handle. The random bytes are the same for each command, 
 draws the same nonce again, and one prepared buffer is accepted as often as it is sent.
 """
 
-import pathlib
 import sys
 
-TOP = pathlib.Path(__file__).resolve().parent.parent
-sys.path += [str(TOP / "tests" / "outside" / it) for it in ("device", "scripts")]
-
-import lines as words
+from tpmsim.standard import lines
+from tpmsim.standard.commands import CC
+from tpmsim.standard.frames import RH_NULL, RH_OWNER, SHA256, number
 from caller import Use
-from commands import CC
-from frames import RH_NULL, RH_OWNER, SHA256, number
 from nv_caller import BY_VALUE, FIRST, NvCaller, area
 from script import Script
 
@@ -36,7 +32,7 @@ def extending(caller, session):
 def in_hex(line):
     """A line with its buffer in hex, where it spells a command in words."""
     spelled = line.removeprefix("do ")
-    return line if spelled == line else f"cmd {words.assemble(spelled.encode('ascii')).hex()}"
+    return line if spelled == line else f"cmd {lines.assemble(spelled.encode('ascii')).hex()}"
 
 
 kind, binding, count = sys.argv[1], sys.argv[2], int(sys.argv[3])

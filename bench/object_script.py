@@ -8,13 +8,9 @@ TPM2_CreatePrimary makes a storage key, with SHA-256, and each one is flushed ag
 TPM2_HMAC is over 1,024 bytes. Each is authorized by a password.
 """
 
-import pathlib
 import sys
 
-TOP = pathlib.Path(__file__).resolve().parent.parent
-sys.path += [str(TOP / "tests" / "outside" / it) for it in ("device", "scripts")]
-
-from frames import RH_OWNER, SHA256
+from tpmsim.standard.frames import RH_OWNER, SHA256
 from object_caller import ObjectCaller, hmac_key, sealed, storage_key
 from script import Script
 

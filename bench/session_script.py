@@ -8,14 +8,10 @@ so that the device draws the same nonce again, and one prepared buffer is accept
 sent.
 """
 
-import pathlib
 import sys
 
-TOP = pathlib.Path(__file__).resolve().parent.parent
-sys.path += [str(TOP / "tests" / "outside" / it) for it in ("device", "scripts")]
-
 from caller import Caller, Use
-from frames import RH_OWNER
+from tpmsim.standard.frames import RH_OWNER
 from script import Script
 
 script = Script("bench", "")

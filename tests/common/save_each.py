@@ -12,10 +12,11 @@ import socket
 import subprocess
 import sys
 
-import lines
+from tpmsim.model.image import open_image
+from tpmsim.model.machine import Model
+from tpmsim.model.streams import without_clock
+from tpmsim.standard import lines
 from client import connected
-from image import image, open_image
-from streams import new_device, without_clock
 
 IMAGE = pathlib.Path("image")
 SERVE = "serve --socket socket --image image --entropy /dev/zero --locality 0 --connections".split()
@@ -69,7 +70,7 @@ class Run:
     """A run of the program, a connection to it, and the same device in Python."""
 
     def __init__(self, program, connections=MOST_CONNECTIONS, options=(OPTION,)):
-        self.device = open_image(IMAGE.read_bytes()) if IMAGE.exists() else new_device(RANDOM)
+        self.device = open_image(IMAGE.read_bytes()) if IMAGE.exists() else Model(RANDOM)
         self.saved = text_of(self.device) if IMAGE.exists() else None
         self.process = subprocess.Popen(
             [program, *SERVE, str(connections), *options],

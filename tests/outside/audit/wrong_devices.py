@@ -12,24 +12,20 @@ import sys
 from dataclasses import replace
 from unittest import mock
 
-OUTSIDE = pathlib.Path(__file__).resolve().parent.parent
-TESTS = OUTSIDE.parent
-sys.path += [str(OUTSIDE / it) for it in ("device", "audit")]
+from tpmsim.audit import start
+from tpmsim.audit.auditor import Auditor
+from tpmsim.audit.log import Disagreement, Log
+from tpmsim.model import machine, player, policy_state
+from tpmsim.model.general import Refusal
+from tpmsim.model.machine import Model
+from tpmsim.model.protection import Lockout
+from tpmsim.standard import frames, policy
+from tpmsim.standard.commands import CC
 
-import device
-import frames
-import player
-import policy
-import start
-from auditor import Auditor
-from commands import CC
-from device import Device
-from general import Refusal
-from log import Disagreement, Log
-from protection import Lockout
+TESTS = pathlib.Path(__file__).resolve().parents[2]
 
-check_use, accepts, nv_increment = policy.check_use, Device.accepts, Device.nv_increment
-restore_pcrs, start_session = Device.restore_pcrs, Device.start_auth_session
+check_use, accepts, nv_increment = policy_state.check_use, Model.accepts, Model.nv_increment
+restore_pcrs, start_session = Model.restore_pcrs, Model.start_auth_session
 
 
 def unless(refused):
@@ -94,15 +90,15 @@ def keeps_a_digest(self, handles, parameters, locality, random):
 
 def in_rows(code, row):
     """A command that does something else."""
-    return mock.patch.dict(device.ROWS, {code: row})
+    return mock.patch.dict(machine.ROWS, {code: row})
 
 
 def in_device(name, method):
-    return mock.patch.object(Device, name, method)
+    return mock.patch.object(Model, name, method)
 
 
 def in_policies(refused):
-    return mock.patch.object(policy, "check_use", unless(refused))
+    return mock.patch.object(policy_state, "check_use", unless(refused))
 
 
 def in_lockout(name, method):
@@ -118,9 +114,13 @@ WRONG = (
     (
         "an index may be written or not",
         "policy_nv_written",
-        mock.patch.object(policy, "check_use", written_or_not),
+        mock.patch.object(policy_state, "check_use", written_or_not),
     ),
-    ("any cpHash will do", "policy_cp_hash", mock.patch.object(policy, "check_use", any_cp_hash)),
+    (
+        "any cpHash will do",
+        "policy_cp_hash",
+        mock.patch.object(policy_state, "check_use", any_cp_hash),
+    ),
     ("what has no policy is authorized by one", "clear", in_policies("AUTH_UNAVAILABLE")),
     ("any password will do", "passwords", in_device("accepts", takes_any_password)),
     ("an empty hmac will do", "hmac_sessions", in_device("accepts", takes_no_hmac)),

@@ -15,17 +15,17 @@ from unittest import mock
 
 import wrong_devices as wrong  # it lets the parts of the device and of the audit be found
 
-import player
-import policy
-import start
-from auditor import Auditor
-from commands import CC
-from conditions import Finding
-from general import Answer
-from ground import Grounds
-from log import Disagreement, Log
-from policy_file import PolicyFile
-from uses import Uses
+from tpmsim.audit import start
+from tpmsim.audit.auditor import Auditor
+from tpmsim.audit.conditions import Finding
+from tpmsim.audit.ground import Grounds
+from tpmsim.audit.log import Disagreement, Log
+from tpmsim.audit.uses import Uses
+from tpmsim.model import player, policy_state
+from tpmsim.model.general import Answer
+from tpmsim.policies.policy_file import PolicyFile
+from tpmsim.standard import policy
+from tpmsim.standard.commands import CC
 
 LOST, WRITTEN = "lost_grounds", "written_policies"
 
@@ -43,7 +43,7 @@ def does_nothing(self, handles, parameters, locality, random):
 
 
 def in_policy(check):
-    return mock.patch.object(policy, "check_use", check)
+    return mock.patch.object(policy_state, "check_use", check)
 
 
 WRONG = (

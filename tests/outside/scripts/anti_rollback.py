@@ -3,17 +3,15 @@
 
 import hashlib
 
-import paths
-
-import policy
-from commands import CC
-from frames import RH_OWNER, RH_PLATFORM, SHA256, number, selection
-from nv import Attribute
+from tpmsim.standard import policy
+from tpmsim.standard.commands import CC
+from tpmsim.standard.frames import RH_OWNER, RH_PLATFORM, SHA256, number, selection
+from tpmsim.standard.nv import Attribute
+from tpmsim.standard.objects import Attribute as ObjectAttribute
+from tpmsim.standard.sessions import digest
 from nv_caller import NvCaller, counter
 from object_caller import HERE, sealed, storage_key
-from objects import Attribute as ObjectAttribute
 from script import Script
-from sessions import digest
 
 MINIMUM = 0x0140_0001
 LESS_OR_EQUAL = 9

@@ -8,9 +8,8 @@ A line stands in assemble.lines as printf takes it: a byte that is no ASCII is \
 import re
 
 import paths
-
-import lines
-from commands import CC
+from tpmsim.standard import lines
+from tpmsim.standard.commands import CC
 
 LONG = "PolicyNV OWNER 01000000 03000000 pw:6f s:02000000:-:01:- s:02000001:aa:41:bb 0102 3 0x4"
 SHA1_DIGEST, SHA256_DIGEST = "11" * 20, "Aa" * 32

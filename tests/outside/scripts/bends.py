@@ -8,13 +8,10 @@ sized buffer of it holds a structure.
 
 from dataclasses import dataclass
 
-import paths
-
-import frames
-import lines
-from commands import CC
-from frames import ALG_NULL, KEYEDHASH, number
-from sessions import digest_bytes
+from tpmsim.standard import frames, lines
+from tpmsim.standard.commands import CC
+from tpmsim.standard.frames import ALG_NULL, KEYEDHASH, number
+from tpmsim.standard.sessions import digest_bytes
 
 
 @dataclass(frozen=True)

@@ -3,14 +3,12 @@
 bent_state_commands.tpm: the commands that cut_commands.py, and the like, have, each bent.
 """
 
-import paths
-
 import bends
 import cut_commands
 import cut_nv_commands
 import cut_object_commands
 import cut_state_commands
-from commands import CC
+from tpmsim.standard.commands import CC
 from looks import LookingScript
 
 HEAD = (

@@ -9,27 +9,12 @@ import contextlib
 import hashlib
 from dataclasses import dataclass, replace
 
-import frames
-import general
-import policy
-import sessions
-from commands import CC
-from frames import (
-    AES,
-    ALG_NULL,
-    CONTINUE_SESSION,
-    DECRYPT,
-    ENCRYPT,
-    RH_NULL,
-    RS_PW,
-    SE_HMAC,
-    SHA256,
-    XOR,
-    number,
-    sized,
-)
-from general import Entry, Fields
-from sessions import trimmed
+from tpmsim.standard import frames, handle_kinds, policy, sessions
+from tpmsim.standard.commands import CC
+from tpmsim.standard.frames import AES, ALG_NULL, CONTINUE_SESSION, DECRYPT, ENCRYPT, Entry
+from tpmsim.standard.frames import RH_NULL, RS_PW, SE_HMAC, SHA256, XOR, number, sized
+from tpmsim.standard.reading import Fields
+from tpmsim.standard.sessions import trimmed
 
 NONCE_BYTES = 16
 CHANGING_AN_AUTH_VALUE = (CC.HierarchyChangeAuth, CC.NV_ChangeAuth)
@@ -181,7 +166,7 @@ class Caller:
         if handle is None:
             return session.key
         auth_value = self.auth_value(handle)
-        if general.is_policy(session.handle):
+        if handle_kinds.is_policy(session.handle):
             is_in_key = use.demand == policy.AUTH_VALUE
         else:
             is_in_key = (session.bind, session.bind_auth) != (self.name(handle), auth_value)

@@ -1,12 +1,10 @@
 #!/usr/bin/env python3
 """Writes tests/clear.tpm: TPM2_Clear, what it takes away and what it leaves."""
 
-import paths
-
-from commands import CC
-from frames import RH_ENDORSEMENT, RH_LOCKOUT, RH_NULL, RH_OWNER, RH_PLATFORM, SHA256
-from frames import command, number, on_handle
-from nv import Attribute
+from tpmsim.standard.commands import CC
+from tpmsim.standard.frames import RH_ENDORSEMENT, RH_LOCKOUT, RH_NULL, RH_OWNER, RH_PLATFORM
+from tpmsim.standard.frames import SHA256, command, number, on_handle
+from tpmsim.standard.nv import Attribute
 from nv_caller import BY_OWNER, BY_PLATFORM, BY_VALUE, FIRST, SECOND, THIRD, area, counter
 from object_caller import sealed, storage_key
 from script import Script

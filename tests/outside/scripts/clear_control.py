@@ -1,12 +1,10 @@
 #!/usr/bin/env python3
 """Writes tests/clear_control.tpm: TPM2_ClearControl, and TPM2_Clear where it is disabled."""
 
-import paths
-
-import frames
-from commands import CC
-from frames import CONTINUE_SESSION, DECRYPT, ENCRYPT, RH_ENDORSEMENT
-from frames import RH_LOCKOUT, RH_NULL, RH_OWNER, RH_PLATFORM, command, number, on_handle
+from tpmsim.standard import frames
+from tpmsim.standard.commands import CC
+from tpmsim.standard.frames import CONTINUE_SESSION, DECRYPT, ENCRYPT, RH_ENDORSEMENT, RH_LOCKOUT
+from tpmsim.standard.frames import RH_NULL, RH_OWNER, RH_PLATFORM, command, number, on_handle
 from script import Script
 from state_caller import STATE, StateCaller, wrong
 

@@ -1,11 +1,9 @@
 #!/usr/bin/env python3
 """Writes tests/clock.tpm: TPM2_ReadClock, the times and the counts of starts."""
 
-import paths
-
-import frames
-from commands import CC
-from frames import command, number
+from tpmsim.standard import frames
+from tpmsim.standard.commands import CC
+from tpmsim.standard.frames import command, number
 from script import Script
 from state_caller import CLEAR, STATE, StateCaller
 

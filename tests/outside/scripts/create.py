@@ -1,32 +1,17 @@
 #!/usr/bin/env python3
 """Writes tests/create.tpm: TPM2_Create, which wraps a new object for its parent."""
 
-import paths
-
-import aes
-import frames
-import objects
+from tpmsim.model import object_rules
+from tpmsim.standard import aes, frames
+from tpmsim.standard.commands import CC
+from tpmsim.standard.frames import ALG_NULL, CONTINUE_SESSION, DECRYPT, ENCRYPT, RH_ENDORSEMENT
+from tpmsim.standard.frames import RH_NULL, RH_OWNER, RH_PLATFORM, SHA1, SHA256, SYMCIPHER, number
+from tpmsim.standard.objects import Attribute, Public
+from tpmsim.standard.reading import Fields
+from tpmsim.standard.sessions import digest, mac
 from caller import Use
-from commands import CC
-from frames import (
-    ALG_NULL,
-    CONTINUE_SESSION,
-    DECRYPT,
-    ENCRYPT,
-    RH_ENDORSEMENT,
-    RH_NULL,
-    RH_OWNER,
-    RH_PLATFORM,
-    SHA1,
-    SHA256,
-    SYMCIPHER,
-    number,
-)
-from general import Fields
 from object_caller import HERE, OPEN, STORES, ObjectCaller, hmac_key, sealed, storage_key
-from objects import Attribute, Public
 from script import Script
-from sessions import digest, mac
 
 ORIGIN = Attribute.SENSITIVE_DATA_ORIGIN
 
@@ -137,8 +122,8 @@ for what, public, data, key_bytes in (
 ):
     answer = caller.says(what, "SUCCESS", caller.child(parent, public, data=data))
     fields = Fields(answer[14:])
-    private, made = Fields(fields.sized()), objects.Parameters(fields.data)
-    made = made.structure(objects.read_public)
+    private, made = Fields(fields.sized()), object_rules.Parameters(fields.data)
+    made = made.structure(object_rules.read_public)
     seed_end = key_bytes + (20 if public.name_algorithm == SHA1 else 32)
     key, seed = RANDOM[:key_bytes] or data, RANDOM[key_bytes:seed_end]
     assert made.unique == digest(public.name_algorithm, seed + key)

@@ -1,28 +1,14 @@
 #!/usr/bin/env python3
 """Writes tests/create_primary.tpm: TPM2_CreatePrimary, and what it answers."""
 
-import paths
-
-import frames
-from commands import CC
-from frames import (
-    ALG_NULL,
-    RH_ENDORSEMENT,
-    RH_LOCKOUT,
-    RH_NULL,
-    RH_OWNER,
-    RH_PLATFORM,
-    SHA1,
-    SHA256,
-    SYMCIPHER,
-    number,
-    on_handle,
-    sized,
-)
+from tpmsim.standard import frames
+from tpmsim.standard.commands import CC
+from tpmsim.standard.frames import ALG_NULL, RH_ENDORSEMENT, RH_LOCKOUT, RH_NULL, RH_OWNER
+from tpmsim.standard.frames import RH_PLATFORM, SHA1, SHA256, SYMCIPHER, number, on_handle, sized
+from tpmsim.standard.objects import Attribute, Public
+from tpmsim.standard.sessions import digest, mac
 from object_caller import HERE, OPEN, ObjectCaller, hmac_key, sealed, storage_key
-from objects import Attribute, Public
 from script import Script
-from sessions import digest, mac
 
 HIERARCHIES = (
     (RH_OWNER, "TPM_RH_OWNER"),

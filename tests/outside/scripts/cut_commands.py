@@ -5,13 +5,12 @@ Those of objects are in tests/cut_object_commands.tpm, and those on NV indices i
 tests/cut_nv_commands.tpm.
 """
 
-import paths
-
 import cuts
-import frames
-from commands import CC
+from tpmsim.standard import frames
+from tpmsim.standard.commands import CC
+from tpmsim.standard.frames import SHA1, SHA256, area, command, digests, entry, number, on_handle
+from tpmsim.standard.frames import sized
 from cuts import AREA, HANDLE
-from frames import SHA1, SHA256, area, command, digests, entry, number, on_handle, sized
 
 HEAD = (
     "Each command that succeeds, cut to every shorter length: first as it is, and then with "

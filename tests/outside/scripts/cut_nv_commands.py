@@ -1,16 +1,13 @@
 #!/usr/bin/env python3
 """Writes tests/cut_nv_commands.tpm: the commands on NV indices, cut to every shorter length."""
 
-import paths
-
 import cuts
-import frames
-import nv
-import policy
-from commands import CC
+from tpmsim.standard import frames, nv, policy
+from tpmsim.standard.commands import CC
+from tpmsim.standard.frames import RH_OWNER, SHA256, command, entry, number, on_handle, on_handles
+from tpmsim.standard.frames import sized
+from tpmsim.standard.nv import Attribute, Type
 from cuts import AREA, HANDLE
-from frames import RH_OWNER, SHA256, command, entry, number, on_handle, on_handles, sized
-from nv import Attribute, Type
 
 HEAD = (
     "The commands on NV indices, each cut to every shorter length: first as it is, and then "

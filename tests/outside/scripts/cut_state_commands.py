@@ -3,13 +3,12 @@
 length.
 """
 
-import paths
-
 import cuts
-import frames
-from commands import CC
+from tpmsim.standard import frames
+from tpmsim.standard.commands import CC
+from tpmsim.standard.frames import RH_LOCKOUT, RH_OWNER, RH_PLATFORM, command, number, on_handle
+from tpmsim.standard.frames import on_handles, sized
 from cuts import AREA, HANDLE
-from frames import RH_LOCKOUT, RH_OWNER, RH_PLATFORM, command, number, on_handle, on_handles, sized
 from object_caller import storage_key
 
 HEAD = (

@@ -4,11 +4,9 @@ A cut buffer whose commandSize is left as it was is refused for that. With comma
 is refused where it is cut: each command says in words and codes up to which length by what.
 """
 
-import paths
-
-import frames
-from commands import CC
-from frames import number
+from tpmsim.standard import frames
+from tpmsim.standard.commands import CC
+from tpmsim.standard.frames import number
 from looks import LookingScript
 
 HEADER_BYTES = 10

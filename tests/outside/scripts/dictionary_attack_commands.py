@@ -1,13 +1,11 @@
 #!/usr/bin/env python3
 """Writes tests/dictionary_attack_commands.tpm: the two commands, and all that refuses them."""
 
-import paths
-
-import frames
+from tpmsim.standard import frames
+from tpmsim.standard.commands import CC
+from tpmsim.standard.frames import DECRYPT, ENCRYPT, RH_LOCKOUT, RH_NULL, RH_OWNER, RH_PLATFORM
+from tpmsim.standard.frames import command, number, on_handle
 from caller import Use
-from commands import CC
-from frames import DECRYPT, ENCRYPT, RH_LOCKOUT, RH_NULL, RH_OWNER, RH_PLATFORM
-from frames import command, number, on_handle
 from script import Script
 from state_caller import StateCaller
 

@@ -3,11 +3,9 @@
 
 import hashlib
 
-import paths
-
-from frames import RH_LOCKOUT, RH_OWNER
+from tpmsim.standard.frames import RH_LOCKOUT, RH_OWNER
+from tpmsim.standard.objects import Attribute
 from object_caller import HERE, sealed, storage_key
-from objects import Attribute
 from script import Script
 from state_caller import StateCaller
 

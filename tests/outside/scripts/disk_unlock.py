@@ -4,15 +4,13 @@
 import hashlib
 from dataclasses import replace
 
-import paths
-
-import policy
+from tpmsim.standard import policy
+from tpmsim.standard.frames import RH_OWNER, SHA256, selection
+from tpmsim.standard.objects import Attribute
+from tpmsim.standard.sessions import digest
 from caller import flipped
-from frames import RH_OWNER, SHA256, selection
 from object_caller import HERE, ObjectCaller, sealed, storage_key
-from objects import Attribute
 from script import Script
-from sessions import digest
 
 # Each piece of software is measured into its PCR before it runs, as the boot loader and the stub of
 # a unified kernel image do. PCR 7 and 11 are chosen, as by `--tpm2-pcrs=7+11`.

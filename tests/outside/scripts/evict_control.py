@@ -1,16 +1,14 @@
 #!/usr/bin/env python3
 """Writes tests/evict_control.tpm: persistent objects, how they come, stay and go."""
 
-import paths
-
-import frames
+from tpmsim.standard import frames
+from tpmsim.standard.commands import CC
+from tpmsim.standard.frames import RH_ENDORSEMENT, RH_LOCKOUT, RH_NULL, RH_OWNER, RH_PLATFORM
+from tpmsim.standard.frames import SHA256, command, number, on_handles
+from tpmsim.standard.objects import Attribute
 from caller import Use
-from commands import CC
-from frames import RH_ENDORSEMENT, RH_LOCKOUT, RH_NULL, RH_OWNER, RH_PLATFORM
-from frames import SHA256, command, number, on_handles
 from nv_caller import area
 from object_caller import HERE, OPEN, STORES, hmac_key, sealed, storage_key
-from objects import Attribute
 from script import Script
 from state_caller import STATE, StateCaller, wrong
 

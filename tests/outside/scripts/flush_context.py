@@ -1,12 +1,10 @@
 #!/usr/bin/env python3
 """Writes tests/flush_context.tpm: TPM2_FlushContext, which ends sessions."""
 
-import paths
-
-import frames
+from tpmsim.standard import frames
+from tpmsim.standard.commands import CC
+from tpmsim.standard.frames import RH_NULL, RH_OWNER, RS_PW, SHA1, area, command, entry, number
 from caller import Caller
-from commands import CC
-from frames import RH_NULL, RH_OWNER, RS_PW, SHA1, area, command, entry, number
 from script import Script
 
 script = Script(

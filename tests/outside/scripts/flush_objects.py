@@ -3,11 +3,9 @@
 
 from dataclasses import replace
 
-import paths
-
-import frames
-from commands import CC
-from frames import RH_NULL, RH_OWNER, command, number
+from tpmsim.standard import frames
+from tpmsim.standard.commands import CC
+from tpmsim.standard.frames import RH_NULL, RH_OWNER, command, number
 from object_caller import ObjectCaller, hmac_key, sealed, storage_key
 from script import Script
 

@@ -1,13 +1,11 @@
 #!/usr/bin/env python3
 """Writes tests/get_capability.tpm: TPM2_GetCapability, each capability at its borders."""
 
-import paths
-
-import frames
-from capability import command_attributes
-from commands import CC
-from frames import CONTINUE_SESSION, DECRYPT, ENCRYPT, RH_OWNER
-from frames import SE_HMAC, SE_POLICY, SE_TRIAL, command, number
+from tpmsim.model.capability import command_attributes
+from tpmsim.standard import frames
+from tpmsim.standard.commands import CC
+from tpmsim.standard.frames import CONTINUE_SESSION, DECRYPT, ENCRYPT, RH_OWNER, SE_HMAC, SE_POLICY
+from tpmsim.standard.frames import SE_TRIAL, command, number
 from nv_caller import BY_VALUE, area
 from object_caller import storage_key
 from script import Script

@@ -4,23 +4,21 @@
 from dataclasses import dataclass
 from typing import Callable
 
-import paths
-
-import policy
+from tpmsim.standard import policy
+from tpmsim.standard.commands import CC
+from tpmsim.standard.frames import RH_ENDORSEMENT, RH_LOCKOUT, RH_NULL, RH_OWNER, RH_PLATFORM, SHA1
+from tpmsim.standard.frames import SHA256
+from tpmsim.standard.nv import Attribute
+from tpmsim.standard.objects import Attribute as ObjectAttribute
+from tpmsim.standard.policy import AUTH_VALUE, PASSWORD
+from tpmsim.standard.sessions import name_of
 from caller import Use
-from commands import CC
-from frames import RH_ENDORSEMENT, RH_LOCKOUT, RH_NULL
-from frames import RH_OWNER, RH_PLATFORM, SHA1, SHA256
 from grounds_caller import AFTER_AUTH_VALUE, AFTER_LOCALITY_1, AFTER_PCR_16, AT_LOCALITY_1, DATA
 from grounds_caller import OWNER, PCR_16, PIN, SECRET, ZEROS, GroundsCaller, after_code
 from grounds_caller import after_equal_data, after_secret
-from nv import Attribute
 from nv_caller import BY_OWNER, BY_PLATFORM, BY_POLICY
 from object_caller import HERE, sealed
-from objects import Attribute as ObjectAttribute
-from policy import AUTH_VALUE, PASSWORD
 from script import Script
-from sessions import name_of
 
 USER = ObjectAttribute.USER_WITH_AUTH
 ENDS = 0x00

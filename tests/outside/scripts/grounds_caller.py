@@ -2,14 +2,13 @@
 indices, whose value is "pin", and the policies that they have.
 """
 
-import frames
-import policy
-from capability import LOCKOUT_COUNTER, PROPERTIES
-from commands import CC
-from frames import RH_OWNER, RH_PLATFORM, SHA256, number
+from tpmsim.model.capability import LOCKOUT_COUNTER, PROPERTIES
+from tpmsim.standard import frames, policy
+from tpmsim.standard.commands import CC
+from tpmsim.standard.frames import RH_OWNER, RH_PLATFORM, SHA256, number
+from tpmsim.standard.sessions import command_hash, digest, digest_bytes
 from nv_caller import area
 from object_caller import HERE, sealed
-from sessions import command_hash, digest, digest_bytes
 from state_caller import StateCaller
 
 OWNER, PIN, SECRET, DATA = b"owner", b"pin", b"secret", b"8 bytes."

@@ -1,23 +1,11 @@
 #!/usr/bin/env python3
 """Writes tests/hierarchy_change_auth.tpm: TPM2_HierarchyChangeAuth, by passwords and sessions."""
 
-import paths
-
-import frames
+from tpmsim.standard import frames
+from tpmsim.standard.commands import CC
+from tpmsim.standard.frames import RH_ENDORSEMENT, RH_LOCKOUT, RH_NULL, RH_OWNER, RH_PLATFORM, SHA1
+from tpmsim.standard.frames import command, number, on_handle, sized
 from caller import Caller, Use
-from commands import CC
-from frames import (
-    RH_ENDORSEMENT,
-    RH_LOCKOUT,
-    RH_NULL,
-    RH_OWNER,
-    RH_PLATFORM,
-    SHA1,
-    command,
-    number,
-    on_handle,
-    sized,
-)
 from script import Script
 
 HIERARCHIES = [

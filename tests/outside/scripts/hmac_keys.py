@@ -1,15 +1,14 @@
 #!/usr/bin/env python3
 """Writes tests/hmac_keys.tpm: TPM2_HMAC by keys of each scheme."""
 
-import paths
-
-import frames
-from commands import CC
-from frames import ALG_NULL, RH_NULL, RH_OWNER, SHA1, SHA256, SYMCIPHER, number, sized
+from tpmsim.standard import frames
+from tpmsim.standard.commands import CC
+from tpmsim.standard.frames import ALG_NULL, RH_NULL, RH_OWNER, SHA1, SHA256, SYMCIPHER, number
+from tpmsim.standard.frames import sized
+from tpmsim.standard.objects import Attribute, Public
+from tpmsim.standard.sessions import mac
 from object_caller import HERE, OPEN, ObjectCaller, hmac_key, sealed, storage_key
-from objects import Attribute, Public
 from script import Script
-from sessions import mac
 
 script = Script(
     "tests/hmac_keys.tpm",

@@ -1,10 +1,8 @@
 #!/usr/bin/env python3
 """Writes examples/hmac_session.tpm: a caller changes ownerAuth through an HMAC session."""
 
-import paths
-
 from caller import Caller, Use
-from frames import CONTINUE_SESSION, DECRYPT, ENCRYPT, RH_OWNER
+from tpmsim.standard.frames import CONTINUE_SESSION, DECRYPT, ENCRYPT, RH_OWNER
 from script import Script
 
 script = Script(

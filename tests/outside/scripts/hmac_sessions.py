@@ -1,12 +1,10 @@
 #!/usr/bin/env python3
 """Writes tests/hmac_sessions.tpm: commands that HMAC sessions authorize."""
 
-import paths
-
-import frames
+from tpmsim.standard import frames
+from tpmsim.standard.commands import CC
+from tpmsim.standard.frames import RH_ENDORSEMENT, RH_OWNER, SHA1, SHA256, sized
 from caller import Caller, Use, flipped
-from commands import CC
-from frames import RH_ENDORSEMENT, RH_OWNER, SHA1, SHA256, sized
 from script import Script
 
 NAMES = {SHA1: "SHA-1", SHA256: "SHA-256"}

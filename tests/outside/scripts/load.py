@@ -3,15 +3,13 @@
 
 from dataclasses import replace
 
-import paths
-
-import frames
-from commands import CC
-from frames import RH_ENDORSEMENT, RH_NULL, RH_OWNER, SHA1, SHA256, number, sized
+from tpmsim.standard import frames
+from tpmsim.standard.commands import CC
+from tpmsim.standard.frames import RH_ENDORSEMENT, RH_NULL, RH_OWNER, SHA1, SHA256, number, sized
+from tpmsim.standard.objects import Attribute
+from tpmsim.standard.sessions import mac
 from object_caller import HERE, OPEN, STORES, ObjectCaller, hmac_key, sealed, storage_key
-from objects import Attribute
 from script import Script
-from sessions import mac
 
 script = Script(
     "tests/load.tpm",

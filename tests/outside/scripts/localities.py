@@ -5,9 +5,8 @@ Which PCR changes from where is the table of TPM2_PCR_Extend in docs/table/pcrs.
 """
 
 import paths
-
-from commands import CC
-from frames import SHA1, SHA256, command, digests, number, on_handle, selection
+from tpmsim.standard.commands import CC
+from tpmsim.standard.frames import SHA1, SHA256, command, digests, number, on_handle, selection
 from script import line
 
 SCRIPT = paths.TESTS / "localities.tpm"

@@ -1,15 +1,13 @@
 #!/usr/bin/env python3
 """Writes tests/lockout.tpm: wrong tries are counted, lock, and are forgiven."""
 
-import paths
-
-import policy
-from commands import CC
-from frames import RH_OWNER, SHA256
+from tpmsim.standard import policy
+from tpmsim.standard.commands import CC
+from tpmsim.standard.frames import RH_OWNER, SHA256
+from tpmsim.standard.nv import Attribute as NvAttribute
+from tpmsim.standard.objects import Attribute
 from nv_caller import BY_VALUE, FIRST, SECOND, THIRD, area
-from nv import Attribute as NvAttribute
 from object_caller import HERE, sealed
-from objects import Attribute
 from script import Script
 from state_caller import StateCaller
 

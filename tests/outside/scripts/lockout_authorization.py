@@ -1,11 +1,9 @@
 #!/usr/bin/env python3
 """Writes tests/lockout_authorization.tpm: wrong entries that are a try at lockoutAuth."""
 
-import paths
-
-import frames
-from commands import CC
-from frames import RH_LOCKOUT, RH_OWNER, on_handle, sized
+from tpmsim.standard import frames
+from tpmsim.standard.commands import CC
+from tpmsim.standard.frames import RH_LOCKOUT, RH_OWNER, on_handle, sized
 from nv_caller import BY_VALUE, FIRST, area
 from script import Script
 from state_caller import StateCaller, wrong

@@ -1,17 +1,15 @@
 #!/usr/bin/env python3
 """Writes tests/lockout_commands.tpm: a try by each command that a protected entity authorizes."""
 
-import paths
-
-import policy
+from tpmsim.standard import policy
+from tpmsim.standard.commands import CC
+from tpmsim.standard.frames import RH_OWNER, SHA256
+from tpmsim.standard.nv import Attribute as NvAttribute
+from tpmsim.standard.objects import Attribute
 from caller import Use
-from commands import CC
-from frames import RH_OWNER, SHA256
-from nv import Attribute as NvAttribute
 from nv_caller import BY_POLICY, BY_VALUE, FIRST, FOURTH, SECOND, THIRD, area, bits, counter
 from nv_caller import extended
 from object_caller import HERE, STORES, hmac_key, sealed, storage_key
-from objects import Attribute
 from script import Script
 from state_caller import StateCaller, wrong
 

@@ -4,15 +4,13 @@
 from dataclasses import dataclass
 from typing import Callable
 
-import paths
-
-import policy
+from tpmsim.standard import policy
+from tpmsim.standard.frames import RH_LOCKOUT, RH_OWNER, SHA256
+from tpmsim.standard.nv import Attribute as NvAttribute
+from tpmsim.standard.objects import Attribute
 from caller import Use
-from frames import RH_LOCKOUT, RH_OWNER, SHA256
-from nv import Attribute as NvAttribute
 from nv_caller import BY_POLICY, BY_VALUE, FIRST, SECOND, area
 from object_caller import HERE, sealed
-from objects import Attribute
 from script import Script
 from state_caller import StateCaller, wrong
 

@@ -1,15 +1,12 @@
 #!/usr/bin/env python3
 """Writes tests/long_policy.tpm: a policy of all assertions, in a trial and a policy session."""
 
-import paths
-
-import frames
-import policy
-from commands import CC
-from frames import RH_OWNER, SHA1, SHA256
+from tpmsim.standard import frames, policy
+from tpmsim.standard.commands import CC
+from tpmsim.standard.frames import RH_OWNER, SHA1, SHA256
+from tpmsim.standard.sessions import digest, name_of
 from policy_caller import HASHES, PolicyCaller, zeros
 from script import Script
-from sessions import digest, name_of
 
 BANKS = [(SHA1, [0, 7]), (SHA256, [0, 1, 2, 3, 4, 5, 6, 7, 8])]
 REFERENCE = b"first of January"

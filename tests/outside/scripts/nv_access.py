@@ -1,12 +1,9 @@
 #!/usr/bin/env python3
 """Writes tests/nv_access.tpm: who may write an index and read it, by each attribute alone."""
 
-import paths
-
-import frames
-import nv
-from frames import RH_OWNER, RH_PLATFORM
-from nv import Attribute
+from tpmsim.standard import frames, nv
+from tpmsim.standard.frames import RH_OWNER, RH_PLATFORM
+from tpmsim.standard.nv import Attribute
 from nv_caller import (
     BY_POLICY,
     BY_VALUE,

@@ -1,15 +1,13 @@
 #!/usr/bin/env python3
 """Writes tests/nv_bits_and_extend.tpm: indices of bits, and indices that are extended."""
 
-import paths
-
-import frames
-from frames import RH_OWNER, SHA1, number
-from nv import Attribute
+from tpmsim.standard import frames
+from tpmsim.standard.frames import RH_OWNER, SHA1, number
+from tpmsim.standard.nv import Attribute
+from tpmsim.standard.sessions import digest, digest_bytes
 from nv_caller import BY_OWNER, FIRST, SECOND, THIRD, NvCaller, bits, extended
 from policy_caller import HASHES
 from script import Script
-from sessions import digest, digest_bytes
 
 CLEARED = Attribute.CLEAR_STCLEAR
 

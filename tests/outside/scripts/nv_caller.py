@@ -2,16 +2,16 @@
 change with their attributes.
 """
 
-import frames
-import nv
+from tpmsim.model import nv_commands
+from tpmsim.model.parameters import Parameters
+from tpmsim.standard import frames, nv
+from tpmsim.standard.commands import CC
+from tpmsim.standard.frames import RH_OWNER, SHA256, number, sized
+from tpmsim.standard.nv import Attribute, Type
+from tpmsim.standard.reading import Fields
+from tpmsim.standard.sessions import digest_bytes, trimmed
 from caller import Use
-from commands import CC
-from frames import RH_OWNER, SHA256, number, sized
-from general import Fields
-from nv import Attribute, Type
 from object_caller import ObjectCaller
-from parameters import Parameters
-from sessions import digest_bytes, trimmed
 
 # The first indices of most scripts, and who may write and read them.
 FIRST, SECOND, THIRD, FOURTH = range(0x0100_0001, 0x0100_0005)
@@ -152,7 +152,7 @@ class NvCaller(ObjectCaller):
     def read_index_public(self, what, index, *uses):
         """The public area, which is noted, as a start may have changed it."""
         fields = Fields(self.does(what, self.index_public(index, *uses)))
-        public = Parameters(sized(fields.sized())).structure(nv.read_public)
+        public = Parameters(sized(fields.sized())).structure(nv_commands.read_public)
         assert fields.sized() == public.name and not fields.data
         self.note_public(public)
         return public

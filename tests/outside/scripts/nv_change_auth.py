@@ -1,18 +1,17 @@
 #!/usr/bin/env python3
 """Writes tests/nv_change_auth.tpm: the authorization value of an index, changed by a policy."""
 
-import paths
-
-import policy
+from tpmsim.standard import policy
+from tpmsim.standard.commands import CC
+from tpmsim.standard.frames import CONTINUE_SESSION, DECRYPT, RH_OWNER, RH_PLATFORM, SHA1, SHA256
+from tpmsim.standard.frames import number, sized
+from tpmsim.standard.nv import Attribute
+from tpmsim.standard.policy import AUTH_VALUE, PASSWORD
+from tpmsim.standard.sessions import digest_bytes
 from caller import Use
-from commands import CC
-from frames import CONTINUE_SESSION, DECRYPT, RH_OWNER, RH_PLATFORM, SHA1, SHA256, number, sized
-from nv import Attribute
 from nv_caller import BY_OWNER, BY_POLICY, BY_VALUE, FIRST, SECOND, THIRD, NvCaller, area
-from policy import AUTH_VALUE, PASSWORD
 from policy_caller import HASHES, zeros
 from script import Script
-from sessions import digest_bytes
 
 script = Script(
     "tests/nv_change_auth.tpm",

@@ -1,10 +1,8 @@
 #!/usr/bin/env python3
 """Writes tests/nv_counters.tpm: counters, which never go back."""
 
-import paths
-
-from frames import RH_OWNER, SHA1, number
-from nv import Attribute
+from tpmsim.standard.frames import RH_OWNER, SHA1, number
+from tpmsim.standard.nv import Attribute
 from nv_caller import BY_OWNER, FIRST, FOURTH, SECOND, THIRD, NvCaller, area, counter
 from script import Script
 

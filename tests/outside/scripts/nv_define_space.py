@@ -1,16 +1,15 @@
 #!/usr/bin/env python3
 """Writes tests/nv_define_space.tpm: what an index can be defined with, and how many can be."""
 
-import paths
-
-import frames
-import nv
-from frames import RH_ENDORSEMENT, RH_LOCKOUT, RH_NULL, RH_OWNER, RH_PLATFORM, SHA1, number, sized
-from nv import Attribute, Type
+from tpmsim.model import nv_commands
+from tpmsim.standard import frames, nv
+from tpmsim.standard.frames import RH_ENDORSEMENT, RH_LOCKOUT, RH_NULL, RH_OWNER, RH_PLATFORM, SHA1
+from tpmsim.standard.frames import number, sized
+from tpmsim.standard.nv import Attribute, Type
+from tpmsim.standard.sessions import digest_bytes
 from nv_caller import BY_OWNER, FIRST, NvCaller, area, bits, counter, extended
 from policy_caller import HASHES
 from script import Script
-from sessions import digest_bytes
 
 CREATED = Attribute.PLATFORMCREATE
 
@@ -180,7 +179,7 @@ def attributes():
     unfitting(
         "POLICY_DELETE, WRITELOCKED, GLOBALLOCK, ORDERLY, READLOCKED and WRITTEN",
         "ATTRIBUTES/p2",
-        *(area(attributes=BY_OWNER | it) for it in Attribute if it & nv.NOT_DEFINED),
+        *(area(attributes=BY_OWNER | it) for it in Attribute if it & nv_commands.NOT_DEFINED),
     )
     unfitting(
         "No attribute that allows to write",
@@ -206,9 +205,9 @@ def attributes():
             fitting(f"{each.name} and OWNERREAD", area(attributes=each | Attribute.OWNERREAD))
         elif each & nv.READS:
             fitting(f"OWNERWRITE and {each.name}", area(attributes=each | Attribute.OWNERWRITE))
-        elif not each & nv.NOT_DEFINED and each != CREATED:
+        elif not each & nv_commands.NOT_DEFINED and each != CREATED:
             fitting(f"OWNERWRITE, OWNERREAD and {each.name}", area(attributes=each | BY_OWNER))
-    every = nv.NAMED & ~nv.NOT_DEFINED & ~CREATED & ~nv.of_type(nv.TYPE_MASK)
+    every = nv.NAMED & ~nv_commands.NOT_DEFINED & ~CREATED & ~nv.of_type(nv.TYPE_MASK)
     fitting("All of these", area(attributes=every))
 
 

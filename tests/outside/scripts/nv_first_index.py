@@ -1,9 +1,7 @@
 #!/usr/bin/env python3
 """Writes tests/nv_first_index.tpm: an index is defined, written and read, byte by byte."""
 
-import paths
-
-from frames import RH_OWNER
+from tpmsim.standard.frames import RH_OWNER
 from nv_caller import BY_VALUE, FIRST, NvCaller, area
 from script import Script
 

@@ -3,10 +3,8 @@
 
 import hashlib
 
-import paths
-
-from frames import RH_OWNER, number
-from nv import Attribute
+from tpmsim.standard.frames import RH_OWNER, number
+from tpmsim.standard.nv import Attribute
 from nv_caller import BY_OWNER, FIRST, SECOND, THIRD, NvCaller, area
 from script import Script
 

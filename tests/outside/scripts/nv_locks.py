@@ -1,12 +1,10 @@
 #!/usr/bin/env python3
 """Writes tests/nv_locks.tpm: TPM2_NV_WriteLock, TPM2_NV_ReadLock, and what starts make of them."""
 
-import paths
-
-import frames
-from commands import CC
-from frames import RH_OWNER
-from nv import Attribute
+from tpmsim.standard import frames
+from tpmsim.standard.commands import CC
+from tpmsim.standard.frames import RH_OWNER
+from tpmsim.standard.nv import Attribute
 from nv_caller import BY_OWNER, FIRST, SECOND, NvCaller, area, bits, extended
 from script import Script
 

@@ -1,19 +1,17 @@
 #!/usr/bin/env python3
 """Writes tests/nv_policies.tpm: indices that are written and read by policy sessions."""
 
-import paths
-
-import nv
-import policy
+from tpmsim.standard import nv, policy
+from tpmsim.standard.commands import CC
+from tpmsim.standard.frames import CONTINUE_SESSION, DECRYPT, ENCRYPT, RH_OWNER, SHA1, SHA256
+from tpmsim.standard.frames import selection
+from tpmsim.standard.nv import Attribute
+from tpmsim.standard.policy import AUTH_VALUE, PASSWORD
+from tpmsim.standard.sessions import digest, digest_bytes
 from caller import Use
-from commands import CC
-from frames import CONTINUE_SESSION, DECRYPT, ENCRYPT, RH_OWNER, SHA1, SHA256, selection
-from nv import Attribute
 from nv_caller import BY_OWNER, BY_POLICY, FIRST, SECOND, THIRD, NvCaller, area
-from policy import AUTH_VALUE, PASSWORD
 from policy_caller import HASHES, zeros
 from script import Script
-from sessions import digest, digest_bytes
 
 DATA = b"8 bytes."
 POLICYWRITE, POLICYREAD = Attribute.POLICYWRITE, Attribute.POLICYREAD

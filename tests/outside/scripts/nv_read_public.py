@@ -1,16 +1,14 @@
 #!/usr/bin/env python3
 """Writes tests/nv_read_public.tpm: public areas of indices, and the Names that change with them."""
 
-import paths
-
-import frames
+from tpmsim.standard import frames
+from tpmsim.standard.frames import CONTINUE_SESSION, ENCRYPT, RH_NULL, RH_OWNER, number, sized
+from tpmsim.standard.nv import Attribute
+from tpmsim.standard.sessions import digest, digest_bytes
 from caller import Use
-from frames import CONTINUE_SESSION, ENCRYPT, RH_NULL, RH_OWNER, number, sized
-from nv import Attribute
 from nv_caller import BY_OWNER, BY_VALUE, FIRST, SECOND, NvCaller, area, counter, extended
 from policy_caller import HASHES
 from script import Script
-from sessions import digest, digest_bytes
 
 script = Script(
     "tests/nv_read_public.tpm",

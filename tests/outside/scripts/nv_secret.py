@@ -3,13 +3,11 @@
 
 import hashlib
 
-import paths
-
-import frames
+from tpmsim.standard import frames
+from tpmsim.standard.commands import CC
+from tpmsim.standard.frames import CONTINUE_SESSION, DECRYPT, ENCRYPT, RH_OWNER
+from tpmsim.standard.nv import Attribute
 from caller import Use
-from commands import CC
-from frames import CONTINUE_SESSION, DECRYPT, ENCRYPT, RH_OWNER
-from nv import Attribute
 from nv_caller import NvCaller, area
 from script import Script
 

@@ -1,13 +1,12 @@
 #!/usr/bin/env python3
 """Writes tests/nv_sessions.tpm: commands on indices by HMAC sessions."""
 
-import paths
-
-import frames
+from tpmsim.standard import frames
+from tpmsim.standard.commands import CC
+from tpmsim.standard.frames import CONTINUE_SESSION, DECRYPT, ENCRYPT, RH_NULL, RH_OWNER, SHA1
+from tpmsim.standard.frames import SHA256
+from tpmsim.standard.nv import Attribute
 from caller import Use, flipped
-from commands import CC
-from frames import CONTINUE_SESSION, DECRYPT, ENCRYPT, RH_NULL, RH_OWNER, SHA1, SHA256
-from nv import Attribute
 from nv_caller import (
     BY_OWNER,
     BY_VALUE,

@@ -1,12 +1,10 @@
 #!/usr/bin/env python3
 """Writes tests/nv_types.tpm: indices of each type, and the commands that do not fit it."""
 
-import paths
-
-from frames import RH_OWNER, number
+from tpmsim.standard.frames import RH_OWNER, number
+from tpmsim.standard.sessions import digest
 from nv_caller import BY_OWNER, FIRST, NvCaller, area, bits, counter, extended
 from script import Script
-from sessions import digest
 
 SECRET = b"8 bytes."
 

@@ -1,11 +1,9 @@
 #!/usr/bin/env python3
 """Writes tests/nv_undefine_space.tpm: who takes an index away, and what goes with it."""
 
-import paths
-
-from commands import CC
-from frames import RH_ENDORSEMENT, RH_NULL, RH_OWNER, RH_PLATFORM
-from nv import Attribute
+from tpmsim.standard.commands import CC
+from tpmsim.standard.frames import RH_ENDORSEMENT, RH_NULL, RH_OWNER, RH_PLATFORM
+from tpmsim.standard.nv import Attribute
 from nv_caller import BY_OWNER, BY_VALUE, FIRST, SECOND, THIRD, NvCaller, area
 from script import Script
 

@@ -2,14 +2,15 @@
 
 from dataclasses import dataclass
 
-import frames
-from commands import CC
-from frames import KEYEDHASH, SHA256, SYMCIPHER, number, sized
-from general import Fields
-from objects import Attribute, Public, read_public
-from parameters import Parameters
+from tpmsim.model.object_rules import read_public
+from tpmsim.model.parameters import Parameters
+from tpmsim.standard import frames
+from tpmsim.standard.commands import CC
+from tpmsim.standard.frames import KEYEDHASH, SHA256, SYMCIPHER, number, sized
+from tpmsim.standard.objects import Attribute, Public
+from tpmsim.standard.reading import Fields
+from tpmsim.standard.sessions import digest
 from policy_caller import PolicyCaller
-from sessions import digest
 
 # What most objects here are: bound to this device and to their parent, usable by their value, and
 # not protected from guessing.

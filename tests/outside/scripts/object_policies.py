@@ -1,28 +1,17 @@
 #!/usr/bin/env python3
 """Writes tests/object_policies.tpm: policies that authorize objects, and what each of them asks."""
 
-import paths
-
-import policy
+from tpmsim.standard import policy
+from tpmsim.standard.commands import CC
+from tpmsim.standard.frames import ALG_NULL, CONTINUE_SESSION, DECRYPT, ENCRYPT, RH_ENDORSEMENT
+from tpmsim.standard.frames import RH_OWNER, SHA1, SHA256, selection
+from tpmsim.standard.objects import Attribute
+from tpmsim.standard.policy import AUTH_VALUE, PASSWORD
+from tpmsim.standard.sessions import command_hash, digest, name_of
 from caller import Use
-from commands import CC
-from frames import (
-    ALG_NULL,
-    CONTINUE_SESSION,
-    DECRYPT,
-    ENCRYPT,
-    RH_ENDORSEMENT,
-    RH_OWNER,
-    SHA1,
-    SHA256,
-    selection,
-)
 from object_caller import HERE, ObjectCaller, hmac_key, sealed, storage_key
-from objects import Attribute
-from policy import AUTH_VALUE, PASSWORD
 from policy_caller import zeros
 from script import Script
-from sessions import command_hash, digest, name_of
 
 NO_DA, USER = Attribute.NO_DA, Attribute.USER_WITH_AUTH
 PCR_16 = [(SHA256, [16])]

@@ -1,24 +1,13 @@
 #!/usr/bin/env python3
 """Writes tests/object_sessions.tpm: HMAC sessions that authorize objects, or are bound to them."""
 
-import paths
-
-import policy
+from tpmsim.standard import policy
+from tpmsim.standard.commands import CC
+from tpmsim.standard.frames import ALG_NULL, RH_ENDORSEMENT, RH_OWNER, SHA1, SHA256, command
+from tpmsim.standard.frames import number, policy_secret, start_auth_session
+from tpmsim.standard.objects import Attribute
 from caller import Use
-from commands import CC
-from frames import (
-    ALG_NULL,
-    RH_ENDORSEMENT,
-    RH_OWNER,
-    SHA1,
-    SHA256,
-    command,
-    number,
-    policy_secret,
-    start_auth_session,
-)
 from object_caller import HERE, ObjectCaller, hmac_key, sealed, storage_key
-from objects import Attribute
 from policy_caller import zeros
 from script import Script
 

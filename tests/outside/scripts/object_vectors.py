@@ -1,22 +1,19 @@
 #!/usr/bin/env python3
 """Writes tests/object_vectors.tpm: objects whose every byte is computed here, step by step.
 
-    python3 tests/outside/scripts/object_vectors.py    also prints each step, for tests that want numbers
+    tools/python.sh tests/outside/scripts/object_vectors.py    also prints each step, for tests that want numbers
 
-It uses hashlib and hmac, and aes.py for the cipher, and nothing of objects.py: the equations of
+It uses hashlib and hmac, and aes.py for the cipher, and nothing of object_rules.py: the equations of
 objects stand here once more, each on its own line, with the numbers of one example. The script's
-answers, which device.py gives, are compared with them.
+answers, which the model gives, are compared with them.
 """
 
 import hashlib
 import hmac
 
-import paths
-
-import aes
-from commands import CC
-from frames import RH_OWNER, command, number, on_handle
-from frames import selection, sized
+from tpmsim.standard import aes
+from tpmsim.standard.commands import CC
+from tpmsim.standard.frames import RH_OWNER, command, number, on_handle, selection, sized
 from script import Script
 
 # The device of a script is manufactured with the bytes 00 to ff, eight pieces of 32: the seeds of

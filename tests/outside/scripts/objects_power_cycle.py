@@ -1,11 +1,9 @@
 #!/usr/bin/env python3
 """Writes tests/objects_power_cycle.tpm: what a power cycle leaves of objects."""
 
-import paths
-
-import frames
-from commands import CC
-from frames import RH_ENDORSEMENT, RH_NULL, RH_OWNER, RH_PLATFORM, SHA1, number
+from tpmsim.standard import frames
+from tpmsim.standard.commands import CC
+from tpmsim.standard.frames import RH_ENDORSEMENT, RH_NULL, RH_OWNER, RH_PLATFORM, SHA1, number
 from object_caller import ObjectCaller, hmac_key, sealed, storage_key
 from script import Script
 

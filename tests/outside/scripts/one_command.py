@@ -1,14 +1,12 @@
 #!/usr/bin/env python3
 """Writes examples/one_command.tpm: a policy that lets one command through, by its cpHash."""
 
-import paths
-
-import policy
-from frames import RH_OWNER, SHA256
-from nv import Attribute
+from tpmsim.standard import policy
+from tpmsim.standard.frames import RH_OWNER, SHA256
+from tpmsim.standard.nv import Attribute
+from tpmsim.standard.sessions import command_hash, name_of
 from nv_caller import FIRST, NvCaller, area
 from script import Script
-from sessions import command_hash, name_of
 
 OWNER_AUTH = b"administrator"
 OLD, NEW, OTHER = b"boot=disk   ", b"boot=network", b"boot=usb    "

@@ -1,26 +1,12 @@
 #!/usr/bin/env python3
 """Writes tests/order_of_nv_refusals.tpm: many faults at once, repaired one by one."""
 
-import paths
-
-import frames
-import general
-import policy
+from tpmsim.standard import frames, handle_kinds, policy
+from tpmsim.standard.commands import CC
+from tpmsim.standard.frames import DECRYPT, Entry, RH_LOCKOUT, RH_OWNER, RH_PLATFORM, SHA1
+from tpmsim.standard.frames import area as entries_area, command, number, sized
+from tpmsim.standard.nv import Attribute
 from caller import Use
-from commands import CC
-from frames import (
-    DECRYPT,
-    RH_LOCKOUT,
-    RH_OWNER,
-    RH_PLATFORM,
-    SHA1,
-    area as entries_area,
-    command,
-    number,
-    sized,
-)
-from general import Entry
-from nv import Attribute
 from nv_caller import BY_OWNER, BY_POLICY, BY_VALUE, NvCaller, area, bits, counter, extended
 from script import Script
 
@@ -56,7 +42,7 @@ def handles_in_order(code, handles):
             ("One that is not there", "REFERENCE_H2", number(0x0300_000F, 4)),
         ):
             absent = int.from_bytes(text, "big")
-            is_of_kind = general.IS_OF_KIND[code.handles[place - 1].kind]
+            is_of_kind = handle_kinds.IS_OF_KIND[code.handles[place - 1].kind]
             if len(text) == 4 and absent != RH_LOCKOUT and not is_of_kind(absent):
                 continue
             script.command(
@@ -84,7 +70,7 @@ def general_refusals(code, handles, cut, uses):
         f"REFERENCE_S{last - 1}",
         prepared.but(entries=[*wrong(prepared, 1).entries[:-1], ABSENT_SESSION]),
     )
-    is_first = general.IS_OF_KIND[code.handles[0].kind]
+    is_first = handle_kinds.IS_OF_KIND[code.handles[0].kind]
     if code.authorized and is_first(BY_OTHERS) and code != CC.NV_ChangeAuth:
         unavailable = caller.prepare(code, [BY_OTHERS, *handles[1:]], cut, *uses)
         caller.refused(
@@ -93,7 +79,7 @@ def general_refusals(code, handles, cut, uses):
             wrong(unavailable, 1, last),
         )
     if last > 1:
-        refused = "AUTH_FAIL/s1" if general.is_index(handles[0]) else "BAD_AUTH/s1"
+        refused = "AUTH_FAIL/s1" if handle_kinds.is_index(handles[0]) else "BAD_AUTH/s1"
         caller.refused("Both entries are wrong", refused, wrong(prepared, 1, last))
     caller.refused("The last one is", f"BAD_AUTH/s{last}", wrong(prepared, last))
 

@@ -1,26 +1,13 @@
 #!/usr/bin/env python3
 """Writes tests/order_of_object_refusals.tpm: many faults at once, repaired one by one."""
 
-import paths
-
-import frames
+from tpmsim.standard import frames
+from tpmsim.standard.commands import CC
+from tpmsim.standard.frames import ALG_NULL, DECRYPT, Entry, RH_LOCKOUT, RH_OWNER, SHA1, SHA256
+from tpmsim.standard.frames import area, command, number, sized
+from tpmsim.standard.objects import Attribute
 from caller import Use
-from commands import CC
-from frames import (
-    ALG_NULL,
-    DECRYPT,
-    RH_LOCKOUT,
-    RH_OWNER,
-    SHA1,
-    SHA256,
-    area,
-    command,
-    number,
-    sized,
-)
-from general import Entry
 from object_caller import HERE, OPEN, ObjectCaller, hmac_key, sealed, storage_key
-from objects import Attribute
 from script import Script
 
 script = Script(

@@ -1,24 +1,11 @@
 #!/usr/bin/env python3
 """Writes tests/order_of_policy_refusals.tpm: policy commands with many faults."""
 
-import paths
-
-import frames
+from tpmsim.standard import frames
+from tpmsim.standard.commands import CC
+from tpmsim.standard.frames import CONTINUE_SESSION, DECRYPT, ENCRYPT, Entry, RH_LOCKOUT, RH_NULL
+from tpmsim.standard.frames import RH_OWNER, SHA256, number, selection, sized
 from caller import Use, flipped
-from commands import CC
-from frames import (
-    CONTINUE_SESSION,
-    DECRYPT,
-    ENCRYPT,
-    RH_LOCKOUT,
-    RH_NULL,
-    RH_OWNER,
-    SHA256,
-    number,
-    selection,
-    sized,
-)
-from general import Entry
 from policy_caller import PolicyCaller
 from script import Script
 

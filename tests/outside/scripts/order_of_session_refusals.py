@@ -1,13 +1,11 @@
 #!/usr/bin/env python3
 """Writes tests/order_of_session_refusals.tpm: commands with sessions and many faults."""
 
-import paths
-
-import frames
+from tpmsim.standard import frames
+from tpmsim.standard.commands import CC
+from tpmsim.standard.frames import CONTINUE_SESSION, DECRYPT, ENCRYPT, Entry, RH_NULL, RH_OWNER
+from tpmsim.standard.frames import number, sized
 from caller import Caller, Use, flipped
-from commands import CC
-from frames import CONTINUE_SESSION, DECRYPT, ENCRYPT, RH_NULL, RH_OWNER, number, sized
-from general import Entry
 from script import Script
 
 DECRYPTS = CONTINUE_SESSION | DECRYPT

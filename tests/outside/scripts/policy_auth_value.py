@@ -1,10 +1,8 @@
 #!/usr/bin/env python3
 """Writes tests/policy_auth_value.tpm: TPM2_PolicyAuthValue and TPM2_PolicyPassword."""
 
-import paths
-
-import policy
-from commands import CC
+from tpmsim.standard import policy
+from tpmsim.standard.commands import CC
 from policy_caller import PolicyCaller, zeros
 from script import Script
 

@@ -1,10 +1,10 @@
 """A caller of policies: it starts policy and trial sessions, and tells them assertions."""
 
-import frames
+from tpmsim.standard import frames
+from tpmsim.standard.commands import CC
+from tpmsim.standard.frames import RH_ENDORSEMENT, SE_POLICY, SE_TRIAL, SHA1, SHA256, number, sized
+from tpmsim.standard.sessions import digest_bytes
 from caller import Caller
-from commands import CC
-from frames import RH_ENDORSEMENT, SE_POLICY, SE_TRIAL, SHA1, SHA256, number, sized
-from sessions import digest_bytes
 
 HASHES = ((SHA1, "SHA-1"), (SHA256, "SHA-256"))
 KINDS = ((SE_POLICY, "policy"), (SE_TRIAL, "trial"))

@@ -1,11 +1,9 @@
 #!/usr/bin/env python3
 """Writes tests/policy_command_code.tpm: TPM2_PolicyCommandCode, of each code that there is."""
 
-import paths
-
-import policy
-from commands import CC
-from frames import SE_POLICY, SE_TRIAL, SHA1, SHA256, number
+from tpmsim.standard import policy
+from tpmsim.standard.commands import CC
+from tpmsim.standard.frames import SE_POLICY, SE_TRIAL, SHA1, SHA256, number
 from policy_caller import PolicyCaller, zeros
 from script import Script
 

@@ -3,19 +3,17 @@
 
 import hashlib
 
-import paths
-
-import policy
+from tpmsim.standard import policy
+from tpmsim.standard.commands import CC
+from tpmsim.standard.frames import CONTINUE_SESSION, DECRYPT, RH_ENDORSEMENT, RH_OWNER, SHA1
+from tpmsim.standard.frames import SHA256, number, sized
+from tpmsim.standard.objects import Attribute
+from tpmsim.standard.sessions import command_hash, digest_bytes, name_of
 from caller import Use, flipped
-from commands import CC
-from frames import CONTINUE_SESSION, DECRYPT, RH_ENDORSEMENT, RH_OWNER, SHA1, SHA256
-from frames import number, sized
 from nv_caller import BY_OWNER, BY_POLICY, FIRST, NvCaller, area
 from object_caller import HERE, sealed, storage_key
-from objects import Attribute
 from policy_caller import is_trial, zeros
 from script import Script
-from sessions import command_hash, digest_bytes, name_of
 
 DECRYPTS = CONTINUE_SESSION | DECRYPT
 

@@ -1,12 +1,11 @@
 #!/usr/bin/env python3
 """Writes tests/policy_handles.tpm: the handles of the policy commands, and their entries."""
 
-import paths
-
-import frames
+from tpmsim.standard import frames
+from tpmsim.standard.commands import CC
+from tpmsim.standard.frames import RH_ENDORSEMENT, RH_NULL, RH_OWNER, RS_PW, SHA1, SHA256, area
+from tpmsim.standard.frames import entry, number
 from caller import flipped
-from commands import CC
-from frames import RH_ENDORSEMENT, RH_NULL, RH_OWNER, RS_PW, SHA1, SHA256, area, entry, number
 from policy_caller import PolicyCaller
 from script import Script
 

@@ -3,14 +3,11 @@
 
 import hashlib
 
-import paths
-
-import frames
-import policy
+from tpmsim.standard import frames, policy
+from tpmsim.standard.commands import CC
+from tpmsim.standard.frames import RH_OWNER, RH_PLATFORM, SHA1, SHA256, number, sized
+from tpmsim.standard.nv import Attribute
 from caller import Use
-from commands import CC
-from frames import RH_OWNER, RH_PLATFORM, SHA1, SHA256, number, sized
-from nv import Attribute
 from nv_caller import (
     BY_OWNER,
     BY_PLATFORM,

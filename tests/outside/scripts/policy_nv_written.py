@@ -3,20 +3,17 @@
 
 import hashlib
 
-import paths
-
-import frames
-import policy
+from tpmsim.standard import frames, policy
+from tpmsim.standard.commands import CC
+from tpmsim.standard.frames import RH_OWNER, SHA1, SHA256
+from tpmsim.standard.nv import Attribute
+from tpmsim.standard.objects import Attribute as ObjectAttribute
+from tpmsim.standard.sessions import command_hash
 from caller import Use, flipped
-from commands import CC
-from frames import RH_OWNER, SHA1, SHA256
-from nv import Attribute
 from nv_caller import BY_OWNER, BY_POLICY, FIRST, FOURTH, NvCaller, SECOND, THIRD, area, counter
 from object_caller import HERE, sealed, storage_key
-from objects import Attribute as ObjectAttribute
 from policy_caller import zeros
 from script import Script
-from sessions import command_hash
 
 NO, YES = False, True
 FIFTH = 0x0100_0005

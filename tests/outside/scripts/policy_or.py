@@ -1,15 +1,12 @@
 #!/usr/bin/env python3
 """Writes tests/policy_or.tpm: TPM2_PolicyOR, and of which lists it is."""
 
-import paths
-
-import frames
-import policy
-from commands import CC
-from frames import number, sized
+from tpmsim.standard import frames, policy
+from tpmsim.standard.commands import CC
+from tpmsim.standard.frames import number, sized
+from tpmsim.standard.sessions import digest
 from policy_caller import PolicyCaller, is_trial, zeros
 from script import Script
-from sessions import digest
 
 script = Script(
     "tests/policy_or.tpm",

@@ -1,15 +1,12 @@
 #!/usr/bin/env python3
 """Writes tests/policy_pcr.tpm: TPM2_PolicyPCR, its selections, and PCRs that change behind it."""
 
-import paths
-
-import frames
-import policy
-from commands import CC
-from frames import RH_NULL, SHA1, SHA256, number, selection, sized
+from tpmsim.standard import frames, policy
+from tpmsim.standard.commands import CC
+from tpmsim.standard.frames import RH_NULL, SHA1, SHA256, number, selection, sized
+from tpmsim.standard.sessions import digest
 from policy_caller import PolicyCaller, is_trial, zeros
 from script import Script
-from sessions import digest
 
 ALL = range(24)
 

@@ -1,16 +1,13 @@
 #!/usr/bin/env python3
 """Writes tests/policy_restart.tpm: TPM2_PolicyRestart, by which a session forgets its policy."""
 
-import paths
-
-import frames
-import policy
+from tpmsim.standard import frames, policy
+from tpmsim.standard.commands import CC
+from tpmsim.standard.frames import RH_OWNER, SHA1, SHA256
+from tpmsim.standard.sessions import digest_bytes
 from caller import Use
-from commands import CC
-from frames import RH_OWNER, SHA1, SHA256
 from policy_caller import PolicyCaller, is_trial, zeros
 from script import Script
-from sessions import digest_bytes
 
 script = Script(
     "tests/policy_restart.tpm",

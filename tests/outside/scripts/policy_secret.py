@@ -1,24 +1,13 @@
 #!/usr/bin/env python3
 """Writes tests/policy_secret.tpm: TPM2_PolicySecret, its parameters and what it is hashed of."""
 
-import paths
-
-import frames
-import policy
+from tpmsim.standard import frames, policy
+from tpmsim.standard.frames import RH_ENDORSEMENT, RH_LOCKOUT, RH_OWNER, RH_PLATFORM, SHA1, SHA256
+from tpmsim.standard.frames import number, sized
+from tpmsim.standard.sessions import digest_bytes, name_of
 from caller import Use, flipped
-from frames import (
-    RH_ENDORSEMENT,
-    RH_LOCKOUT,
-    RH_OWNER,
-    RH_PLATFORM,
-    SHA1,
-    SHA256,
-    number,
-    sized,
-)
 from policy_caller import PolicyCaller, is_trial, zeros
 from script import Script
-from sessions import digest_bytes, name_of
 
 ENTITIES = (
     (RH_OWNER, "TPM_RH_OWNER"),

@@ -1,14 +1,12 @@
 #!/usr/bin/env python3
 """Writes tests/policy_secret_authorization.tpm: by what entries TPM2_PolicySecret is authorized."""
 
-import paths
-
-import policy
+from tpmsim.standard import policy
+from tpmsim.standard.frames import RH_ENDORSEMENT, RH_LOCKOUT, RH_OWNER, RH_PLATFORM, SHA1, SHA256
+from tpmsim.standard.sessions import name_of
 from caller import Use, flipped
-from frames import RH_ENDORSEMENT, RH_LOCKOUT, RH_OWNER, RH_PLATFORM, SHA1, SHA256
 from policy_caller import HASHES, PolicyCaller, zeros
 from script import Script
-from sessions import name_of
 
 VALUES = (
     (RH_OWNER, "TPM_RH_OWNER", b"owner"),

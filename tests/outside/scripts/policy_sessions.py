@@ -1,13 +1,11 @@
 #!/usr/bin/env python3
 """Writes tests/policy_sessions.tpm: where policy sessions have their place, and how they end."""
 
-import paths
-
-import frames
+from tpmsim.standard import frames
+from tpmsim.standard.commands import CC
+from tpmsim.standard.frames import Entry, RH_LOCKOUT, RH_OWNER, SE_HMAC, SE_POLICY, SE_TRIAL, SHA1
+from tpmsim.standard.frames import SHA256, number
 from caller import Use, flipped
-from commands import CC
-from frames import RH_LOCKOUT, RH_OWNER, SE_HMAC, SE_POLICY, SE_TRIAL, SHA1, SHA256, number
-from general import Entry
 from policy_caller import HASHES, PolicyCaller, zeros
 from script import Script
 

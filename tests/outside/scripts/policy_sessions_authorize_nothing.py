@@ -1,21 +1,11 @@
 #!/usr/bin/env python3
 """Writes tests/policy_sessions_authorize_nothing.tpm: policy sessions as the first entry."""
 
-import paths
-
-import frames
+from tpmsim.standard import frames
+from tpmsim.standard.commands import CC
+from tpmsim.standard.frames import CONTINUE_SESSION, DECRYPT, Entry, RH_ENDORSEMENT, RH_LOCKOUT
+from tpmsim.standard.frames import RH_NULL, RH_OWNER, RH_PLATFORM
 from caller import Use, flipped
-from commands import CC
-from frames import (
-    CONTINUE_SESSION,
-    DECRYPT,
-    RH_ENDORSEMENT,
-    RH_LOCKOUT,
-    RH_NULL,
-    RH_OWNER,
-    RH_PLATFORM,
-)
-from general import Entry
 from policy_caller import PolicyCaller, zeros
 from script import Script
 

@@ -1,26 +1,14 @@
 #!/usr/bin/env python3
 """Writes tests/policy_sessions_that_encrypt.tpm: policy sessions that authorize nothing."""
 
-import paths
-
-import frames
-import policy
+from tpmsim.standard import frames, policy
+from tpmsim.standard.commands import CC
+from tpmsim.standard.frames import CONTINUE_SESSION, DECRYPT, ENCRYPT, RH_ENDORSEMENT, RH_LOCKOUT
+from tpmsim.standard.frames import RH_OWNER, SE_POLICY, SE_TRIAL, SHA1
+from tpmsim.standard.sessions import digest, name_of
 from caller import Use, flipped
-from commands import CC
-from frames import (
-    CONTINUE_SESSION,
-    DECRYPT,
-    ENCRYPT,
-    RH_ENDORSEMENT,
-    RH_LOCKOUT,
-    RH_OWNER,
-    SE_POLICY,
-    SE_TRIAL,
-    SHA1,
-)
 from policy_caller import HASHES, KINDS, PolicyCaller, zeros
 from script import Script
-from sessions import digest, name_of
 
 DECRYPTS, ENCRYPTS = CONTINUE_SESSION | DECRYPT, CONTINUE_SESSION | ENCRYPT
 

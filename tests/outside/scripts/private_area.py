@@ -1,16 +1,15 @@
 #!/usr/bin/env python3
 """Writes tests/private_area.tpm: private areas that were changed, or that were made outside."""
 
-import paths
-
-import aes
-import objects
+from tpmsim.model import object_rules
+from tpmsim.model.object_rules import Sensitive
+from tpmsim.standard import aes
+from tpmsim.standard.frames import KEYEDHASH, RH_OWNER, SHA1, SHA256, SYMCIPHER, number, sized
+from tpmsim.standard.objects import Public
+from tpmsim.standard.sessions import digest, digest_bytes, kdfa, mac
 from caller import flipped
-from frames import KEYEDHASH, RH_OWNER, SHA1, SHA256, SYMCIPHER, number, sized
 from object_caller import HERE, OPEN, STORES, Made, ObjectCaller, hmac_key, sealed, storage_key
-from objects import Public, Sensitive
 from script import Script
-from sessions import digest, digest_bytes, kdfa, mac
 
 script = Script(
     "tests/private_area.tpm",
@@ -61,7 +60,7 @@ script.chapter(
 
 
 def forge(parent, public, text, iv=b"\x5a" * aes.BLOCK, name=None, algorithm=None):
-    """A private area whose encrypted part is this text, by the equations and not by objects.py."""
+    """A private area whose encrypted part is this text, by the equations and not by object_rules.py."""
     known = script.device.objects[parent]
     seed = known.sensitive.seed_value
     algorithm = algorithm or known.public.name_algorithm
@@ -85,7 +84,7 @@ for algorithm, hash_name in ((SHA1, "SHA-1"), (SHA256, "SHA-256")):
     private = forge(parent, public, sensitive())
     known = script.device.objects[parent]
     same = Sensitive(KEYEDHASH, b"", b"s" * 32, b"forged")
-    assert private == objects.wrapped(known, public.name, same, b"\x5a" * aes.BLOCK)
+    assert private == object_rules.wrapped(known, public.name, same, b"\x5a" * aes.BLOCK)
 
     handle = caller.load("TPM2_Load of one", parent, Made(private, public, b""))
     caller.unseal("TPM2_Unseal: unique is not compared with it", handle, b"forged")
@@ -124,7 +123,7 @@ for algorithm, hash_name in ((SHA1, "SHA-1"), (SHA256, "SHA-256")):
 
     def behind(rest):
         """A private area with anything behind the right integrity value of it."""
-        return sized(objects.integrity(known, rest, public.name)) + rest
+        return sized(object_rules.integrity(known, rest, public.name)) + rest
 
     refused(
         "Cut, as its size reaches too far: nothing is behind the integrity value, half a size, "
@@ -180,7 +179,7 @@ for algorithm, hash_name in ((SHA1, "SHA-1"), (SHA256, "SHA-256")):
         behind(
             sized(bytes(aes.BLOCK))
             + aes.cfb_encrypt(
-                objects.encrypting_key(known, storage_key().name), bytes(aes.BLOCK), text
+                object_rules.encrypting_key(known, storage_key().name), bytes(aes.BLOCK), text
             )
         ),
     )

@@ -1,4 +1,4 @@
-"""A random script, and what device.py answers to it:
+"""A random script, and what the model answers to it:
 
     random_script.py SEED COUNT FOLDER
 
@@ -12,21 +12,15 @@ import random
 import sys
 from dataclasses import replace
 
-import paths
-
-import frames
-import general
-import nv
-import persistent
-import policy
-import sessions
-import state
-from commands import CC, Fact, HandleKind
-from device import Device
-from frames import AES, ALG_NULL, CONTINUE_SESSION, DECRYPT, ENCRYPT, KEYEDHASH, RH_NULL, RS_PW
-from frames import SHA1, SHA256, SYMCIPHER, XOR, number, sized
-from general import Entry, Refusal, Short
-from objects import Attribute, Public
+from tpmsim.model import general, nv_commands, persistent, state
+from tpmsim.model.machine import Model
+from tpmsim.standard import frames, handle_kinds, nv, policy, reading, sessions
+from tpmsim.standard.commands import CC, Fact, HandleKind
+from tpmsim.standard.frames import AES, ALG_NULL, CONTINUE_SESSION, DECRYPT, ENCRYPT, Entry
+from tpmsim.standard.frames import KEYEDHASH, RH_NULL, RS_PW, SHA1, SHA256, SYMCIPHER, XOR, number
+from tpmsim.standard.frames import sized
+from tpmsim.standard.objects import Attribute, Public
+from tpmsim.standard.reading import Short
 from outputs import POWER, Played, write_outputs
 from script import line
 
@@ -58,7 +52,7 @@ class Writer(random.Random):
 
     def __init__(self, seed):
         super().__init__(seed)
-        self.device, self.locality = Device(), 0
+        self.device, self.locality = Model(), 0
         self.lines, self.played = [f"# Random script {seed}."], []
         self.made, self.digests = [], [b""]
 
@@ -79,7 +73,7 @@ class Writer(random.Random):
         return 0x000C if self.happens(0.01) else self.choice((SHA1, SHA256, SHA256))
 
     def hierarchy(self):
-        return self.choice(general.PRIMARY_HIERARCHIES)
+        return self.choice(handle_kinds.PRIMARY_HIERARCHIES)
 
     def object(self, test=lambda it: True):
         """The handle of a loaded object, if any; seldom of one that is not there."""
@@ -97,7 +91,7 @@ class Writer(random.Random):
     def entity(self):
         return self.choice(
             (
-                *general.HIERARCHIES,
+                *handle_kinds.HIERARCHIES,
                 *(self.choice(PCR_NUMBERS), self.object(), self.object()),
                 *(self.index(), self.index()),
             )
@@ -159,7 +153,7 @@ class Writer(random.Random):
 
     def nv_attributes(self, hierarchy):
         """Who may write and read, what may be locked, and the type."""
-        some = self.getrandbits(32) & self.getrandbits(32) & nv.NAMED & ~nv.NOT_DEFINED
+        some = self.getrandbits(32) & self.getrandbits(32) & nv.NAMED & ~nv_commands.NOT_DEFINED
         attributes = some & ~nv.of_type(nv.TYPE_MASK) | self.choice((0, 0x000E_000E, 0x0006_0006))
         attributes &= ~nv.Attribute.PLATFORMCREATE
         if (hierarchy == frames.RH_PLATFORM) != self.happens():
@@ -253,7 +247,7 @@ class Writer(random.Random):
         if operand and self.happens(0.4):
             operand = self.bent(operand)
         operand += self.happens() * bytes(30)
-        operation = self.randrange(len(nv.OPERATIONS) + self.happens())
+        operation = self.randrange(len(nv_commands.OPERATIONS) + self.happens())
         (session,), _ = self.told()
         return [*handles, session], frames.policy_nv(operand, offset, operation)
 
@@ -387,7 +381,10 @@ class Writer(random.Random):
         CC.PCR_Reset: (2, lambda w: (w.pcr(), b"")),
         CC.HierarchyChangeAuth: (
             3,
-            lambda w: ([w.choice(general.HIERARCHIES)], sized(w.choice(AUTH_VALUES) + bytes(2))),
+            lambda w: (
+                [w.choice(handle_kinds.HIERARCHIES)],
+                sized(w.choice(AUTH_VALUES) + bytes(2)),
+            ),
         ),
         CC.FlushContext: (12, flushed),
         CC.StartAuthSession: (14, start),
@@ -511,7 +508,7 @@ class Writer(random.Random):
         if entry.handle == RS_PW:
             return device.auth_value(handle) + bytes(self.randrange(2))
         held = device.sessions[entry.handle]
-        if general.is_policy(entry.handle) and handle is not None:
+        if handle_kinds.is_policy(entry.handle) and handle is not None:
             entry.demand = held.policy.demand
             if entry.demand == policy.PASSWORD:
                 return device.auth_value(handle)
@@ -609,7 +606,7 @@ class Writer(random.Random):
         """Keeps what TPM2_Create answered in plain, and the digests that policies have."""
         if not refused and buffer[:2] == number(frames.SESSIONS, 2):
             if int.from_bytes(buffer[6:10], "big") == CC.Create:
-                fields = general.Fields(response[14:])
+                fields = reading.Fields(response[14:])
                 parent = self.device.name(int.from_bytes(buffer[10:14], "big"))
                 self.made = [*self.made[-20:], (parent, fields.sized(), fields.sized())]
         for held in self.device.sessions.values():

@@ -1,13 +1,10 @@
 """Random connections to a served device, in runs one after another: the lines of streams.py."""
 
-import paths  # first: it finds the device
-
-import frames
-import state
-import streams
+from tpmsim.model import state, streams
+from tpmsim.model.image import Fault, VERSION_1, image, open_image
+from tpmsim.standard import frames
+from tpmsim.standard.commands import CC
 from bent_script import bent_image
-from commands import CC
-from image import VERSION_1, Fault, image, open_image
 from random_script import MOST_TRIES, Writer
 
 # No time passes that counts for dictionary attack protection: none of these is over before the

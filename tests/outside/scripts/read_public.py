@@ -1,14 +1,12 @@
 #!/usr/bin/env python3
 """Writes tests/read_public.tpm: TPM2_ReadPublic, and the Names that it answers."""
 
-import paths
-
 from caller import Use
-from commands import CC
-from frames import ENCRYPT, RH_NULL, RH_OWNER, SHA1, SHA256, command, number
+from tpmsim.standard.commands import CC
+from tpmsim.standard.frames import ENCRYPT, RH_NULL, RH_OWNER, SHA1, SHA256, command, number
+from tpmsim.standard.sessions import digest
 from object_caller import ObjectCaller, hmac_key, sealed, storage_key
 from script import Script
-from sessions import digest
 
 script = Script(
     "tests/read_public.tpm",

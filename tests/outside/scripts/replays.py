@@ -3,17 +3,15 @@
 
 from dataclasses import replace
 
-import paths
-
-import frames
+from tpmsim.standard import frames
+from tpmsim.standard.commands import CC
+from tpmsim.standard.frames import CONTINUE_SESSION, DECRYPT, ENCRYPT, RH_ENDORSEMENT, RH_LOCKOUT
+from tpmsim.standard.frames import RH_NULL, RH_OWNER, SE_HMAC, SE_POLICY, SHA256
+from tpmsim.standard.nv import Attribute
+from tpmsim.standard.policy import AUTH_VALUE, PASSWORD
 from caller import Use
-from commands import CC
-from frames import CONTINUE_SESSION, DECRYPT, ENCRYPT, RH_ENDORSEMENT, RH_LOCKOUT, RH_NULL
-from frames import RH_OWNER, SE_HMAC, SE_POLICY, SHA256
 from grounds_caller import AFTER_AUTH_VALUE, DATA, OWNER, ZEROS, GroundsCaller
-from nv import Attribute
 from nv_caller import BY_POLICY, BY_VALUE, FIRST
-from policy import AUTH_VALUE, PASSWORD
 from script import Script
 from state_caller import CLEAR, STATE
 

@@ -1,14 +1,11 @@
 #!/usr/bin/env python3
 """Writes tests/saved_state.tpm: which commands cancel what TPM2_Shutdown(STATE) saved."""
 
-import paths
-
-import frames
-import policy
+from tpmsim.standard import frames, policy
+from tpmsim.standard.commands import CC, Fact
+from tpmsim.standard.frames import RH_ENDORSEMENT, RH_OWNER, RH_PLATFORM, SHA256
+from tpmsim.standard.nv import Attribute
 from caller import Use
-from commands import CC, Fact
-from frames import RH_ENDORSEMENT, RH_OWNER, RH_PLATFORM, SHA256
-from nv import Attribute
 from nv_caller import BY_OWNER, BY_VALUE, FIRST, FOURTH, SECOND, THIRD, area, bits, counter
 from nv_caller import extended
 from object_caller import hmac_key, sealed, storage_key

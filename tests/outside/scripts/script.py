@@ -1,14 +1,12 @@
-"""A script that a program writes: NAME.tpm, and NAME.out as device.py answers it."""
+"""A script that a program writes: NAME.tpm, and NAME.out as the model answers it."""
 
 import hashlib
 import textwrap
 
 import paths
-
-import frames
-import lines
-from commands import CC
-from device import Device
+from tpmsim.model.machine import Model
+from tpmsim.standard import frames, lines
+from tpmsim.standard.commands import CC
 from outputs import POWER, Played, write_outputs
 
 COLUMNS = 100
@@ -34,7 +32,7 @@ class Script:
 
     def __init__(self, path, head, program=None):
         self.path, self.lines, self.played = paths.TOP / path, [], []
-        self.device, self.locality, self.random = Device(), 0, bytes(RANDOM_BYTES)
+        self.device, self.locality, self.random = Model(), 0, bytes(RANDOM_BYTES)
         self.seeds, self.elapsed, self.pause = 0, 0, 0
         program = program or self.path.stem
         self.write_comment(f"{head} Written by tests/outside/scripts/{program}.py.")

@@ -1,24 +1,13 @@
 #!/usr/bin/env python3
 """Writes tests/sealed_sizes.tpm: what is sealed, loaded and unsealed in encrypted parameters."""
 
-import paths
-
 from caller import Use
-from commands import CC
-from frames import (
-    ALG_NULL,
-    CONTINUE_SESSION,
-    DECRYPT,
-    ENCRYPT,
-    RH_OWNER,
-    SHA1,
-    SHA256,
-    number,
-    sized,
-)
+from tpmsim.standard.commands import CC
+from tpmsim.standard.frames import ALG_NULL, CONTINUE_SESSION, DECRYPT, ENCRYPT, RH_OWNER, SHA1
+from tpmsim.standard.frames import SHA256, number, sized
+from tpmsim.standard.sessions import mac
 from object_caller import ObjectCaller, hmac_key, sealed, storage_key
 from script import Script
-from sessions import mac
 
 IN, OUT = CONTINUE_SESSION | DECRYPT, CONTINUE_SESSION | ENCRYPT
 BOTH = CONTINUE_SESSION | DECRYPT | ENCRYPT

@@ -1,16 +1,14 @@
 #!/usr/bin/env python3
 """Writes tests/sealed_to_pcrs.tpm: data that are given out while a PCR has the value of then."""
 
-import paths
-
-import policy
-from commands import CC
-from frames import RH_NULL, RH_OWNER, SHA256, digests, selection
+from tpmsim.standard import policy
+from tpmsim.standard.commands import CC
+from tpmsim.standard.frames import RH_NULL, RH_OWNER, SHA256, digests, selection
+from tpmsim.standard.objects import Attribute
+from tpmsim.standard.sessions import digest
 from object_caller import HERE, ObjectCaller, sealed, storage_key
-from objects import Attribute
 from policy_caller import zeros
 from script import Script
-from sessions import digest
 
 CHOSEN = [(SHA256, [10])]
 SECRET = b"the secret"

@@ -1,14 +1,12 @@
 #!/usr/bin/env python3
 """Writes examples/sealing_policy.tpm: the policy of a disk's key, made in a trial session."""
 
-import paths
-
-import policy
-from commands import CC
-from frames import SHA256, selection
+from tpmsim.standard import policy
+from tpmsim.standard.commands import CC
+from tpmsim.standard.frames import SHA256, selection
+from tpmsim.standard.sessions import digest
 from policy_caller import PolicyCaller, zeros
 from script import Script
-from sessions import digest
 
 # Each piece of software is measured into its PCR before it runs. These PCRs are chosen.
 MEASURED = (

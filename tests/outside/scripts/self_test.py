@@ -1,11 +1,9 @@
 #!/usr/bin/env python3
 """Writes tests/self_test.tpm: TPM2_SelfTest, which finds nothing, and what refuses it."""
 
-import paths
-
-import frames
-from commands import CC
-from frames import CONTINUE_SESSION, DECRYPT, ENCRYPT, command, number
+from tpmsim.standard import frames
+from tpmsim.standard.commands import CC
+from tpmsim.standard.frames import CONTINUE_SESSION, DECRYPT, ENCRYPT, command, number
 from script import Script
 from state_caller import StateCaller, wrong
 

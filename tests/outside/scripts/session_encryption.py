@@ -1,22 +1,11 @@
 #!/usr/bin/env python3
 """Writes tests/session_encryption.tpm: first parameters and first answers that sessions encrypt."""
 
-import paths
-
-import frames
+from tpmsim.standard import frames
+from tpmsim.standard.commands import CC
+from tpmsim.standard.frames import CONTINUE_SESSION, DECRYPT, ENCRYPT, RH_ENDORSEMENT, RH_OWNER
+from tpmsim.standard.frames import SHA1, SHA256, sized
 from caller import Caller, Use, flipped
-from commands import CC
-from frames import (
-    CONTINUE_SESSION,
-    DECRYPT,
-    ENCRYPT,
-    RH_ENDORSEMENT,
-    RH_OWNER,
-    SHA1,
-    SHA256,
-    number,
-    sized,
-)
 from script import Script
 
 DECRYPTS = CONTINUE_SESSION | DECRYPT

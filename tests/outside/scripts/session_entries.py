@@ -1,13 +1,11 @@
 #!/usr/bin/env python3
 """Writes tests/session_entries.tpm: what is refused of entries before any hmac is looked at."""
 
-import paths
-
-import frames
+from tpmsim.standard import frames
+from tpmsim.standard.commands import CC
+from tpmsim.standard.frames import CONTINUE_SESSION, DECRYPT, ENCRYPT, Entry, RH_OWNER, RS_PW
+from tpmsim.standard.frames import SHA256, number, sized
 from caller import Caller, Use
-from commands import CC
-from frames import CONTINUE_SESSION, DECRYPT, ENCRYPT, RH_OWNER, RS_PW, SHA256, number, sized
-from general import Entry
 from script import Script
 
 STAYS = CONTINUE_SESSION

@@ -1,16 +1,15 @@
 #!/usr/bin/env python3
 """Writes tests/sha1_parent.tpm: parents with nameAlg SHA-1, and what parents hand on."""
 
-import paths
-
-import policy
-from commands import CC
-from frames import RH_ENDORSEMENT, RH_NULL, RH_OWNER, RH_PLATFORM, SHA1, SHA256, number
-from general import Fields
+from tpmsim.standard import policy
+from tpmsim.standard.commands import CC
+from tpmsim.standard.frames import RH_ENDORSEMENT, RH_NULL, RH_OWNER, RH_PLATFORM, SHA1, SHA256
+from tpmsim.standard.frames import number
+from tpmsim.standard.objects import Attribute
+from tpmsim.standard.reading import Fields
+from tpmsim.standard.sessions import digest, digest_bytes
 from object_caller import OPEN, STORES, ObjectCaller, hmac_key, sealed, storage_key
-from objects import Attribute
 from script import Script
-from sessions import digest, digest_bytes
 
 script = Script(
     "tests/sha1_parent.tpm",

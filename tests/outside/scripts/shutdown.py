@@ -1,12 +1,10 @@
 #!/usr/bin/env python3
 """Writes tests/shutdown.tpm: TPM2_Shutdown, what refuses it, and what it is to the next start."""
 
-import paths
-
-import frames
+from tpmsim.standard import frames
+from tpmsim.standard.commands import CC
+from tpmsim.standard.frames import CONTINUE_SESSION, DECRYPT, ENCRYPT, RH_OWNER, command, number
 from caller import Use
-from commands import CC
-from frames import CONTINUE_SESSION, DECRYPT, ENCRYPT, RH_OWNER, command, number
 from script import Script
 from state_caller import CLEAR, STATE, StateCaller, wrong
 

@@ -1,27 +1,12 @@
 #!/usr/bin/env python3
 """Writes tests/start_auth_session.tpm: TPM2_StartAuthSession, its faults and its sessions."""
 
-import paths
-
-import frames
+from tpmsim.standard import frames
+from tpmsim.standard.commands import CC
+from tpmsim.standard.frames import ALG_NULL, RH_ENDORSEMENT, RH_LOCKOUT, RH_NULL, RH_OWNER
+from tpmsim.standard.frames import RH_PLATFORM, RS_PW, SHA1, SHA256, area, command, entry, number
+from tpmsim.standard.frames import sized
 from caller import Caller, Use
-from commands import CC
-from frames import (
-    ALG_NULL,
-    RH_ENDORSEMENT,
-    RH_LOCKOUT,
-    RH_NULL,
-    RH_OWNER,
-    RH_PLATFORM,
-    RS_PW,
-    SHA1,
-    SHA256,
-    area,
-    command,
-    entry,
-    number,
-    sized,
-)
 from script import Script
 
 NONCE = bytes(range(16))

@@ -1,10 +1,9 @@
 #!/usr/bin/env python3
 """Writes tests/startup_state.tpm: what TPM2_Startup(STATE) restores, and what a restart does."""
 
-import paths
-
-from frames import RH_NULL, RH_OWNER, RH_PLATFORM, SE_HMAC, SE_POLICY, SE_TRIAL, SHA256
-from nv import Attribute
+from tpmsim.standard.frames import RH_NULL, RH_OWNER, RH_PLATFORM, SE_HMAC, SE_POLICY, SE_TRIAL
+from tpmsim.standard.frames import SHA256
+from tpmsim.standard.nv import Attribute
 from nv_caller import BY_OWNER, BY_VALUE, FIRST, FOURTH, SECOND, THIRD, area
 from object_caller import storage_key
 from script import Script

@@ -2,10 +2,10 @@
 persistent objects, and the commands that clear.
 """
 
-import frames
+from tpmsim.standard import frames
+from tpmsim.standard.commands import CC
+from tpmsim.standard.frames import RH_ENDORSEMENT, RH_LOCKOUT, RH_OWNER, RH_PLATFORM, number
 from caller import flipped
-from commands import CC
-from frames import RH_ENDORSEMENT, RH_LOCKOUT, RH_OWNER, RH_PLATFORM, number
 from nv_caller import NvCaller
 
 # The parameter of TPM2_Startup and TPM2_Shutdown.

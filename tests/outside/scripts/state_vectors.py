@@ -1,13 +1,11 @@
 #!/usr/bin/env python3
 """Writes tests/state_vectors.tpm: commands and answers whose bytes were written down by hand."""
 
-import paths
-
-import frames
-from frames import RH_NULL
+from tpmsim.standard import frames
+from tpmsim.standard.frames import RH_NULL
+from tpmsim.standard.objects import Attribute
 from nv_caller import BY_VALUE, FIRST, area
 from object_caller import sealed, storage_key
-from objects import Attribute
 from script import Script
 from state_caller import StateCaller
 

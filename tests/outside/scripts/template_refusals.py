@@ -1,25 +1,13 @@
 #!/usr/bin/env python3
 """Writes tests/template_refusals.tpm: what is refused of an object that is asked for, in order."""
 
-import paths
-
-import frames
-from commands import CC
-from frames import (
-    AES,
-    ALG_HMAC,
-    ALG_NULL,
-    CFB,
-    KEYEDHASH,
-    RH_OWNER,
-    SHA1,
-    SHA256,
-    SYMCIPHER,
-    number,
-    sized,
-)
+from tpmsim.model.object_rules import NAMED
+from tpmsim.standard import frames
+from tpmsim.standard.commands import CC
+from tpmsim.standard.frames import AES, ALG_HMAC, ALG_NULL, CFB, KEYEDHASH, RH_OWNER, SHA1, SHA256
+from tpmsim.standard.frames import SYMCIPHER, number, sized
+from tpmsim.standard.objects import Attribute, Public
 from object_caller import HERE, OPEN, STORES, ObjectCaller, hmac_key, sealed, storage_key
-from objects import NAMED, Attribute, Public
 from script import Script
 
 RESTRICTED, SIGN, DECRYPT = Attribute.RESTRICTED, Attribute.SIGN, Attribute.DECRYPT

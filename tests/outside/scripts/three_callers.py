@@ -14,17 +14,15 @@ compared with what its history tells of it, and so is the answer to TPM2_PCR_Rea
 
 import copy
 
-import paths  # first: it finds the device
-
-import policy
-from commands import CC
-from frames import RH_NULL, RH_OWNER, SHA256, digests, selection
-from history import History
-from nv import Attribute
+from tpmsim.model.history import History
+from tpmsim.standard import policy
+from tpmsim.standard.commands import CC
+from tpmsim.standard.frames import RH_NULL, RH_OWNER, SHA256, digests, selection
+from tpmsim.standard.nv import Attribute
+from tpmsim.standard.sessions import digest
 from nv_caller import NvCaller, area
 from object_caller import HERE, Attribute as ObjectAttribute, sealed, storage_key
 from script import Script
-from sessions import digest
 
 CHOSEN = [(SHA256, [10])]
 SECRET = b"the secret"

@@ -1,13 +1,11 @@
 #!/usr/bin/env python3
 """Writes tests/unseal.tpm: TPM2_Unseal, which gives out what is sealed."""
 
-import paths
-
-import frames
-from commands import CC
-from frames import RH_NULL, RH_OWNER, SHA1, SHA256, SYMCIPHER, number
+from tpmsim.standard import frames
+from tpmsim.standard.commands import CC
+from tpmsim.standard.frames import RH_NULL, RH_OWNER, SHA1, SHA256, SYMCIPHER, number
+from tpmsim.standard.objects import Attribute, Public
 from object_caller import HERE, OPEN, ObjectCaller, hmac_key, sealed, storage_key
-from objects import Attribute, Public
 from script import Script
 
 script = Script(

@@ -1,11 +1,9 @@
 #!/usr/bin/env python3
 """Writes tests/what_stays.tpm: what a device still knows of sessions and counters that are gone."""
 
-import paths  # first: it finds the device
-
-from commands import CC
-from frames import RH_LOCKOUT, SHA256, number
-from history import History
+from tpmsim.model.history import History
+from tpmsim.standard.commands import CC
+from tpmsim.standard.frames import RH_LOCKOUT, SHA256, number
 from nv_caller import FIRST, SECOND, NvCaller, counter
 from policy_caller import zeros
 from script import Script

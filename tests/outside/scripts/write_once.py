@@ -3,11 +3,9 @@
 
 import hashlib
 
-import paths
-
-import policy
-from frames import RH_OWNER, RH_PLATFORM, SHA256
-from nv import Attribute
+from tpmsim.standard import policy
+from tpmsim.standard.frames import RH_OWNER, RH_PLATFORM, SHA256
+from tpmsim.standard.nv import Attribute
 from nv_caller import FIRST, NvCaller, area
 from script import Script
 

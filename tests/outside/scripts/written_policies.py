@@ -3,20 +3,18 @@
 ones, and what is refused of them. tests/policy_audit.sh has these policies in words.
 """
 
-import paths
-
-import policy
+from tpmsim.standard import policy
+from tpmsim.standard.commands import CC
+from tpmsim.standard.frames import RH_ENDORSEMENT, RH_OWNER, SHA1, SHA256, number, selection
+from tpmsim.standard.nv import Attribute
+from tpmsim.standard.objects import Attribute as ObjectAttribute
+from tpmsim.standard.policy import AUTH_VALUE, PASSWORD
+from tpmsim.standard.sessions import digest, name_of
 from caller import Use
-from commands import CC
-from frames import RH_ENDORSEMENT, RH_OWNER, SHA1, SHA256, number, selection
 from grounds_caller import AFTER_AUTH_VALUE, PIN, SECRET, ZEROS, GroundsCaller, after_code
-from nv import Attribute
 from nv_caller import BY_OWNER
 from object_caller import HERE
-from objects import Attribute as ObjectAttribute
-from policy import AUTH_VALUE, PASSWORD
 from script import Script
-from sessions import digest, name_of
 
 USER = ObjectAttribute.USER_WITH_AUTH
 CHOSEN = [(SHA256, [7, 11])]

@@ -8,28 +8,14 @@ masked by hand, and what comes back is compared as the bytes that are answered.
 import hashlib
 import hmac
 
-import paths
-
-import frames
-import policy
+from tpmsim.standard import frames, policy
+from tpmsim.standard.commands import CC
+from tpmsim.standard.frames import COMMAND_BYTES, CONTINUE_SESSION, DECRYPT, ENCRYPT
+from tpmsim.standard.frames import RH_ENDORSEMENT, RH_OWNER, SE_TRIAL, SHA1, SHA256, number, sized
+from tpmsim.standard.policy import AUTH_VALUE, PASSWORD
 from caller import Use, flipped
-from commands import CC
-from frames import (
-    CONTINUE_SESSION,
-    DECRYPT,
-    ENCRYPT,
-    RH_ENDORSEMENT,
-    RH_OWNER,
-    SE_TRIAL,
-    SHA1,
-    SHA256,
-    number,
-    sized,
-)
-from general import COMMAND_BYTES
 from nv_caller import FIRST, NvCaller, area
 from object_caller import HERE, OPEN, hmac_key, sealed, storage_key
-from policy import AUTH_VALUE, PASSWORD
 from script import Script
 
 DECRYPTS, ENCRYPTS = CONTINUE_SESSION | DECRYPT, CONTINUE_SESSION | ENCRYPT
