@@ -77,7 +77,7 @@ class Run:
             stdout=subprocess.PIPE,
             stderr=subprocess.PIPE,
         )
-        self.client = connected("socket")
+        self.client, self.read = connected("socket"), b""
 
     def wanted(self, line):
         """What the command is answered. The time of an answer is the host's."""
@@ -85,12 +85,13 @@ class Run:
 
     def answer(self):
         """A whole response, or nothing where the stream ends before."""
-        text = b""
-        while len(text) < 6 or len(text) < int.from_bytes(text[2:6], "big"):
+        while len(self.read) < max(6, int.from_bytes(self.read[2:6], "big")):
             piece = self.client.recv(4096)
             if not piece:
                 return None
-            text += piece
+            self.read += piece
+        size = int.from_bytes(self.read[2:6], "big")
+        text, self.read = self.read[:size], self.read[size:]
         return text
 
     def tell(self, line):
@@ -127,7 +128,7 @@ class Run:
 
     def close(self):
         self.client.shutdown(socket.SHUT_WR)
-        if self.client.recv(1):
+        if self.read or self.client.recv(1):
             fail("there is more than the responses")
         self.client.close()
 
