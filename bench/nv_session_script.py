@@ -12,11 +12,12 @@ draws the same nonce again, and one prepared buffer is accepted as often as it i
 
 import sys
 
+from tpmsim.caller.entries import Use
+from tpmsim.caller.templates import BY_VALUE, area
 from tpmsim.standard import lines
 from tpmsim.standard.commands import CC
 from tpmsim.standard.frames import RH_NULL, RH_OWNER, SHA256, number
-from caller import Use
-from nv_caller import BY_VALUE, FIRST, NvCaller, area
+from script_caller import FIRST, ScriptCaller
 from script import Script
 
 PCR = 0x10
@@ -37,7 +38,7 @@ def in_hex(line):
 
 kind, binding, count = sys.argv[1], sys.argv[2], int(sys.argv[3])
 script = Script("bench", "")
-caller = NvCaller(script)
+caller = ScriptCaller(script)
 script.startup()
 script.entropy(b"\xbb")
 script.fresh = lambda: None

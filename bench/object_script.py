@@ -10,14 +10,15 @@ TPM2_HMAC is over 1,024 bytes. Each is authorized by a password.
 
 import sys
 
+from tpmsim.caller.templates import hmac_key, sealed, storage_key
 from tpmsim.standard.frames import RH_OWNER, SHA256
-from object_caller import ObjectCaller, hmac_key, sealed, storage_key
+from script_caller import ScriptCaller
 from script import Script
 
 SECRET = bytes(range(32))
 
 script = Script("bench", "")
-caller = ObjectCaller(script)
+caller = ScriptCaller(script)
 script.startup()
 parent = caller.create_primary("A storage key", RH_OWNER, storage_key())
 made = caller.create("Sealed data", parent, sealed(), data=SECRET)

@@ -10,12 +10,13 @@ sent.
 
 import sys
 
-from caller import Caller, Use
+from tpmsim.caller.entries import Use
 from tpmsim.standard.frames import RH_OWNER
+from script_caller import ScriptCaller
 from script import Script
 
 script = Script("bench", "")
-caller = Caller(script)
+caller = ScriptCaller(script)
 script.startup()
 script.entropy(b"\xbb")
 script.fresh = lambda: None

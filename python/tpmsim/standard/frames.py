@@ -280,6 +280,17 @@ def entry_answer(nonce=b"", attributes=CONTINUE_SESSION, hmac=b""):
     return sized(nonce) + number(attributes, 1) + sized(hmac)
 
 
+def spelled_code(code: int) -> tuple[str, str]:
+    """The name of a code and its place, as HASH and p1; each is empty where there is none."""
+    place = ""
+    if code & 0x080 and code >> 8:
+        kind = "p" if code & PLACES["p"] else "s" if code & PLACES["s"] else "h"
+        place = f"{kind}{(code - PLACES[kind]) >> 8 & 0xF}"
+        code = code & 0x0BF
+    names = {value: name for name, value in CODES.items()}
+    return names.get(code, ""), place
+
+
 def code_of(name):
     """The number of a code such as HASH/p1: the code's, and what its place adds."""
     code, slash, place = name.partition("/")

@@ -5,6 +5,7 @@ from dataclasses import dataclass, replace
 
 from tpmsim.standard import frames
 from tpmsim.standard.frames import number
+from tpmsim.standard.reading import Fields
 from tpmsim.standard.sessions import digest
 
 # The size of a counter and of bits.
@@ -87,6 +88,16 @@ class Public:
     @property
     def name(self):
         return number(self.name_algorithm, 2) + digest(self.name_algorithm, self.text)
+
+    @classmethod
+    def read(cls, text: bytes) -> "Public":
+        """The public area that a text is; ValueError where bytes are left, Short where they lack."""
+        fields = Fields(text)
+        head = fields.number(4), fields.number(2), fields.number(4)
+        public = cls(*head, fields.sized(), fields.number(2))
+        if fields.data:
+            raise ValueError("bytes are left behind a public area")
+        return public
 
     def but(self, added=0, cleared=0):
         return replace(self, attributes=self.attributes & ~cleared | added)

@@ -5,6 +5,7 @@ from dataclasses import dataclass
 
 from tpmsim.standard import frames
 from tpmsim.standard.frames import ALG_NULL, KEYEDHASH, SYMCIPHER, number
+from tpmsim.standard.reading import Fields
 from tpmsim.standard.sessions import digest
 
 
@@ -62,6 +63,21 @@ class Public:
     def name(self):
         text_digest = digest(self.name_algorithm, self.text)
         return number(self.name_algorithm, 2) + text_digest
+
+    @classmethod
+    def read(cls, text: bytes) -> "Public":
+        """The public area that a text is; ValueError where bytes are left, Short where they lack."""
+        fields = Fields(text)
+        kind, name_algorithm, attributes = fields.number(2), fields.number(2), fields.number(4)
+        auth_policy, scheme = fields.sized(), ALG_NULL
+        if kind == SYMCIPHER:
+            fields.take(len(frames.symmetric(aes=True)))
+        elif fields.number(2) != ALG_NULL:
+            scheme = fields.number(2)
+        public = cls(kind, name_algorithm, attributes, auth_policy, scheme, fields.sized())
+        if fields.data:
+            raise ValueError("bytes are left behind a public area")
+        return public
 
     @property
     def is_parent(self):

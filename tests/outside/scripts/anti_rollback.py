@@ -3,14 +3,14 @@
 
 import hashlib
 
+from tpmsim.caller.templates import HERE, counter, sealed, storage_key
 from tpmsim.standard import policy
 from tpmsim.standard.commands import CC
 from tpmsim.standard.frames import RH_OWNER, RH_PLATFORM, SHA256, number, selection
 from tpmsim.standard.nv import Attribute
 from tpmsim.standard.objects import Attribute as ObjectAttribute
 from tpmsim.standard.sessions import digest
-from nv_caller import NvCaller, counter
-from object_caller import HERE, sealed, storage_key
+from script_caller import ScriptCaller
 from script import Script
 
 MINIMUM = 0x0140_0001
@@ -26,7 +26,7 @@ script = Script(
     "measured one and its version is not below the counter. So an old image with a known fault "
     "cannot be brought back, though it is authentic and its sealed key is still on the disk.",
 )
-caller = NvCaller(script)
+caller = ScriptCaller(script)
 platform_auths = 0
 
 

@@ -1,14 +1,16 @@
 #!/usr/bin/env python3
 """Writes tests/clear.tpm: TPM2_Clear, what it takes away and what it leaves."""
 
+from tpmsim.caller.entries import wrong
+from tpmsim.caller.knowledge import STATE
+from tpmsim.caller.templates import BY_OWNER, BY_PLATFORM, BY_VALUE, area, counter, sealed
+from tpmsim.caller.templates import storage_key
 from tpmsim.standard.commands import CC
 from tpmsim.standard.frames import RH_ENDORSEMENT, RH_LOCKOUT, RH_NULL, RH_OWNER, RH_PLATFORM
 from tpmsim.standard.frames import SHA256, command, number, on_handle
 from tpmsim.standard.nv import Attribute
-from nv_caller import BY_OWNER, BY_PLATFORM, BY_VALUE, FIRST, SECOND, THIRD, area, counter
-from object_caller import sealed, storage_key
+from script_caller import FIRST, SECOND, ScriptCaller, THIRD
 from script import Script
-from state_caller import STATE, StateCaller, wrong
 
 HANDLES, PROPERTIES = 1, 6
 HIERARCHIES = (
@@ -29,7 +31,7 @@ script = Script(
     "seed of its primary objects, and so are its authorization values and its lockout. What is the "
     "platform's stays.",
 )
-caller = StateCaller(script)
+caller = ScriptCaller(script)
 
 
 def says(what, outcome, *buffers):

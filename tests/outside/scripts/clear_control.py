@@ -1,12 +1,14 @@
 #!/usr/bin/env python3
 """Writes tests/clear_control.tpm: TPM2_ClearControl, and TPM2_Clear where it is disabled."""
 
+from tpmsim.caller.entries import wrong
+from tpmsim.caller.knowledge import STATE
 from tpmsim.standard import frames
 from tpmsim.standard.commands import CC
 from tpmsim.standard.frames import CONTINUE_SESSION, DECRYPT, ENCRYPT, RH_ENDORSEMENT, RH_LOCKOUT
 from tpmsim.standard.frames import RH_NULL, RH_OWNER, RH_PLATFORM, command, number, on_handle
+from script_caller import ScriptCaller
 from script import Script
-from state_caller import STATE, StateCaller, wrong
 
 NO, YES = 0, 1
 BOTH = RH_LOCKOUT, RH_PLATFORM
@@ -17,7 +19,7 @@ script = Script(
     "TPM2_ClearControl disables TPM2_Clear (YES, 01), by lockoutAuth or by the platform, and "
     "enables it again (NO, 00), which only the platform may.",
 )
-caller = StateCaller(script)
+caller = ScriptCaller(script)
 
 
 def says(what, outcome, *buffers):

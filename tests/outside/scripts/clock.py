@@ -1,11 +1,12 @@
 #!/usr/bin/env python3
 """Writes tests/clock.tpm: TPM2_ReadClock, the times and the counts of starts."""
 
+from tpmsim.caller.knowledge import CLEAR, STATE
 from tpmsim.standard import frames
 from tpmsim.standard.commands import CC
 from tpmsim.standard.frames import command, number
+from script_caller import ScriptCaller
 from script import Script
-from state_caller import CLEAR, STATE, StateCaller
 
 MOST = 2**32 - 1
 
@@ -15,7 +16,7 @@ script = Script(
     "life; resetCount and restartCount; and that the clock is safe (01), as it never goes back. "
     "The numbers of eight bytes end far beyond what a script can wait for.",
 )
-caller = StateCaller(script)
+caller = ScriptCaller(script)
 
 
 def says(what, outcome, *buffers):

@@ -1,6 +1,8 @@
 #!/usr/bin/env python3
 """Writes tests/create.tpm: TPM2_Create, which wraps a new object for its parent."""
 
+from tpmsim.caller.entries import Use
+from tpmsim.caller.templates import HERE, OPEN, STORES, hmac_key, sealed, storage_key
 from tpmsim.model import object_rules
 from tpmsim.standard import aes, frames
 from tpmsim.standard.commands import CC
@@ -9,8 +11,7 @@ from tpmsim.standard.frames import RH_NULL, RH_OWNER, RH_PLATFORM, SHA1, SHA256,
 from tpmsim.standard.objects import Attribute, Public
 from tpmsim.standard.reading import Fields
 from tpmsim.standard.sessions import digest, mac
-from caller import Use
-from object_caller import HERE, OPEN, STORES, ObjectCaller, hmac_key, sealed, storage_key
+from script_caller import ScriptCaller
 from script import Script
 
 ORIGIN = Attribute.SENSITIVE_DATA_ORIGIN
@@ -20,7 +21,7 @@ script = Script(
     "TPM2_Create makes an object and gives it out in a private area, which its parent alone can "
     "load. Nothing of it stays in the device.",
 )
-caller = ObjectCaller(script)
+caller = ScriptCaller(script)
 
 
 def refused(what, outcome, *prepared):

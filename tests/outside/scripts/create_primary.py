@@ -1,13 +1,14 @@
 #!/usr/bin/env python3
 """Writes tests/create_primary.tpm: TPM2_CreatePrimary, and what it answers."""
 
+from tpmsim.caller.templates import HERE, OPEN, hmac_key, sealed, storage_key
 from tpmsim.standard import frames
 from tpmsim.standard.commands import CC
 from tpmsim.standard.frames import ALG_NULL, RH_ENDORSEMENT, RH_LOCKOUT, RH_NULL, RH_OWNER
 from tpmsim.standard.frames import RH_PLATFORM, SHA1, SHA256, SYMCIPHER, number, on_handle, sized
 from tpmsim.standard.objects import Attribute, Public
 from tpmsim.standard.sessions import digest, mac
-from object_caller import HERE, OPEN, ObjectCaller, hmac_key, sealed, storage_key
+from script_caller import ScriptCaller
 from script import Script
 
 HIERARCHIES = (
@@ -23,7 +24,7 @@ script = Script(
     "tests/create_primary.tpm",
     "TPM2_CreatePrimary makes an object out of its template and its hierarchy's seed.",
 )
-caller = ObjectCaller(script)
+caller = ScriptCaller(script)
 
 
 def creates(what, hierarchy, public, **more):

@@ -3,17 +3,17 @@
 
 from collections.abc import Iterator
 
+from tpmsim.caller.entries import Prepared, Session, Use
+from tpmsim.caller.templates import BY_POLICY, BY_VALUE, HERE, area, bits, extended, hmac_key
 from tpmsim.standard import frames, policy
 from tpmsim.standard.commands import CC
 from tpmsim.standard.frames import CONTINUE_SESSION, DECRYPT, RH_LOCKOUT, RH_OWNER, SHA1, SHA256
 from tpmsim.standard.frames import sized
 from tpmsim.standard.nv import Attribute as NvAttribute
 from tpmsim.standard.objects import Attribute
-from caller import Prepared, Session, Use
+from script_caller import FIRST, FOURTH, SECOND, THIRD
 from cuts import HEADER_BYTES, with_size
 from grounds_caller import GroundsCaller
-from nv_caller import BY_POLICY, BY_VALUE, FIRST, FOURTH, SECOND, THIRD, area, bits, extended
-from object_caller import HERE, hmac_key
 from script import Script
 
 PIN, DATA, LOCKOUT = b"pin", b"abc", b"lockout"

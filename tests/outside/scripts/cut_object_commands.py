@@ -2,6 +2,7 @@
 """Writes tests/cut_object_commands.tpm: the commands of objects, cut to every shorter length."""
 
 import cuts
+from tpmsim.caller.templates import hmac_key, sealed, storage_key
 from tpmsim.model import object_rules
 from tpmsim.model.machine import MANUFACTURED
 from tpmsim.model.state import SECRET_BYTES
@@ -9,7 +10,6 @@ from tpmsim.standard import frames
 from tpmsim.standard.commands import CC
 from tpmsim.standard.frames import SHA256, command, entry, number, on_handle, sized
 from cuts import AREA, HANDLE
-from object_caller import hmac_key, sealed, storage_key
 
 HEAD = (
     "The commands of objects, each cut to every shorter length: first as it is, and then with "

@@ -4,12 +4,12 @@ length.
 """
 
 import cuts
+from tpmsim.caller.templates import storage_key
 from tpmsim.standard import frames
 from tpmsim.standard.commands import CC
 from tpmsim.standard.frames import RH_LOCKOUT, RH_OWNER, RH_PLATFORM, command, number, on_handle
 from tpmsim.standard.frames import on_handles, sized
 from cuts import AREA, HANDLE
-from object_caller import storage_key
 
 HEAD = (
     "The commands of starts, of capabilities, of dictionary attack protection, of persistent "

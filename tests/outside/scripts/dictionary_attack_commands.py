@@ -1,13 +1,13 @@
 #!/usr/bin/env python3
 """Writes tests/dictionary_attack_commands.tpm: the two commands, and all that refuses them."""
 
+from tpmsim.caller.entries import Use
 from tpmsim.standard import frames
 from tpmsim.standard.commands import CC
 from tpmsim.standard.frames import DECRYPT, ENCRYPT, RH_LOCKOUT, RH_NULL, RH_OWNER, RH_PLATFORM
 from tpmsim.standard.frames import command, number, on_handle
-from caller import Use
+from script_caller import ScriptCaller
 from script import Script
-from state_caller import StateCaller
 
 LOCK_RESET, PARAMETERS = CC.DictionaryAttackLockReset, CC.DictionaryAttackParameters
 THREE = frames.attack_parameters(3, 1000, 1000)
@@ -18,7 +18,7 @@ script = Script(
     "TPM2_DictionaryAttackLockReset and TPM2_DictionaryAttackParameters: their bytes, and what "
     "refuses them. TPM_RH_LOCKOUT authorizes them, by a password or an HMAC session.",
 )
-caller = StateCaller(script)
+caller = ScriptCaller(script)
 
 
 def says(what, outcome, *buffers):

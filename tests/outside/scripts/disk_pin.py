@@ -3,11 +3,11 @@
 
 import hashlib
 
+from tpmsim.caller.templates import HERE, sealed, storage_key
 from tpmsim.standard.frames import RH_LOCKOUT, RH_OWNER
 from tpmsim.standard.objects import Attribute
-from object_caller import HERE, sealed, storage_key
+from script_caller import ScriptCaller
 from script import Script
-from state_caller import StateCaller
 
 DISK_KEY = hashlib.sha256(b"the volume key of a disk").digest()
 PIN, RECOVERY = b"7391", b"a long recovery passphrase"
@@ -21,7 +21,7 @@ script = Script(
     "answers nothing but LOCKOUT until time has passed. The standard calls this dictionary attack "
     "protection. `wait MS` lets so many milliseconds pass before the next command.",
 )
-caller = StateCaller(script)
+caller = ScriptCaller(script)
 
 
 def storage_root(what):

@@ -4,12 +4,13 @@
 import hashlib
 from dataclasses import replace
 
+from tpmsim.caller.entries import flipped
+from tpmsim.caller.templates import HERE, sealed, storage_key
 from tpmsim.standard import policy
 from tpmsim.standard.frames import RH_OWNER, SHA256, selection
 from tpmsim.standard.objects import Attribute
 from tpmsim.standard.sessions import digest
-from caller import flipped
-from object_caller import HERE, ObjectCaller, sealed, storage_key
+from script_caller import ScriptCaller
 from script import Script
 
 # Each piece of software is measured into its PCR before it runs, as the boot loader and the stub of
@@ -31,7 +32,7 @@ script = Script(
     "it was enrolled with, as systemd-cryptenroll and clevis do for LUKS. Their storage key is an "
     "ECC or RSA key; here it is an AES key, and the steps are the same.",
 )
-caller = ObjectCaller(script)
+caller = ScriptCaller(script)
 
 
 def value_behind(pcr, measurements):

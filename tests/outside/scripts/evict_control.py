@@ -1,16 +1,16 @@
 #!/usr/bin/env python3
 """Writes tests/evict_control.tpm: persistent objects, how they come, stay and go."""
 
+from tpmsim.caller.entries import Use, wrong
+from tpmsim.caller.knowledge import STATE
+from tpmsim.caller.templates import HERE, OPEN, STORES, area, hmac_key, sealed, storage_key
 from tpmsim.standard import frames
 from tpmsim.standard.commands import CC
 from tpmsim.standard.frames import RH_ENDORSEMENT, RH_LOCKOUT, RH_NULL, RH_OWNER, RH_PLATFORM
 from tpmsim.standard.frames import SHA256, command, number, on_handles
 from tpmsim.standard.objects import Attribute
-from caller import Use
-from nv_caller import area
-from object_caller import HERE, OPEN, STORES, hmac_key, sealed, storage_key
+from script_caller import ScriptCaller
 from script import Script
-from state_caller import STATE, StateCaller, wrong
 
 # The handles of persistent objects: the owner's are below 81800000, the platform's from there on.
 FIRST, OWNERS_LAST, PLATFORMS_FIRST, LAST = 0x8100_0000, 0x817F_FFFF, 0x8180_0000, 0x81FF_FFFF
@@ -29,7 +29,7 @@ script = Script(
     "away. A persistent object outlives power cycles, has a handle from 81000000 on, and is used "
     "as the transient one was.",
 )
-caller = StateCaller(script)
+caller = ScriptCaller(script)
 
 
 def says(what, outcome, *buffers):

@@ -4,7 +4,7 @@
 from tpmsim.standard import frames
 from tpmsim.standard.commands import CC
 from tpmsim.standard.frames import RH_NULL, RH_OWNER, RS_PW, SHA1, area, command, entry, number
-from caller import Caller
+from script_caller import ScriptCaller
 from script import Script
 
 script = Script(
@@ -12,7 +12,7 @@ script = Script(
     "TPM2_FlushContext ends a session. The handle is its parameter, and needs no authorization. "
     "Objects are flushed in tests/flush_objects.tpm.",
 )
-caller = Caller(script)
+caller = ScriptCaller(script)
 
 
 def flush(handle, behind=b""):

@@ -3,10 +3,11 @@
 
 from dataclasses import replace
 
+from tpmsim.caller.templates import hmac_key, sealed, storage_key
 from tpmsim.standard import frames
 from tpmsim.standard.commands import CC
 from tpmsim.standard.frames import RH_NULL, RH_OWNER, command, number
-from object_caller import ObjectCaller, hmac_key, sealed, storage_key
+from script_caller import ScriptCaller
 from script import Script
 
 FIRST, PLACES = 0x8000_0000, 8
@@ -16,7 +17,7 @@ script = Script(
     "TPM2_FlushContext takes a transient object out of the device. There are eight places, "
     "80000000 to 80000007, and an object gets the lowest that is free.",
 )
-caller = ObjectCaller(script)
+caller = ScriptCaller(script)
 
 
 def flush(handle):

@@ -1,6 +1,9 @@
 #!/usr/bin/env python3
 """Writes tests/full_device.tpm: a device that is filled up to each of its limits."""
 
+from tpmsim.caller.knowledge import STATE
+from tpmsim.caller.templates import BY_OWNER, BY_PLATFORM, BY_POLICY, BY_VALUE, HERE, OPEN, area
+from tpmsim.caller.templates import bits, counter, extended, hmac_key, sealed, storage_key
 from tpmsim.model import nv_commands
 from tpmsim.standard import frames, policy
 from tpmsim.standard.commands import CC
@@ -8,10 +11,8 @@ from tpmsim.standard.frames import ALG_NULL, RH_ENDORSEMENT, RH_LOCKOUT, RH_NULL
 from tpmsim.standard.frames import RH_PLATFORM, SE_HMAC, SE_POLICY, SE_TRIAL, SHA1, SHA256
 from tpmsim.standard.nv import Attribute as NvAttribute
 from tpmsim.standard.objects import Attribute
-from nv_caller import BY_OWNER, BY_PLATFORM, BY_POLICY, BY_VALUE, area, bits, counter, extended
-from object_caller import HERE, OPEN, hmac_key, sealed, storage_key
+from script_caller import ScriptCaller
 from script import Script
-from state_caller import STATE, StateCaller
 
 PERSISTENT, OBJECTS, SESSIONS = 16, 8, 16
 AUTH_VALUES = (
@@ -46,7 +47,7 @@ script = Script(
     "ones, 64 NV indices of 16,384 bytes in all, and sixteen sessions. tests/outside/scripts/"
     "images.py prints the image of what it keeps.",
 )
-caller = StateCaller(script)
+caller = ScriptCaller(script)
 
 
 def indices():

@@ -1,15 +1,15 @@
 #!/usr/bin/env python3
 """Writes tests/get_capability.tpm: TPM2_GetCapability, each capability at its borders."""
 
+from tpmsim.caller.entries import wrong
+from tpmsim.caller.templates import BY_VALUE, area, storage_key
 from tpmsim.model.capability import command_attributes
 from tpmsim.standard import frames
 from tpmsim.standard.commands import CC
 from tpmsim.standard.frames import CONTINUE_SESSION, DECRYPT, ENCRYPT, RH_OWNER, SE_HMAC, SE_POLICY
 from tpmsim.standard.frames import SE_TRIAL, command, number
-from nv_caller import BY_VALUE, area
-from object_caller import storage_key
+from script_caller import ScriptCaller
 from script import Script
-from state_caller import StateCaller, wrong
 
 HANDLES, COMMANDS, PCRS, PROPERTIES = 1, 2, 5, 6
 MOST = 2**32 - 1
@@ -24,7 +24,7 @@ script = Script(
     "elements from the one that is asked for on, as many as were asked for, and whether there are "
     "more behind them.",
 )
-caller = StateCaller(script)
+caller = ScriptCaller(script)
 
 
 def says(what, outcome, *buffers):

@@ -4,6 +4,8 @@
 from dataclasses import dataclass
 from typing import Callable
 
+from tpmsim.caller.entries import Use
+from tpmsim.caller.templates import BY_OWNER, BY_PLATFORM, BY_POLICY, HERE, sealed
 from tpmsim.standard import policy
 from tpmsim.standard.commands import CC
 from tpmsim.standard.frames import RH_ENDORSEMENT, RH_LOCKOUT, RH_NULL, RH_OWNER, RH_PLATFORM, SHA1
@@ -12,12 +14,9 @@ from tpmsim.standard.nv import Attribute
 from tpmsim.standard.objects import Attribute as ObjectAttribute
 from tpmsim.standard.policy import AUTH_VALUE, PASSWORD
 from tpmsim.standard.sessions import name_of
-from caller import Use
 from grounds_caller import AFTER_AUTH_VALUE, AFTER_LOCALITY_1, AFTER_PCR_16, AT_LOCALITY_1, DATA
 from grounds_caller import OWNER, PCR_16, PIN, SECRET, ZEROS, GroundsCaller, after_code
 from grounds_caller import after_equal_data, after_secret
-from nv_caller import BY_OWNER, BY_PLATFORM, BY_POLICY
-from object_caller import HERE, sealed
 from script import Script
 
 USER = ObjectAttribute.USER_WITH_AUTH

@@ -2,14 +2,13 @@
 indices, whose value is "pin", and the policies that they have.
 """
 
+from tpmsim.caller.templates import HERE, area, sealed
 from tpmsim.model.capability import LOCKOUT_COUNTER, PROPERTIES
 from tpmsim.standard import frames, policy
 from tpmsim.standard.commands import CC
 from tpmsim.standard.frames import RH_OWNER, RH_PLATFORM, SHA256, number
-from tpmsim.standard.sessions import command_hash, digest, digest_bytes
-from nv_caller import area
-from object_caller import HERE, sealed
-from state_caller import StateCaller
+from tpmsim.standard.sessions import digest, digest_bytes
+from script_caller import ScriptCaller
 
 OWNER, PIN, SECRET, DATA = b"owner", b"pin", b"secret", b"8 bytes."
 PCR_16 = [(SHA256, [16])]
@@ -38,7 +37,7 @@ def after_equal_data(name, old=ZEROS):
     return policy.after_nv(SHA256, old, compared, name)
 
 
-class GroundsCaller(StateCaller):
+class GroundsCaller(ScriptCaller):
     def __init__(self, script):
         super().__init__(script)
         self.free_indices = iter(range(0x0100_0001, 0x0100_0020))
@@ -96,10 +95,6 @@ class GroundsCaller(StateCaller):
 
     def asserts_password(self, session):
         self.asserts("TPM2_PolicyPassword", self.password_told(session))
-
-    def cp_hash(self, prepared):
-        names = map(self.name, prepared.handles)
-        return command_hash(SHA256, prepared.code, names, prepared.parameters)
 
     # Sending.
 

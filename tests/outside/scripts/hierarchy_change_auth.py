@@ -1,11 +1,12 @@
 #!/usr/bin/env python3
 """Writes tests/hierarchy_change_auth.tpm: TPM2_HierarchyChangeAuth, by passwords and sessions."""
 
+from tpmsim.caller.entries import Use
 from tpmsim.standard import frames
 from tpmsim.standard.commands import CC
 from tpmsim.standard.frames import RH_ENDORSEMENT, RH_LOCKOUT, RH_NULL, RH_OWNER, RH_PLATFORM, SHA1
 from tpmsim.standard.frames import command, number, on_handle, sized
-from caller import Caller, Use
+from script_caller import ScriptCaller
 from script import Script
 
 HIERARCHIES = [
@@ -20,7 +21,7 @@ script = Script(
     "TPM2_HierarchyChangeAuth gives a hierarchy, or the reset of the lockout, another "
     "authorization value, and is authorized by the old one.",
 )
-caller = Caller(script)
+caller = ScriptCaller(script)
 
 
 def change(handle, new=b"", password=b""):

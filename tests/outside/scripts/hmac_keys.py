@@ -1,13 +1,14 @@
 #!/usr/bin/env python3
 """Writes tests/hmac_keys.tpm: TPM2_HMAC by keys of each scheme."""
 
+from tpmsim.caller.templates import HERE, OPEN, hmac_key, sealed, storage_key
 from tpmsim.standard import frames
 from tpmsim.standard.commands import CC
 from tpmsim.standard.frames import ALG_NULL, RH_NULL, RH_OWNER, SHA1, SHA256, SYMCIPHER, number
 from tpmsim.standard.frames import sized
 from tpmsim.standard.objects import Attribute, Public
 from tpmsim.standard.sessions import mac
-from object_caller import HERE, OPEN, ObjectCaller, hmac_key, sealed, storage_key
+from script_caller import ScriptCaller
 from script import Script
 
 script = Script(
@@ -15,7 +16,7 @@ script = Script(
     "TPM2_HMAC makes an HMAC of a buffer by an object that is a key for it: of the hash algorithm "
     "of its scheme, or with scheme NULL of the one that the command names.",
 )
-caller = ObjectCaller(script)
+caller = ScriptCaller(script)
 
 
 def refused(what, outcome, *prepared):

@@ -1,8 +1,9 @@
 #!/usr/bin/env python3
 """Writes examples/hmac_session.tpm: a caller changes ownerAuth through an HMAC session."""
 
-from caller import Caller, Use
+from tpmsim.caller.entries import Use
 from tpmsim.standard.frames import CONTINUE_SESSION, DECRYPT, ENCRYPT, RH_OWNER
+from script_caller import ScriptCaller
 from script import Script
 
 script = Script(
@@ -10,7 +11,7 @@ script = Script(
     "The owner's authorization value is changed through an HMAC session, so that no value crosses "
     "the wire in plain, and no command can be sent again or altered on its way.",
 )
-caller = Caller(script)
+caller = ScriptCaller(script)
 
 script.startup()
 caller.accepted(

@@ -1,10 +1,11 @@
 #!/usr/bin/env python3
 """Writes tests/hmac_sessions.tpm: commands that HMAC sessions authorize."""
 
+from tpmsim.caller.entries import Use, flipped
 from tpmsim.standard import frames
 from tpmsim.standard.commands import CC
 from tpmsim.standard.frames import RH_ENDORSEMENT, RH_OWNER, SHA1, SHA256, sized
-from caller import Caller, Use, flipped
+from script_caller import ScriptCaller
 from script import Script
 
 NAMES = {SHA1: "SHA-1", SHA256: "SHA-256"}
@@ -17,7 +18,7 @@ script = Script(
     "to another. Each of their hmacs was computed outside, and each line `entropy` gives new "
     "random bytes, so that each command has its own nonces.",
 )
-caller = Caller(script)
+caller = ScriptCaller(script)
 
 
 script.startup()

@@ -5,6 +5,8 @@ is not looked at.
 import copy
 from dataclasses import replace
 
+from tpmsim.caller.templates import BY_OWNER, HERE, area, bits, counter, extended, hmac_key, sealed
+from tpmsim.caller.templates import storage_key
 from tpmsim.model import nv_commands
 from tpmsim.model.image import BODY_AT, DIGEST_AT_END, VERSION_2, framed, image
 from tpmsim.model.machine import Model
@@ -20,8 +22,6 @@ import image_fields
 from image_cases import Case, areas, pair, pairs, plural, with_indices
 from image_fields import image_of, indices_of, objects_of
 from image_versions import version_cases
-from nv_caller import BY_OWNER, area, bits, counter, extended
-from object_caller import HERE, hmac_key, sealed, storage_key
 
 WRITTEN = BY_OWNER | Attribute.WRITTEN
 FIRST = 0x8100_0000

@@ -4,10 +4,10 @@ NV indices alone.
 
 from dataclasses import dataclass
 
+from tpmsim.caller.templates import area
 from tpmsim.model import nv_commands
 from tpmsim.model.image import VERSION_2, image
 from tpmsim.model.machine import Model
-from nv_caller import area
 
 
 @dataclass(frozen=True)

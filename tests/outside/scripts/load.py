@@ -3,19 +3,20 @@
 
 from dataclasses import replace
 
+from tpmsim.caller.templates import HERE, OPEN, STORES, hmac_key, sealed, storage_key
 from tpmsim.standard import frames
 from tpmsim.standard.commands import CC
 from tpmsim.standard.frames import RH_ENDORSEMENT, RH_NULL, RH_OWNER, SHA1, SHA256, number, sized
 from tpmsim.standard.objects import Attribute
 from tpmsim.standard.sessions import mac
-from object_caller import HERE, OPEN, STORES, ObjectCaller, hmac_key, sealed, storage_key
+from script_caller import ScriptCaller
 from script import Script
 
 script = Script(
     "tests/load.tpm",
     "TPM2_Load takes a private and a public area that TPM2_Create gave for this parent.",
 )
-caller = ObjectCaller(script)
+caller = ScriptCaller(script)
 
 
 def refused(what, outcome, *prepared):

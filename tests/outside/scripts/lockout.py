@@ -1,15 +1,14 @@
 #!/usr/bin/env python3
 """Writes tests/lockout.tpm: wrong tries are counted, lock, and are forgiven."""
 
+from tpmsim.caller.templates import BY_VALUE, HERE, area, sealed
 from tpmsim.standard import policy
 from tpmsim.standard.commands import CC
 from tpmsim.standard.frames import RH_OWNER, SHA256
 from tpmsim.standard.nv import Attribute as NvAttribute
 from tpmsim.standard.objects import Attribute
-from nv_caller import BY_VALUE, FIRST, SECOND, THIRD, area
-from object_caller import HERE, sealed
+from script_caller import FIRST, SECOND, ScriptCaller, THIRD
 from script import Script
-from state_caller import StateCaller
 
 PIN, SECRET = b"2468", b"a secret"
 
@@ -23,7 +22,7 @@ script = Script(
     "and the right value is refused too. For each recoveryTime that passes one try is forgiven. A "
     "new device has maxTries 3, recoveryTime 1,000 seconds, and lockoutRecovery 1,000 seconds.",
 )
-caller = StateCaller(script)
+caller = ScriptCaller(script)
 
 
 def right(what, index=FIRST):

@@ -1,12 +1,13 @@
 #!/usr/bin/env python3
 """Writes tests/lockout_authorization.tpm: wrong entries that are a try at lockoutAuth."""
 
+from tpmsim.caller.entries import wrong
+from tpmsim.caller.templates import BY_VALUE, area
 from tpmsim.standard import frames
 from tpmsim.standard.commands import CC
 from tpmsim.standard.frames import RH_LOCKOUT, RH_OWNER, on_handle, sized
-from nv_caller import BY_VALUE, FIRST, area
+from script_caller import FIRST, ScriptCaller
 from script import Script
-from state_caller import StateCaller, wrong
 
 LOCKOUT = b"lockout"
 
@@ -17,7 +18,7 @@ script = Script(
     "start. "
     "Every other wrong entry is BAD_AUTH. Each such try closes lockoutAuth for lockoutRecovery.",
 )
-caller = StateCaller(script)
+caller = ScriptCaller(script)
 
 
 def by_password(handle, password):

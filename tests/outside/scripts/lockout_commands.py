@@ -1,17 +1,16 @@
 #!/usr/bin/env python3
 """Writes tests/lockout_commands.tpm: a try by each command that a protected entity authorizes."""
 
+from tpmsim.caller.entries import Use, wrong
+from tpmsim.caller.templates import BY_POLICY, BY_VALUE, HERE, STORES, area, bits, counter
+from tpmsim.caller.templates import extended, hmac_key, sealed, storage_key
 from tpmsim.standard import policy
 from tpmsim.standard.commands import CC
 from tpmsim.standard.frames import RH_OWNER, SHA256
 from tpmsim.standard.nv import Attribute as NvAttribute
 from tpmsim.standard.objects import Attribute
-from caller import Use
-from nv_caller import BY_POLICY, BY_VALUE, FIRST, FOURTH, SECOND, THIRD, area, bits, counter
-from nv_caller import extended
-from object_caller import HERE, STORES, hmac_key, sealed, storage_key
+from script_caller import FIRST, FOURTH, SECOND, ScriptCaller, THIRD
 from script import Script
-from state_caller import StateCaller, wrong
 
 PIN, DATA = b"pin", b"data"
 FIFTH = 0x0100_0005
@@ -29,7 +28,7 @@ script = Script(
     "Each command that is authorized by a protected entity: with maxTries 1 one wrong entry locks, "
     "and the right one is refused then, whichever command the try was made by.",
 )
-caller = StateCaller(script)
+caller = ScriptCaller(script)
 
 
 def unlock(what="TPM2_DictionaryAttackLockReset"):

@@ -4,15 +4,14 @@
 from dataclasses import dataclass
 from typing import Callable
 
+from tpmsim.caller.entries import Use, wrong
+from tpmsim.caller.templates import BY_POLICY, BY_VALUE, HERE, area, sealed
 from tpmsim.standard import policy
 from tpmsim.standard.frames import RH_LOCKOUT, RH_OWNER, SHA256
 from tpmsim.standard.nv import Attribute as NvAttribute
 from tpmsim.standard.objects import Attribute
-from caller import Use
-from nv_caller import BY_POLICY, BY_VALUE, FIRST, SECOND, area
-from object_caller import HERE, sealed
+from script_caller import FIRST, SECOND, ScriptCaller
 from script import Script
-from state_caller import StateCaller, wrong
 
 PIN, DATA, OWNER, LOCKOUT = b"pin", b"a secret", b"owner", b"lockout"
 DEMANDING = policy.after_auth_value(SHA256, bytes(32))
@@ -23,7 +22,7 @@ script = Script(
     "in the key of an hmac, or else because its session was bound to a protected entity at the "
     "start. maxTries is 1 here. So one wrong entry of such a way locks it, and all the others.",
 )
-caller = StateCaller(script)
+caller = ScriptCaller(script)
 
 
 @dataclass

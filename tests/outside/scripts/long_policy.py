@@ -5,7 +5,7 @@ from tpmsim.standard import frames, policy
 from tpmsim.standard.commands import CC
 from tpmsim.standard.frames import RH_OWNER, SHA1, SHA256
 from tpmsim.standard.sessions import digest, name_of
-from policy_caller import HASHES, PolicyCaller, zeros
+from script_caller import HASHES, ScriptCaller, zeros
 from script import Script
 
 BANKS = [(SHA1, [0, 7]), (SHA256, [0, 1, 2, 3, 4, 5, 6, 7, 8])]
@@ -16,7 +16,7 @@ script = Script(
     "A policy of many assertions. A trial session comes to the digest that a policy session comes "
     "to, without anything being so yet.",
 )
-caller = PolicyCaller(script)
+caller = ScriptCaller(script)
 
 
 def values_digest(algorithm):

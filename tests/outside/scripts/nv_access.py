@@ -1,21 +1,11 @@
 #!/usr/bin/env python3
 """Writes tests/nv_access.tpm: who may write an index and read it, by each attribute alone."""
 
+from tpmsim.caller.templates import BY_POLICY, BY_VALUE, area, bits, counter, extended
 from tpmsim.standard import frames, nv
 from tpmsim.standard.frames import RH_OWNER, RH_PLATFORM
 from tpmsim.standard.nv import Attribute
-from nv_caller import (
-    BY_POLICY,
-    BY_VALUE,
-    FIRST,
-    SECOND,
-    THIRD,
-    NvCaller,
-    area,
-    bits,
-    counter,
-    extended,
-)
+from script_caller import FIRST, SECOND, ScriptCaller, THIRD
 from script import Script
 
 # What an index allows by one attribute for writing and one for reading, and who then may.
@@ -32,7 +22,7 @@ script = Script(
     "Each attribute for writing and reading alone, with each kind of authHandle: the owner, the "
     "platform, the index itself and another one. By passwords, which a policy is not.",
 )
-caller = NvCaller(script)
+caller = ScriptCaller(script)
 ASKERS = (("The owner", RH_OWNER, "owner"), ("The platform", RH_PLATFORM, "platform"))
 
 

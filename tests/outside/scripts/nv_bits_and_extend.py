@@ -1,12 +1,12 @@
 #!/usr/bin/env python3
 """Writes tests/nv_bits_and_extend.tpm: indices of bits, and indices that are extended."""
 
+from tpmsim.caller.templates import BY_OWNER, bits, extended
 from tpmsim.standard import frames
 from tpmsim.standard.frames import RH_OWNER, SHA1, number
 from tpmsim.standard.nv import Attribute
 from tpmsim.standard.sessions import digest, digest_bytes
-from nv_caller import BY_OWNER, FIRST, SECOND, THIRD, NvCaller, bits, extended
-from policy_caller import HASHES
+from script_caller import FIRST, HASHES, SECOND, ScriptCaller, THIRD
 from script import Script
 
 CLEARED = Attribute.CLEAR_STCLEAR
@@ -16,7 +16,7 @@ script = Script(
     "Indices of bits, in which TPM2_NV_SetBits sets more and more, and indices that are extended "
     "as PCRs are, each by its own hash algorithm.",
 )
-caller = NvCaller(script)
+caller = ScriptCaller(script)
 
 
 def set_bits(what, index, more, value):

@@ -1,6 +1,8 @@
 #!/usr/bin/env python3
 """Writes tests/nv_change_auth.tpm: the authorization value of an index, changed by a policy."""
 
+from tpmsim.caller.entries import Use
+from tpmsim.caller.templates import BY_OWNER, BY_POLICY, BY_VALUE, area
 from tpmsim.standard import policy
 from tpmsim.standard.commands import CC
 from tpmsim.standard.frames import CONTINUE_SESSION, DECRYPT, RH_OWNER, RH_PLATFORM, SHA1, SHA256
@@ -8,9 +10,7 @@ from tpmsim.standard.frames import number, sized
 from tpmsim.standard.nv import Attribute
 from tpmsim.standard.policy import AUTH_VALUE, PASSWORD
 from tpmsim.standard.sessions import digest_bytes
-from caller import Use
-from nv_caller import BY_OWNER, BY_POLICY, BY_VALUE, FIRST, SECOND, THIRD, NvCaller, area
-from policy_caller import HASHES, zeros
+from script_caller import FIRST, HASHES, SECOND, ScriptCaller, THIRD, zeros
 from script import Script
 
 script = Script(
@@ -18,7 +18,7 @@ script = Script(
     "TPM2_NV_ChangeAuth: an index is authorized in the ADMIN role, which takes a policy with "
     "TPM2_PolicyCommandCode of this very command.",
 )
-caller = NvCaller(script)
+caller = ScriptCaller(script)
 
 
 def changing_policy(algorithm=SHA256, before=None):

@@ -1,9 +1,10 @@
 #!/usr/bin/env python3
 """Writes tests/nv_counters.tpm: counters, which never go back."""
 
+from tpmsim.caller.templates import BY_OWNER, area, counter
 from tpmsim.standard.frames import RH_OWNER, SHA1, number
 from tpmsim.standard.nv import Attribute
-from nv_caller import BY_OWNER, FIRST, FOURTH, SECOND, THIRD, NvCaller, area, counter
+from script_caller import FIRST, FOURTH, SECOND, ScriptCaller, THIRD
 from script import Script
 
 script = Script(
@@ -11,7 +12,7 @@ script = Script(
     "Counters. A new one begins behind the largest value that any counter ever had, so that none "
     "has a value twice. Index 01000002 has the attributes 00020012.",
 )
-caller = NvCaller(script)
+caller = ScriptCaller(script)
 
 
 def count(what, index, value, times=1):

@@ -1,14 +1,14 @@
 #!/usr/bin/env python3
 """Writes tests/nv_define_space.tpm: what an index can be defined with, and how many can be."""
 
+from tpmsim.caller.templates import BY_OWNER, area, bits, counter, extended
 from tpmsim.model import nv_commands
 from tpmsim.standard import frames, nv
 from tpmsim.standard.frames import RH_ENDORSEMENT, RH_LOCKOUT, RH_NULL, RH_OWNER, RH_PLATFORM, SHA1
 from tpmsim.standard.frames import number, sized
 from tpmsim.standard.nv import Attribute, Type
 from tpmsim.standard.sessions import digest_bytes
-from nv_caller import BY_OWNER, FIRST, NvCaller, area, bits, counter, extended
-from policy_caller import HASHES
+from script_caller import FIRST, HASHES, ScriptCaller
 from script import Script
 
 CREATED = Attribute.PLATFORMCREATE
@@ -17,7 +17,7 @@ script = Script(
     "tests/nv_define_space.tpm",
     "TPM2_NV_DefineSpace: which public areas an index can have, and how many indices there can be.",
 )
-caller = NvCaller(script)
+caller = ScriptCaller(script)
 
 
 def fitting(what, public, **more):

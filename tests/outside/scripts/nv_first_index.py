@@ -1,8 +1,9 @@
 #!/usr/bin/env python3
 """Writes tests/nv_first_index.tpm: an index is defined, written and read, byte by byte."""
 
+from tpmsim.caller.templates import BY_VALUE, area
 from tpmsim.standard.frames import RH_OWNER
-from nv_caller import BY_VALUE, FIRST, NvCaller, area
+from script_caller import FIRST, ScriptCaller
 from script import Script
 
 script = Script(
@@ -10,7 +11,7 @@ script = Script(
     "A first NV index: 01000001, of SHA-256, with AUTHWRITE and AUTHREAD (attributes 00040004), "
     'eight bytes and the authorization value "a".',
 )
-caller = NvCaller(script)
+caller = ScriptCaller(script)
 PUBLIC = area(FIRST, BY_VALUE)
 
 

@@ -3,16 +3,17 @@
 
 import hashlib
 
+from tpmsim.caller.templates import BY_OWNER, area
 from tpmsim.standard.frames import RH_OWNER, number
 from tpmsim.standard.nv import Attribute
-from nv_caller import BY_OWNER, FIRST, SECOND, THIRD, NvCaller, area
+from script_caller import FIRST, SECOND, ScriptCaller, THIRD
 from script import Script
 
 script = Script(
     "tests/nv_large.tpm",
     "1,024 bytes are written and read at once; an index of 2,048 takes two commands.",
 )
-caller = NvCaller(script)
+caller = ScriptCaller(script)
 
 
 def some(size, seed=b""):

@@ -1,11 +1,12 @@
 #!/usr/bin/env python3
 """Writes tests/nv_locks.tpm: TPM2_NV_WriteLock, TPM2_NV_ReadLock, and what starts make of them."""
 
+from tpmsim.caller.templates import BY_OWNER, area, bits, extended
 from tpmsim.standard import frames
 from tpmsim.standard.commands import CC
 from tpmsim.standard.frames import RH_OWNER
 from tpmsim.standard.nv import Attribute
-from nv_caller import BY_OWNER, FIRST, SECOND, NvCaller, area, bits, extended
+from script_caller import FIRST, SECOND, ScriptCaller
 from script import Script
 
 DEFINE, WRITE_CLEAR = Attribute.WRITEDEFINE, Attribute.WRITE_STCLEAR
@@ -20,7 +21,7 @@ script = Script(
     "and READ_STCLEAR lock it until the next start. CLEAR_STCLEAR has it not written at each "
     "start.",
 )
-caller = NvCaller(script)
+caller = ScriptCaller(script)
 
 
 def start():

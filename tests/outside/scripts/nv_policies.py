@@ -1,6 +1,8 @@
 #!/usr/bin/env python3
 """Writes tests/nv_policies.tpm: indices that are written and read by policy sessions."""
 
+from tpmsim.caller.entries import Use
+from tpmsim.caller.templates import BY_OWNER, BY_POLICY, area
 from tpmsim.standard import nv, policy
 from tpmsim.standard.commands import CC
 from tpmsim.standard.frames import CONTINUE_SESSION, DECRYPT, ENCRYPT, RH_OWNER, SHA1, SHA256
@@ -8,9 +10,7 @@ from tpmsim.standard.frames import selection
 from tpmsim.standard.nv import Attribute
 from tpmsim.standard.policy import AUTH_VALUE, PASSWORD
 from tpmsim.standard.sessions import digest, digest_bytes
-from caller import Use
-from nv_caller import BY_OWNER, BY_POLICY, FIRST, SECOND, THIRD, NvCaller, area
-from policy_caller import HASHES, zeros
+from script_caller import FIRST, HASHES, SECOND, ScriptCaller, THIRD, zeros
 from script import Script
 
 DATA = b"8 bytes."
@@ -22,7 +22,7 @@ script = Script(
     "Indices and policy sessions: POLICYWRITE and POLICYREAD let the policy of an index authorize "
     "what is asked of it.",
 )
-caller = NvCaller(script)
+caller = ScriptCaller(script)
 
 
 def says(what, prepared):

@@ -1,13 +1,13 @@
 #!/usr/bin/env python3
 """Writes tests/nv_read_public.tpm: public areas of indices, and the Names that change with them."""
 
+from tpmsim.caller.entries import Use
+from tpmsim.caller.templates import BY_OWNER, BY_VALUE, area, counter, extended
 from tpmsim.standard import frames
 from tpmsim.standard.frames import CONTINUE_SESSION, ENCRYPT, RH_NULL, RH_OWNER, number, sized
 from tpmsim.standard.nv import Attribute
 from tpmsim.standard.sessions import digest, digest_bytes
-from caller import Use
-from nv_caller import BY_OWNER, BY_VALUE, FIRST, SECOND, NvCaller, area, counter, extended
-from policy_caller import HASHES
+from script_caller import FIRST, HASHES, SECOND, ScriptCaller
 from script import Script
 
 script = Script(
@@ -15,7 +15,7 @@ script = Script(
     "TPM2_NV_ReadPublic needs no authorization. It answers the public area with the attributes of "
     "now, and the Name, which is nameAlg and the digest of the public area.",
 )
-caller = NvCaller(script)
+caller = ScriptCaller(script)
 LOCKS = Attribute.WRITE_STCLEAR | Attribute.READ_STCLEAR
 
 script.startup()

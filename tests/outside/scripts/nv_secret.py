@@ -3,12 +3,13 @@
 
 import hashlib
 
+from tpmsim.caller.entries import Use
+from tpmsim.caller.templates import area
 from tpmsim.standard import frames
 from tpmsim.standard.commands import CC
 from tpmsim.standard.frames import CONTINUE_SESSION, DECRYPT, ENCRYPT, RH_OWNER
 from tpmsim.standard.nv import Attribute
-from caller import Use
-from nv_caller import NvCaller, area
+from script_caller import ScriptCaller
 from script import Script
 
 SECRET_INDEX = 0x0100_0020
@@ -22,7 +23,7 @@ script = Script(
     "The boot loader asks for the password, reads the secret through a session that encrypts it, "
     "and locks the index: nobody reads it again before the next start, whoever knows the password.",
 )
-caller = NvCaller(script)
+caller = ScriptCaller(script)
 
 
 def start():

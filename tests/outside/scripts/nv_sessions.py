@@ -1,25 +1,14 @@
 #!/usr/bin/env python3
 """Writes tests/nv_sessions.tpm: commands on indices by HMAC sessions."""
 
+from tpmsim.caller.entries import Use, flipped
+from tpmsim.caller.templates import BY_OWNER, BY_VALUE, area, bits, counter, extended
 from tpmsim.standard import frames
 from tpmsim.standard.commands import CC
 from tpmsim.standard.frames import CONTINUE_SESSION, DECRYPT, ENCRYPT, RH_NULL, RH_OWNER, SHA1
 from tpmsim.standard.frames import SHA256
 from tpmsim.standard.nv import Attribute
-from caller import Use, flipped
-from nv_caller import (
-    BY_OWNER,
-    BY_VALUE,
-    FIRST,
-    FOURTH,
-    SECOND,
-    THIRD,
-    NvCaller,
-    area,
-    bits,
-    counter,
-    extended,
-)
+from script_caller import FIRST, FOURTH, SECOND, ScriptCaller, THIRD
 from script import Script
 
 DECRYPTS, ENCRYPTS = CONTINUE_SESSION | DECRYPT, CONTINUE_SESSION | ENCRYPT
@@ -31,7 +20,7 @@ script = Script(
     "NV indices and HMAC sessions: the Name of an index, which its first write changes, is in the "
     "hmacs and in what a session is bound to.",
 )
-caller = NvCaller(script)
+caller = ScriptCaller(script)
 
 
 def flush(*held):
@@ -309,7 +298,7 @@ def sent_again():
         script.entropy(seed)
         response = caller.says("TPM2_StartAuthSession", "SUCCESS", start)
         answer = caller.received(start, response)
-        return caller.started(start, answer, nonce, RH_NULL, SHA256, frames.SE_HMAC)
+        return caller.started(answer, nonce, RH_NULL, SHA256, frames.SE_HMAC)
 
     session = start_session("A session that is bound to nothing")
     write = caller.writing(FIRST, b"again...", session)

@@ -1,9 +1,10 @@
 #!/usr/bin/env python3
 """Writes tests/nv_types.tpm: indices of each type, and the commands that do not fit it."""
 
+from tpmsim.caller.templates import BY_OWNER, area, bits, counter, extended
 from tpmsim.standard.frames import RH_OWNER, number
 from tpmsim.standard.sessions import digest
-from nv_caller import BY_OWNER, FIRST, NvCaller, area, bits, counter, extended
+from script_caller import FIRST, ScriptCaller
 from script import Script
 
 SECRET = b"8 bytes."
@@ -13,7 +14,7 @@ script = Script(
     "An ordinary index is written, a counter incremented, bits are set, and what is extended is "
     "extended. Every other change is refused, before the first one and after it.",
 )
-caller = NvCaller(script)
+caller = ScriptCaller(script)
 
 
 def writing(index):

@@ -1,10 +1,11 @@
 #!/usr/bin/env python3
 """Writes tests/nv_undefine_space.tpm: who takes an index away, and what goes with it."""
 
+from tpmsim.caller.templates import BY_OWNER, BY_VALUE, area
 from tpmsim.standard.commands import CC
 from tpmsim.standard.frames import RH_ENDORSEMENT, RH_NULL, RH_OWNER, RH_PLATFORM
 from tpmsim.standard.nv import Attribute
-from nv_caller import BY_OWNER, BY_VALUE, FIRST, SECOND, THIRD, NvCaller, area
+from script_caller import FIRST, SECOND, ScriptCaller, THIRD
 from script import Script
 
 CREATED = Attribute.PLATFORMCREATE
@@ -13,7 +14,7 @@ script = Script(
     "tests/nv_undefine_space.tpm",
     "TPM2_NV_UndefineSpace: the owner takes its own indices away, the platform all.",
 )
-caller = NvCaller(script)
+caller = ScriptCaller(script)
 
 script.startup()
 caller.define("An index of the owner's", area(FIRST, BY_VALUE), auth=b"a")

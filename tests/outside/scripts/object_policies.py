@@ -1,6 +1,8 @@
 #!/usr/bin/env python3
 """Writes tests/object_policies.tpm: policies that authorize objects, and what each of them asks."""
 
+from tpmsim.caller.entries import Use
+from tpmsim.caller.templates import HERE, hmac_key, sealed, storage_key
 from tpmsim.standard import policy
 from tpmsim.standard.commands import CC
 from tpmsim.standard.frames import ALG_NULL, CONTINUE_SESSION, DECRYPT, ENCRYPT, RH_ENDORSEMENT
@@ -8,9 +10,7 @@ from tpmsim.standard.frames import RH_OWNER, SHA1, SHA256, selection
 from tpmsim.standard.objects import Attribute
 from tpmsim.standard.policy import AUTH_VALUE, PASSWORD
 from tpmsim.standard.sessions import command_hash, digest, name_of
-from caller import Use
-from object_caller import HERE, ObjectCaller, hmac_key, sealed, storage_key
-from policy_caller import zeros
+from script_caller import ScriptCaller, zeros
 from script import Script
 
 NO_DA, USER = Attribute.NO_DA, Attribute.USER_WITH_AUTH
@@ -22,7 +22,7 @@ script = Script(
     "A policy session authorizes an object whose authPolicy is its digest. What it was told is "
     "held against the command and the device, and it counts for one command.",
 )
-caller = ObjectCaller(script)
+caller = ScriptCaller(script)
 script.startup()
 script.allow_tries()
 parent = caller.create_primary("A storage key", RH_OWNER, storage_key())

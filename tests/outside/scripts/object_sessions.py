@@ -1,14 +1,14 @@
 #!/usr/bin/env python3
 """Writes tests/object_sessions.tpm: HMAC sessions that authorize objects, or are bound to them."""
 
+from tpmsim.caller.entries import Use
+from tpmsim.caller.templates import HERE, hmac_key, sealed, storage_key
 from tpmsim.standard import policy
 from tpmsim.standard.commands import CC
 from tpmsim.standard.frames import ALG_NULL, RH_ENDORSEMENT, RH_OWNER, SHA1, SHA256, command
 from tpmsim.standard.frames import number, policy_secret, start_auth_session
 from tpmsim.standard.objects import Attribute
-from caller import Use
-from object_caller import HERE, ObjectCaller, hmac_key, sealed, storage_key
-from policy_caller import zeros
+from script_caller import ScriptCaller, zeros
 from script import Script
 
 PROTECTED = HERE | Attribute.USER_WITH_AUTH
@@ -19,7 +19,7 @@ script = Script(
     "HMAC sessions that authorize objects. The Name of an object stands where that of a hierarchy "
     "is its handle: in the hash of a command, in a binding, and in TPM2_PolicySecret.",
 )
-caller = ObjectCaller(script)
+caller = ScriptCaller(script)
 script.startup()
 script.allow_tries()
 parent = caller.create_primary("A storage key", RH_OWNER, storage_key())

@@ -1,11 +1,12 @@
 #!/usr/bin/env python3
 """Writes examples/one_command.tpm: a policy that lets one command through, by its cpHash."""
 
+from tpmsim.caller.templates import area
 from tpmsim.standard import policy
 from tpmsim.standard.frames import RH_OWNER, SHA256
 from tpmsim.standard.nv import Attribute
 from tpmsim.standard.sessions import command_hash, name_of
-from nv_caller import FIRST, NvCaller, area
+from script_caller import FIRST, ScriptCaller
 from script import Script
 
 OWNER_AUTH = b"administrator"
@@ -17,7 +18,7 @@ script = Script(
     "index, once. The technician gets no password. What is let through is a cpHash: the hash of a "
     "command's code, of the Names of its handles and of its parameters.",
 )
-caller = NvCaller(script)
+caller = ScriptCaller(script)
 
 script.chapter("THE ADMINISTRATOR SETS IT UP, once.")
 script.startup()

@@ -1,13 +1,14 @@
 #!/usr/bin/env python3
 """Writes tests/order_of_nv_refusals.tpm: many faults at once, repaired one by one."""
 
+from tpmsim.caller.entries import Use
+from tpmsim.caller.templates import BY_OWNER, BY_POLICY, BY_VALUE, area, bits, counter, extended
 from tpmsim.standard import frames, handle_kinds, policy
 from tpmsim.standard.commands import CC
 from tpmsim.standard.frames import DECRYPT, Entry, RH_LOCKOUT, RH_OWNER, RH_PLATFORM, SHA1
 from tpmsim.standard.frames import area as entries_area, command, number, sized
 from tpmsim.standard.nv import Attribute
-from caller import Use
-from nv_caller import BY_OWNER, BY_POLICY, BY_VALUE, NvCaller, area, bits, counter, extended
+from script_caller import ScriptCaller
 from script import Script
 
 ORDINARY, COUNTER, BITS, EXTENDED = range(0x0100_0001, 0x0100_0005)
@@ -22,7 +23,7 @@ script = Script(
     "The order of refusals in the commands on NV indices: a buffer with many faults, of which one "
     "after the other is repaired. What is answered is the first that is left.",
 )
-caller = NvCaller(script)
+caller = ScriptCaller(script)
 
 
 def wrong(prepared, *places):

@@ -1,13 +1,14 @@
 #!/usr/bin/env python3
 """Writes tests/order_of_object_refusals.tpm: many faults at once, repaired one by one."""
 
+from tpmsim.caller.entries import Use
+from tpmsim.caller.templates import HERE, OPEN, hmac_key, sealed, storage_key
 from tpmsim.standard import frames
 from tpmsim.standard.commands import CC
 from tpmsim.standard.frames import ALG_NULL, DECRYPT, Entry, RH_LOCKOUT, RH_OWNER, SHA1, SHA256
 from tpmsim.standard.frames import area, command, number, sized
 from tpmsim.standard.objects import Attribute
-from caller import Use
-from object_caller import HERE, OPEN, ObjectCaller, hmac_key, sealed, storage_key
+from script_caller import ScriptCaller
 from script import Script
 
 script = Script(
@@ -15,7 +16,7 @@ script = Script(
     "The order of refusals in the commands of objects: a buffer with many faults, of which one "
     "after the other is repaired. What is answered is the first that is left.",
 )
-caller = ObjectCaller(script)
+caller = ScriptCaller(script)
 ABSENT, SECRET = 0x8000_0007, b"secret"
 ABSENT_SESSION = Entry(0x0200_000F, b"", 1, b"")
 

@@ -1,12 +1,12 @@
 #!/usr/bin/env python3
 """Writes tests/order_of_policy_refusals.tpm: policy commands with many faults."""
 
+from tpmsim.caller.entries import Use, flipped
 from tpmsim.standard import frames
 from tpmsim.standard.commands import CC
 from tpmsim.standard.frames import CONTINUE_SESSION, DECRYPT, ENCRYPT, Entry, RH_LOCKOUT, RH_NULL
 from tpmsim.standard.frames import RH_OWNER, SHA256, number, selection, sized
-from caller import Use, flipped
-from policy_caller import PolicyCaller
+from script_caller import ScriptCaller
 from script import Script
 
 DECRYPTS, ENCRYPTS = CONTINUE_SESSION | DECRYPT, CONTINUE_SESSION | ENCRYPT
@@ -18,7 +18,7 @@ script = Script(
     "The order of refusals of the policy commands: of many faults one after the other is repaired. "
     "What is answered is the first that is left, in the order of docs/table/order_of_refusals.md.",
 )
-caller = PolicyCaller(script)
+caller = ScriptCaller(script)
 
 
 def wrong(prepared, *places):

@@ -1,11 +1,12 @@
 #!/usr/bin/env python3
 """Writes tests/order_of_session_refusals.tpm: commands with sessions and many faults."""
 
+from tpmsim.caller.entries import Use, flipped
 from tpmsim.standard import frames
 from tpmsim.standard.commands import CC
 from tpmsim.standard.frames import CONTINUE_SESSION, DECRYPT, ENCRYPT, Entry, RH_NULL, RH_OWNER
 from tpmsim.standard.frames import number, sized
-from caller import Caller, Use, flipped
+from script_caller import ScriptCaller
 from script import Script
 
 DECRYPTS = CONTINUE_SESSION | DECRYPT
@@ -17,7 +18,7 @@ script = Script(
     "The order of refusals of commands with sessions: of many faults one after the other is "
     "repaired. What is answered is the first that is left, in the order of docs/table/order_of_refusals.md.",
 )
-caller = Caller(script)
+caller = ScriptCaller(script)
 
 
 def wrong(prepared, *places):

@@ -3,7 +3,7 @@
 
 from tpmsim.standard import policy
 from tpmsim.standard.commands import CC
-from policy_caller import PolicyCaller, zeros
+from script_caller import ScriptCaller, zeros
 from script import Script
 
 script = Script(
@@ -11,7 +11,7 @@ script = Script(
     "TPM2_PolicyAuthValue and TPM2_PolicyPassword: who uses the policy has to show the entity's "
     "authorization value, in an hmac or as a password. They make the same digest.",
 )
-caller = PolicyCaller(script)
+caller = ScriptCaller(script)
 
 script.startup()
 for session in caller.each_session():

@@ -4,7 +4,7 @@
 from tpmsim.standard import policy
 from tpmsim.standard.commands import CC
 from tpmsim.standard.frames import SE_POLICY, SE_TRIAL, SHA1, SHA256, number
-from policy_caller import PolicyCaller, zeros
+from script_caller import ScriptCaller, zeros
 from script import Script
 
 UNKNOWN = 0x194
@@ -14,7 +14,7 @@ script = Script(
     "TPM2_PolicyCommandCode: the policy is for one command alone. Its parameter is the code of a "
     "command, served or not.",
 )
-caller = PolicyCaller(script)
+caller = ScriptCaller(script)
 
 
 def raw(session, text):

@@ -3,16 +3,15 @@
 
 import hashlib
 
+from tpmsim.caller.entries import Use, flipped
+from tpmsim.caller.templates import BY_OWNER, BY_POLICY, HERE, area, sealed, storage_key
 from tpmsim.standard import policy
 from tpmsim.standard.commands import CC
 from tpmsim.standard.frames import CONTINUE_SESSION, DECRYPT, RH_ENDORSEMENT, RH_OWNER, SHA1
 from tpmsim.standard.frames import SHA256, number, sized
 from tpmsim.standard.objects import Attribute
 from tpmsim.standard.sessions import command_hash, digest_bytes, name_of
-from caller import Use, flipped
-from nv_caller import BY_OWNER, BY_POLICY, FIRST, NvCaller, area
-from object_caller import HERE, sealed, storage_key
-from policy_caller import is_trial, zeros
+from script_caller import FIRST, ScriptCaller, is_trial, zeros
 from script import Script
 
 DECRYPTS = CONTINUE_SESSION | DECRYPT
@@ -22,7 +21,7 @@ script = Script(
     "TPM2_PolicyCpHash: the policy is for one command alone, with its handles and its parameters. "
     "Its parameter is the cpHash of that command, by the session's hash.",
 )
-caller = NvCaller(script)
+caller = ScriptCaller(script)
 
 
 def says(what, outcome, session, *hashes):

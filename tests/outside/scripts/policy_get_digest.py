@@ -3,7 +3,7 @@
 
 from tpmsim.standard import policy
 from tpmsim.standard.commands import CC
-from policy_caller import PolicyCaller, zeros
+from script_caller import ScriptCaller, zeros
 from script import Script
 
 script = Script(
@@ -11,7 +11,7 @@ script = Script(
     "TPM2_PolicyGetDigest answers the digest that a policy session or a trial session has come to. "
     "It has no parameters, and changes nothing.",
 )
-caller = PolicyCaller(script)
+caller = ScriptCaller(script)
 
 script.startup()
 for session in caller.each_session(size=20):

@@ -1,12 +1,12 @@
 #!/usr/bin/env python3
 """Writes tests/policy_handles.tpm: the handles of the policy commands, and their entries."""
 
+from tpmsim.caller.entries import flipped
 from tpmsim.standard import frames
 from tpmsim.standard.commands import CC
 from tpmsim.standard.frames import RH_ENDORSEMENT, RH_NULL, RH_OWNER, RS_PW, SHA1, SHA256, area
 from tpmsim.standard.frames import entry, number
-from caller import flipped
-from policy_caller import PolicyCaller
+from script_caller import ScriptCaller
 from script import Script
 
 script = Script(
@@ -14,7 +14,7 @@ script = Script(
     "The commands of policies have the handle of a policy session or a trial session, which needs "
     "no authorization; TPM2_PolicySecret has it as its second one.",
 )
-caller = PolicyCaller(script)
+caller = ScriptCaller(script)
 
 COMMANDS = (
     ("TPM2_PolicyRestart", CC.PolicyRestart, b""),

@@ -3,7 +3,7 @@
 
 from tpmsim.standard import policy
 from tpmsim.standard.commands import CC
-from policy_caller import PolicyCaller, zeros
+from script_caller import ScriptCaller, zeros
 from script import Script
 
 script = Script(
@@ -11,7 +11,7 @@ script = Script(
     "TPM2_PolicyLocality: the policy is for some localities alone. Its parameter has a bit for "
     "each of the localities 0 to 4, and what is left is what all such parameters have in common.",
 )
-caller = PolicyCaller(script)
+caller = ScriptCaller(script)
 
 
 def says(what, outcome, session, *masks):

@@ -3,27 +3,14 @@
 
 import hashlib
 
+from tpmsim.caller.entries import Use
+from tpmsim.caller.templates import BY_OWNER, BY_PLATFORM, BY_POLICY, BY_VALUE, area, bits, counter
+from tpmsim.caller.templates import extended
 from tpmsim.standard import frames, policy
 from tpmsim.standard.commands import CC
 from tpmsim.standard.frames import RH_OWNER, RH_PLATFORM, SHA1, SHA256, number, sized
 from tpmsim.standard.nv import Attribute
-from caller import Use
-from nv_caller import (
-    BY_OWNER,
-    BY_PLATFORM,
-    BY_POLICY,
-    BY_VALUE,
-    FIRST,
-    FOURTH,
-    SECOND,
-    THIRD,
-    NvCaller,
-    area,
-    bits,
-    counter,
-    extended,
-)
-from policy_caller import is_trial, zeros
+from script_caller import FIRST, FOURTH, SECOND, ScriptCaller, THIRD, is_trial, zeros
 from script import Script
 
 NAMES = (
@@ -39,7 +26,7 @@ script = Script(
     "TPM2_PolicyNV: the policy is for when an index holds what is compared with it. Its parameters "
     "are operandB, offset and operation; the index stands at the left of the comparison.",
 )
-caller = NvCaller(script)
+caller = ScriptCaller(script)
 
 
 def of(algorithm):

@@ -3,16 +3,15 @@
 
 import hashlib
 
+from tpmsim.caller.entries import Use, flipped
+from tpmsim.caller.templates import BY_OWNER, BY_POLICY, HERE, area, counter, sealed, storage_key
 from tpmsim.standard import frames, policy
 from tpmsim.standard.commands import CC
 from tpmsim.standard.frames import RH_OWNER, SHA1, SHA256
 from tpmsim.standard.nv import Attribute
 from tpmsim.standard.objects import Attribute as ObjectAttribute
 from tpmsim.standard.sessions import command_hash
-from caller import Use, flipped
-from nv_caller import BY_OWNER, BY_POLICY, FIRST, FOURTH, NvCaller, SECOND, THIRD, area, counter
-from object_caller import HERE, sealed, storage_key
-from policy_caller import zeros
+from script_caller import FIRST, FOURTH, SECOND, ScriptCaller, THIRD, zeros
 from script import Script
 
 NO, YES = False, True
@@ -23,7 +22,7 @@ script = Script(
     "TPM2_PolicyNvWritten: the policy is for an NV index that is written (1), or for one that is "
     "not (0). Whether it is, is looked at when the session authorizes.",
 )
-caller = NvCaller(script)
+caller = ScriptCaller(script)
 
 
 def says(what, outcome, session, *values):

@@ -5,14 +5,14 @@ from tpmsim.standard import frames, policy
 from tpmsim.standard.commands import CC
 from tpmsim.standard.frames import number, sized
 from tpmsim.standard.sessions import digest
-from policy_caller import PolicyCaller, is_trial, zeros
+from script_caller import ScriptCaller, is_trial, zeros
 from script import Script
 
 script = Script(
     "tests/policy_or.tpm",
     "TPM2_PolicyOR: the digest is one of two to eight in a list, and becomes that of the list.",
 )
-caller = PolicyCaller(script)
+caller = ScriptCaller(script)
 
 
 def other(session, count):

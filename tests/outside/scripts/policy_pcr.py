@@ -5,7 +5,7 @@ from tpmsim.standard import frames, policy
 from tpmsim.standard.commands import CC
 from tpmsim.standard.frames import RH_NULL, SHA1, SHA256, number, selection, sized
 from tpmsim.standard.sessions import digest
-from policy_caller import PolicyCaller, is_trial, zeros
+from script_caller import ScriptCaller, is_trial, zeros
 from script import Script
 
 ALL = range(24)
@@ -15,7 +15,7 @@ script = Script(
     "TPM2_PolicyPCR: the policy is for PCRs that have the values of now. Its parameters are the "
     "digest that they should have, if any, and the selection of PCRs.",
 )
-caller = PolicyCaller(script)
+caller = ScriptCaller(script)
 
 
 def values_digest(session, banks):

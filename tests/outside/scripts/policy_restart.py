@@ -1,19 +1,19 @@
 #!/usr/bin/env python3
 """Writes tests/policy_restart.tpm: TPM2_PolicyRestart, by which a session forgets its policy."""
 
+from tpmsim.caller.entries import Use
 from tpmsim.standard import frames, policy
 from tpmsim.standard.commands import CC
 from tpmsim.standard.frames import RH_OWNER, SHA1, SHA256
 from tpmsim.standard.sessions import digest_bytes
-from caller import Use
-from policy_caller import PolicyCaller, is_trial, zeros
+from script_caller import ScriptCaller, is_trial, zeros
 from script import Script
 
 script = Script(
     "tests/policy_restart.tpm",
     "TPM2_PolicyRestart: the session has forgotten what it was told, and keeps all else.",
 )
-caller = PolicyCaller(script)
+caller = ScriptCaller(script)
 PCR_0 = [(SHA256, [0])]
 
 

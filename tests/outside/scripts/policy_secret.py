@@ -1,12 +1,12 @@
 #!/usr/bin/env python3
 """Writes tests/policy_secret.tpm: TPM2_PolicySecret, its parameters and what it is hashed of."""
 
+from tpmsim.caller.entries import Use, flipped
 from tpmsim.standard import frames, policy
 from tpmsim.standard.frames import RH_ENDORSEMENT, RH_LOCKOUT, RH_OWNER, RH_PLATFORM, SHA1, SHA256
 from tpmsim.standard.frames import number, sized
 from tpmsim.standard.sessions import digest_bytes, name_of
-from caller import Use, flipped
-from policy_caller import PolicyCaller, is_trial, zeros
+from script_caller import ScriptCaller, is_trial, zeros
 from script import Script
 
 ENTITIES = (
@@ -24,7 +24,7 @@ script = Script(
     "shows it now. Its parameters are nonceTPM, cpHashA, policyRef and expiration. Here by the "
     "empty password alone.",
 )
-caller = PolicyCaller(script)
+caller = ScriptCaller(script)
 
 
 def after(session, old, of=RH_ENDORSEMENT, policy_ref=b""):

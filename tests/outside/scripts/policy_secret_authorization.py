@@ -1,11 +1,11 @@
 #!/usr/bin/env python3
 """Writes tests/policy_secret_authorization.tpm: by what entries TPM2_PolicySecret is authorized."""
 
+from tpmsim.caller.entries import Use, flipped
 from tpmsim.standard import policy
 from tpmsim.standard.frames import RH_ENDORSEMENT, RH_LOCKOUT, RH_OWNER, RH_PLATFORM, SHA1, SHA256
 from tpmsim.standard.sessions import name_of
-from caller import Use, flipped
-from policy_caller import HASHES, PolicyCaller, zeros
+from script_caller import HASHES, ScriptCaller, zeros
 from script import Script
 
 VALUES = (
@@ -20,7 +20,7 @@ script = Script(
     "TPM2_PolicySecret is authorized by the value of its first handle, in a password or an HMAC "
     "session, as any other command. Of the policy session nothing is asked.",
 )
-caller = PolicyCaller(script)
+caller = ScriptCaller(script)
 
 
 def wrong(prepared, place=1):

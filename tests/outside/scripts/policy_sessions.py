@@ -1,12 +1,12 @@
 #!/usr/bin/env python3
 """Writes tests/policy_sessions.tpm: where policy sessions have their place, and how they end."""
 
+from tpmsim.caller.entries import Use, flipped
 from tpmsim.standard import frames
 from tpmsim.standard.commands import CC
 from tpmsim.standard.frames import Entry, RH_LOCKOUT, RH_OWNER, SE_HMAC, SE_POLICY, SE_TRIAL, SHA1
 from tpmsim.standard.frames import SHA256, number
-from caller import Use, flipped
-from policy_caller import HASHES, PolicyCaller, zeros
+from script_caller import HASHES, ScriptCaller, zeros
 from script import Script
 
 PLACES = 16
@@ -17,7 +17,7 @@ script = Script(
     "Policy sessions and trial sessions have the sixteen places that HMAC sessions have. Their "
     "handles begin with 03, and those of HMAC sessions with 02.",
 )
-caller = PolicyCaller(script)
+caller = ScriptCaller(script)
 
 
 def start(kind, place, what=None, **choices):

@@ -1,12 +1,12 @@
 #!/usr/bin/env python3
 """Writes tests/policy_sessions_authorize_nothing.tpm: policy sessions as the first entry."""
 
+from tpmsim.caller.entries import Use, flipped
 from tpmsim.standard import frames
 from tpmsim.standard.commands import CC
 from tpmsim.standard.frames import CONTINUE_SESSION, DECRYPT, Entry, RH_ENDORSEMENT, RH_LOCKOUT
 from tpmsim.standard.frames import RH_NULL, RH_OWNER, RH_PLATFORM
-from caller import Use, flipped
-from policy_caller import PolicyCaller, zeros
+from script_caller import ScriptCaller, zeros
 from script import Script
 
 script = Script(
@@ -14,7 +14,7 @@ script = Script(
     "A policy session authorizes what has a policy. Hierarchies and PCRs have none: they are "
     "authorized by their authorization value alone. A trial session never authorizes.",
 )
-caller = PolicyCaller(script)
+caller = ScriptCaller(script)
 
 script.startup()
 caller.accepted('ownerAuth is "owner"', caller.change_auth(RH_OWNER, b"owner", b""))

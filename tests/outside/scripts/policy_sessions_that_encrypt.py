@@ -1,13 +1,13 @@
 #!/usr/bin/env python3
 """Writes tests/policy_sessions_that_encrypt.tpm: policy sessions that authorize nothing."""
 
+from tpmsim.caller.entries import Use, flipped
 from tpmsim.standard import frames, policy
 from tpmsim.standard.commands import CC
 from tpmsim.standard.frames import CONTINUE_SESSION, DECRYPT, ENCRYPT, RH_ENDORSEMENT, RH_LOCKOUT
 from tpmsim.standard.frames import RH_OWNER, SE_POLICY, SE_TRIAL, SHA1
 from tpmsim.standard.sessions import digest, name_of
-from caller import Use, flipped
-from policy_caller import HASHES, KINDS, PolicyCaller, zeros
+from script_caller import HASHES, KINDS, ScriptCaller, zeros
 from script import Script
 
 DECRYPTS, ENCRYPTS = CONTINUE_SESSION | DECRYPT, CONTINUE_SESSION | ENCRYPT
@@ -18,7 +18,7 @@ script = Script(
     "held against their hmac as HMAC sessions are. They can decrypt and encrypt, and keep what "
     "they were told.",
 )
-caller = PolicyCaller(script)
+caller = ScriptCaller(script)
 
 
 def wrong(prepared, place):

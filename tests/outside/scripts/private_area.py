@@ -1,14 +1,15 @@
 #!/usr/bin/env python3
 """Writes tests/private_area.tpm: private areas that were changed, or that were made outside."""
 
+from tpmsim.caller.entries import Made, flipped
+from tpmsim.caller.templates import HERE, OPEN, STORES, hmac_key, sealed, storage_key
 from tpmsim.model import object_rules
 from tpmsim.model.object_rules import Sensitive
 from tpmsim.standard import aes
 from tpmsim.standard.frames import KEYEDHASH, RH_OWNER, SHA1, SHA256, SYMCIPHER, number, sized
 from tpmsim.standard.objects import Public
 from tpmsim.standard.sessions import digest, digest_bytes, kdfa, mac
-from caller import flipped
-from object_caller import HERE, OPEN, STORES, Made, ObjectCaller, hmac_key, sealed, storage_key
+from script_caller import ScriptCaller
 from script import Script
 
 script = Script(
@@ -16,7 +17,7 @@ script = Script(
     "A private area is an integrity value, the first block of the cipher, and the encrypted "
     "sensitive area. TPM2_Load takes it where its parent made it for this public area.",
 )
-caller = ObjectCaller(script)
+caller = ScriptCaller(script)
 
 
 def refused(what, parent, public, *privates):

@@ -1,11 +1,12 @@
 #!/usr/bin/env python3
 """Writes tests/read_public.tpm: TPM2_ReadPublic, and the Names that it answers."""
 
-from caller import Use
+from tpmsim.caller.entries import Use
+from tpmsim.caller.templates import hmac_key, sealed, storage_key
 from tpmsim.standard.commands import CC
 from tpmsim.standard.frames import ENCRYPT, RH_NULL, RH_OWNER, SHA1, SHA256, command, number
 from tpmsim.standard.sessions import digest
-from object_caller import ObjectCaller, hmac_key, sealed, storage_key
+from script_caller import ScriptCaller
 from script import Script
 
 script = Script(
@@ -14,7 +15,7 @@ script = Script(
     "that area, and its qualified name, which has the Names of all that are above it in it. It "
     "needs no authorization.",
 )
-caller = ObjectCaller(script)
+caller = ScriptCaller(script)
 
 
 def read(handle):

@@ -3,17 +3,18 @@
 
 from dataclasses import replace
 
+from tpmsim.caller.entries import Use
+from tpmsim.caller.knowledge import CLEAR, STATE
+from tpmsim.caller.templates import BY_POLICY, BY_VALUE
 from tpmsim.standard import frames
 from tpmsim.standard.commands import CC
 from tpmsim.standard.frames import CONTINUE_SESSION, DECRYPT, ENCRYPT, RH_ENDORSEMENT, RH_LOCKOUT
 from tpmsim.standard.frames import RH_NULL, RH_OWNER, SE_HMAC, SE_POLICY, SHA256
 from tpmsim.standard.nv import Attribute
 from tpmsim.standard.policy import AUTH_VALUE, PASSWORD
-from caller import Use
+from script_caller import FIRST
 from grounds_caller import AFTER_AUTH_VALUE, DATA, OWNER, ZEROS, GroundsCaller
-from nv_caller import BY_POLICY, BY_VALUE, FIRST
 from script import Script
-from state_caller import CLEAR, STATE
 
 VALUE, LOCKOUT_AUTH, OTHER_DATA = b"a", b"lockout", b"to write"
 ENDS = 0x00
@@ -54,7 +55,7 @@ class Start:
         handles, parameters = frames.start_auth_session(nonce, self.bind, kind=self.kind)
         start = caller.prepare(CC.StartAuthSession, handles, parameters)
         answer = with_random(what, seed, start)
-        return caller.started(start, answer, nonce, self.bind, SHA256, self.kind)
+        return caller.started(answer, nonce, self.bind, SHA256, self.kind)
 
     def again(self):
         """The session is then what it was at first."""

@@ -1,16 +1,16 @@
 #!/usr/bin/env python3
 """Writes tests/saved_state.tpm: which commands cancel what TPM2_Shutdown(STATE) saved."""
 
+from tpmsim.caller.entries import Use, wrong
+from tpmsim.caller.knowledge import CLEAR, STATE
+from tpmsim.caller.templates import BY_OWNER, BY_VALUE, area, bits, counter, extended, hmac_key
+from tpmsim.caller.templates import sealed, storage_key
 from tpmsim.standard import frames, policy
 from tpmsim.standard.commands import CC, Fact
 from tpmsim.standard.frames import RH_ENDORSEMENT, RH_OWNER, RH_PLATFORM, SHA256
 from tpmsim.standard.nv import Attribute
-from caller import Use
-from nv_caller import BY_OWNER, BY_VALUE, FIRST, FOURTH, SECOND, THIRD, area, bits, counter
-from nv_caller import extended
-from object_caller import hmac_key, sealed, storage_key
+from script_caller import FIRST, FOURTH, SECOND, ScriptCaller, THIRD
 from script import Script
-from state_caller import CLEAR, STATE, StateCaller, wrong
 
 FIFTH = 0x0100_0005
 KEPT = 0x8100_0001
@@ -24,7 +24,7 @@ script = Script(
     "Here each command follows a TPM2_Shutdown(STATE); behind a power cycle TPM2_Startup(STATE) "
     "then says whether the state was there still.",
 )
-caller = StateCaller(script)
+caller = ScriptCaller(script)
 
 
 def session():

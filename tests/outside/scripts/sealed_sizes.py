@@ -1,12 +1,13 @@
 #!/usr/bin/env python3
 """Writes tests/sealed_sizes.tpm: what is sealed, loaded and unsealed in encrypted parameters."""
 
-from caller import Use
+from tpmsim.caller.entries import Use
+from tpmsim.caller.templates import hmac_key, sealed, storage_key
 from tpmsim.standard.commands import CC
 from tpmsim.standard.frames import ALG_NULL, CONTINUE_SESSION, DECRYPT, ENCRYPT, RH_OWNER, SHA1
 from tpmsim.standard.frames import SHA256, number, sized
 from tpmsim.standard.sessions import mac
-from object_caller import ObjectCaller, hmac_key, sealed, storage_key
+from script_caller import ScriptCaller
 from script import Script
 
 IN, OUT = CONTINUE_SESSION | DECRYPT, CONTINUE_SESSION | ENCRYPT
@@ -18,7 +19,7 @@ script = Script(
     "TPM2_Create, inPrivate of TPM2_Load, outData of TPM2_Unseal, and what TPM2_HMAC takes and "
     "answers.",
 )
-caller = ObjectCaller(script)
+caller = ScriptCaller(script)
 script.startup()
 parent = caller.create_primary(
     'A storage key, whose value is "parent"', RH_OWNER, storage_key(), user_auth=b"parent"

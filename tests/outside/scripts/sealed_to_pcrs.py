@@ -1,13 +1,13 @@
 #!/usr/bin/env python3
 """Writes tests/sealed_to_pcrs.tpm: data that are given out while a PCR has the value of then."""
 
+from tpmsim.caller.templates import HERE, sealed, storage_key
 from tpmsim.standard import policy
 from tpmsim.standard.commands import CC
 from tpmsim.standard.frames import RH_NULL, RH_OWNER, SHA256, digests, selection
 from tpmsim.standard.objects import Attribute
 from tpmsim.standard.sessions import digest
-from object_caller import HERE, ObjectCaller, sealed, storage_key
-from policy_caller import zeros
+from script_caller import ScriptCaller, zeros
 from script import Script
 
 CHOSEN = [(SHA256, [10])]
@@ -18,7 +18,7 @@ script = Script(
     "Sealed data whose authPolicy is that of TPM2_PolicyPCR over PCR 10: a trial session tells its "
     "digest, and a policy session authorizes TPM2_Unseal while PCR 10 has the same value.",
 )
-caller = ObjectCaller(script)
+caller = ScriptCaller(script)
 
 
 def measured():

@@ -5,7 +5,7 @@ from tpmsim.standard import policy
 from tpmsim.standard.commands import CC
 from tpmsim.standard.frames import SHA256, selection
 from tpmsim.standard.sessions import digest
-from policy_caller import PolicyCaller, zeros
+from script_caller import ScriptCaller, zeros
 from script import Script
 
 # Each piece of software is measured into its PCR before it runs. These PCRs are chosen.
@@ -26,7 +26,7 @@ script = Script(
     "with which the key is then sealed. Nothing is authorized by it yet, and so a trial session "
     "does.",
 )
-caller = PolicyCaller(script)
+caller = ScriptCaller(script)
 
 
 def measured_by(measurements):

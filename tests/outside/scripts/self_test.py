@@ -1,18 +1,19 @@
 #!/usr/bin/env python3
 """Writes tests/self_test.tpm: TPM2_SelfTest, which finds nothing, and what refuses it."""
 
+from tpmsim.caller.entries import wrong
 from tpmsim.standard import frames
 from tpmsim.standard.commands import CC
 from tpmsim.standard.frames import CONTINUE_SESSION, DECRYPT, ENCRYPT, command, number
+from script_caller import ScriptCaller
 from script import Script
-from state_caller import StateCaller, wrong
 
 script = Script(
     "tests/self_test.tpm",
     "TPM2_SelfTest, of all tests (YES, 01) or of those that were not run yet (NO, 00). The device "
     "has none that could fail.",
 )
-caller = StateCaller(script)
+caller = ScriptCaller(script)
 
 
 def says(what, outcome, *buffers):

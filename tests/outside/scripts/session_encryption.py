@@ -1,11 +1,12 @@
 #!/usr/bin/env python3
 """Writes tests/session_encryption.tpm: first parameters and first answers that sessions encrypt."""
 
+from tpmsim.caller.entries import Use, flipped
 from tpmsim.standard import frames
 from tpmsim.standard.commands import CC
 from tpmsim.standard.frames import CONTINUE_SESSION, DECRYPT, ENCRYPT, RH_ENDORSEMENT, RH_OWNER
 from tpmsim.standard.frames import SHA1, SHA256, sized
-from caller import Caller, Use, flipped
+from script_caller import ScriptCaller
 from script import Script
 
 DECRYPTS = CONTINUE_SESSION | DECRYPT
@@ -17,7 +18,7 @@ script = Script(
     "Parameter encryption by AES-128 in mode CFB: a session with the attribute decrypt has "
     "encrypted the bytes of the first parameter, and one with encrypt those of the first answer.",
 )
-caller = Caller(script)
+caller = ScriptCaller(script)
 
 
 def others_are(*sessions):

@@ -1,11 +1,12 @@
 #!/usr/bin/env python3
 """Writes tests/session_entries.tpm: what is refused of entries before any hmac is looked at."""
 
+from tpmsim.caller.entries import Use
 from tpmsim.standard import frames
 from tpmsim.standard.commands import CC
 from tpmsim.standard.frames import CONTINUE_SESSION, DECRYPT, ENCRYPT, Entry, RH_OWNER, RS_PW
 from tpmsim.standard.frames import SHA256, number, sized
-from caller import Caller, Use
+from script_caller import ScriptCaller
 from script import Script
 
 STAYS = CONTINUE_SESSION
@@ -16,7 +17,7 @@ script = Script(
     "Entries of sessions in an authorization area: what is refused of them before any hmac is "
     "looked at, entry by entry, and in each the first of these faults.",
 )
-caller = Caller(script)
+caller = ScriptCaller(script)
 
 
 def entry(session, attributes=STAYS, nonce=b"", hmac=b""):

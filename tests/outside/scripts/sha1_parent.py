@@ -1,6 +1,7 @@
 #!/usr/bin/env python3
 """Writes tests/sha1_parent.tpm: parents with nameAlg SHA-1, and what parents hand on."""
 
+from tpmsim.caller.templates import OPEN, STORES, hmac_key, sealed, storage_key
 from tpmsim.standard import policy
 from tpmsim.standard.commands import CC
 from tpmsim.standard.frames import RH_ENDORSEMENT, RH_NULL, RH_OWNER, RH_PLATFORM, SHA1, SHA256
@@ -8,7 +9,7 @@ from tpmsim.standard.frames import number
 from tpmsim.standard.objects import Attribute
 from tpmsim.standard.reading import Fields
 from tpmsim.standard.sessions import digest, digest_bytes
-from object_caller import OPEN, STORES, ObjectCaller, hmac_key, sealed, storage_key
+from script_caller import ScriptCaller
 from script import Script
 
 script = Script(
@@ -17,7 +18,7 @@ script = Script(
     "hashes in the creation data and unique are by the nameAlg of the object itself. The hierarchy "
     "comes from the parent.",
 )
-caller = ObjectCaller(script)
+caller = ScriptCaller(script)
 ALGORITHMS = ((SHA1, "SHA-1"), (SHA256, "SHA-256"))
 
 

@@ -1,19 +1,20 @@
 #!/usr/bin/env python3
 """Writes tests/shutdown.tpm: TPM2_Shutdown, what refuses it, and what it is to the next start."""
 
+from tpmsim.caller.entries import Use, wrong
+from tpmsim.caller.knowledge import CLEAR, STATE
 from tpmsim.standard import frames
 from tpmsim.standard.commands import CC
 from tpmsim.standard.frames import CONTINUE_SESSION, DECRYPT, ENCRYPT, RH_OWNER, command, number
-from caller import Use
+from script_caller import ScriptCaller
 from script import Script
-from state_caller import CLEAR, STATE, StateCaller, wrong
 
 script = Script(
     "tests/shutdown.tpm",
     "TPM2_Shutdown says which state is kept for the next TPM2_Startup: none but what is kept "
     "anyway, CLEAR (0000), or PCR 0 to 15, STATE (0001).",
 )
-caller = StateCaller(script)
+caller = ScriptCaller(script)
 
 
 def says(what, outcome, *buffers):

@@ -1,12 +1,13 @@
 #!/usr/bin/env python3
 """Writes tests/start_auth_session.tpm: TPM2_StartAuthSession, its faults and its sessions."""
 
+from tpmsim.caller.entries import Use
 from tpmsim.standard import frames
 from tpmsim.standard.commands import CC
 from tpmsim.standard.frames import ALG_NULL, RH_ENDORSEMENT, RH_LOCKOUT, RH_NULL, RH_OWNER
 from tpmsim.standard.frames import RH_PLATFORM, RS_PW, SHA1, SHA256, area, command, entry, number
 from tpmsim.standard.frames import sized
-from caller import Caller, Use
+from script_caller import ScriptCaller
 from script import Script
 
 NONCE = bytes(range(16))
@@ -18,7 +19,7 @@ script = Script(
     "handles are tpmKey and bind; its parameters are nonceCaller, encryptedSalt, sessionType, "
     "symmetric and authHash.",
 )
-caller = Caller(script)
+caller = ScriptCaller(script)
 
 
 def start(**changes):

@@ -1,13 +1,12 @@
 #!/usr/bin/env python3
 """Writes tests/state_vectors.tpm: commands and answers whose bytes were written down by hand."""
 
+from tpmsim.caller.templates import BY_VALUE, area, sealed, storage_key
 from tpmsim.standard import frames
 from tpmsim.standard.frames import RH_NULL
 from tpmsim.standard.objects import Attribute
-from nv_caller import BY_VALUE, FIRST, area
-from object_caller import sealed, storage_key
+from script_caller import FIRST, ScriptCaller
 from script import Script
-from state_caller import StateCaller
 
 # The empty password, and the answer to it where nothing else is answered.
 PW = "00000009 40000009 0000 01 0000"
@@ -23,7 +22,7 @@ script = Script(
     "Commands whose answers were written down by hand, byte by byte, before there was a device to "
     "ask. Their program stops where an answer is another.",
 )
-caller = StateCaller(script)
+caller = ScriptCaller(script)
 
 
 def bytes_of(text):

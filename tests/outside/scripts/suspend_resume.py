@@ -3,11 +3,12 @@
 
 import hashlib
 
+from tpmsim.caller.knowledge import CLEAR, STATE
+from tpmsim.caller.templates import HERE, sealed, storage_key
 from tpmsim.standard.frames import RH_OWNER, SHA256
 from tpmsim.standard.objects import Attribute
-from object_caller import HERE, sealed, storage_key
+from script_caller import ScriptCaller
 from script import Script
-from state_caller import CLEAR, STATE, StateCaller
 
 KEY = hashlib.sha256(b"the key of a user's home directory").digest()
 BOOT = (
@@ -24,7 +25,7 @@ script = Script(
     "started, and is not measured again. So the operating system asks the TPM to save the PCRs "
     "before it sleeps, and the firmware asks for them back.",
 )
-caller = StateCaller(script)
+caller = ScriptCaller(script)
 
 
 def measure(*measurements):

@@ -1,13 +1,14 @@
 #!/usr/bin/env python3
 """Writes tests/template_refusals.tpm: what is refused of an object that is asked for, in order."""
 
+from tpmsim.caller.templates import HERE, OPEN, STORES, hmac_key, sealed, storage_key
 from tpmsim.model.object_rules import NAMED
 from tpmsim.standard import frames
 from tpmsim.standard.commands import CC
 from tpmsim.standard.frames import AES, ALG_HMAC, ALG_NULL, CFB, KEYEDHASH, RH_OWNER, SHA1, SHA256
 from tpmsim.standard.frames import SYMCIPHER, number, sized
 from tpmsim.standard.objects import Attribute, Public
-from object_caller import HERE, OPEN, STORES, ObjectCaller, hmac_key, sealed, storage_key
+from script_caller import ScriptCaller
 from script import Script
 
 RESTRICTED, SIGN, DECRYPT = Attribute.RESTRICTED, Attribute.SIGN, Attribute.DECRYPT
@@ -21,7 +22,7 @@ script = Script(
     "what cannot be read, in reading order, then what is asked of every public area, and then what "
     "is asked of what is created.",
 )
-caller = ObjectCaller(script)
+caller = ScriptCaller(script)
 
 
 def raw(code, handle, first, public):

@@ -14,14 +14,15 @@ compared with what its history tells of it, and so is the answer to TPM2_PCR_Rea
 
 import copy
 
+from tpmsim.caller.templates import HERE, area, sealed, storage_key
 from tpmsim.model.history import History
 from tpmsim.standard import policy
 from tpmsim.standard.commands import CC
 from tpmsim.standard.frames import RH_NULL, RH_OWNER, SHA256, digests, selection
 from tpmsim.standard.nv import Attribute
+from tpmsim.standard.objects import Attribute as ObjectAttribute
 from tpmsim.standard.sessions import digest
-from nv_caller import NvCaller, area
-from object_caller import HERE, Attribute as ObjectAttribute, sealed, storage_key
+from script_caller import ScriptCaller
 from script import Script
 
 CHOSEN = [(SHA256, [10])]
@@ -37,7 +38,7 @@ class Stage:
     def __init__(self, name, head):
         self.script, self.history = Script(f"tests/{name}.tpm", head, "three_callers"), History()
         self.script.device.tell = self.history.add
-        self.callers = [NvCaller(self.script) for _ in range(3)]
+        self.callers = [ScriptCaller(self.script) for _ in range(3)]
         for number_of, caller in enumerate(self.callers, 1):
             caller.nonces = 1000 * number_of
 

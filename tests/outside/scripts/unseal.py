@@ -1,17 +1,18 @@
 #!/usr/bin/env python3
 """Writes tests/unseal.tpm: TPM2_Unseal, which gives out what is sealed."""
 
+from tpmsim.caller.templates import HERE, OPEN, hmac_key, sealed, storage_key
 from tpmsim.standard import frames
 from tpmsim.standard.commands import CC
 from tpmsim.standard.frames import RH_NULL, RH_OWNER, SHA1, SHA256, SYMCIPHER, number
 from tpmsim.standard.objects import Attribute, Public
-from object_caller import HERE, OPEN, ObjectCaller, hmac_key, sealed, storage_key
+from script_caller import ScriptCaller
 from script import Script
 
 script = Script(
     "tests/unseal.tpm", "TPM2_Unseal gives out the data of a sealed object, by its authorization."
 )
-caller = ObjectCaller(script)
+caller = ScriptCaller(script)
 
 
 def refused(what, outcome, *prepared):

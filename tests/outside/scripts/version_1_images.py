@@ -14,6 +14,8 @@ import os
 import sys
 import tempfile
 
+from tpmsim.caller.knowledge import CLEAR, STATE
+from tpmsim.caller.templates import BY_OWNER, area, counter, sealed, storage_key
 from tpmsim.model import image, nv_commands, streams
 from tpmsim.model.capability import HANDLES, PROPERTIES
 from tpmsim.standard import frames, lines, nv
@@ -24,9 +26,6 @@ from tpmsim.standard.handle_kinds import first_byte
 from tpmsim.standard.objects import Attribute
 import serving
 import version_1
-from nv_caller import BY_OWNER, area, counter
-from object_caller import sealed, storage_key
-from state_caller import CLEAR, STATE
 
 PRIMARY = RH_OWNER, RH_ENDORSEMENT, RH_PLATFORM, RH_NULL
 WITH_VALUES = RH_OWNER, RH_ENDORSEMENT, RH_PLATFORM

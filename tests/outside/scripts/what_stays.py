@@ -1,11 +1,11 @@
 #!/usr/bin/env python3
 """Writes tests/what_stays.tpm: what a device still knows of sessions and counters that are gone."""
 
+from tpmsim.caller.templates import counter
 from tpmsim.model.history import History
 from tpmsim.standard.commands import CC
 from tpmsim.standard.frames import RH_LOCKOUT, SHA256, number
-from nv_caller import FIRST, SECOND, NvCaller, counter
-from policy_caller import zeros
+from script_caller import FIRST, SECOND, ScriptCaller, zeros
 from script import Script
 
 script = Script(
@@ -15,7 +15,7 @@ script = Script(
 )
 history = History()
 script.device.tell = history.add
-caller = NvCaller(script)
+caller = ScriptCaller(script)
 
 
 def counts_up_to(value, handle, times):

@@ -3,10 +3,11 @@
 
 import hashlib
 
+from tpmsim.caller.templates import area
 from tpmsim.standard import policy
 from tpmsim.standard.frames import RH_OWNER, RH_PLATFORM, SHA256
 from tpmsim.standard.nv import Attribute
-from nv_caller import FIRST, NvCaller, area
+from script_caller import FIRST, ScriptCaller
 from script import Script
 
 # What the factory writes: the serial number of a board, and the digest of its certificate.
@@ -19,7 +20,7 @@ script = Script(
     "TPM2_PolicyNvWritten makes the policy for that: a writer has to find the index unwritten. The "
     "platform alone, whose value the firmware sets at each start, can still remove the index.",
 )
-caller = NvCaller(script)
+caller = ScriptCaller(script)
 
 script.chapter("THE POLICY, computed once, on any device.")
 script.startup()

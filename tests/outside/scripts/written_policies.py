@@ -3,6 +3,8 @@
 ones, and what is refused of them. tests/policy_audit.sh has these policies in words.
 """
 
+from tpmsim.caller.entries import Use
+from tpmsim.caller.templates import BY_OWNER, HERE
 from tpmsim.standard import policy
 from tpmsim.standard.commands import CC
 from tpmsim.standard.frames import RH_ENDORSEMENT, RH_OWNER, SHA1, SHA256, number, selection
@@ -10,10 +12,7 @@ from tpmsim.standard.nv import Attribute
 from tpmsim.standard.objects import Attribute as ObjectAttribute
 from tpmsim.standard.policy import AUTH_VALUE, PASSWORD
 from tpmsim.standard.sessions import digest, name_of
-from caller import Use
 from grounds_caller import AFTER_AUTH_VALUE, PIN, SECRET, ZEROS, GroundsCaller, after_code
-from nv_caller import BY_OWNER
-from object_caller import HERE
 from script import Script
 
 USER = ObjectAttribute.USER_WITH_AUTH

@@ -8,14 +8,14 @@ masked by hand, and what comes back is compared as the bytes that are answered.
 import hashlib
 import hmac
 
+from tpmsim.caller.entries import Use, flipped
+from tpmsim.caller.templates import HERE, OPEN, area, hmac_key, sealed, storage_key
 from tpmsim.standard import frames, policy
 from tpmsim.standard.commands import CC
 from tpmsim.standard.frames import COMMAND_BYTES, CONTINUE_SESSION, DECRYPT, ENCRYPT
 from tpmsim.standard.frames import RH_ENDORSEMENT, RH_OWNER, SE_TRIAL, SHA1, SHA256, number, sized
 from tpmsim.standard.policy import AUTH_VALUE, PASSWORD
-from caller import Use, flipped
-from nv_caller import FIRST, NvCaller, area
-from object_caller import HERE, OPEN, hmac_key, sealed, storage_key
+from script_caller import FIRST, ScriptCaller
 from script import Script
 
 DECRYPTS, ENCRYPTS = CONTINUE_SESSION | DECRYPT, CONTINUE_SESSION | ENCRYPT
@@ -32,7 +32,7 @@ script = Script(
     "TPM_ALG_XOR: the bytes of the first parameter, or of the first answer, have on them a mask of "
     'as many bytes, KDFa(authHash, sessionKey || authValue, "XOR", nonceNewer, nonceOlder, bits).',
 )
-caller = NvCaller(script)
+caller = ScriptCaller(script)
 
 
 # The masks, by the book.
