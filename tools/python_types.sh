@@ -11,6 +11,8 @@ done
 work=$(mktemp -d) || exit 1
 trap 'rm -rf "$work"' EXIT
 status=0
+PYTHONPATH=$top/python
+export PYTHONPATH
 mypy --cache-dir "$work/mypy" || status=1
 pytest-3 -q -p no:cacheprovider -p tpmsim.pytest_plugin tests || status=1
 exit "$status"

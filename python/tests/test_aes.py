@@ -83,8 +83,10 @@ class OtherPrograms(unittest.TestCase):
         for key, iv, text in texts():
             cipher = Cipher(algorithms.AES(key), modes.CFB(iv))
             encryptor, decryptor = cipher.encryptor(), cipher.decryptor()
-            self.assertEqual(cfb_encrypt(key, iv, text), encryptor.update(text) + encryptor.finalize())
-            self.assertEqual(cfb_decrypt(key, iv, text), decryptor.update(text) + decryptor.finalize())
+            masked = encryptor.update(text) + encryptor.finalize()
+            plain = decryptor.update(text) + decryptor.finalize()
+            self.assertEqual(cfb_encrypt(key, iv, text), masked)
+            self.assertEqual(cfb_decrypt(key, iv, text), plain)
 
 
 if __name__ == "__main__":

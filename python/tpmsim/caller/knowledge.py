@@ -1,5 +1,5 @@
-"""What a caller of a device knows, and what it computes from that: commands that sessions authorize,
-and what their responses tell.
+"""What a caller of a device knows, and what it computes from that: commands that sessions
+authorize, and what their responses tell.
 
 It learns nonces from responses alone, knows the authorization values because it set them and the
 Names of objects because it was answered their public areas, and stops where a response's hmac is

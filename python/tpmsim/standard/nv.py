@@ -91,7 +91,7 @@ class Public:
 
     @classmethod
     def read(cls, text: bytes) -> "Public":
-        """The public area that a text is; ValueError where bytes are left, Short where they lack."""
+        """The area that a text is; ValueError where bytes are left, Short where they lack."""
         fields = Fields(text)
         head = fields.number(4), fields.number(2), fields.number(4)
         public = cls(*head, fields.sized(), fields.number(2))

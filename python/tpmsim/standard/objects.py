@@ -66,7 +66,7 @@ class Public:
 
     @classmethod
     def read(cls, text: bytes) -> "Public":
-        """The public area that a text is; ValueError where bytes are left, Short where they lack."""
+        """The area that a text is; ValueError where bytes are left, Short where they lack."""
         fields = Fields(text)
         kind, name_algorithm, attributes = fields.number(2), fields.number(2), fields.number(4)
         auth_policy, scheme = fields.sized(), ALG_NULL
