@@ -9,7 +9,7 @@ import time
 import unittest
 from hashlib import sha256
 
-from tpmsim.caller import STATE, Caller, Refused, WrongResponse, digest_of
+from tpmsim.caller import Caller, Refused, STATE, WrongResponse, digest_of
 from tpmsim.caller.entries import flipped, wrong
 from tpmsim.caller.templates import BY_OWNER, BY_POLICY, BY_VALUE, FIRST, HERE, area, counter
 from tpmsim.caller.templates import hmac_key, sealed, storage_key

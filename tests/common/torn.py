@@ -18,8 +18,8 @@ import sys
 import time
 from dataclasses import dataclass
 
-from tpmsim.model.image import image, open_image
 from tpmsim.model import machine
+from tpmsim.model.image import image, open_image
 from tpmsim.model.streams import without_clock
 from tpmsim.standard import lines
 from shims import AT_MOST, HERE, Ending, begun, built, check_calls, ended, fail

@@ -6,7 +6,6 @@ from dataclasses import dataclass
 
 from tpmsim.audit.words import entity_words
 from tpmsim.model import nv_commands
-from tpmsim.model.parameters import DIGEST_BYTES
 from tpmsim.policies.policy_texts import or_update
 from tpmsim.policies.written import PolicyAuthValue, PolicyCommandCode, PolicyCpHash
 from tpmsim.policies.written import PolicyLocality, PolicyNv, PolicyNvWritten, PolicyPassword
@@ -15,6 +14,7 @@ from tpmsim.standard import frames
 from tpmsim.standard.commands import CC
 from tpmsim.standard.lines import handle_word
 from tpmsim.standard.policy import LEAST_BRANCHES, MOST_BRANCHES
+from tpmsim.standard.sessions import DIGEST_BYTES
 
 
 @dataclass(frozen=True)
@@ -56,9 +56,7 @@ def asserted_by(seen, before, after, pcrs):
     """The assertion of an event, with its session before and after it, and the PCRs."""
     event = seen.event
     said = SAID[event.code](event, event.read(), before.algorithm, pcrs)
-    return Asserted(
-        seen.line, said, named_by(event), before.policy.digest, after.policy.digest
-    )
+    return Asserted(seen.line, said, named_by(event), before.policy.digest, after.policy.digest)
 
 
 def named_by(event):

@@ -18,7 +18,6 @@ from tpmsim.model.player import BadLine, LINES, Player
 from tpmsim.standard.commands import NUMBERED
 
 
-
 class Counts:
     """How many events there were, of each kind."""
 
@@ -48,9 +47,7 @@ class Auditor:
         self.repeats = Repeats(self.sessions)
         self.grounds = Grounds(history, self.sessions, self.pcrs, self.values)
         self.policies = Policies(policy_files, self.entities, self.grounds)
-        self.uses = Uses(
-            *(self.grounds, self.entities, self.guesses, self.repeats, self.policies)
-        )
+        self.uses = Uses(*(self.grounds, self.entities, self.guesses, self.repeats, self.policies))
 
     def read(self, script):
         """Judges all lines of a script; the first Disagreement ends it."""

@@ -3,9 +3,10 @@
 from dataclasses import dataclass
 
 from tpmsim.audit import hmacs
-from tpmsim.audit.words import HASHES, command_name
+from tpmsim.audit.words import command_name
 from tpmsim.standard import frames, nv, policy
 from tpmsim.standard.commands import Fact
+from tpmsim.standard.sessions import HASH_WORDS
 
 
 @dataclass(frozen=True)
@@ -93,7 +94,7 @@ def of_locality(told, locality):
 
 
 def of_hash(use):
-    own, wanted = HASHES[use.session.algorithm], HASHES[use.view.public.name_algorithm]
+    own, wanted = HASH_WORDS[use.session.algorithm], HASH_WORDS[use.view.public.name_algorithm]
     if own == wanted:
         return Finding(True, f"its hash is the entity's nameAlg, {own}")
     return Finding(False, f"its hash is {own}, and the entity's nameAlg is {wanted}")

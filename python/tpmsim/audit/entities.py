@@ -9,8 +9,6 @@ from tpmsim.standard.commands import CC
 from tpmsim.standard.lines import handle_word
 
 
-
-
 @dataclass
 class Entity:
     """What a handle names while it stays the same, with its public area, if it has one; its uses, a

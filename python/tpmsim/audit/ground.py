@@ -22,7 +22,7 @@ class Use:
     seen: object
     place: int
     entry: object
-    handle: int = None
+    handle: int | None = None
     view: object = None
     value: bytes = b""
     session: object = None

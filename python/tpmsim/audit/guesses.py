@@ -6,11 +6,7 @@ from tpmsim.audit.log import Disagreement
 from tpmsim.model.protection import MILLISECONDS, TRIES
 from tpmsim.standard.commands import CC
 
-RESETS = (
-    CC.DictionaryAttackLockReset,
-    CC.DictionaryAttackParameters,
-    CC.Clear,
-)
+RESETS = (CC.DictionaryAttackLockReset, CC.DictionaryAttackParameters, CC.Clear)
 
 
 # How a wrong entry is answered that is a guess at what is protected, and any other.

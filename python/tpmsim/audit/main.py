@@ -92,8 +92,8 @@ def main(*words):
         script_name, output_name, image, policies = parsed(words)
         script, log = read(script_name), Log(read(output_name))
         auditor = Auditor(start_of(image), log, [policy_of(it) for it in policies])
-    except Usage as fault:
-        print(f"audit: {fault}", file=sys.stderr)
+    except Usage as wrong:
+        print(f"audit: {wrong}", file=sys.stderr)
         return 2
     fault = None
     try:

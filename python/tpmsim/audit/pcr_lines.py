@@ -1,11 +1,11 @@
 """Which line of the script wrote the value of each PCR."""
 
-from tpmsim.audit.words import HASHES
 from tpmsim.model import pcrs, state
 from tpmsim.model.history import Pcrs
 from tpmsim.standard import handle_kinds
 from tpmsim.standard.commands import CC
 from tpmsim.standard.frames import SHA1, SHA256
+from tpmsim.standard.sessions import HASH_WORDS
 
 BANKS = SHA1, SHA256
 OF_IMAGE = "written before the image"
@@ -52,7 +52,7 @@ class PcrLines:
             for at in changed:
                 if at[0] == bank:
                     value = self.pcrs.values[at].hex()
-                    yield f"    {HASHES[bank]} PCR {at[1]}: {value}, {self.written[at]}"
+                    yield f"    {HASH_WORDS[bank]} PCR {at[1]}: {value}, {self.written[at]}"
 
 
 def starting_value(at):

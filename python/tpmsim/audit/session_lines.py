@@ -3,11 +3,12 @@
 from dataclasses import dataclass, field
 
 from tpmsim.audit.asserted import asserted_by
-from tpmsim.audit.words import HASHES, KINDS, asserted_words, command_name
+from tpmsim.audit.words import KINDS, asserted_words, command_name
 from tpmsim.model import history
 from tpmsim.standard import frames
 from tpmsim.standard.commands import CC
 from tpmsim.standard.lines import handle_word
+from tpmsim.standard.sessions import HASH_WORDS
 
 
 @dataclass
@@ -18,8 +19,8 @@ class Begun:
     """
 
     line: int
-    protection: str = None
-    first_pcr: int = None
+    protection: str | None = None
+    first_pcr: int | None = None
     asserted: list = field(default_factory=list)
     title: str = ""
     told: list = field(default_factory=list)
@@ -100,7 +101,7 @@ class SessionLines:
         begun = Begun(seen.line, bind and bind.protection)
         self.live[handle] = begun
         if session.kind != frames.SE_HMAC:
-            kind, algorithm = KINDS[session.kind], HASHES[session.algorithm]
+            kind, algorithm = KINDS[session.kind], HASH_WORDS[session.algorithm]
             begun.title = f"{kind} {handle_word(handle)} of line {seen.line}, {algorithm}"
             self.all.append(begun)
 

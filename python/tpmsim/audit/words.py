@@ -2,11 +2,10 @@
 
 from tpmsim.standard import frames, handle_kinds, lines, nv
 from tpmsim.standard.commands import CC, NUMBERED
-from tpmsim.standard.frames import KEYEDHASH, SHA1, SHA256
+from tpmsim.standard.frames import KEYEDHASH
 from tpmsim.standard.objects import Attribute
 from tpmsim.standard.reading import Fields
 
-HASHES = {SHA1: "sha1", SHA256: "sha256"}
 KINDS = {
     frames.SE_HMAC: "HMAC session",
     frames.SE_POLICY: "policy session",

@@ -20,16 +20,19 @@ class Answered(Protocol):
     """A response's bytes, and the check of the trace where the device tells it."""
 
     @property
-    def response(self) -> bytes: ...
+    def response(self) -> bytes:
+        ...
 
     @property
-    def check(self) -> str | None: ...
+    def check(self) -> str | None:
+        ...
 
 
 class Executes(Protocol):
     """A device, as far as a caller needs one."""
 
-    def execute(self, buffer: bytes) -> Answered: ...
+    def execute(self, buffer: bytes) -> Answered:
+        ...
 
 
 class Caller(PreparedCommands):
@@ -166,9 +169,7 @@ class Caller(PreparedCommands):
         self.auth_values[handle] = made.auth_value
         return handle
 
-    def define(
-        self, public: nv.Public, *uses: Means, auth: bytes = b"", by: int = RH_OWNER
-    ) -> int:
+    def define(self, public: nv.Public, *uses: Means, auth: bytes = b"", by: int = RH_OWNER) -> int:
         """The handle of an index that is defined, with this authorization value."""
         self.send(self.defining(public, *uses, auth=auth, by=by))
         return public.index

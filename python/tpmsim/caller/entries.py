@@ -76,9 +76,7 @@ class Prepared:
         handles = b"".join(number(it, 4) for it in self.handles)
         if not self.entries:
             return frames.command(self.code, handles + self.parameters)
-        entries = [
-            frames.entry(it.handle, it.nonce, it.attributes, it.hmac) for it in self.entries
-        ]
+        entries = [frames.entry(it.handle, it.nonce, it.attributes, it.hmac) for it in self.entries]
         body = handles + frames.area(*entries) + self.parameters
         return frames.command(self.code, body, frames.SESSIONS)
 

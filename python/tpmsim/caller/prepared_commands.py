@@ -67,9 +67,7 @@ class PreparedCommands(Knowledge):
 
     # Policies. Each is told to a session.
 
-    def told(
-        self, code: CC, session: Session, parameters: bytes = b"", *uses: Means
-    ) -> Prepared:
+    def told(self, code: CC, session: Session, parameters: bytes = b"", *uses: Means) -> Prepared:
         return self.prepare(code, [session.handle], parameters, *uses)
 
     def restart(self, session: Session, *uses: Means) -> Prepared:

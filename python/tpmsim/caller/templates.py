@@ -57,9 +57,7 @@ def area(
     return nv.Public(index, algorithm, attributes | nv.of_type(kind), auth_policy, size)
 
 
-def counter(
-    index: int = FIRST, attributes: int = BY_OWNER | BY_VALUE, **more: Any
-) -> nv.Public:
+def counter(index: int = FIRST, attributes: int = BY_OWNER | BY_VALUE, **more: Any) -> nv.Public:
     return area(index, attributes, kind=Type.COUNTER, **more)
 
 
@@ -67,7 +65,5 @@ def bits(index: int = FIRST, attributes: int = BY_OWNER | BY_VALUE, **more: Any)
     return area(index, attributes, kind=Type.BITS, **more)
 
 
-def extended(
-    index: int = FIRST, attributes: int = BY_OWNER | BY_VALUE, **more: Any
-) -> nv.Public:
+def extended(index: int = FIRST, attributes: int = BY_OWNER | BY_VALUE, **more: Any) -> nv.Public:
     return area(index, attributes, kind=Type.EXTEND, **more)

@@ -1,6 +1,10 @@
 """TPM2_GetCapability: what the device has and is (TPM 2.0 Library, Part 3, section 30.2)."""
 
+from __future__ import annotations
+
 from tpmsim.model.general import Answer, Refusal
+from tpmsim.model.held import Held
+from tpmsim.model.parameters import Request
 from tpmsim.standard import frames, handle_kinds
 from tpmsim.standard.commands import CC
 from tpmsim.standard.frames import HMAC_SESSION, NV, PERSISTENT, POLICY_SESSION, TRANSIENT, number
@@ -32,19 +36,19 @@ HANDLES_SHIFT, ANSWERED_HANDLE = 25, 1 << 28
 PLACE_BITS = 0xFF_FFFF
 
 
-def command_attributes(code):
+def command_attributes(code: CC) -> int:
     answered = ANSWERED_HANDLE if code.answers_handle else 0
     return code | len(code.handles) << HANDLES_SHIFT | answered
 
 
-class Commands:
+class Commands(Held):
     """The command, of a device that has all that is asked for."""
 
-    def get_capability(self, handles, parameters, locality, random):
-        capability = parameters.next().number(4)
-        wanted = parameters.next().number(4)
-        count = parameters.next().number(4)
-        parameters.end()
+    def get_capability(self, request: Request) -> Answer:
+        capability = request.parameters.next().number(4)
+        wanted = request.parameters.next().number(4)
+        count = request.parameters.next().number(4)
+        request.parameters.end()
 
         if capability == PCRS:
             banks = frames.selection(*((algorithm, handle_kinds.PCRS) for algorithm in HASHES))
@@ -54,7 +58,7 @@ class Commands:
         more = number(len(given) < len(elements), 1)
         return Answer(more + number(capability, 4) + number(len(given), 4) + b"".join(given))
 
-    def elements(self, capability, wanted):
+    def elements(self, capability: int, wanted: int) -> list[bytes]:
         """All from the one that is wanted on, in their order."""
         if capability == HANDLES:
             return [number(it, 4) for it in self.handles_from(wanted)]
@@ -66,7 +70,7 @@ class Commands:
             return [number(key, 4) + value for key, value in properties if key >= wanted]
         raise Refusal("VALUE/p1", "A1")
 
-    def handles_from(self, wanted):
+    def handles_from(self, wanted: int) -> list[int]:
         """The handles of the kind that the first byte of the wanted one says."""
         kind = handle_kinds.first_byte(wanted)
         held = {
@@ -86,12 +90,12 @@ class Commands:
         of_kind = [it for it in held[kind] if handle_kinds.first_byte(it) == kind]
         return sorted(it for it in of_kind if it >= wanted)
 
-    def sessions_from(self, place):
+    def sessions_from(self, place: int) -> list[int]:
         """Sessions of all types, in the order of their places."""
         by_place = sorted((it & PLACE_BITS, it) for it in self.sessions)
         return [handle for at, handle in by_place if at >= place]
 
-    def properties(self):
+    def properties(self) -> dict[int, bytes]:
         lockout = self.lockout
         return {
             FAMILY_INDICATOR: FAMILY,

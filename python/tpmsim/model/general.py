@@ -2,15 +2,23 @@
 and the entries of its authorization area, in the order of docs/table/order_of_refusals.md.
 """
 
+from __future__ import annotations
+
 from dataclasses import dataclass
+from typing import Iterator, TYPE_CHECKING
 
 from tpmsim.standard import frames
-from tpmsim.standard.commands import CC, Fact, NUMBERED
+from tpmsim.standard.commands import CC, Fact, Handle, NUMBERED
 from tpmsim.standard.frames import AUDIT, AUDIT_EXCLUSIVE, AUDIT_RESET, COMMAND_BYTES, DECRYPT
 from tpmsim.standard.frames import ENCRYPT, Entry, HEADER_BYTES, MOST_ENTRIES, PERSISTENT, RESERVED
 from tpmsim.standard.frames import RS_PW, TRANSIENT
 from tpmsim.standard.handle_kinds import IS_OF_KIND, first_byte, is_index, is_policy, is_session
 from tpmsim.standard.reading import Fields, Short
+
+if TYPE_CHECKING:
+    from tpmsim.model.machine import Session
+    from tpmsim.model.nv_commands import Index
+    from tpmsim.model.object_rules import Object
 
 LEAST_AREA, MOST_NONCE_OR_HMAC = 9, 32
 
@@ -24,7 +32,7 @@ class Refusal(Exception):
     at, if at anything.
     """
 
-    def __init__(self, name, check, touched=None):
+    def __init__(self, name: str, check: str, touched: str | None = None) -> None:
         super().__init__(name)
         self.name, self.check, self.touched = name, check, touched
 
@@ -36,17 +44,17 @@ class Command:
     """
 
     code: CC
-    handles: list
-    entries: list
+    handles: list[int]
+    entries: list[Entry] | None
     parameters: bytes
 
-    def places(self):
+    def places(self) -> Iterator[tuple[int, Entry, int | None]]:
         """Each entry with its number and the handle that it authorizes, if any."""
         authorized = self.handles[: self.code.authorized]
         for place, entry in enumerate(self.entries or [], 1):
             yield place, entry, authorized[place - 1] if place <= len(authorized) else None
 
-    def with_attribute(self, attribute):
+    def with_attribute(self, attribute: int) -> tuple[int, Entry, int | None] | None:
         """The entry that decrypts or encrypts, its number, and the handle that it authorizes."""
         for place, entry, handle in self.places():
             if entry.attributes & attribute:
@@ -63,7 +71,7 @@ class Answer:
     drawn: int = 0
 
 
-def read_header(fields, length):
+def read_header(fields: Fields, length: int) -> tuple[int, CC]:
     if not HEADER_BYTES <= length <= COMMAND_BYTES:
         raise Refusal("COMMAND_SIZE", "G1")
     tag, size, code = fields.number(2), fields.number(4), fields.number(4)
@@ -76,7 +84,13 @@ def read_header(fields, length):
     return tag, NUMBERED[code]
 
 
-def read_handles(fields, wanted, sessions, objects, indices):
+def read_handles(
+    fields: Fields,
+    wanted: tuple[Handle, ...],
+    sessions: dict[int, Session],
+    objects: dict[int, Object],
+    indices: dict[int, Index],
+) -> list[int]:
     handles = []
     for place, it in enumerate(wanted, 1):
         try:
@@ -97,7 +111,7 @@ def read_handles(fields, wanted, sessions, objects, indices):
     return handles
 
 
-def read_area(fields):
+def read_area(fields: Fields) -> list[Entry]:
     try:
         size = fields.number(4)
         if size < LEAST_AREA:
@@ -113,9 +127,11 @@ def read_area(fields):
     return entries
 
 
-def check_entry(command, place, entry, handle, sessions):
+def check_entry(
+    command: Command, place: int, entry: Entry, handle: int | None, sessions: dict[int, Session]
+) -> None:
     """What is wrong with an entry, whatever its hmac is."""
-    before = command.entries[: place - 1]
+    before = (command.entries or [])[: place - 1]
     if max(len(entry.nonce), len(entry.hmac)) > MOST_NONCE_OR_HMAC:
         raise Refusal(f"SIZE/s{place}", "G8")
     is_password = entry.handle == RS_PW
@@ -144,7 +160,13 @@ def check_entry(command, place, entry, handle, sessions):
         raise Refusal(f"SYMMETRIC/s{place}", "G8")
 
 
-def decode(buffer, started, sessions, objects, indices):
+def decode(
+    buffer: bytes,
+    started: bool,
+    sessions: dict[int, Session],
+    objects: dict[int, Object],
+    indices: dict[int, Index],
+) -> Command:
     """The command of a buffer, or its first refusal that no authorization value decides."""
     fields = Fields(buffer)
     tag, code = read_header(fields, len(buffer))

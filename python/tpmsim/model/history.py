@@ -5,16 +5,22 @@ Each of them is a fold over the accepted events, the first one first. It reads n
 but what an event shows; its rules are those of docs/THEOREMS.md.
 """
 
+from __future__ import annotations
+
 from dataclasses import dataclass, field, replace
+from typing import Any, Callable, Iterator, TYPE_CHECKING
 
 from tpmsim.model import nv_commands, object_rules, pcrs, policy_state, state
-from tpmsim.model.parameters import DIGEST_BYTES, Parameters
+from tpmsim.model.parameters import Parameters
 from tpmsim.standard import frames, nv, policy, sessions
 from tpmsim.standard.commands import CC
 from tpmsim.standard.frames import RH_ENDORSEMENT, RH_LOCKOUT, RH_NULL, RH_OWNER, RH_PLATFORM
 from tpmsim.standard.frames import RS_PW, SHA1, SHA256, number
 from tpmsim.standard.handle_kinds import PCRS
-from tpmsim.standard.sessions import digest, digest_bytes, trimmed
+from tpmsim.standard.sessions import DIGEST_BYTES, digest, digest_bytes, trimmed
+
+if TYPE_CHECKING:
+    from tpmsim.model.machine import Model
 
 
 @dataclass(frozen=True)
@@ -43,10 +49,16 @@ class Accepted:
     parameters: bytes
     random: bytes
     drawn: int
-    answered: int = None
-    loaded: bytes = None
+    answered: int | None = None
+    loaded: bytes | None = None
 
-    def read(self):
+    @property
+    def handle(self) -> int:
+        """The handle that it answered, of a command that does."""
+        assert self.answered is not None
+        return self.answered
+
+    def read(self) -> Parameters:
         return Parameters(self.parameters)
 
 
@@ -58,7 +70,7 @@ class PowerCycle:
 # PCRs: a value for each bank and number, and those that the last shutdown found.
 
 
-def started_values():
+def started_values() -> dict[tuple[int, int], bytes]:
     return {(bank, pcr): pcrs.starting_value(bank, pcr) for bank in (SHA1, SHA256) for pcr in PCRS}
 
 
@@ -72,18 +84,18 @@ class Pcrs:
     updates: int = 0
     saved: dict = field(default_factory=started_values)
 
-    def set(self, bank, pcr, value):
+    def set(self, bank: int, pcr: int, value: bytes) -> None:
         self.values[bank, pcr] = value
         self.updates += 1
 
-    def extend(self, pcr, values):
+    def extend(self, pcr: int, values: list[tuple[int, bytes]]) -> None:
         for bank, value in values:
             self.set(bank, pcr, digest(bank, self.values[bank, pcr] + value))
 
-    def power_cycle(self):
+    def power_cycle(self) -> None:
         self.values, self.updates = started_values(), 0
 
-    def command(self, it):
+    def command(self, it: Accepted) -> None:
         pcr = it.handles[0] if it.handles else None
         if it.code == CC.Startup:
             self.updates = 0
@@ -105,7 +117,7 @@ class Pcrs:
                 self.set(bank, pcr, bytes(digest_bytes(bank)))
 
     @staticmethod
-    def digests(fields):
+    def digests(fields: Parameters) -> list[tuple[int, bytes]]:
         """Each with the hash algorithm of its bank."""
         count = fields.number(4)
         banks = []
@@ -114,7 +126,7 @@ class Pcrs:
             banks.append((bank, fields.take(digest_bytes(bank))))
         return banks
 
-    def digest(self, algorithm, selection):
+    def digest(self, algorithm: int, selection: list[tuple[int, list[int]]]) -> bytes:
         values = [self.values[bank, pcr] for bank, numbers in selection for pcr in numbers]
         return digest(algorithm, b"".join(values))
 
@@ -126,13 +138,10 @@ class Pcrs:
 class AuthValues:
     values: dict = field(default_factory=dict)
 
-    def of(self, handle):
+    def of(self, handle: int) -> bytes:
         return self.values.get(handle, b"")
 
-    def power_cycle(self):
-        pass
-
-    def command(self, it):
+    def command(self, it: Accepted) -> None:
         fields = it.read().next()
         if it.code in (CC.HierarchyChangeAuth, CC.NV_ChangeAuth):
             self.values[it.handles[0]] = trimmed(fields.sized(DIGEST_BYTES))
@@ -140,9 +149,9 @@ class AuthValues:
             auth_value = trimmed(fields.sized(DIGEST_BYTES))
             self.values[defined_index(it)] = auth_value
         elif it.code == CC.CreatePrimary:
-            self.values[it.answered] = trimmed(object_rules.read_template(it.read()).user_auth)
-        elif it.code == CC.Load:
-            self.values[it.answered] = trimmed(it.loaded)
+            self.values[it.handle] = trimmed(object_rules.read_template(it.read()).user_auth)
+        elif it.code == CC.Load and it.loaded is not None:
+            self.values[it.handle] = trimmed(it.loaded)
         elif it.code == CC.EvictControl:
             self.values[fields.number(4)] = self.of(it.handles[1])
         elif it.code == CC.Startup and fields.number(2) == state.CLEAR:
@@ -151,7 +160,7 @@ class AuthValues:
             self.values |= {it: b"" for it in (RH_OWNER, RH_ENDORSEMENT, RH_LOCKOUT)}
 
 
-def defined_index(it):
+def defined_index(it: Accepted) -> int:
     """The handle of the index that TPM2_NV_DefineSpace defines."""
     fields = it.read().next()
     fields.sized(DIGEST_BYTES)
@@ -167,10 +176,7 @@ class Counters:
     all: list = field(default_factory=list)
     largest: int = 0
 
-    def power_cycle(self):
-        pass
-
-    def command(self, it):
+    def command(self, it: Accepted) -> None:
         if it.code == CC.NV_DefineSpace:
             self.values.pop(defined_index(it), None)
         elif it.code == CC.NV_Increment:
@@ -180,7 +186,9 @@ class Counters:
             self.largest = max(self.largest, value)
 
 
-# Sessions, with their policies.
+# Sessions, with their policies. What one is bound to: a Name, its authorization value, and how it
+# is protected.
+Bound = tuple[bytes, bytes, str | None]
 
 
 @dataclass(frozen=True)
@@ -192,7 +200,7 @@ class LiveSession:
     kind: int
     algorithm: int
     cipher: int
-    bound: tuple
+    bound: Bound | None
     key: bytes
     nonce_tpm: bytes
     policy: policy_state.State
@@ -206,12 +214,12 @@ class Sessions:
 
     live: dict = field(default_factory=dict)
 
-    def power_cycle(self):
+    def power_cycle(self) -> None:
         self.live = {}
 
-    def command(self, it, values, auth_values):
+    def command(self, it: Accepted, values: Pcrs, auth_values: AuthValues) -> None:
         if it.code == CC.StartAuthSession:
-            self.live[it.answered] = self.started(it, auth_values)
+            self.live[it.handle] = self.started(it, auth_values)
         elif it.code == CC.FlushContext:
             self.live.pop(it.read().next().number(4), None)
         elif it.code == CC.PolicyRestart:
@@ -222,24 +230,25 @@ class Sessions:
         for use in it.uses:
             self.end(use)
 
-    def change(self, handle, change):
+    def change(self, handle: int, change: Callable[[LiveSession], LiveSession]) -> None:
         self.live[handle] = change(self.live[handle])
 
-    def started(self, it, auth_values):
+    def started(self, it: Accepted, auth_values: AuthValues) -> LiveSession:
         fields = it.read()
         nonce_caller = fields.next().sized(DIGEST_BYTES)
         fields.next().sized(DIGEST_BYTES)
         kind = fields.next().number(1)
         (cipher, _), algorithm = fields.next().symmetric(), fields.next().hash()
         nonce_tpm, bind = it.random[: len(nonce_caller)], it.handles[1]
-        bound, key = None, b""
+        bound: Bound | None = None
+        key = b""
         if bind != RH_NULL:
             bound = it.names[1], auth_values.of(bind), it.protections[1]
             key = sessions.session_key(algorithm, bound[1], nonce_tpm, nonce_caller)
         starting = policy_state.starting_state(algorithm)
         return LiveSession(kind, algorithm, cipher, bound, key, nonce_tpm, starting)
 
-    def roll(self, it):
+    def roll(self, it: Accepted) -> None:
         """A new nonce of its size for the session of each entry, in order."""
         left = it.random[it.drawn :]
         for use in it.uses:
@@ -249,7 +258,7 @@ class Sessions:
                 self.live[use.handle] = replace(session, nonce_tpm=left[:size])
                 left = left[size:]
 
-    def end(self, use):
+    def end(self, use: Use) -> None:
         if use.handle == RS_PW:
             return
         if not use.continues:
@@ -258,22 +267,23 @@ class Sessions:
             self.change(use.handle, restarted)
 
 
-def restarted(session):
+Made = dict[str, Any]
+
+
+def restarted(session: LiveSession) -> LiveSession:
     return replace(session, policy=policy_state.starting_state(session.algorithm))
 
 
-def asserted(it, session, values):
+def asserted(it: Accepted, session: LiveSession, values: Pcrs) -> LiveSession:
     """The session with what an assertion makes of its policy."""
     was = session.policy
-    made = ASSERTIONS[it.code](it, session.algorithm, session.kind, was.digest, values)
+    made = ASSERTIONS[CC(it.code)](it, session.algorithm, session.kind, was.digest, values)
     cp_hash = made.pop("cp_hash", None) or was.cp_hash
     localities = was.localities & made.pop("localities", policy.ALL_LOCALITIES)
-    return replace(
-        session, policy=replace(was, cp_hash=cp_hash, localities=localities, **made)
-    )
+    return replace(session, policy=replace(was, cp_hash=cp_hash, localities=localities, **made))
 
 
-def pcr_asserted(it, algorithm, kind, old, values):
+def pcr_asserted(it: Accepted, algorithm: int, kind: int, old: bytes, values: Pcrs) -> Made:
     fields = it.read()
     given, selection = fields.next().sized(DIGEST_BYTES), fields.next().selection()
     found = values.digest(algorithm, selection)
@@ -282,47 +292,49 @@ def pcr_asserted(it, algorithm, kind, old, values):
     return {"digest": made, "update_counter": values.updates}
 
 
-def or_asserted(it, algorithm, kind, old, values):
+def or_asserted(it: Accepted, algorithm: int, kind: int, old: bytes, values: Pcrs) -> Made:
     branches = it.read().next().sized_list(policy.LEAST_BRANCHES, policy.MOST_BRANCHES)
     return {"digest": policy.after_or(algorithm, branches)}
 
 
-def demand_asserted(it, algorithm, kind, old, values):
+def demand_asserted(it: Accepted, algorithm: int, kind: int, old: bytes, values: Pcrs) -> Made:
     wants_password = it.code == CC.PolicyPassword
     demand = policy.PASSWORD if wants_password else policy.AUTH_VALUE
     return {"digest": policy.after_auth_value(algorithm, old), "demand": demand}
 
 
-def command_code_asserted(it, algorithm, kind, old, values):
+def command_code_asserted(
+    it: Accepted, algorithm: int, kind: int, old: bytes, values: Pcrs
+) -> Made:
     code = it.read().next().number(4)
     return {"digest": policy.after_command_code(algorithm, old, code), "code": code}
 
 
-def cp_hash_asserted(it, algorithm, kind, old, values):
+def cp_hash_asserted(it: Accepted, algorithm: int, kind: int, old: bytes, values: Pcrs) -> Made:
     cp_hash = it.read().next().sized(DIGEST_BYTES)
     return {"digest": policy.after_cp_hash(algorithm, old, cp_hash), "cp_hash": cp_hash}
 
 
-def nv_written_asserted(it, algorithm, kind, old, values):
+def nv_written_asserted(it: Accepted, algorithm: int, kind: int, old: bytes, values: Pcrs) -> Made:
     is_written = bool(it.read().next().number(1))
     made = policy.after_nv_written(algorithm, old, is_written)
     return {"digest": made, "nv_written": is_written}
 
 
-def locality_asserted(it, algorithm, kind, old, values):
+def locality_asserted(it: Accepted, algorithm: int, kind: int, old: bytes, values: Pcrs) -> Made:
     localities = it.read().next().number(1)
     made = policy.after_locality(algorithm, old, localities)
     return {"digest": made, "localities": localities}
 
 
-def secret_asserted(it, algorithm, kind, old, values):
+def secret_asserted(it: Accepted, algorithm: int, kind: int, old: bytes, values: Pcrs) -> Made:
     fields = it.read()
     _, cp_hash, policy_ref = (fields.next().sized(DIGEST_BYTES) for _ in range(3))
     made = policy.after_secret(algorithm, old, it.names[0], policy_ref)
     return {"digest": made, "cp_hash": cp_hash}
 
 
-def nv_asserted(it, algorithm, kind, old, values):
+def nv_asserted(it: Accepted, algorithm: int, kind: int, old: bytes, values: Pcrs) -> Made:
     operand, offset, operation = nv_commands.read_policy_nv(it.read())
     arguments = operand + number(offset, 2) + number(operation, 2)
     return {"digest": policy.after_nv(algorithm, old, arguments, it.names[1])}
@@ -352,23 +364,24 @@ class History:
     counters: Counters = field(default_factory=Counters)
     sessions: Sessions = field(default_factory=Sessions)
 
-    def add(self, event):
+    def add(self, event: Accepted | PowerCycle) -> None:
         if isinstance(event, PowerCycle):
-            for fold in (self.pcrs, self.auth_values, self.counters, self.sessions):
-                fold.power_cycle()
+            self.pcrs.power_cycle()
+            self.sessions.power_cycle()
         else:
             self.sessions.command(event, self.pcrs, self.auth_values)
-            for fold in (self.pcrs, self.auth_values, self.counters):
-                fold.command(event)
+            self.pcrs.command(event)
+            self.auth_values.command(event)
+            self.counters.command(event)
 
-    def differences(self, device):
+    def differences(self, device: Model) -> Iterator[str]:
         """What a device has that its history does not tell, each with its name."""
         yield from self.pcr_differences(device)
         yield from self.auth_differences(device)
         yield from self.counter_differences(device)
         yield from self.session_differences(device)
 
-    def pcr_differences(self, device):
+    def pcr_differences(self, device: Model) -> Iterator[str]:
         for bank, values in device.banks.items():
             for pcr, value in enumerate(values):
                 if value != self.pcrs.values[bank, pcr]:
@@ -376,13 +389,13 @@ class History:
         if device.update_counter != self.pcrs.updates:
             yield "the count of updates"
 
-    def auth_differences(self, device):
+    def auth_differences(self, device: Model) -> Iterator[str]:
         hierarchies = RH_OWNER, RH_ENDORSEMENT, RH_PLATFORM, RH_LOCKOUT, RH_NULL, *PCRS
         for handle in (*hierarchies, *device.objects, *device.indices):
             if device.auth_value(handle) != self.auth_values.of(handle):
                 yield f"the authorization value of {handle:08x}"
 
-    def counter_differences(self, device):
+    def counter_differences(self, device: Model) -> Iterator[str]:
         for handle, index in device.indices.items():
             if index.public.kind == nv.Type.COUNTER:
                 stored = int.from_bytes(index.data, "big") if index.data else None
@@ -391,16 +404,14 @@ class History:
         if device.largest_counter != self.counters.largest:
             yield "the largest value of any counter"
 
-    def session_differences(self, device):
+    def session_differences(self, device: Model) -> Iterator[str]:
         if device.sessions.keys() != self.sessions.live.keys():
             yield "which sessions live"
         for handle, session in device.sessions.items():
             told = self.sessions.live.get(handle)
             binding = session.bind, session.bind_auth, session.bind_protection
             bound = binding if told and told.bound else None
-            has = LiveSession(
-                *(session.kind, session.algorithm, session.cipher, bound),
-                *(session.key, session.nonce_tpm, session.policy),
-            )
+            kinds = session.kind, session.algorithm, session.cipher
+            has = LiveSession(*kinds, bound, session.key, session.nonce_tpm, session.policy)
             if has != told:
                 yield f"the session {handle:08x}"

@@ -5,17 +5,20 @@ all before. The body has the fields of docs/table in their order. Version 2 is w
 limits on NV indices before the body; version 1 is read, too, within limits of its own.
 """
 
+from __future__ import annotations
+
 from dataclasses import dataclass
 
 from tpmsim.model import nv_commands, object_rules, persistent, protection, state
 from tpmsim.model.general import Refusal
 from tpmsim.model.machine import Model
-from tpmsim.model.parameters import DIGEST_BYTES, Parameters
+from tpmsim.model.parameters import Parameters
+from tpmsim.model.protection import Lockout
 from tpmsim.standard import aes, nv
 from tpmsim.standard.frames import RH_ENDORSEMENT, RH_LOCKOUT, RH_NULL, RH_OWNER, RH_PLATFORM, SHA1
 from tpmsim.standard.frames import SHA256, number, sized
 from tpmsim.standard.reading import Fields, Short
-from tpmsim.standard.sessions import digest, digest_bytes, trimmed
+from tpmsim.standard.sessions import DIGEST_BYTES, digest, digest_bytes, trimmed
 
 MAGIC = b"TPMI"
 HEAD_BYTES, DIGEST_AT_END = 10, 32
@@ -42,7 +45,7 @@ class Version:
     says_limits: bool
 
     @property
-    def limits(self):
+    def limits(self) -> bytes:
         return number(self.indices, 2) + number(self.all_bytes, 4) if self.says_limits else b""
 
 
@@ -57,7 +60,7 @@ BODY_AT = HEAD_BYTES + len(VERSION_2.limits)
 # Writing.
 
 
-def image(device, version=VERSION_2):
+def image(device: Model, version: Version = VERSION_2) -> bytes:
     body = b"".join(
         (
             hierarchies_text(device),
@@ -72,19 +75,19 @@ def image(device, version=VERSION_2):
     return framed(body, version)
 
 
-def framed(body, version=VERSION_2):
+def framed(body: bytes, version: Version = VERSION_2) -> bytes:
     """A body between its head, with the limits behind it that the version says, and its digest."""
     return digested(version.number, version.limits + body)
 
 
-def digested(version, behind_head):
+def digested(version: int, behind_head: bytes) -> bytes:
     """What is behind the head of a version, whatever that is, between the head and the digest."""
     length = HEAD_BYTES + len(behind_head) + DIGEST_AT_END
     text = MAGIC + number(version, 2) + number(length, 4) + behind_head
     return text + digest(SHA256, text)
 
 
-def hierarchies_text(device):
+def hierarchies_text(device: Model) -> bytes:
     text = b""
     for hierarchy in HIERARCHIES:
         text += sized(device.auth_value(hierarchy))
@@ -92,7 +95,7 @@ def hierarchies_text(device):
     return text + sized(device.auth_value(RH_LOCKOUT))
 
 
-def lockout_text(lockout):
+def lockout_text(lockout: Lockout) -> bytes:
     """The two times are not kept: a power cycle starts them anew."""
     numbers = (
         lockout.failed_tries,
@@ -103,19 +106,19 @@ def lockout_text(lockout):
     return b"".join(number(it, 4) for it in numbers) + number(lockout.is_closed, 1)
 
 
-def counts_text(device):
+def counts_text(device: Model) -> bytes:
     starts = number(device.reset_count, 4) + number(device.restart_count, 4)
     return number(device.clock, 8) + starts + number(device.largest_counter, 8)
 
 
-def saved_text(device):
+def saved_text(device: Model) -> bytes:
     text = number(device.saved, 1)
     if device.saved == state.Saved.STATE:
         text += b"".join(value for bank in BANKS for value in device.saved_banks[bank])
     return text
 
 
-def objects_text(device):
+def objects_text(device: Model) -> bytes:
     held = sorted(it for it in device.objects if persistent.is_persistent(it))
     text = number(len(held), 2)
     for handle in held:
@@ -125,7 +128,7 @@ def objects_text(device):
     return text
 
 
-def indices_text(device):
+def indices_text(device: Model) -> bytes:
     text = number(len(device.indices), 2)
     for handle in sorted(device.indices):
         index = device.indices[handle]
@@ -136,12 +139,12 @@ def indices_text(device):
 # Reading. A fault of the body is a refusal of the readers that commands have, or one of these.
 
 
-def check(holds):
+def check(holds: bool) -> None:
     if not holds:
         raise Fault("Body")
 
 
-def open_image(text, block_cipher=aes.encrypt_block):
+def open_image(text: bytes, block_cipher: aes.BlockCipher = aes.encrypt_block) -> Model:
     """The device of an image, as it is behind a power cycle."""
     if len(text) < HEAD_BYTES + DIGEST_AT_END:
         raise Fault("Short")
@@ -163,23 +166,23 @@ def open_image(text, block_cipher=aes.encrypt_block):
     return device
 
 
-def fault_of(text):
+def fault_of(text: bytes) -> str | None:
     """Why a text is no image, or nothing where it is one."""
     try:
         open_image(text)
     except Fault as fault:
-        (name,) = fault.args
-        return name
+        return str(fault)
     return None
 
 
-def read_body(fields, version, device):
+def read_body(fields: Parameters, version: Version, device: Model) -> None:
     check(fields.take(len(version.limits)) == version.limits)
     read_hierarchies(fields, device)
     device.disable_clear = bool(fields.one_of(1, (0, 1), "VALUE"))
     numbers = [fields.number(4) for _ in range(4)]
     is_closed = bool(fields.one_of(1, (0, 1), "VALUE"))
-    device.lockout = protection.Lockout(*numbers, is_closed)
+    tries, most, recovery, lockout_recovery = numbers
+    device.lockout = protection.Lockout(tries, most, recovery, lockout_recovery, is_closed)
     device.clock = fields.number(8)
     device.reset_count, device.restart_count = fields.number(4), fields.number(4)
     device.largest_counter = fields.number(8)
@@ -189,13 +192,13 @@ def read_body(fields, version, device):
     fields.end()
 
 
-def read_auth_value(fields):
+def read_auth_value(fields: Parameters) -> bytes:
     auth_value = fields.sized(DIGEST_BYTES)
     check(auth_value == trimmed(auth_value))
     return auth_value
 
 
-def read_hierarchies(fields, device):
+def read_hierarchies(fields: Parameters, device: Model) -> None:
     for hierarchy in HIERARCHIES:
         device.auth_values[hierarchy] = read_auth_value(fields)
         device.seeds[hierarchy] = fields.take(state.SECRET_BYTES)
@@ -204,7 +207,7 @@ def read_hierarchies(fields, device):
     device.auth_values[RH_LOCKOUT] = read_auth_value(fields)
 
 
-def read_saved(fields, device):
+def read_saved(fields: Parameters, device: Model) -> None:
     device.saved = state.Saved(fields.one_of(1, list(state.Saved), "VALUE"))
     if device.saved == state.Saved.STATE:
         for bank in BANKS:
@@ -213,7 +216,7 @@ def read_saved(fields, device):
             device.saved_banks[bank] = values
 
 
-def read_objects(fields, device):
+def read_objects(fields: Parameters, device: Model) -> None:
     count, last = fields.number(2), -1
     check(count <= persistent.PERSISTENT_OBJECTS)
     for _ in range(count):
@@ -229,7 +232,7 @@ def read_objects(fields, device):
         last = handle
 
 
-def read_indices(fields, device, version):
+def read_indices(fields: Parameters, device: Model, version: Version) -> None:
     count, last = fields.number(2), -1
     check(count <= version.indices)
     for _ in range(count):

@@ -3,20 +3,24 @@
 It knows nothing of the product's code, and its rules are those of docs/table.
 """
 
+from __future__ import annotations
+
 from dataclasses import dataclass
 from typing import Callable
 
 from tpmsim.model import capability, general, history, nv_commands, object_commands, pcrs
 from tpmsim.model import persistent, policy_commands, policy_state, protection, state
-from tpmsim.model.general import Answer, Refusal
-from tpmsim.model.parameters import DIGEST_BYTES, Parameters
-from tpmsim.standard import aes, frames, handle_kinds, nv, policy, sessions
+from tpmsim.model.general import Answer, Command, Refusal
+from tpmsim.model.history import Accepted, PowerCycle
+from tpmsim.model.parameters import Parameters, Request
+from tpmsim.model.policy_state import Entity
+from tpmsim.standard import aes, frames, handle_kinds, nv, objects, policy, sessions
 from tpmsim.standard.commands import CC, Fact
-from tpmsim.standard.frames import DECRYPT, ENCRYPT, RH_ENDORSEMENT, RH_LOCKOUT, RH_NULL, RH_OWNER
-from tpmsim.standard.frames import RH_PLATFORM, RS_PW, TRANSIENT, number, sized
+from tpmsim.standard.frames import DECRYPT, ENCRYPT, Entry, RH_ENDORSEMENT, RH_LOCKOUT, RH_NULL
+from tpmsim.standard.frames import RH_OWNER, RH_PLATFORM, RS_PW, TRANSIENT, number, sized
 from tpmsim.standard.objects import Attribute
 from tpmsim.standard.reading import Fields, Short
-from tpmsim.standard.sessions import digest_bytes, trimmed
+from tpmsim.standard.sessions import DIGEST_BYTES, digest_bytes, trimmed
 
 # How many bytes TPM2_GetRandom gives.
 RANDOM_AT_ONCE = 32
@@ -56,11 +60,11 @@ class Session:
     key: bytes
     bind: bytes
     bind_auth: bytes
-    bind_protection: str
+    bind_protection: str | None
     policy: policy_state.State
 
     @property
-    def is_trial(self):
+    def is_trial(self) -> bool:
         return self.kind == frames.SE_TRIAL
 
 
@@ -74,7 +78,7 @@ class Row:
     check: str
 
     @classmethod
-    def of(cls, buffer, check):
+    def of(cls, buffer: bytes, check: str) -> Row:
         is_known = check not in general.HEADER_CHECKS
         return cls(int.from_bytes(buffer[6:10], "big") if is_known else 0, check)
 
@@ -85,7 +89,7 @@ class Outcome:
 
     response: bytes
     row: Row
-    refused: str = None
+    refused: str | None = None
 
 
 class Model(
@@ -106,9 +110,7 @@ class Model(
     """
 
     def __init__(
-        self,
-        manufactured: bytes = MANUFACTURED,
-        block_cipher: aes.BlockCipher = aes.encrypt_block,
+        self, manufactured: bytes = MANUFACTURED, block_cipher: aes.BlockCipher = aes.encrypt_block
     ) -> None:
         self.block_cipher = block_cipher
         self.auth_values = {}
@@ -122,7 +124,7 @@ class Model(
         self.proofs = dict(zip(WITH_SEEDS, seeds_and_proofs[len(WITH_SEEDS) :]))
         self.power_cycle()
 
-    def power_cycle(self):
+    def power_cycle(self) -> None:
         self.tell(history.PowerCycle())
         self.started = False
         self.banks = pcrs.starting_banks()
@@ -134,7 +136,14 @@ class Model(
         self.time = 0
         self.lockout.power_cycle()
 
-    def execute(self, buffer, locality, random, elapsed=0, is_starved=False):
+    def execute(
+        self,
+        buffer: bytes,
+        locality: int,
+        random: bytes,
+        elapsed: int = 0,
+        is_starved: bool = False,
+    ) -> Outcome:
         """What comes of a command, so many milliseconds after the one before. One that is starved is
         refused the memory that it needs, and nothing but the time changes.
         """
@@ -148,7 +157,8 @@ class Model(
             self.authorize(command, locality)
             plain, shown = self.plain_parameters(command), self.shown(command)
             parameters = Parameters(plain)
-            answer = ROWS[command.code](self, command.handles, parameters, locality, random)
+            request = Request(command.handles, parameters, locality, random)
+            answer = ROWS[command.code](self, request)
         except Refusal as refusal:
             self.lockout.count(refusal.touched)
             response = frames.refusal(frames.code_of(refusal.name))
@@ -159,10 +169,17 @@ class Model(
         return Outcome(self.success(command, answer, random), Row(command.code, "ok"))
 
     @staticmethod
-    def tell(event):
+    def tell(event: Accepted | PowerCycle) -> None:
         """Nobody listens at first."""
 
-    def accepted(self, command, shown, plain, answer, random):
+    def accepted(
+        self,
+        command: Command,
+        shown: tuple[list[bytes], list[str | None]],
+        plain: bytes,
+        answer: Answer,
+        random: bytes,
+    ) -> Accepted:
         """What is told of a command, once its row has acted: the Names are those before it."""
         uses = [
             history.Use(
@@ -171,8 +188,9 @@ class Model(
             for _, entry, handle in command.places()
         ]
         answered = int.from_bytes(answer.handle, "big") if answer.handle else None
-        is_loaded = command.code == CC.Load
-        loaded = self.objects[answered].sensitive.auth_value if is_loaded else None
+        loaded = None
+        if answered is not None and command.code == CC.Load:
+            loaded = self.objects[answered].sensitive.auth_value
         return history.Accepted(
             *(command.code, command.handles, *shown, uses, plain),
             *(random, answer.drawn, answered, loaded),
@@ -180,29 +198,29 @@ class Model(
 
     # Entities.
 
-    def name(self, handle):
+    def name(self, handle: int) -> bytes:
         if handle in self.objects:
             return self.objects[handle].name
         if handle in self.indices:
             return self.indices[handle].public.name
         return sessions.name_of(handle)
 
-    def shown(self, command):
+    def shown(self, command: Command) -> tuple[list[bytes], list[str | None]]:
         """The Names of its handles, and how what they name is protected."""
         return self.names(command), [self.protection(it) for it in command.handles]
 
-    def names(self, command):
+    def names(self, command: Command) -> list[bytes]:
         return [self.name(it) for it in command.handles]
 
-    def auth_value(self, handle):
+    def auth_value(self, handle: int | None) -> bytes:
         """That of a PCR and of TPM_RH_NULL is empty, and so is that of no entity."""
         if handle in self.objects:
             return self.objects[handle].sensitive.auth_value
         if handle in self.indices:
             return self.indices[handle].auth_value
-        return self.auth_values.get(handle, b"")
+        return b"" if handle is None else self.auth_values.get(handle, b"")
 
-    def protection(self, handle):
+    def protection(self, handle: int) -> str | None:
         """What wrong authorization values count at, if at anything."""
         if handle == RH_LOCKOUT:
             return protection.LOCKOUT_AUTH
@@ -213,7 +231,7 @@ class Model(
             is_protected = not self.indices[handle].public.has(nv.Attribute.NO_DA)
         return protection.TRIES if is_protected else None
 
-    def takes_auth_value(self, handle, code):
+    def takes_auth_value(self, handle: int, code: CC) -> bool:
         """Whether it can be authorized without a policy, for a command."""
         if handle in self.objects:
             return self.objects[handle].public.has(Attribute.USER_WITH_AUTH)
@@ -221,23 +239,24 @@ class Model(
             return nv_commands.takes_auth_value(self.indices[handle].public, code)
         return True
 
-    def policy_entity(self, handle, code):
+    def policy_entity(self, handle: int, code: CC) -> Entity | None:
         """An entity that a policy can authorize for a command: an object or an index that has one.
         Of an index the attributes too have to allow it.
         """
+        public: objects.Public | nv.Public
         if handle in self.objects:
             public = self.objects[handle].public
-        elif handle in self.indices:
-            public = self.indices[handle].public
-            if not nv_commands.takes_policy(public, code):
-                return None
-        else:
+        elif handle not in self.indices:
             return None
+        else:
+            public = index = self.indices[handle].public
+            if not nv_commands.takes_policy(index, code):
+                return None
         if not public.auth_policy:
             return None
         return policy_state.Entity(public.name_algorithm, public.auth_policy)
 
-    def written(self, handle):
+    def written(self, handle: int) -> bool | None:
         """Whether an NV index is written; None of all else."""
         if handle not in self.indices:
             return None
@@ -245,12 +264,12 @@ class Model(
 
     # Authorization.
 
-    def is_bound(self, session, handle):
+    def is_bound(self, session: Session, handle: int) -> bool:
         """A binding holds while Name and authorization value are those of the start."""
         now = self.name(handle), self.auth_value(handle)
         return (session.bind, session.bind_auth) == now
 
-    def uses_auth_value(self, entry, handle):
+    def uses_auth_value(self, entry: Entry, handle: int | None) -> bool:
         """Whether the authorization value of the handle is the password, or in the hmac's key."""
         if handle is None:
             return False
@@ -260,36 +279,36 @@ class Model(
             return entry.demand is not None
         return not self.is_bound(self.sessions[entry.handle], handle)
 
-    def key(self, entry, handle):
+    def key(self, entry: Entry, handle: int | None) -> bytes:
         """The key of an entry's hmac, the handle being what it authorizes, if anything."""
         uses = self.uses_auth_value(entry, handle)
         return self.sessions[entry.handle].key + (self.auth_value(handle) if uses else b"")
 
-    def encryption_key(self, session, handle):
+    def encryption_key(self, session: Session, handle: int | None) -> bytes:
         """That of parameters has the authorization value whether the session is bound or not."""
         return session.key + self.auth_value(handle)
 
-    def touched(self, entry, handle):
+    def touched(self, entry: Entry, handle: int | None) -> str | None:
         """What an entry is a try at, if it is wrong: at a protected value that is the password or
         in the key, and else at the one that the session's key was made of.
         """
-        if self.uses_auth_value(entry, handle) and self.protection(handle):
+        if handle is not None and self.uses_auth_value(entry, handle) and self.protection(handle):
             return self.protection(handle)
         session = self.sessions.get(entry.handle)
         return session.bind_protection if session else None
 
-    def nonces_of_others(self, command, place, handle):
+    def nonces_of_others(self, command: Command, place: int, handle: int | None) -> list[bytes]:
         """The nonces of the sessions that decrypt and encrypt, for the first entry alone."""
         if place != 1 or handle is None:
             return []
-        places = []
+        places, entries = list[int](), command.entries or []
         for attribute in (DECRYPT, ENCRYPT):
             found = command.with_attribute(attribute)
             if found and found[0] != 1 and found[0] not in places:
                 places.append(found[0])
-        return [self.sessions[command.entries[it - 1].handle].nonce_tpm for it in places]
+        return [self.sessions[entries[it - 1].handle].nonce_tpm for it in places]
 
-    def accepts(self, command, place, entry, handle):
+    def accepts(self, command: Command, place: int, entry: Entry, handle: int | None) -> bool:
         if entry.handle == RS_PW or entry.demand == policy.PASSWORD:
             return trimmed(entry.hmac) == self.auth_value(handle)
         session = self.sessions[entry.handle]
@@ -309,7 +328,9 @@ class Model(
         )
         return entry.hmac == wanted
 
-    def check_policy(self, command, place, entry, handle, locality):
+    def check_policy(
+        self, command: Command, place: int, entry: Entry, handle: int, locality: int
+    ) -> None:
         """What refuses a policy session that is to authorize a handle."""
         session = self.sessions[entry.handle]
         cp_hash = sessions.command_hash(
@@ -322,7 +343,7 @@ class Model(
         policy_state.check_use(session, self.policy_entity(handle, command.code), use, place)
         entry.demand = session.policy.demand
 
-    def authorize(self, command, locality):
+    def authorize(self, command: Command, locality: int) -> None:
         for place, entry, handle in command.places():
             check = "G10" if handle is None else "G9"
             if handle is not None and handle_kinds.is_policy(entry.handle):
@@ -336,7 +357,7 @@ class Model(
                 name = "AUTH_FAIL" if touched else "BAD_AUTH"
                 raise Refusal(f"{name}/s{place}", check, touched)
 
-    def plain_parameters(self, command):
+    def plain_parameters(self, command: Command) -> bytes:
         """The parameters, with the bytes of the first one decrypted where a session asks for it."""
         found = command.with_attribute(DECRYPT)
         if not found:
@@ -358,7 +379,7 @@ class Model(
 
     # Responses. The effect has come before.
 
-    def success(self, command, answer, random):
+    def success(self, command: Command, answer: Answer, random: bytes) -> bytes:
         if command.entries is None:
             return frames.success(answer.parameters, handle=answer.handle)
         self.draw_nonces(command, random[answer.drawn :])
@@ -371,7 +392,7 @@ class Model(
             self.end_use(entry, handle)
         return frames.success(parameters, entries, answer.handle)
 
-    def end_use(self, entry, handle):
+    def end_use(self, entry: Entry, handle: int | None) -> None:
         """A session ends, or goes on: what it was told of a policy counts for one authorization."""
         if entry.handle == RS_PW:
             return
@@ -381,15 +402,15 @@ class Model(
             session = self.sessions[entry.handle]
             session.policy = policy_state.starting_state(session.algorithm)
 
-    def draw_nonces(self, command, random):
+    def draw_nonces(self, command: Command, random: bytes) -> None:
         """A new nonce of its size for each session, in the order of the entries."""
-        for entry in command.entries:
+        for _, entry, _ in command.places():
             if entry.handle != RS_PW:
                 session = self.sessions[entry.handle]
                 size = len(session.nonce_tpm)
                 session.nonce_tpm, random = random[:size], random[size:]
 
-    def answered_parameters(self, command, parameters):
+    def answered_parameters(self, command: Command, parameters: bytes) -> bytes:
         found = command.with_attribute(ENCRYPT)
         if not found:
             return parameters
@@ -404,7 +425,9 @@ class Model(
             parameters,
         )
 
-    def entry_answer(self, command, parameters, entry, handle):
+    def entry_answer(
+        self, command: Command, parameters: bytes, entry: Entry, handle: int | None
+    ) -> bytes:
         if entry.handle == RS_PW:
             return frames.entry_answer()
         session = self.sessions[entry.handle]
@@ -424,36 +447,37 @@ class Model(
 
     # The commands: their parameters, their own checks, and then what changes.
 
-    def get_random(self, handles, parameters, locality, random):
-        count = min(parameters.next().number(2), RANDOM_AT_ONCE)
-        parameters.end()
-        return Answer(sized(random[:count]), drawn=count)
+    def get_random(self, request: Request) -> Answer:
+        count = min(request.parameters.next().number(2), RANDOM_AT_ONCE)
+        request.parameters.end()
+        return Answer(sized(request.random[:count]), drawn=count)
 
-    def hierarchy_change_auth(self, handles, parameters, locality, random):
-        new = parameters.next().sized(DIGEST_BYTES)
-        parameters.end()
-        self.auth_values[handles[0]] = trimmed(new)
+    def hierarchy_change_auth(self, request: Request) -> Answer:
+        new = request.parameters.next().sized(DIGEST_BYTES)
+        request.parameters.end()
+        self.auth_values[request.handles[0]] = trimmed(new)
         return Answer()
 
-    def flush_context(self, handles, parameters, locality, random):
-        handle = parameters.next().number(4)
-        parameters.end()
+    def flush_context(self, request: Request) -> Answer:
+        handle = request.parameters.next().number(4)
+        request.parameters.end()
         kind = handle_kinds.first_byte(handle)
         if kind not in (frames.HMAC_SESSION, frames.POLICY_SESSION, frames.TRANSIENT):
             raise Refusal("VALUE/p1", "A1")
-        held = self.objects if kind == TRANSIENT else self.sessions
+        held = self.objects.keys() if kind == TRANSIENT else self.sessions.keys()
         if handle not in held:
             raise Refusal("HANDLE/p1", "A2")
-        del held[handle]
+        self.objects.pop(handle, None)
+        self.sessions.pop(handle, None)
         return Answer()
 
-    def start_auth_session(self, handles, parameters, locality, random):
-        nonce_caller = parameters.next().sized(DIGEST_BYTES)
-        salt = parameters.next().sized(DIGEST_BYTES)
-        kind = parameters.next().one_of(1, HANDLE_KINDS, "VALUE")
-        cipher, mask_algorithm = parameters.next().symmetric()
-        algorithm = parameters.next().hash()
-        parameters.end()
+    def start_auth_session(self, request: Request) -> Answer:
+        nonce_caller = request.parameters.next().sized(DIGEST_BYTES)
+        salt = request.parameters.next().sized(DIGEST_BYTES)
+        kind = request.parameters.next().one_of(1, HANDLE_KINDS, "VALUE")
+        cipher, mask_algorithm = request.parameters.next().symmetric()
+        algorithm = request.parameters.next().hash()
+        request.parameters.end()
 
         size = len(nonce_caller)
         if not LEAST_NONCE <= size <= digest_bytes(algorithm):
@@ -467,8 +491,8 @@ class Model(
         if not free:
             raise Refusal("SESSION_MEMORY", "A4")
 
-        _, bind = handles
-        nonce_tpm, key, bind_auth = random[:size], b"", self.auth_value(bind)
+        _, bind = request.handles
+        nonce_tpm, key, bind_auth = request.random[:size], b"", self.auth_value(bind)
         if bind != RH_NULL:
             key = sessions.session_key(algorithm, bind_auth, nonce_tpm, nonce_caller)
         handle = HANDLE_KINDS[kind] << 24 | free[0]

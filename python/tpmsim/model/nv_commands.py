@@ -4,15 +4,18 @@ TPM 2.0 Library, Part 1, section 37; Part 2, section 13; Part 3, section 31. Wha
 is left to each TPM, or is narrower here, is that of docs/table.
 """
 
+from __future__ import annotations
+
 from dataclasses import dataclass
 
 from tpmsim.model.general import Answer, Refusal
-from tpmsim.model.parameters import DIGEST_BYTES
+from tpmsim.model.held import Held
+from tpmsim.model.parameters import Parameters, Request
 from tpmsim.standard.commands import CC, Fact
 from tpmsim.standard.frames import NV, RH_OWNER, RH_PLATFORM, number, sized
 from tpmsim.standard.handle_kinds import first_byte
 from tpmsim.standard.nv import Attribute, NAMED, NUMBER_BYTES, Public, READS, Type, WRITES
-from tpmsim.standard.sessions import digest, digest_bytes, trimmed
+from tpmsim.standard.sessions import DIGEST_BYTES, digest, digest_bytes, trimmed
 
 # How many indices there may be, how many bytes they may have in all, and one alone.
 INDICES, ALL_BYTES, INDEX_BYTES = 64, 16_384, 2048
@@ -43,10 +46,10 @@ class Index:
     auth_value: bytes
     data: bytes = b""
 
-    def mark(self, attribute):
+    def mark(self, attribute: Attribute) -> None:
         self.public = self.public.but(added=attribute)
 
-    def write(self, data):
+    def write(self, data: bytes) -> None:
         self.data = data
         self.mark(Attribute.WRITTEN)
 
@@ -54,7 +57,7 @@ class Index:
 # Definition.
 
 
-def read_public(fields):
+def read_public(fields: Parameters) -> Public:
     index = fields.number(4)
     if first_byte(index) != NV:
         raise fields.refusal("VALUE")
@@ -66,7 +69,7 @@ def read_public(fields):
     return Public(index, name_algorithm, attributes, auth_policy, fields.number(2))
 
 
-def has_wrong_attributes(public, hierarchy):
+def has_wrong_attributes(public: Public, hierarchy: int) -> bool:
     if public.kind not in list(Type) or public.has(NOT_DEFINED):
         return True
     if not public.has(WRITES) or not public.has(READS):
@@ -77,7 +80,7 @@ def has_wrong_attributes(public, hierarchy):
     return public.has(Attribute.PLATFORMCREATE) != (hierarchy == RH_PLATFORM)
 
 
-def has_wrong_size(public):
+def has_wrong_size(public: Public) -> bool:
     if public.kind == Type.ORDINARY:
         return public.data_size > INDEX_BYTES
     if public.kind == Type.EXTEND:
@@ -85,7 +88,9 @@ def has_wrong_size(public):
     return public.data_size != NUMBER_BYTES
 
 
-def check_definition(public, auth_value, hierarchy, indices):
+def check_definition(
+    public: Public, auth_value: bytes, hierarchy: int, indices: dict[int, Index]
+) -> None:
     """What an index that is to be defined has to be, beside those that there are."""
     if len(auth_value) > digest_bytes(public.name_algorithm):
         raise Refusal("SIZE/p1", "A1")
@@ -107,13 +112,13 @@ def check_definition(public, auth_value, hierarchy, indices):
 # index that authorizes, whichever one the command then asks for.
 
 
-def takes_auth_value(public, code):
+def takes_auth_value(public: Public, code: CC) -> bool:
     if code == CC.NV_ChangeAuth:
         return False
     return public.has(Attribute.AUTHREAD if code.has(Fact.READS_NV) else Attribute.AUTHWRITE)
 
 
-def takes_policy(public, code):
+def takes_policy(public: Public, code: CC) -> bool:
     if code == CC.NV_ChangeAuth:
         return True
     return public.has(Attribute.POLICYREAD if code.has(Fact.READS_NV) else Attribute.POLICYWRITE)
@@ -122,7 +127,7 @@ def takes_policy(public, code):
 # Use.
 
 
-def check_asker(public, asker, by_owner, by_platform):
+def check_asker(public: Public, asker: int, by_owner: Attribute, by_platform: Attribute) -> None:
     """Whether a hierarchy may ask for an index; an index may ask for itself alone."""
     if asker == RH_OWNER:
         may = public.has(by_owner)
@@ -134,15 +139,15 @@ def check_asker(public, asker, by_owner, by_platform):
         raise Refusal("NV_AUTHORIZATION", "A1")
 
 
-def check_writer(public, asker):
+def check_writer(public: Public, asker: int) -> None:
     check_asker(public, asker, Attribute.OWNERWRITE, Attribute.PPWRITE)
 
 
-def check_reader(public, asker):
+def check_reader(public: Public, asker: int) -> None:
     check_asker(public, asker, Attribute.OWNERREAD, Attribute.PPREAD)
 
 
-def check_writing(public, asker, kind):
+def check_writing(public: Public, asker: int, kind: Type) -> None:
     """Before every change of an index that is to be of some type."""
     check_writer(public, asker)
     if public.has(Attribute.WRITELOCKED):
@@ -151,7 +156,7 @@ def check_writing(public, asker, kind):
         raise Refusal("ATTRIBUTES/h2", "A3")
 
 
-def check_reading(public, asker):
+def check_reading(public: Public, asker: int) -> None:
     check_reader(public, asker)
     if public.has(Attribute.READLOCKED):
         raise Refusal("NV_LOCKED", "A2")
@@ -159,12 +164,12 @@ def check_reading(public, asker):
         raise Refusal("NV_UNINITIALIZED", "A3")
 
 
-def check_range(public, offset, size, check):
+def check_range(public: Public, offset: int, size: int, check: str) -> None:
     if offset + size > public.data_size:
         raise Refusal("NV_RANGE", check)
 
 
-def start_up(indices):
+def start_up(indices: dict[int, Index]) -> None:
     """What TPM2_Startup(CLEAR) makes of the indices."""
     for index in indices.values():
         if index.public.has(Attribute.CLEAR_STCLEAR):
@@ -179,11 +184,11 @@ def start_up(indices):
 # The operations of TPM2_PolicyNV, each on the bytes of the index and the operand.
 
 
-def signed(data):
+def signed(data: bytes) -> int:
     return int.from_bytes(data, "big", signed=True)
 
 
-def unsigned(data):
+def unsigned(data: bytes) -> int:
     return int.from_bytes(data, "big")
 
 
@@ -203,14 +208,14 @@ OPERATIONS = (
 )
 
 
-def read_policy_nv(parameters):
+def read_policy_nv(parameters: Parameters) -> tuple[bytes, int, int]:
     """The operand, the offset and the number of the operation."""
     operand = parameters.next().sized(DIGEST_BYTES)
     offset = parameters.next().number(2)
     return operand, offset, parameters.next().one_of(2, range(len(OPERATIONS)), "VALUE")
 
 
-def check_comparison(index, asker, operand, offset, operation):
+def check_comparison(index: Index, asker: int, operand: bytes, offset: int, operation: int) -> None:
     check_reading(index.public, asker)
     check_range(index.public, offset, len(operand), "A4")
     held = index.data[offset : offset + len(operand)]
@@ -218,37 +223,37 @@ def check_comparison(index, asker, operand, offset, operation):
         raise Refusal("POLICY", "A5")
 
 
-class Commands:
+class Commands(Held):
     """The commands on indices, of a device that has `indices` and the `largest_counter` ever."""
 
-    def nv_define_space(self, handles, parameters, locality, random):
-        auth_value = trimmed(parameters.next().sized(DIGEST_BYTES))
-        public = parameters.next().structure(read_public)
-        parameters.end()
+    def nv_define_space(self, request: Request) -> Answer:
+        auth_value = trimmed(request.parameters.next().sized(DIGEST_BYTES))
+        public = request.parameters.next().structure(read_public)
+        request.parameters.end()
 
-        check_definition(public, auth_value, handles[0], self.indices)
+        check_definition(public, auth_value, request.handles[0], self.indices)
         self.indices[public.index] = Index(public, auth_value)
         return Answer()
 
-    def nv_undefine_space(self, handles, parameters, locality, random):
-        parameters.end()
-        hierarchy, handle = handles
+    def nv_undefine_space(self, request: Request) -> Answer:
+        request.parameters.end()
+        hierarchy, handle = request.handles
         if hierarchy == RH_OWNER and self.indices[handle].public.has(Attribute.PLATFORMCREATE):
             raise Refusal("NV_AUTHORIZATION", "A1")
         del self.indices[handle]
         return Answer()
 
-    def nv_read_public(self, handles, parameters, locality, random):
-        parameters.end()
-        public = self.indices[handles[0]].public
+    def nv_read_public(self, request: Request) -> Answer:
+        request.parameters.end()
+        public = self.indices[request.handles[0]].public
         return Answer(sized(public.text) + sized(public.name))
 
-    def nv_write(self, handles, parameters, locality, random):
-        data = parameters.next().sized(BUFFER_BYTES)
-        offset = parameters.next().number(2)
-        parameters.end()
+    def nv_write(self, request: Request) -> Answer:
+        data = request.parameters.next().sized(BUFFER_BYTES)
+        offset = request.parameters.next().number(2)
+        request.parameters.end()
 
-        asker, handle = handles
+        asker, handle = request.handles
         index = self.indices[handle]
         size = index.public.data_size
         check_writing(index.public, asker, Type.ORDINARY)
@@ -260,9 +265,9 @@ class Commands:
         index.write(old[:offset] + data + old[offset + len(data) :])
         return Answer()
 
-    def nv_increment(self, handles, parameters, locality, random):
-        parameters.end()
-        asker, handle = handles
+    def nv_increment(self, request: Request) -> Answer:
+        request.parameters.end()
+        asker, handle = request.handles
         index = self.indices[handle]
         check_writing(index.public, asker, Type.COUNTER)
         # So a counter that is undefined and defined again does not go back.
@@ -275,30 +280,30 @@ class Commands:
         index.write(number(old + 1, NUMBER_BYTES))
         return Answer()
 
-    def nv_set_bits(self, handles, parameters, locality, random):
-        bits = parameters.next().number(NUMBER_BYTES)
-        parameters.end()
-        asker, handle = handles
+    def nv_set_bits(self, request: Request) -> Answer:
+        bits = request.parameters.next().number(NUMBER_BYTES)
+        request.parameters.end()
+        asker, handle = request.handles
         index = self.indices[handle]
         check_writing(index.public, asker, Type.BITS)
         index.write(number(unsigned(index.data) | bits, NUMBER_BYTES))
         return Answer()
 
-    def nv_extend(self, handles, parameters, locality, random):
-        data = parameters.next().sized(BUFFER_BYTES)
-        parameters.end()
-        asker, handle = handles
+    def nv_extend(self, request: Request) -> Answer:
+        data = request.parameters.next().sized(BUFFER_BYTES)
+        request.parameters.end()
+        asker, handle = request.handles
         index = self.indices[handle]
         check_writing(index.public, asker, Type.EXTEND)
         old = index.data or bytes(index.public.data_size)
         index.write(digest(index.public.name_algorithm, old + data))
         return Answer()
 
-    def nv_read(self, handles, parameters, locality, random):
-        size = parameters.next().number(2)
-        offset = parameters.next().number(2)
-        parameters.end()
-        asker, handle = handles
+    def nv_read(self, request: Request) -> Answer:
+        size = request.parameters.next().number(2)
+        offset = request.parameters.next().number(2)
+        request.parameters.end()
+        asker, handle = request.handles
         index = self.indices[handle]
         check_reading(index.public, asker)
         if size > BUFFER_BYTES:
@@ -306,9 +311,9 @@ class Commands:
         check_range(index.public, offset, size, "A5")
         return Answer(sized(index.data[offset : offset + size]))
 
-    def nv_write_lock(self, handles, parameters, locality, random):
-        parameters.end()
-        asker, handle = handles
+    def nv_write_lock(self, request: Request) -> Answer:
+        request.parameters.end()
+        asker, handle = request.handles
         index = self.indices[handle]
         check_writer(index.public, asker)
         if not index.public.has(Attribute.WRITEDEFINE | Attribute.WRITE_STCLEAR):
@@ -316,9 +321,9 @@ class Commands:
         index.mark(Attribute.WRITELOCKED)
         return Answer()
 
-    def nv_read_lock(self, handles, parameters, locality, random):
-        parameters.end()
-        asker, handle = handles
+    def nv_read_lock(self, request: Request) -> Answer:
+        request.parameters.end()
+        asker, handle = request.handles
         index = self.indices[handle]
         check_reader(index.public, asker)
         if not index.public.has(Attribute.READ_STCLEAR):
@@ -326,10 +331,10 @@ class Commands:
         index.mark(Attribute.READLOCKED)
         return Answer()
 
-    def nv_change_auth(self, handles, parameters, locality, random):
-        new = trimmed(parameters.next().sized(DIGEST_BYTES))
-        parameters.end()
-        index = self.indices[handles[0]]
+    def nv_change_auth(self, request: Request) -> Answer:
+        new = trimmed(request.parameters.next().sized(DIGEST_BYTES))
+        request.parameters.end()
+        index = self.indices[request.handles[0]]
         if len(new) > digest_bytes(index.public.name_algorithm):
             raise Refusal("SIZE/p1", "A1")
         index.auth_value = new

@@ -1,12 +1,17 @@
 """The commands of objects (TPM 2.0 Library, Part 3, sections 12, 15 and 24)."""
 
+from __future__ import annotations
+
 from dataclasses import replace
 
 from tpmsim.model import object_rules
 from tpmsim.model.general import Answer, Refusal
+from tpmsim.model.held import Held
+from tpmsim.model.object_rules import Object, Template
+from tpmsim.model.parameters import Request
 from tpmsim.standard import aes
 from tpmsim.standard.frames import ALG_NULL, KEYEDHASH, TRANSIENT, number, sized
-from tpmsim.standard.objects import Attribute
+from tpmsim.standard.objects import Attribute, Public
 from tpmsim.standard.sessions import HASHES, digest, mac, trimmed
 
 # How many transient objects there may be, and how many bytes TPM2_HMAC takes.
@@ -14,12 +19,12 @@ OBJECTS = 8
 HMAC_BYTES = 1024
 
 
-class Commands:
+class Commands(Held):
     """The commands, of a device that has `objects`, the PCRs, and the hierarchies' `seeds` and
     `proofs`.
     """
 
-    def free_object(self, check):
+    def free_object(self, check: str) -> int:
         """The lowest number that is free, as a transient object's handle."""
         places = [TRANSIENT << 24 | it for it in range(OBJECTS)]
         free = [it for it in places if it not in self.objects]
@@ -27,13 +32,20 @@ class Commands:
             raise Refusal("OBJECT_MEMORY", check)
         return free[0]
 
-    def parent(self, handle):
+    def parent(self, handle: int) -> Object:
         parent = self.objects[handle]
         if not parent.public.is_parent:
             raise Refusal("TYPE/h1", "A1")
         return parent
 
-    def creation(self, template, public, parent, hierarchy, locality):
+    def creation(
+        self,
+        template: Template,
+        public: Public,
+        parent: Object | None,
+        hierarchy: int,
+        locality: int,
+    ) -> bytes:
         """What both commands answer of a creation: the public area, the creation data, their hash,
         and the ticket.
         """
@@ -44,40 +56,40 @@ class Commands:
         made_here = object_rules.creation_ticket(hierarchy, proof, public.name, data_hash)
         return sized(public.text) + sized(data) + sized(data_hash) + made_here
 
-    def create_primary(self, handles, parameters, locality, random):
-        template = object_rules.read_template(parameters)
-        parameters.end()
+    def create_primary(self, request: Request) -> Answer:
+        template = object_rules.read_template(request.parameters)
+        request.parameters.end()
 
         object_rules.check_public(template.public, parent=None)
         object_rules.check_sensitive(template, parent=None)
         handle = self.free_object("A7")
 
-        (hierarchy,) = handles
+        (hierarchy,) = request.handles
         primary = object_rules.primary(template, hierarchy, self.seeds[hierarchy])
         self.objects[handle] = primary
-        creation = self.creation(template, primary.public, None, hierarchy, locality)
+        creation = self.creation(template, primary.public, None, hierarchy, request.locality)
         return Answer(creation + sized(primary.name), number(handle, 4))
 
-    def create(self, handles, parameters, locality, random):
-        template = object_rules.read_template(parameters)
-        parameters.end()
+    def create(self, request: Request) -> Answer:
+        template = object_rules.read_template(request.parameters)
+        request.parameters.end()
 
-        parent = self.parent(handles[0])
+        parent = self.parent(request.handles[0])
         object_rules.check_public(template.public, parent)
         object_rules.check_sensitive(template, parent)
 
-        public, sensitive, drawn = object_rules.created(template, random)
-        iv = random[drawn : drawn + aes.BLOCK]
+        public, sensitive, drawn = object_rules.created(template, request.random)
+        iv = request.random[drawn : drawn + aes.BLOCK]
         private = object_rules.wrapped(parent, public.name, sensitive, iv, self.block_cipher)
-        creation = self.creation(template, public, parent, parent.hierarchy, locality)
+        creation = self.creation(template, public, parent, parent.hierarchy, request.locality)
         return Answer(sized(private) + creation, drawn=drawn + aes.BLOCK)
 
-    def load(self, handles, parameters, locality, random):
-        private = parameters.next().sized(object_rules.PRIVATE_BYTES)
-        public = parameters.next().structure(object_rules.read_public)
-        parameters.end()
+    def load(self, request: Request) -> Answer:
+        private = request.parameters.next().sized(object_rules.PRIVATE_BYTES)
+        public = request.parameters.next().structure(object_rules.read_public)
+        request.parameters.end()
 
-        parent = self.parent(handles[0])
+        parent = self.parent(request.handles[0])
         object_rules.check_public(public, parent)
         sensitive = object_rules.unwrapped(parent, public, private, self.block_cipher)
         handle = self.free_object("A6")
@@ -88,26 +100,26 @@ class Commands:
         )
         return Answer(sized(public.name), number(handle, 4))
 
-    def read_public(self, handles, parameters, locality, random):
-        parameters.end()
-        asked = self.objects[handles[0]]
+    def read_public(self, request: Request) -> Answer:
+        request.parameters.end()
+        asked = self.objects[request.handles[0]]
         return Answer(sized(asked.public.text) + sized(asked.name) + sized(asked.qualified_name))
 
-    def unseal(self, handles, parameters, locality, random):
-        parameters.end()
-        sealed = self.objects[handles[0]]
+    def unseal(self, request: Request) -> Answer:
+        request.parameters.end()
+        sealed = self.objects[request.handles[0]]
         if sealed.public.kind != KEYEDHASH:
             raise Refusal("TYPE/h1", "A1")
         if sealed.public.has(Attribute.SIGN):
             raise Refusal("ATTRIBUTES/h1", "A2")
         return Answer(sized(sealed.sensitive.data))
 
-    def hmac(self, handles, parameters, locality, random):
-        data = parameters.next().sized(HMAC_BYTES)
-        asked = parameters.next().one_of(2, (ALG_NULL, *HASHES), "HASH")
-        parameters.end()
+    def hmac(self, request: Request) -> Answer:
+        data = request.parameters.next().sized(HMAC_BYTES)
+        asked = request.parameters.next().one_of(2, (ALG_NULL, *HASHES), "HASH")
+        request.parameters.end()
 
-        key = self.objects[handles[0]]
+        key = self.objects[request.handles[0]]
         scheme = key.public.scheme
         if key.public.kind != KEYEDHASH:
             raise Refusal("TYPE/h1", "A1")

@@ -5,15 +5,17 @@ and creation of objects); Part 2, section 12. A primary object has no parent: wh
 for, `parent` is None.
 """
 
+from __future__ import annotations
+
 from dataclasses import dataclass, replace
 
 from tpmsim.model.general import Refusal
-from tpmsim.model.parameters import DIGEST_BYTES, Parameters
+from tpmsim.model.parameters import Parameters
 from tpmsim.standard import aes, frames
 from tpmsim.standard.frames import ALG_NULL, KEYEDHASH, SHA256, SYMCIPHER, number, sized
 from tpmsim.standard.objects import Attribute, NAMED, Public
 from tpmsim.standard.reading import Fields, Short
-from tpmsim.standard.sessions import digest, digest_bytes, kdfa, mac, trimmed
+from tpmsim.standard.sessions import DIGEST_BYTES, digest, digest_bytes, kdfa, mac, trimmed
 
 AES_KEY_BYTES = 16
 
@@ -36,7 +38,7 @@ class Sensitive:
     data: bytes
 
     @property
-    def text(self):
+    def text(self) -> bytes:
         buffers = self.auth_value, self.seed_value, self.data
         return number(self.kind, 2) + b"".join(map(sized, buffers))
 
@@ -51,11 +53,13 @@ class Object:
     qualified_name: bytes
 
     @property
-    def name(self):
+    def name(self) -> bytes:
         return self.public.name
 
 
-def loaded(public, sensitive, hierarchy, parent_qualified_name):
+def loaded(
+    public: Public, sensitive: Sensitive, hierarchy: int, parent_qualified_name: bytes
+) -> Object:
     """Its qualified name is of all the Names above it, and by its own hash algorithm."""
     algorithm = public.name_algorithm
     qualified = digest(algorithm, parent_qualified_name + public.name)
@@ -76,21 +80,21 @@ class Template:
     pcrs: list
 
     @property
-    def sensitive_text(self):
+    def sensitive_text(self) -> bytes:
         return sized(self.user_auth) + sized(self.data)
 
 
-def read_sensitive_create(fields):
+def read_sensitive_create(fields: Parameters) -> tuple[bytes, bytes]:
     return fields.sized(DIGEST_BYTES), fields.sized(DATA_BYTES)
 
 
-def read_scheme(fields):
+def read_scheme(fields: Parameters) -> int:
     if fields.one_of(2, (ALG_NULL, frames.ALG_HMAC), "SCHEME") == ALG_NULL:
         return ALG_NULL
     return fields.hash()
 
 
-def read_public(fields):
+def read_public(fields: Parameters) -> Public:
     kind = fields.one_of(2, (KEYEDHASH, SYMCIPHER), "TYPE")
     name_algorithm = fields.hash()
     attributes = fields.number(4)
@@ -106,7 +110,7 @@ def read_public(fields):
     return Public(kind, name_algorithm, attributes, auth_policy, scheme, unique)
 
 
-def read_template(parameters):
+def read_template(parameters: Parameters) -> Template:
     user_auth, data = parameters.next().structure(read_sensitive_create)
     public = parameters.next().structure(read_public)
     outside_info = parameters.next().sized(NAME_BYTES)
@@ -116,7 +120,7 @@ def read_template(parameters):
 # Templates, as they are checked.
 
 
-def has_wrong_attributes(public, parent):
+def has_wrong_attributes(public: Public, parent: Object | None) -> bool:
     if public.has(Attribute.FIXED_TPM) and public.has(Attribute.ENCRYPTED_DUPLICATION):
         return True
     # fixedTPM says that no ancestor can be duplicated, and so it comes from the parent.
@@ -133,7 +137,7 @@ def has_wrong_attributes(public, parent):
     return not (signs or decrypts) or public.has(Attribute.RESTRICTED) and signs
 
 
-def has_wrong_scheme(public):
+def has_wrong_scheme(public: Public) -> bool:
     if public.kind != KEYEDHASH:
         return False
     if public.scheme == ALG_NULL:
@@ -141,12 +145,12 @@ def has_wrong_scheme(public):
     return not public.has(Attribute.SIGN)
 
 
-def checks_before(parent):
+def checks_before(parent: Object | None) -> int:
     """How many checks come before those of a template: whether the parent is one."""
     return 0 if parent is None else 1
 
 
-def check_public(public, parent):
+def check_public(public: Public, parent: Object | None) -> None:
     """What the public area of an object that is created or loaded has to be."""
     before = checks_before(parent)
     if len(public.auth_policy) not in (0, digest_bytes(public.name_algorithm)):
@@ -157,7 +161,7 @@ def check_public(public, parent):
         raise Refusal("SCHEME/p2", f"A{before + 3}")
 
 
-def check_sensitive(template, parent):
+def check_sensitive(template: Template, parent: Object | None) -> None:
     """What is asked of the sensitive area of an object that is created."""
     before = checks_before(parent) + PUBLIC_CHECKS
     public, is_given = template.public, bool(template.data)
@@ -174,7 +178,7 @@ def check_sensitive(template, parent):
 # Creation.
 
 
-def key_bytes(template):
+def key_bytes(template: Template) -> int:
     """How many bytes of a key are generated: none where the data are given."""
     public = template.public
     if template.data:
@@ -185,7 +189,7 @@ def key_bytes(template):
     return digest_bytes(public.name_algorithm if is_null else public.scheme)
 
 
-def made(template, key, seed_value):
+def made(template: Template, key: bytes, seed_value: bytes) -> tuple[Public, Sensitive]:
     """The two areas of an object that is created. What is unique in the public one binds it to the
     sensitive one; what the template had in its place does not stay.
     """
@@ -196,7 +200,7 @@ def made(template, key, seed_value):
     return replace(public, unique=unique), sensitive
 
 
-def primary(template, hierarchy, seed):
+def primary(template: Template, hierarchy: int, seed: bytes) -> Object:
     """The primary object that a template and a hierarchy's seed have: always the same."""
     algorithm = template.public.name_algorithm
     size = digest_bytes(algorithm)
@@ -212,14 +216,16 @@ def primary(template, hierarchy, seed):
     return loaded(public, sensitive, hierarchy, number(hierarchy, 4))
 
 
-def created(template, random):
+def created(template: Template, random: bytes) -> tuple[Public, Sensitive, int]:
     """The areas of an ordinary object, and how many random bytes its key and its seed took."""
     key = random[: key_bytes(template)]
     size = len(key) + digest_bytes(template.public.name_algorithm)
     return *made(template, key, seed_value=random[len(key) : size]), size
 
 
-def creation_data(template, parent, hierarchy, values, locality):
+def creation_data(
+    template: Template, parent: Object | None, hierarchy: int, values: bytes, locality: int
+) -> bytes:
     """TPMS_CREATION_DATA (Part 2, section 15.1), of the PCRs' values at that time."""
     if parent is None:
         of_parent = number(ALG_NULL, 2) + 2 * sized(number(hierarchy, 4))
@@ -235,7 +241,7 @@ def creation_data(template, parent, hierarchy, values, locality):
     )
 
 
-def creation_ticket(hierarchy, proof, name, creation_hash):
+def creation_ticket(hierarchy: int, proof: bytes, name: bytes, creation_hash: bytes) -> bytes:
     """It shows this device alone that it created an object of this Name (Part 2, 10.7.3)."""
     text = number(frames.ST_CREATION, 2) + name + creation_hash
     return frames.ticket(frames.ST_CREATION, hierarchy, mac(SHA256, proof, text))
@@ -244,26 +250,32 @@ def creation_ticket(hierarchy, proof, name, creation_hash):
 # Private areas: an HMAC, the first block of the cipher, and what is encrypted (Part 1, 22.4).
 
 
-def encrypting_key(parent, name):
+def encrypting_key(parent: Object, name: bytes) -> bytes:
     """A key for each object, as its Name is in it."""
     algorithm, seed = parent.public.name_algorithm, parent.sensitive.seed_value
     return kdfa(algorithm, seed, b"STORAGE", name, b"", AES_KEY_BYTES)
 
 
-def integrity(parent, protected, name):
+def integrity(parent: Object, protected: bytes, name: bytes) -> bytes:
     algorithm, seed = parent.public.name_algorithm, parent.sensitive.seed_value
     key = kdfa(algorithm, seed, b"INTEGRITY", b"", b"", digest_bytes(algorithm))
     return mac(algorithm, key, protected + name)
 
 
-def wrapped(parent, name, sensitive, iv, block_cipher=aes.encrypt_block):
+def wrapped(
+    parent: Object,
+    name: bytes,
+    sensitive: Sensitive,
+    iv: bytes,
+    block_cipher: aes.BlockCipher = aes.encrypt_block,
+) -> bytes:
     key = encrypting_key(parent, name)
     text = aes.cfb_encrypt(key, iv, sized(sensitive.text), block_cipher)
     protected = sized(iv) + text
     return sized(integrity(parent, protected, name)) + protected
 
 
-def read_sensitive(fields):
+def read_sensitive(fields: Parameters) -> Sensitive:
     return Sensitive(
         fields.number(2),
         fields.sized(DIGEST_BYTES),
@@ -272,7 +284,12 @@ def read_sensitive(fields):
     )
 
 
-def unwrapped(parent, public, private, block_cipher=aes.encrypt_block):
+def unwrapped(
+    parent: Object,
+    public: Public,
+    private: bytes,
+    block_cipher: aes.BlockCipher = aes.encrypt_block,
+) -> Sensitive:
     """The sensitive area of a private one that the parent made, for this public area."""
     name, wrong = public.name, Refusal("INTEGRITY/p1", "A5")
     fields = Fields(private)

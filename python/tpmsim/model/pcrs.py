@@ -2,7 +2,13 @@
 17; Part 3, section 22). What of these sections is left to each TPM is that of docs/table.
 """
 
+from __future__ import annotations
+
+from typing import Sequence
+
 from tpmsim.model.general import Answer, Refusal
+from tpmsim.model.held import Held
+from tpmsim.model.parameters import Request
 from tpmsim.standard import frames
 from tpmsim.standard.frames import RH_NULL, SHA1, SHA256, number, sized
 from tpmsim.standard.handle_kinds import PCRS
@@ -17,38 +23,39 @@ VALUES_AT_ONCE, MOST_DIGESTS = 8, 2
 EVENT_BYTES = 1024
 
 
-def starting_value(algorithm, pcr):
+def starting_value(algorithm: int, pcr: int) -> bytes:
     """All ones for the PCRs of a dynamic launch, and zeros for the others."""
     byte = b"\xff" if pcr in DYNAMIC_PCRS else b"\x00"
     return byte * digest_bytes(algorithm)
 
 
-def extended_from(pcr):
+def extended_from(pcr: int) -> Sequence[int]:
     return range(2, 5) if pcr in DYNAMIC_PCRS else LOCALITIES
 
 
-def reset_from(pcr):
+def reset_from(pcr: int) -> Sequence[int]:
     return LOCALITIES if pcr in (16, 23) else (4,) if pcr in DYNAMIC_PCRS else ()
 
 
-def starting_banks():
+def starting_banks() -> dict[int, list[bytes]]:
     """The values of all PCRs, in the bank of each hash algorithm."""
     return {alg: [starting_value(alg, pcr) for pcr in PCRS] for alg in HASHES}
 
 
-class Commands:
+class Commands(Held):
     """The commands on PCRs, of a device that has `banks` and their `update_counter`."""
 
-    def values(self, selection):
+    def values(self, selection: list[tuple[int, list[int]]]) -> bytes:
         """The values of all selected PCRs, in the selection's order."""
         return b"".join(self.banks[bank][pcr] for bank, pcrs in selection for pcr in pcrs)
 
-    def pcr_read(self, handles, parameters, locality, random):
+    def pcr_read(self, request: Request) -> Answer:
         """The update counter, the selection of the values that follow, and these."""
-        asked = parameters.next().selection()
-        parameters.end()
+        asked = request.parameters.next().selection()
+        request.parameters.end()
 
-        selection, values = [], []
+        selection: list[tuple[int, list[int]]] = []
+        values: list[bytes] = []
         for algorithm, pcrs in asked:
             room = VALUES_AT_ONCE - len(values)
             pcrs = pcrs[:room]
@@ -58,7 +65,7 @@ class Commands:
         listed = number(len(values), 4) + b"".join(values)
         return Answer(counter + frames.selection(*selection) + listed)
 
-    def extend(self, handle, values, locality):
+    def extend(self, handle: int, values: list[tuple[int, bytes]], locality: int) -> None:
         """Folds each digest into the PCR's value in its bank; on TPM_RH_NULL nothing is done."""
         if handle == RH_NULL:
             return
@@ -69,27 +76,27 @@ class Commands:
             bank[handle] = digest(algorithm, bank[handle] + value)
             self.update_counter += 1
 
-    def pcr_extend(self, handles, parameters, locality, random):
-        parameters.next()
+    def pcr_extend(self, request: Request) -> Answer:
+        request.parameters.next()
         values = []
-        for _ in range(parameters.count(MOST_DIGESTS)):
-            algorithm = parameters.hash()
-            values.append((algorithm, parameters.take(digest_bytes(algorithm))))
-        parameters.end()
-        self.extend(handles[0], values, locality)
+        for _ in range(request.parameters.count(MOST_DIGESTS)):
+            algorithm = request.parameters.hash()
+            values.append((algorithm, request.parameters.take(digest_bytes(algorithm))))
+        request.parameters.end()
+        self.extend(request.handles[0], values, request.locality)
         return Answer()
 
-    def pcr_event(self, handles, parameters, locality, random):
-        data = parameters.next().sized(EVENT_BYTES)
-        parameters.end()
+    def pcr_event(self, request: Request) -> Answer:
+        data = request.parameters.next().sized(EVENT_BYTES)
+        request.parameters.end()
         values = [(algorithm, digest(algorithm, data)) for algorithm in (SHA1, SHA256)]
-        self.extend(handles[0], values, locality)
+        self.extend(request.handles[0], values, request.locality)
         return Answer(frames.digests(*values))
 
-    def pcr_reset(self, handles, parameters, locality, random):
-        parameters.end()
-        (pcr,) = handles
-        if locality not in reset_from(pcr):
+    def pcr_reset(self, request: Request) -> Answer:
+        request.parameters.end()
+        (pcr,) = request.handles
+        if request.locality not in reset_from(pcr):
             raise Refusal("LOCALITY", "A1")
         for algorithm, bank in self.banks.items():
             bank[pcr] = bytes(digest_bytes(algorithm))

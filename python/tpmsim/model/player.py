@@ -2,7 +2,10 @@
 anything; expected.py reads the scripts of tests/, which have comments that say what must come.
 """
 
+from __future__ import annotations
+
 import re
+from typing import Iterable
 
 from tpmsim.model.machine import Model
 from tpmsim.standard import lines
@@ -18,21 +21,21 @@ class BadLine(Exception):
     """A line that is none of a script's."""
 
 
-def found(form, text):
+def found(form: re.Pattern[bytes], text: bytes) -> re.Match[bytes]:
     match = form.fullmatch(text)
     if not match:
         raise BadLine
     return match
 
 
-def decimal(text, most):
+def decimal(text: bytes, most: int) -> int:
     value = int(found(DECIMAL, text)[1])
     if value > most:
         raise BadLine
     return value
 
 
-def hex_bytes(text):
+def hex_bytes(text: bytes) -> bytes:
     return bytes.fromhex(found(HEX, text)[0].decode("ascii"))
 
 
@@ -41,12 +44,12 @@ class Player:
     the commands, from 1, that are refused memory.
     """
 
-    def __init__(self, device=None, starved=()):
+    def __init__(self, device: Model | None = None, starved: Iterable[int] = ()) -> None:
         self.device, self.locality = device or Model(), 0
         self.random, self.elapsed = bytes(RANDOM_BYTES), 0
         self.starved, self.commands = starved, 0
 
-    def play(self, line):
+    def play(self, line: bytes) -> list[str]:
         """What is printed of a line."""
         word, space, argument = line.partition(b" ")
         if len(line) > LINE_BYTES:
@@ -64,7 +67,7 @@ class Player:
             return self.executed(self.assembled(argument))
         return self.told(word, argument)
 
-    def told(self, word, argument):
+    def told(self, word: bytes, argument: bytes) -> list[str]:
         """A line that executes nothing."""
         if word == b"loc":
             self.locality = decimal(argument, LAST_LOCALITY)
@@ -77,13 +80,13 @@ class Player:
         return []
 
     @staticmethod
-    def assembled(argument):
+    def assembled(argument: bytes) -> bytes:
         try:
             return lines.assemble(argument)
         except lines.Fault:
             raise BadLine from None
 
-    def executed(self, buffer):
+    def executed(self, buffer: bytes) -> list[str]:
         self.commands += 1
         is_starved = self.commands in self.starved
         outcome = self.device.execute(buffer, self.locality, self.random, self.elapsed, is_starved)
@@ -91,7 +94,7 @@ class Player:
         return [lines.traced(outcome, self.locality, elapsed), outcome.response.hex()]
 
 
-def played(text):
+def played(text: bytes) -> tuple[list[tuple[int, str]], str]:
     """What is printed of a script: each line with the number of the script's line that it comes of;
     and what is said on standard error, which is nothing where the script ends well.
     """

@@ -3,30 +3,33 @@
 A trial session is told what need not be so.
 """
 
+from __future__ import annotations
+
 from tpmsim.model import nv_commands, policy_state
 from tpmsim.model.general import Answer, Refusal
-from tpmsim.model.parameters import DIGEST_BYTES
+from tpmsim.model.held import Held
+from tpmsim.model.parameters import Request
 from tpmsim.standard import frames, policy
 from tpmsim.standard.commands import NUMBERED
 from tpmsim.standard.frames import number, sized
-from tpmsim.standard.sessions import digest, digest_bytes
+from tpmsim.standard.sessions import DIGEST_BYTES, digest, digest_bytes
 
 
-class Commands:
+class Commands(Held):
     """The commands, of a device that has `sessions`, the PCRs, and `indices`."""
 
-    def policy_restart(self, handles, parameters, locality, random):
-        parameters.end()
-        session = self.sessions[handles[0]]
+    def policy_restart(self, request: Request) -> Answer:
+        request.parameters.end()
+        session = self.sessions[request.handles[0]]
         session.policy = policy_state.starting_state(session.algorithm)
         return Answer()
 
-    def policy_pcr(self, handles, parameters, locality, random):
-        given = parameters.next().sized(DIGEST_BYTES)
-        selection = parameters.next().selection()
-        parameters.end()
+    def policy_pcr(self, request: Request) -> Answer:
+        given = request.parameters.next().sized(DIGEST_BYTES)
+        selection = request.parameters.next().selection()
+        request.parameters.end()
 
-        session = self.sessions[handles[0]]
+        session = self.sessions[request.handles[0]]
         told, algorithm = session.policy, session.algorithm
         values_digest = digest(algorithm, self.values(selection))
         if not session.is_trial and told.update_counter not in (None, self.update_counter):
@@ -39,36 +42,36 @@ class Commands:
         told.update_counter = self.update_counter
         return Answer()
 
-    def policy_or(self, handles, parameters, locality, random):
-        branches = parameters.next().sized_list(policy.LEAST_BRANCHES, policy.MOST_BRANCHES)
-        parameters.end()
+    def policy_or(self, request: Request) -> Answer:
+        branches = request.parameters.next().sized_list(policy.LEAST_BRANCHES, policy.MOST_BRANCHES)
+        request.parameters.end()
 
-        session = self.sessions[handles[0]]
+        session = self.sessions[request.handles[0]]
         if not session.is_trial and session.policy.digest not in branches:
             raise Refusal("VALUE/p1", "A1")
         session.policy.digest = policy.after_or(session.algorithm, branches)
         return Answer()
 
-    def demanding(self, handles, parameters, demand):
+    def demanding(self, request: Request, demand: str) -> Answer:
         """What the policy's use has to show beside the session, the last demand alone."""
-        parameters.end()
-        session = self.sessions[handles[0]]
+        request.parameters.end()
+        session = self.sessions[request.handles[0]]
         told = session.policy
         told.digest = policy.after_auth_value(session.algorithm, told.digest)
         told.demand = demand
         return Answer()
 
-    def policy_auth_value(self, handles, parameters, locality, random):
-        return self.demanding(handles, parameters, policy.AUTH_VALUE)
+    def policy_auth_value(self, request: Request) -> Answer:
+        return self.demanding(request, policy.AUTH_VALUE)
 
-    def policy_password(self, handles, parameters, locality, random):
-        return self.demanding(handles, parameters, policy.PASSWORD)
+    def policy_password(self, request: Request) -> Answer:
+        return self.demanding(request, policy.PASSWORD)
 
-    def policy_command_code(self, handles, parameters, locality, random):
-        code = parameters.next().number(4)
-        parameters.end()
+    def policy_command_code(self, request: Request) -> Answer:
+        code = request.parameters.next().number(4)
+        request.parameters.end()
 
-        session = self.sessions[handles[0]]
+        session = self.sessions[request.handles[0]]
         told = session.policy
         if told.code not in (None, code):
             raise Refusal("VALUE/p1", "A1")
@@ -78,11 +81,11 @@ class Commands:
         told.code = code
         return Answer()
 
-    def policy_cp_hash(self, handles, parameters, locality, random):
-        cp_hash = parameters.next().sized(DIGEST_BYTES)
-        parameters.end()
+    def policy_cp_hash(self, request: Request) -> Answer:
+        cp_hash = request.parameters.next().sized(DIGEST_BYTES)
+        request.parameters.end()
 
-        session = self.sessions[handles[0]]
+        session = self.sessions[request.handles[0]]
         told, algorithm = session.policy, session.algorithm
         if len(cp_hash) != digest_bytes(algorithm):
             raise Refusal("SIZE/p1", "A1")
@@ -92,11 +95,11 @@ class Commands:
         told.cp_hash = cp_hash
         return Answer()
 
-    def policy_nv_written(self, handles, parameters, locality, random):
-        is_written = bool(parameters.next().one_of(1, (0, 1), "VALUE"))
-        parameters.end()
+    def policy_nv_written(self, request: Request) -> Answer:
+        is_written = bool(request.parameters.next().one_of(1, (0, 1), "VALUE"))
+        request.parameters.end()
 
-        session = self.sessions[handles[0]]
+        session = self.sessions[request.handles[0]]
         told = session.policy
         if told.nv_written not in (None, is_written):
             raise Refusal("VALUE/p1", "A1")
@@ -104,12 +107,12 @@ class Commands:
         told.nv_written = is_written
         return Answer()
 
-    def policy_locality(self, handles, parameters, locality, random):
+    def policy_locality(self, request: Request) -> Answer:
         """The parameter has a bit for each locality; the event's own locality does not matter."""
-        localities = parameters.next().number(1)
-        parameters.end()
+        localities = request.parameters.next().number(1)
+        request.parameters.end()
 
-        session = self.sessions[handles[0]]
+        session = self.sessions[request.handles[0]]
         told = session.policy
         if localities > policy.ALL_LOCALITIES or not localities & told.localities:
             raise Refusal("RANGE/p1", "A1")
@@ -117,14 +120,14 @@ class Commands:
         told.localities &= localities
         return Answer()
 
-    def policy_secret(self, handles, parameters, locality, random):
-        nonce_tpm = parameters.next().sized(DIGEST_BYTES)
-        cp_hash = parameters.next().sized(DIGEST_BYTES)
-        policy_ref = parameters.next().sized(DIGEST_BYTES)
-        expiration = parameters.next().number(4)
-        parameters.end()
+    def policy_secret(self, request: Request) -> Answer:
+        nonce_tpm = request.parameters.next().sized(DIGEST_BYTES)
+        cp_hash = request.parameters.next().sized(DIGEST_BYTES)
+        policy_ref = request.parameters.next().sized(DIGEST_BYTES)
+        expiration = request.parameters.next().number(4)
+        request.parameters.end()
 
-        entity, handle = handles
+        entity, handle = request.handles
         session = self.sessions[handle]
         told, algorithm = session.policy, session.algorithm
         if expiration:
@@ -136,28 +139,24 @@ class Commands:
         other = cp_hash and told.cp_hash not in (None, cp_hash)
         if not session.is_trial and other:
             raise Refusal("CPHASH", "A4")
-        told.digest = policy.after_secret(
-            algorithm, told.digest, self.name(entity), policy_ref
-        )
+        told.digest = policy.after_secret(algorithm, told.digest, self.name(entity), policy_ref)
         told.cp_hash = cp_hash or told.cp_hash
         # Nothing expires, so there is no timeout.
         return Answer(sized(b"") + frames.NULL_TICKET)
 
-    def policy_nv(self, handles, parameters, locality, random):
-        operand, offset, operation = nv_commands.read_policy_nv(parameters)
-        parameters.end()
+    def policy_nv(self, request: Request) -> Answer:
+        operand, offset, operation = nv_commands.read_policy_nv(request.parameters)
+        request.parameters.end()
 
-        asker, handle, told_to = handles
+        asker, handle, told_to = request.handles
         session, index = self.sessions[told_to], self.indices[handle]
         if not session.is_trial:
             nv_commands.check_comparison(index, asker, operand, offset, operation)
         arguments = operand + number(offset, 2) + number(operation, 2)
         told = session.policy
-        told.digest = policy.after_nv(
-            session.algorithm, told.digest, arguments, index.public.name
-        )
+        told.digest = policy.after_nv(session.algorithm, told.digest, arguments, index.public.name)
         return Answer()
 
-    def policy_get_digest(self, handles, parameters, locality, random):
-        parameters.end()
-        return Answer(sized(self.sessions[handles[0]].policy.digest))
+    def policy_get_digest(self, request: Request) -> Answer:
+        request.parameters.end()
+        return Answer(sized(self.sessions[request.handles[0]].policy.digest))

@@ -4,11 +4,18 @@ The equations are those of the TPM 2.0 Library, Part 1, section 19.7 and Part 3,
 is the digest before an assertion; a policy session and a trial session have the same.
 """
 
+from __future__ import annotations
+
 from dataclasses import dataclass
+
+from typing import TYPE_CHECKING
 
 from tpmsim.model.general import Refusal
 from tpmsim.standard.policy import ALL_LOCALITIES
 from tpmsim.standard.sessions import digest_bytes
+
+if TYPE_CHECKING:
+    from tpmsim.model.machine import Session
 
 
 @dataclass
@@ -18,15 +25,15 @@ class State:
     """
 
     digest: bytes
-    update_counter: int = None
-    code: int = None
-    cp_hash: bytes = None
-    nv_written: bool = None
+    update_counter: int | None = None
+    code: int | None = None
+    cp_hash: bytes | None = None
+    nv_written: bool | None = None
     localities: int = ALL_LOCALITIES
-    demand: str = None
+    demand: str | None = None
 
 
-def starting_state(algorithm):
+def starting_state(algorithm: int) -> State:
     return State(bytes(digest_bytes(algorithm)))
 
 
@@ -42,7 +49,7 @@ class Use:
     code: int
     is_admin: bool
     cp_hash: bytes
-    written: bool
+    written: bool | None
     update_counter: int
     locality: int
 
@@ -55,7 +62,7 @@ class Entity:
     auth_policy: bytes
 
 
-def check_use(session, entity, use, place):
+def check_use(session: Session, entity: Entity | None, use: Use, place: int) -> None:
     """What refuses the entry of a place, before its hmac is looked at. `entity` is None where no
     policy can authorize it.
     """

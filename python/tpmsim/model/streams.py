@@ -9,10 +9,13 @@ another on one image. What happens is said in lines:
     dry            for no further command of this run there are random bytes
 """
 
+from __future__ import annotations
+
 import hashlib
+from typing import Iterable, Iterator
 
 from tpmsim.model.image import Fault, image, open_image
-from tpmsim.model.machine import Model
+from tpmsim.model.machine import Model, Outcome
 from tpmsim.standard import frames
 from tpmsim.standard.commands import CC
 from tpmsim.standard.frames import COMMAND_BYTES, HEADER_BYTES
@@ -26,18 +29,18 @@ SIZE_END = 6
 CLOCK_ANSWER_BYTES, TIMES = 35, slice(10, 26)
 
 
-def repeated(random):
+def repeated(random: bytes) -> bytes:
     return (random * RANDOM_BYTES)[:RANDOM_BYTES]
 
 
-def random_of(buffer):
+def random_of(buffer: bytes) -> bytes:
     """The random bytes of a command: they hang on its bytes alone, so that they stay where other
     commands are left out.
     """
     return repeated(hashlib.sha256(buffer).digest()[:7])
 
 
-def without_times(buffer, response):
+def without_times(buffer: bytes, response: bytes) -> bytes:
     """A response as it is compared."""
     is_clock = buffer[6:10] == frames.number(CC.ReadClock, 4)
     if is_clock and len(response) == CLOCK_ANSWER_BYTES:
@@ -45,7 +48,7 @@ def without_times(buffer, response):
     return response
 
 
-def without_clock(device):
+def without_clock(device: Model) -> bytes:
     """An image as it is compared."""
     device.clock = 0
     return image(device)
@@ -56,11 +59,11 @@ class Connection:
     that are cut from them, each with the number of the line that completes it and its response.
     """
 
-    def __init__(self, piece):
+    def __init__(self, piece: int) -> None:
         self.piece, self.sent, self.left, self.has_ended = piece, b"", b"", False
-        self.answered = []
+        self.answered: list[tuple[int, bytes, bytes]] = []
 
-    def send(self, data):
+    def send(self, data: bytes) -> Iterator[bytes]:
         """The commands that are whole with these bytes. A size that no command has is one too, of
         the bytes up to it, and the last one.
         """
@@ -76,7 +79,7 @@ class Connection:
             yield buffer
 
 
-def image_told(text):
+def image_told(text: bytes | None) -> str:
     """What a file holds, as it is compared: no image, or one of a version, or what is none."""
     if text is None:
         return "no image"
@@ -93,14 +96,17 @@ class Run:
     missing, or the image is none.
     """
 
-    def __init__(self, number, locality, image_before, is_given):
+    def __init__(
+        self, number: int, locality: int, image_before: bytes | None, is_given: bool
+    ) -> None:
         self.number, self.locality = number, locality
         self.image_before, self.is_given = image_before, is_given
-        self.random, self.connections, self.image_told = b"", [], None
+        self.random, self.connections = b"", list[Connection]()
+        self.image_told: str | None = None
         self.is_dry, self.error = False, ""
 
     @property
-    def is_over(self):
+    def is_over(self) -> bool:
         return bool(self.error)
 
 
@@ -109,11 +115,13 @@ class Served:
     wrong place does nothing.
     """
 
-    def __init__(self):
-        self.device, self.runs, self.run = None, [], None
-        self.made_of, self.image, self.is_given = bytes(RANDOM_BYTES), None, False
+    def __init__(self) -> None:
+        self.device, self.runs = Model(), list[Run]()
+        self.run: Run | None = None
+        self.image: bytes | None = None
+        self.made_of, self.is_given = bytes(RANDOM_BYTES), False
 
-    def play(self, number, line):
+    def play(self, number: int, line: str) -> list[tuple[bytes, Outcome]]:
         """A line, by its number. Gives the commands that it executes, each with its outcome."""
         word, _, argument = line.partition(" ")
         if word in ("new", "image"):
@@ -129,17 +137,17 @@ class Served:
         elif word == "dry":
             self.run.is_dry = True
         elif word == "send" and self.run.connections:
-            return list(self.executed(number, bytes.fromhex(argument)))
+            return list(self.executed(self.run, number, bytes.fromhex(argument)))
         return []
 
-    def take(self, word, data):
+    def take(self, word: str, data: bytes) -> None:
         self.is_given = word == "image"
         if self.is_given:
             self.image = data
         else:
             self.image, self.made_of = None, repeated(data)
 
-    def begin(self, number, locality):
+    def begin(self, number: int, locality: int) -> None:
         """Where there is no image, a device is made. Behind a run it is the same, without power."""
         self.run = Run(number, locality, self.image, self.is_given)
         self.runs.append(self.run)
@@ -153,7 +161,7 @@ class Served:
             except Fault as fault:
                 self.run.error = f"tpmsim: image {fault}"
 
-    def end(self):
+    def end(self) -> None:
         """A run saves its device where it had a connection."""
         if self.run:
             if self.run.connections:
@@ -161,8 +169,8 @@ class Served:
             self.run.image_told = image_told(self.image)
         self.run = None
 
-    def executed(self, number, data):
-        run, connection = self.run, self.run.connections[-1]
+    def executed(self, run: Run, number: int, data: bytes) -> Iterator[tuple[bytes, Outcome]]:
+        connection = run.connections[-1]
         for buffer in connection.send(data):
             if run.is_dry:
                 run.error = "tpmsim: entropy"
@@ -174,7 +182,7 @@ class Served:
             yield buffer, outcome
 
 
-def played(script):
+def played(script: Iterable[str]) -> list[Run]:
     """The runs that lines say."""
     served = Served()
     for number, line in enumerate(script, 1):

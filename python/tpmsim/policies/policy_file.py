@@ -4,14 +4,13 @@ further in below `either` and `or`.
 
 from dataclasses import dataclass
 
-from tpmsim.audit.words import HASHES
 from tpmsim.policies.policy_rows import EITHER, Fault, NOTHING, NO_DEMAND, OR, STEP, rows_of
 from tpmsim.policies.policy_texts import policy_digest
 from tpmsim.policies.policy_words import Unsaid, read_assertion
 from tpmsim.policies.written import PolicyCpHash, PolicyPcr
 from tpmsim.standard.frames import SHA1, SHA256
 from tpmsim.standard.policy import LEAST_BRANCHES, MOST_BRANCHES
-from tpmsim.standard.sessions import digest_bytes
+from tpmsim.standard.sessions import HASH_WORDS, digest_bytes
 
 ALGORITHMS = SHA256, SHA1
 
@@ -142,4 +141,4 @@ class PolicyFile:
         for algorithm in ALGORITHMS:
             found = self.digests.get(algorithm)
             none = f"none, as the digest of policy line {self.size_line} has {self.size} bytes"
-            yield f"  its digest by {HASHES[algorithm]}: {found.hex() if found else none}"
+            yield f"  its digest by {HASH_WORDS[algorithm]}: {found.hex() if found else none}"

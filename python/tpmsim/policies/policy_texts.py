@@ -18,7 +18,7 @@ class Update:
 
     code: CC
     about: bytes = b""
-    reference: bytes = None
+    reference: bytes | None = None
     apart: tuple = ()
 
 

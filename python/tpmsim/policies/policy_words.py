@@ -3,7 +3,6 @@
 from dataclasses import dataclass
 from typing import Callable
 
-from tpmsim.model.parameters import DIGEST_BYTES
 from tpmsim.policies.written import OPERATIONS, PolicyAuthValue, PolicyCommandCode, PolicyCpHash
 from tpmsim.policies.written import PolicyLocality, PolicyNv, PolicyNvWritten, PolicyPassword
 from tpmsim.policies.written import PolicyPcr, PolicySecret
@@ -12,7 +11,7 @@ from tpmsim.standard.commands import CC
 from tpmsim.standard.frames import SHA1, SHA256, number
 from tpmsim.standard.handle_kinds import HIERARCHIES
 from tpmsim.standard.lines import HANDLE_NAMES, Wrong, bytes_of, number_up_to, spelled_selection
-from tpmsim.standard.sessions import digest_bytes, name_of
+from tpmsim.standard.sessions import DIGEST_BYTES, digest_bytes, name_of
 
 LOCALITIES = {b"0", b"1", b"2", b"3", b"4"}
 

@@ -12,7 +12,7 @@ ROUNDS = 10
 BlockCipher = Callable[[bytes, bytes], bytes]
 
 
-def times(a, b):
+def times(a: int, b: int) -> int:
     """The product in GF(2^8) modulo x^8 + x^4 + x^3 + x + 1."""
     product = 0
     for bit in range(8):
@@ -24,7 +24,7 @@ def times(a, b):
     return product
 
 
-def substitute(byte):
+def substitute(byte: int) -> int:
     """The inverse (0 for 0), and then the affine map."""
     inverse = next((it for it in range(256) if times(byte, it) == 1), 0)
     turned = [inverse << n | inverse >> (8 - n) for n in range(5)]
@@ -34,12 +34,12 @@ def substitute(byte):
 S_BOX = [substitute(byte) for byte in range(256)]
 
 
-def xor(left, right):
+def xor(left: bytes, right: bytes) -> bytes:
     """As many bytes as the shorter has."""
     return bytes(a ^ b for a, b in zip(left, right))
 
 
-def round_keys(key):
+def round_keys(key: bytes) -> list[bytes]:
     """The eleven keys of the rounds, of four words each."""
     words, constant = [key[at : at + 4] for at in range(0, BLOCK, 4)], 1
     while len(words) < 4 * (ROUNDS + 1):
@@ -52,12 +52,12 @@ def round_keys(key):
     return [b"".join(words[at : at + 4]) for at in range(0, len(words), 4)]
 
 
-def shift_rows(state):
+def shift_rows(state: bytes) -> bytes:
     """Byte r + 4c is row r, column c; row r turns by r."""
     return bytes(state[(at + 4 * (at % 4)) % BLOCK] for at in range(BLOCK))
 
 
-def mix_columns(state):
+def mix_columns(state: bytes) -> bytes:
     mixed = []
     for column in (state[at : at + 4] for at in range(0, BLOCK, 4)):
         for row in range(4):
@@ -66,7 +66,7 @@ def mix_columns(state):
     return bytes(mixed)
 
 
-def encrypt_block(key, block):
+def encrypt_block(key: bytes, block: bytes) -> bytes:
     first, *middle, last = round_keys(key)
     state = xor(block, first)
     for round_key in middle:

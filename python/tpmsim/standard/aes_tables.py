@@ -8,12 +8,12 @@ from tpmsim.standard import aes
 WORD = 0xFFFF_FFFF
 
 
-def turned(word):
+def turned(word: int) -> int:
     """A word of four bytes, its last byte first."""
     return word >> 8 | word << 24 & WORD
 
 
-def column_of(byte):
+def column_of(byte: int) -> int:
     """What a byte in row 0 adds to its column in a round."""
     substituted = aes.S_BOX[byte]
     doubled, tripled = aes.times(substituted, 2), aes.times(substituted, 3)
@@ -27,11 +27,11 @@ ROW_3 = [turned(it) for it in ROW_2]
 
 
 @functools.lru_cache(maxsize=256)
-def key_words(key):
+def key_words(key: bytes) -> tuple[int, ...]:
     return struct.unpack(">44I", b"".join(aes.round_keys(key)))
 
 
-def mixed(columns, words):
+def mixed(columns: tuple[int, ...], words: tuple[int, ...]) -> tuple[int, int, int, int]:
     """A round that mixes, of four columns."""
     a, b, c, d = columns
     return (
@@ -49,4 +49,3 @@ def encrypt_block(key: bytes, block: bytes) -> bytes:
         columns = mixed(columns, words[at : at + 4])
     state = struct.pack(">4I", *columns).translate(bytes(aes.S_BOX))
     return aes.xor(aes.shift_rows(state), struct.pack(">4I", *words[-4:]))
-

@@ -7,6 +7,8 @@ It is a module and not a file of data, so that a name which is misspelt is found
 and what stands on it has no reader of its own and no second file to be shipped beside it.
 """
 
+from __future__ import annotations
+
 import enum
 import re
 from dataclasses import dataclass
@@ -70,7 +72,8 @@ class Fact(enum.Flag):
     KEEPS_SAVED = enum.auto()
 
 
-NO_SESSIONS, ADMIN, READS_NV, KEEPS_SAVED = Fact
+NO_SESSIONS, ADMIN = Fact.NO_SESSIONS, Fact.ADMIN
+READS_NV, KEEPS_SAVED = Fact.READS_NV, Fact.KEEPS_SAVED
 
 
 @dataclass(frozen=True)
@@ -116,7 +119,7 @@ class CC(enum.IntEnum):
     answered_parameters: tuple[Parameter, ...]
     facts: Fact
 
-    def __new__(cls, number: int, asked: str = "", answered: str = "", facts: Fact = Fact(0)):
+    def __new__(cls, number: int, asked: str = "", answered: str = "", facts: Fact = Fact(0)) -> CC:
         it = int.__new__(cls, number)
         it._value_ = number
         it.handles, it.parameters = read_fields(asked)

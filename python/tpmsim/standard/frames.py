@@ -1,6 +1,12 @@
 """Frames of TPM 2.0 commands and responses, byte by byte (TPM 2.0 Library, Part 1, section 18)."""
 
+from __future__ import annotations
+
 from dataclasses import dataclass
+from typing import Iterable
+
+# PCRs of banks: the hash algorithm of each, and the numbers.
+Banks = Iterable[tuple[int, Iterable[int]]]
 
 NO_SESSIONS, SESSIONS, BAD_TAG_ANSWER = 0x8001, 0x8002, 0x00C4
 
@@ -79,12 +85,12 @@ CODES = {
 PLACES = {"h": 0, "p": 0x040, "s": 0x800}
 
 
-def number(value, size):
+def number(value: int, size: int) -> bytes:
     """A number of so many bytes, the highest first."""
     return value.to_bytes(size, "big")
 
 
-def sized(data):
+def sized(data: bytes) -> bytes:
     """A buffer behind its size in two bytes."""
     return number(len(data), 2) + data
 
@@ -103,39 +109,45 @@ class Entry:
     nonce: bytes
     attributes: int
     hmac: bytes
-    demand: str = None
+    demand: str | None = None
 
 
-def command(code, body, tag=NO_SESSIONS, size=None):
+def command(code: int, body: bytes, tag: int = NO_SESSIONS, size: int | None = None) -> bytes:
     """A command; commandSize is right where no other is given."""
     length = 10 + len(body) if size is None else size
     return number(tag, 2) + number(length, 4) + number(code, 4) + body
 
 
-def entry(session=RS_PW, nonce=b"", attributes=CONTINUE_SESSION, hmac=b""):
+def entry(
+    session: int = RS_PW, nonce: bytes = b"", attributes: int = CONTINUE_SESSION, hmac: bytes = b""
+) -> bytes:
     """An entry of an authorization area; with nothing given, the empty password."""
     return number(session, 4) + sized(nonce) + number(attributes, 1) + sized(hmac)
 
 
-def area(*entries, size=None):
+def area(*entries: bytes, size: int | None = None) -> bytes:
     """An authorization area; authorizationSize is right where no other is given."""
     text = b"".join(entries)
     return number(len(text) if size is None else size, 4) + text
 
 
-def on_handles(code, handles, parameters=b"", entries=None):
+def on_handles(
+    code: int, handles: Iterable[int], parameters: bytes = b"", entries: list[bytes] | None = None
+) -> bytes:
     """A command with handles, and the entries that authorize the first, or the empty password."""
     text = b"".join(number(it, 4) for it in handles)
     text += area(*([entry()] if entries is None else entries))
     return command(code, text + parameters, SESSIONS)
 
 
-def on_handle(code, handle, parameters=b"", entries=None):
+def on_handle(
+    code: int, handle: int, parameters: bytes = b"", entries: list[bytes] | None = None
+) -> bytes:
     """A command with one handle."""
     return on_handles(code, [handle], parameters, entries)
 
 
-def symmetric(aes=False, xor=None):
+def symmetric(aes: bool = False, xor: int | None = None) -> bytes:
     """What a session encrypts by: AES-128 in mode CFB, masks that a hash algorithm makes, or
     nothing.
     """
@@ -147,21 +159,21 @@ def symmetric(aes=False, xor=None):
 
 
 def start_auth_session(
-    nonce,
-    bind=RH_NULL,
-    algorithm=SHA256,
-    aes=False,
-    tpm_key=RH_NULL,
-    salt=b"",
-    kind=SE_HMAC,
-    xor=None,
-):
+    nonce: bytes,
+    bind: int = RH_NULL,
+    algorithm: int = SHA256,
+    aes: bool = False,
+    tpm_key: int = RH_NULL,
+    salt: bytes = b"",
+    kind: int = SE_HMAC,
+    xor: int | None = None,
+) -> tuple[list[int], bytes]:
     """The handles of TPM2_StartAuthSession and its parameters."""
     parameters = sized(nonce) + sized(salt) + number(kind, 1)
     return [tpm_key, bind], parameters + symmetric(aes, xor) + number(algorithm, 2)
 
 
-def selection(*banks):
+def selection(*banks: tuple[int, Iterable[int]]) -> bytes:
     """A selection of PCRs: for each bank its hash algorithm and the numbers of its PCRs."""
     text = number(len(banks), 4)
     for algorithm, pcrs in banks:
@@ -170,73 +182,84 @@ def selection(*banks):
     return text
 
 
-def digests(*values):
+def digests(*values: tuple[int, bytes]) -> bytes:
     """A list of digests, each behind its hash algorithm."""
     return number(len(values), 4) + b"".join(number(alg, 2) + digest for alg, digest in values)
 
 
-def sized_list(*values, count=None):
+def sized_list(*values: bytes, count: int | None = None) -> bytes:
     """A list of sized buffers; its count is right where no other is given."""
     return number(len(values) if count is None else count, 4) + b"".join(map(sized, values))
 
 
-def policy_secret(nonce_tpm=b"", cp_hash=b"", policy_ref=b"", expiration=0):
+def policy_secret(
+    nonce_tpm: bytes = b"", cp_hash: bytes = b"", policy_ref: bytes = b"", expiration: int = 0
+) -> bytes:
     """The parameters of TPM2_PolicySecret."""
     return sized(nonce_tpm) + sized(cp_hash) + sized(policy_ref) + number(expiration, 4)
 
 
-def attack_parameters(max_tries, recovery_time, lockout_recovery):
+def attack_parameters(max_tries: int, recovery_time: int, lockout_recovery: int) -> bytes:
     """The parameters of TPM2_DictionaryAttackParameters."""
     return b"".join(number(it, 4) for it in (max_tries, recovery_time, lockout_recovery))
 
 
-def policy_nv(operand=b"", offset=0, operation=0):
+def policy_nv(operand: bytes = b"", offset: int = 0, operation: int = 0) -> bytes:
     """The parameters of TPM2_PolicyNV."""
     return sized(operand) + number(offset, 2) + number(operation, 2)
 
 
-def nv_public_area(index, name_algorithm, attributes, auth_policy, data_size):
+def nv_public_area(
+    index: int, name_algorithm: int, attributes: int, auth_policy: bytes, data_size: int
+) -> bytes:
     """A TPMS_NV_PUBLIC."""
     head = number(index, 4) + number(name_algorithm, 2) + number(attributes, 4)
     return head + sized(auth_policy) + number(data_size, 2)
 
 
-def nv_define_space(public, auth=b""):
+def nv_define_space(public: bytes, auth: bytes = b"") -> bytes:
     """The parameters of TPM2_NV_DefineSpace, of a public area's text."""
     return sized(auth) + sized(public)
 
 
-def nv_write(data, offset=0):
+def nv_write(data: bytes, offset: int = 0) -> bytes:
     """The parameters of TPM2_NV_Write."""
     return sized(data) + number(offset, 2)
 
 
-def nv_read(size, offset=0):
+def nv_read(size: int, offset: int = 0) -> bytes:
     """The parameters of TPM2_NV_Read."""
     return number(size, 2) + number(offset, 2)
 
 
-def sensitive_create(user_auth=b"", data=b""):
+def sensitive_create(user_auth: bytes = b"", data: bytes = b"") -> bytes:
     """A TPM2B_SENSITIVE_CREATE: what an object is to have as its authorization value, and what is
     to be sealed, or used as its key.
     """
     return sized(sized(user_auth) + sized(data))
 
 
-def scheme(algorithm):
+def scheme(algorithm: int) -> bytes:
     """How a KEYEDHASH makes HMACs: by a hash algorithm, or by one that its user names."""
     if algorithm == ALG_NULL:
         return number(ALG_NULL, 2)
     return number(ALG_HMAC, 2) + number(algorithm, 2)
 
 
-def public_area(kind, name_algorithm, attributes, auth_policy, details, unique):
+def public_area(
+    kind: int,
+    name_algorithm: int,
+    attributes: int,
+    auth_policy: bytes,
+    details: bytes,
+    unique: bytes,
+) -> bytes:
     """A TPMT_PUBLIC; its details are a KEYEDHASH's scheme, or the cipher of a SYMCIPHER."""
     head = number(kind, 2) + number(name_algorithm, 2) + number(attributes, 4)
     return head + sized(auth_policy) + details + sized(unique)
 
 
-def creation(sensitive, public, outside_info=b"", pcrs=()):
+def creation(sensitive: bytes, public: bytes, outside_info: bytes = b"", pcrs: Banks = ()) -> bytes:
     """The parameters of TPM2_CreatePrimary and TPM2_Create, of which the first two have their
     sizes already.
     """
@@ -248,7 +271,7 @@ def creation(sensitive, public, outside_info=b"", pcrs=()):
 ST_CREATION, ST_AUTH_SECRET = 0x8021, 0x8023
 
 
-def ticket(tag, hierarchy, digest):
+def ticket(tag: int, hierarchy: int, digest: bytes) -> bytes:
     return number(tag, 2) + number(hierarchy, 4) + sized(digest)
 
 
@@ -259,13 +282,13 @@ NULL_TICKET = ticket(ST_AUTH_SECRET, RH_NULL, b"")
 # Responses.
 
 
-def refusal(code):
+def refusal(code: int) -> bytes:
     """Ten bytes: the tag, the size and the code."""
     tag = BAD_TAG_ANSWER if code == CODES["BAD_TAG"] else NO_SESSIONS
     return number(tag, 2) + number(10, 4) + number(code, 4)
 
 
-def success(answer, entries=None, handle=b""):
+def success(answer: bytes, entries: list[bytes] | None = None, handle: bytes = b"") -> bytes:
     """A success, of the handle that is answered, if any, the parameters, and with sessions the
     answers to the entries."""
     if entries is None:
@@ -275,7 +298,9 @@ def success(answer, entries=None, handle=b""):
     return number(tag, 2) + number(10 + len(body), 4) + number(0, 4) + body
 
 
-def entry_answer(nonce=b"", attributes=CONTINUE_SESSION, hmac=b""):
+def entry_answer(
+    nonce: bytes = b"", attributes: int = CONTINUE_SESSION, hmac: bytes = b""
+) -> bytes:
     """What answers an entry; with nothing given, a password."""
     return sized(nonce) + number(attributes, 1) + sized(hmac)
 
@@ -291,7 +316,7 @@ def spelled_code(code: int) -> tuple[str, str]:
     return names.get(code, ""), place
 
 
-def code_of(name):
+def code_of(name: str) -> int:
     """The number of a code such as HASH/p1: the code's, and what its place adds."""
     code, slash, place = name.partition("/")
     added = PLACES[place[0]] + 0x100 * int(place[1:]) if slash else 0

@@ -11,76 +11,76 @@ HIERARCHIES = (RH_OWNER, RH_ENDORSEMENT, RH_PLATFORM, RH_LOCKOUT)
 PRIMARY_HIERARCHIES = (RH_OWNER, RH_ENDORSEMENT, RH_PLATFORM, RH_NULL)
 
 
-def first_byte(handle):
+def first_byte(handle: int) -> int:
     return handle >> 24
 
 
-def is_pcr(handle):
+def is_pcr(handle: int) -> bool:
     return handle in PCRS
 
 
-def is_pcr_or_null(handle):
+def is_pcr_or_null(handle: int) -> bool:
     return is_pcr(handle) or handle == RH_NULL
 
 
-def is_null(handle):
+def is_null(handle: int) -> bool:
     return handle == RH_NULL
 
 
-def is_hierarchy(handle):
+def is_hierarchy(handle: int) -> bool:
     return handle in HIERARCHIES
 
 
-def is_lockout(handle):
+def is_lockout(handle: int) -> bool:
     return handle == RH_LOCKOUT
 
 
-def clears(handle):
+def clears(handle: int) -> bool:
     """A hierarchy that may clear the owner's things, and say whether that is allowed."""
     return handle in (RH_LOCKOUT, RH_PLATFORM)
 
 
-def has_primaries(handle):
+def has_primaries(handle: int) -> bool:
     """A hierarchy that can have objects."""
     return handle in PRIMARY_HIERARCHIES
 
 
-def is_object(handle):
+def is_object(handle: int) -> bool:
     """The handle of an object, transient or persistent, whether that is there or not."""
     return first_byte(handle) in (TRANSIENT, PERSISTENT)
 
 
-def is_policy(handle):
+def is_policy(handle: int) -> bool:
     """The handle of a policy or a trial session, whether that is there or not."""
     return first_byte(handle) == POLICY_SESSION
 
 
-def is_index(handle):
+def is_index(handle: int) -> bool:
     """The handle of an NV index, whether that is defined or not."""
     return first_byte(handle) == NV
 
 
-def defines_indices(handle):
+def defines_indices(handle: int) -> bool:
     """A hierarchy that defines NV indices and makes objects persistent, and takes both away."""
     return handle in (RH_OWNER, RH_PLATFORM)
 
 
-def uses_indices(handle):
+def uses_indices(handle: int) -> bool:
     """Who can ask for an NV index: a hierarchy that defines them, or the index itself."""
     return defines_indices(handle) or is_index(handle)
 
 
-def is_authorized_entity(handle):
+def is_authorized_entity(handle: int) -> bool:
     """What has an authorization value of its own."""
     return is_pcr(handle) or is_hierarchy(handle) or is_object(handle) or is_index(handle)
 
 
-def is_entity(handle):
+def is_entity(handle: int) -> bool:
     """What a session can be bound to, or bound to nothing by."""
     return is_authorized_entity(handle) or is_null(handle)
 
 
-def is_session(handle):
+def is_session(handle: int) -> bool:
     """The handle of a session of any type, whether that is there or not."""
     return first_byte(handle) in (HMAC_SESSION, POLICY_SESSION)
 

@@ -5,16 +5,23 @@ space between two tokens. `assemble` makes the buffer of a line, and `line_of` f
 buffer. A line is bytes, since one that is wrong may be anything.
 """
 
+from __future__ import annotations
+
 import re
 from dataclasses import dataclass
-from typing import Callable
+from typing import Any, Callable, Iterator, TYPE_CHECKING, TypeVar
 
 from tpmsim.standard import frames, handle_kinds
 from tpmsim.standard.commands import CC, HandleKind, Kind, NUMBERED
-from tpmsim.standard.frames import AES, ALG_NULL, CONTINUE_SESSION, NO_SESSIONS, RS_PW, SESSIONS
-from tpmsim.standard.frames import SHA1, SHA256, XOR, number, sized
+from tpmsim.standard.frames import AES, ALG_NULL, CONTINUE_SESSION, Entry, NO_SESSIONS, RS_PW
+from tpmsim.standard.frames import SESSIONS, SHA1, SHA256, XOR, number, sized
 from tpmsim.standard.reading import Fields, Short
 from tpmsim.standard.sessions import digest_bytes
+
+if TYPE_CHECKING:
+    from tpmsim.model.machine import Outcome
+
+T = TypeVar("T")
 
 BAD_NAME, BAD_FIELD, MISSING = "BadName", "BadField", "Missing"
 RANGE, TOO_LONG = "Range", "TooLong"
@@ -23,7 +30,7 @@ RANGE, TOO_LONG = "Range", "TooLong"
 class Fault(Exception):
     """Why a line is none: the fault's name, and with some the column of the token, from 1."""
 
-    def __init__(self, name, column=None):
+    def __init__(self, name: str, column: int | None = None) -> None:
         super().__init__(name if column is None else f"{name} {column}")
 
 
@@ -54,7 +61,7 @@ HANDLE_NAMES = {
 }
 
 
-def of_form(form, token):
+def of_form(form: re.Pattern[bytes], token: bytes) -> re.Match[bytes]:
     """What a token is in a form, where it is of that."""
     found = form.fullmatch(token)
     if not found:
@@ -62,7 +69,7 @@ def of_form(form, token):
     return found
 
 
-def number_up_to(most, token):
+def number_up_to(most: int, token: bytes) -> int:
     in_hex, in_decimal = of_form(NUMBER, token).groups()
     digits = (in_hex or in_decimal).lstrip(b"0") or b"0"
     if len(digits) > MOST_DIGITS:
@@ -73,34 +80,34 @@ def number_up_to(most, token):
     return value
 
 
-def bytes_of(token):
+def bytes_of(token: bytes) -> bytes:
     """The bytes of a buffer."""
     if token == NOTHING:
         return b""
     return bytes.fromhex(of_form(HEX, token)[0].decode("ascii"))
 
 
-def handle_of(token):
+def handle_of(token: bytes) -> int:
     if token in HANDLE_NAMES:
         return HANDLE_NAMES[token]
     return int(of_form(HANDLE, token)[0], 16)
 
 
-def hex_word(data):
+def hex_word(data: bytes) -> str:
     return data.hex() or NOTHING.decode("ascii")
 
 
-def handle_word(handle):
+def handle_word(handle: int) -> str:
     return word_in(HANDLE_NAMES, handle, f"{handle:08x}")
 
 
-def value_in(words, token):
+def value_in(words: dict[bytes, T], token: bytes) -> T:
     if token not in words:
         raise Wrong(BAD_FIELD)
     return words[token]
 
 
-def word_in(words, value, other=None):
+def word_in(words: dict[bytes, Any], value: bytes | int, other: str | None = None) -> str:
     """The word of a value, or another way to say it."""
     for word, meant in words.items():
         if meant == value:
@@ -136,7 +143,7 @@ class Words:
     word: Callable
 
 
-def integer(size, shown="{}"):
+def integer(size: int, shown: str = "{}") -> Words:
     most = 2 ** (8 * size) - 1
     return Words(
         f"u{8 * size}",
@@ -145,69 +152,69 @@ def integer(size, shown="{}"):
     )
 
 
-def spelled_buffer(token):
+def spelled_buffer(token: bytes) -> bytes:
     data = bytes_of(token)
     # A longer one makes the command too long in any case.
     return number(min(len(data), 0xFFFF), 2) + data
 
 
-def pieces(token):
+def pieces(token: bytes) -> list[bytes]:
     return token.split(JOIN)
 
 
-def joined(words):
+def joined(words: list[str]) -> str:
     return JOIN.decode("ascii").join(words) or NOTHING.decode("ascii")
 
 
-def counted(spelled):
+def counted(spelled: list[bytes]) -> bytes:
     return number(len(spelled), 4) + b"".join(spelled)
 
 
-def items(fields, word):
+def items(fields: Fields, word: Callable[..., Any]) -> list[str]:
     """The words of a list that has its count in front."""
     return [word(fields) for _ in range(fields.number(4))]
 
 
-def spelled_list(token):
+def spelled_list(token: bytes) -> bytes:
     return counted([spelled_buffer(it) for it in pieces(token)])
 
 
-def buffer_word(fields):
+def buffer_word(fields: Fields) -> str:
     return hex_word(fields.sized())
 
 
-def list_word(fields):
+def list_word(fields: Fields) -> str:
     return joined(items(fields, buffer_word))
 
 
-def hash_and_rest(piece):
+def hash_and_rest(piece: bytes) -> tuple[int, bytes]:
     """The hash algorithm of a piece, and what stands behind its colon."""
     name, _, rest = piece.partition(b":")
     return value_in(HASHES, name), rest
 
 
-def spelled_bank(piece):
+def spelled_bank(piece: bytes) -> bytes:
     algorithm, rest = hash_and_rest(piece)
     pcrs = [number_up_to(handle_kinds.PCRS[-1], it) for it in rest.split(b",")]
     return frames.selection((algorithm, pcrs))[4:]
 
 
-def spelled_selection(token):
+def spelled_selection(token: bytes) -> bytes:
     return counted([] if token == NOTHING else [spelled_bank(it) for it in pieces(token)])
 
 
-def bank_word(fields):
+def bank_word(fields: Fields) -> str:
     name = word_in(HASHES, fields.number(2))
     fields.take(1)
     bits = int.from_bytes(fields.take(3), "little")
     return f"{name}:" + ",".join(str(pcr) for pcr in handle_kinds.PCRS if bits >> pcr & 1)
 
 
-def selection_word(fields):
+def selection_word(fields: Fields) -> str:
     return joined(items(fields, bank_word))
 
 
-def spelled_digest(piece):
+def spelled_digest(piece: bytes) -> bytes:
     algorithm, rest = hash_and_rest(piece)
     digest = bytes_of(rest)
     if len(digest) != digest_bytes(algorithm):
@@ -215,25 +222,25 @@ def spelled_digest(piece):
     return number(algorithm, 2) + digest
 
 
-def spelled_digests(token):
+def spelled_digests(token: bytes) -> bytes:
     return counted([] if token == NOTHING else [spelled_digest(it) for it in pieces(token)])
 
 
-def digest_word(fields):
+def digest_word(fields: Fields) -> str:
     algorithm = fields.number(2)
     name = word_in(HASHES, algorithm)
     return f"{name}:{fields.take(digest_bytes(algorithm)).hex()}"
 
 
-def digests_word(fields):
+def digests_word(fields: Fields) -> str:
     return joined(items(fields, digest_word))
 
 
-def spelled_cipher(token):
+def spelled_cipher(token: bytes) -> bytes:
     return value_in(CIPHERS, token)
 
 
-def cipher_word(fields):
+def cipher_word(fields: Fields) -> str:
     algorithm = fields.number(2)
     behind = fields.take(BEHIND_CIPHER.get(algorithm, 0))
     return word_in(CIPHERS, number(algorithm, 2) + behind)
@@ -296,11 +303,11 @@ def words_of_parameters(code: CC) -> list[Words]:
 PASSWORD_PREFIX, SESSION_PREFIX = b"pw:", b"s:"
 
 
-def is_entry(token):
+def is_entry(token: bytes) -> bool:
     return token.startswith((PASSWORD_PREFIX, SESSION_PREFIX))
 
 
-def spelled_entry(token):
+def spelled_entry(token: bytes) -> bytes:
     if token.startswith(PASSWORD_PREFIX):
         password = spelled_buffer(token.removeprefix(PASSWORD_PREFIX))
         return number(RS_PW, 4) + sized(b"") + number(CONTINUE_SESSION, 1) + password
@@ -314,7 +321,7 @@ def spelled_entry(token):
     return head + bytes_of(attributes) + spelled_buffer(hmac)
 
 
-def entry_word(entry):
+def entry_word(entry: Entry) -> str:
     """An entry of the password, in the one form that a password has, or of a session."""
     hmac = hex_word(entry.hmac)
     if (entry.handle, entry.nonce, entry.attributes) == (RS_PW, b"", CONTINUE_SESSION):
@@ -329,29 +336,30 @@ def entry_word(entry):
 class Tokens:
     """The tokens of a line, taken from the front; the first fault ends it."""
 
-    def __init__(self, line):
+    def __init__(self, line: bytes) -> None:
         self.left, self.column = line.split(b" "), 1
 
-    def is_next(self, test):
+    def is_next(self, test: Callable[..., Any]) -> bool:
         return bool(self.left) and test(self.left[0])
 
-    def take(self, spelled):
+    def take(self, spelled: Callable[[bytes], T]) -> T:
         """What the next token spells."""
         if not self.left:
             raise Fault(MISSING)
         try:
             value = spelled(self.left[0])
         except Wrong as wrong:
-            raise Fault(*wrong.args, self.column) from None
+            (name,) = wrong.args
+            raise Fault(name, self.column) from None
         self.column += len(self.left.pop(0)) + 1
         return value
 
-    def end(self):
+    def end(self) -> None:
         if self.left:
             raise Fault(BAD_FIELD, self.column)
 
 
-def code_of(token):
+def code_of(token: bytes) -> CC:
     """The command of a line's first token."""
     name = token.decode("ascii", "replace")
     if name not in CC.__members__:
@@ -359,12 +367,12 @@ def code_of(token):
     return CC[name]
 
 
-def assemble(line):
+def assemble(line: bytes) -> bytes:
     """The buffer of a line."""
     tokens = Tokens(line)
     code = tokens.take(code_of)
     handles = [number(tokens.take(handle_of), 4) for _ in code.handles]
-    entries = []
+    entries: list[bytes] = []
     while len(entries) < frames.MOST_ENTRIES and tokens.is_next(is_entry):
         entries.append(tokens.take(spelled_entry))
     parameters = [tokens.take(it.spelled) for it in words_of_parameters(code)]
@@ -378,7 +386,7 @@ def assemble(line):
     return buffer
 
 
-def line_of(buffer):
+def line_of(buffer: bytes) -> str | None:
     """The line of a buffer, or None where no line assembles to it."""
     try:
         line = " ".join(words_of(Fields(buffer)))
@@ -387,7 +395,7 @@ def line_of(buffer):
         return None
 
 
-def words_of(fields):
+def words_of(fields: Fields) -> list[str]:
     tag = fields.number(2)
     fields.take(4)
     code = NUMBERED.get(fields.number(4))
@@ -401,7 +409,7 @@ def words_of(fields):
     return [code.name, *handles, *entries, *parameters]
 
 
-def entry_words(area):
+def entry_words(area: Fields) -> Iterator[str]:
     while area.data:
         entry = frames.Entry(area.number(4), area.sized(), area.number(1), area.sized())
         yield entry_word(entry)
@@ -410,7 +418,7 @@ def entry_words(area):
 # The trace.
 
 
-def traced(outcome, locality, elapsed):
+def traced(outcome: Outcome, locality: int, elapsed: int) -> str:
     """What is traced of a command's event: the name, the locality, the elapsed milliseconds, the
     check and the response code. A command that was refused before it was known has no name.
     """

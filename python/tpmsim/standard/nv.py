@@ -1,5 +1,7 @@
 """The public areas of NV indices (TPM 2.0 Library, Part 2, section 13)."""
 
+from __future__ import annotations
+
 import enum
 from dataclasses import dataclass, replace
 
@@ -50,13 +52,11 @@ class Type(enum.IntEnum):
 TYPE_SHIFT, TYPE_MASK = 4, 0xF
 NAMED = sum(Attribute) | TYPE_MASK << TYPE_SHIFT
 
-WRITES = (
-    Attribute.PPWRITE | Attribute.OWNERWRITE | Attribute.AUTHWRITE | Attribute.POLICYWRITE
-)
+WRITES = Attribute.PPWRITE | Attribute.OWNERWRITE | Attribute.AUTHWRITE | Attribute.POLICYWRITE
 READS = Attribute.PPREAD | Attribute.OWNERREAD | Attribute.AUTHREAD | Attribute.POLICYREAD
 
 
-def of_type(kind):
+def of_type(kind: int) -> int:
     """The bits of the attributes that say what an index is."""
     return kind << TYPE_SHIFT
 
@@ -71,22 +71,22 @@ class Public:
     auth_policy: bytes = b""
     data_size: int = NUMBER_BYTES
 
-    def has(self, attribute):
+    def has(self, attribute: Attribute) -> bool:
         return bool(self.attributes & attribute)
 
     @property
-    def kind(self):
+    def kind(self) -> int:
         """The number of its type, which is not that of a `Type` in every one that is asked for."""
         return self.attributes >> TYPE_SHIFT & TYPE_MASK
 
     @property
-    def text(self):
+    def text(self) -> bytes:
         return frames.nv_public_area(
             self.index, self.name_algorithm, self.attributes, self.auth_policy, self.data_size
         )
 
     @property
-    def name(self):
+    def name(self) -> bytes:
         return number(self.name_algorithm, 2) + digest(self.name_algorithm, self.text)
 
     @classmethod
@@ -99,5 +99,5 @@ class Public:
             raise ValueError("bytes are left behind a public area")
         return public
 
-    def but(self, added=0, cleared=0):
+    def but(self, added: int = 0, cleared: int = 0) -> Public:
         return replace(self, attributes=self.attributes & ~cleared | added)

@@ -41,26 +41,21 @@ class Public:
     scheme: int = ALG_NULL
     unique: bytes = b""
 
-    def has(self, attribute):
+    def has(self, attribute: Attribute) -> bool:
         return bool(self.attributes & attribute)
 
     @property
-    def text(self):
+    def text(self) -> bytes:
         if self.kind == KEYEDHASH:
             details = frames.scheme(self.scheme)
         else:
             details = frames.symmetric(aes=True)
         return frames.public_area(
-            self.kind,
-            self.name_algorithm,
-            self.attributes,
-            self.auth_policy,
-            details,
-            self.unique,
+            self.kind, self.name_algorithm, self.attributes, self.auth_policy, details, self.unique
         )
 
     @property
-    def name(self):
+    def name(self) -> bytes:
         text_digest = digest(self.name_algorithm, self.text)
         return number(self.name_algorithm, 2) + text_digest
 
@@ -80,7 +75,7 @@ class Public:
         return public
 
     @property
-    def is_parent(self):
+    def is_parent(self) -> bool:
         """Whether it is that of a storage parent: a restricted decryption key."""
         wanted = Attribute.RESTRICTED | Attribute.DECRYPT
         asked = wanted | Attribute.SIGN

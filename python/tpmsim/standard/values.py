@@ -67,7 +67,8 @@ class HasText(Protocol):
     """A structure that fills a sized buffer, such as a public area."""
 
     @property
-    def text(self) -> bytes: ...
+    def text(self) -> bytes:
+        ...
 
 
 class Values(NamedTuple):

@@ -73,16 +73,16 @@ def restores_16_too(self):
         bank[16] = max(bank[:16])
 
 
-def counts_from_1(self, handles, parameters, locality, random):
-    if not self.indices[handles[1]].data:
+def counts_from_1(self, request):
+    if not self.indices[request.handles[1]].data:
         self.largest_counter = 0
-    return nv_increment(self, handles, parameters, locality, random)
+    return nv_increment(self, request)
 
 
-def keeps_a_digest(self, handles, parameters, locality, random):
+def keeps_a_digest(self, request):
     """A new session has the digest of one that lives."""
     was = next((it.policy.digest for it in self.sessions.values()), None)
-    answer = start_session(self, handles, parameters, locality, random)
+    answer = start_session(self, request)
     session = self.sessions[int.from_bytes(answer.handle, "big")]
     session.policy.digest = was or session.policy.digest
     return answer

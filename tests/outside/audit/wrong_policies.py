@@ -30,15 +30,15 @@ from tpmsim.standard.commands import CC
 LOST, WRITTEN = "lost_grounds", "written_policies"
 
 
-def or_of_any_digest(self, handles, parameters, locality, random):
+def or_of_any_digest(self, request):
     """TPM2_PolicyOR for which the digest before it does not matter."""
-    branches = parameters.next().sized_list(policy.LEAST_BRANCHES, policy.MOST_BRANCHES)
-    session = self.sessions[handles[0]]
+    branches = request.parameters.next().sized_list(policy.LEAST_BRANCHES, policy.MOST_BRANCHES)
+    session = self.sessions[request.handles[0]]
     session.policy.digest = policy.after_or(session.algorithm, branches)
     return Answer()
 
 
-def does_nothing(self, handles, parameters, locality, random):
+def does_nothing(self, request):
     return Answer()
 
 
