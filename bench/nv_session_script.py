@@ -12,11 +12,8 @@ draws the same nonce again, and one prepared buffer is accepted as often as it i
 
 import sys
 
-from tpmsim.caller.entries import Use
-from tpmsim.caller.templates import BY_VALUE, area
-from tpmsim.standard import lines
-from tpmsim.standard.commands import CC
-from tpmsim.standard.frames import RH_NULL, RH_OWNER, SHA256, number
+from tpmsim.caller import BY_VALUE, Use, area
+from tpmsim.standard import CC, RH_NULL, RH_OWNER, SHA256, lines, number
 from script_caller import FIRST, ScriptCaller
 from script import Script
 

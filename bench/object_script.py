@@ -10,8 +10,8 @@ TPM2_HMAC is over 1,024 bytes. Each is authorized by a password.
 
 import sys
 
-from tpmsim.caller.templates import hmac_key, sealed, storage_key
-from tpmsim.standard.frames import RH_OWNER, SHA256
+from tpmsim.caller import hmac_key, sealed, storage_key
+from tpmsim.standard import RH_OWNER, SHA256
 from script_caller import ScriptCaller
 from script import Script
 

@@ -10,8 +10,8 @@ sent.
 
 import sys
 
-from tpmsim.caller.entries import Use
-from tpmsim.standard.frames import RH_OWNER
+from tpmsim.caller import Use
+from tpmsim.standard import RH_OWNER
 from script_caller import ScriptCaller
 from script import Script
 

@@ -9,18 +9,15 @@ import time
 import unittest
 from hashlib import sha256
 
-from tpmsim.caller import Caller, Refused, STATE, WrongResponse, digest_of
-from tpmsim.caller.entries import flipped, wrong
-from tpmsim.caller.templates import BY_OWNER, BY_POLICY, BY_VALUE, FIRST, HERE, area, counter
-from tpmsim.caller.templates import hmac_key, sealed, storage_key
+from tpmsim.caller import BY_OWNER, BY_POLICY, BY_VALUE, Caller, FIRST, HERE, Refused, STATE
+from tpmsim.caller import WrongResponse, area, counter, digest_of, flipped, hmac_key, sealed
+from tpmsim.caller import storage_key, wrong
 from tpmsim.device import Answered, ChildDevice, Device, DeviceEnded, ModelDevice, ServedDevice
 from tpmsim.device import Unsupported
 from tpmsim.device.told import program_found
 from tpmsim.model.player import played
-from tpmsim.standard.commands import CC
-from tpmsim.standard.frames import AES, RH_OWNER, RH_PLATFORM, SHA1, SHA256, XOR
+from tpmsim.standard import AES, CC, RH_OWNER, RH_PLATFORM, SHA1, SHA256, XOR, mac
 from tpmsim.standard.objects import Attribute
-from tpmsim.standard.sessions import mac
 
 SEED = b"seed"
 README = pathlib.Path(__file__).resolve().parents[1] / "README.md"

@@ -11,8 +11,7 @@ import re
 from collections.abc import Callable, Iterable
 from dataclasses import dataclass
 
-from tpmsim.standard import lines
-from tpmsim.standard.commands import CC, Fact, HandleKind
+from tpmsim.standard import CC, Fact, HandleKind, lines
 
 TOP = pathlib.Path(__file__).resolve().parent.parent.parent
 README, TABLE = "README.md", "docs/table"

@@ -17,13 +17,11 @@ from dataclasses import dataclass, replace
 from unittest import mock
 
 from tpmsim.model.capability import COMMANDS, HANDLES, PCRS, TOTAL_COMMANDS, command_attributes
-from tpmsim.standard import frames, handle_kinds, lines, reading
-from tpmsim.standard.commands import CC, Fact, Handle, HandleKind, Kind, NUMBERED
-from tpmsim.standard.frames import KEYEDHASH, RH_LOCKOUT, RH_NULL, RH_OWNER, RH_PLATFORM, RS_PW
-from tpmsim.standard.frames import SHA256, number
+from tpmsim.standard import CC, Fact, Fields, Handle, HandleKind, KEYEDHASH, Kind, NUMBERED
+from tpmsim.standard import RH_LOCKOUT, RH_NULL, RH_OWNER, RH_PLATFORM, RS_PW, SHA256, frames
+from tpmsim.standard import handle_kinds, lines, number, reading
 from tpmsim.standard.nv import Attribute, Public
 from tpmsim.standard.objects import Attribute as ObjectAttribute
-from tpmsim.standard.reading import Fields
 
 TESTS = pathlib.Path(__file__).resolve().parent.parent
 AT_ONCE = 4

@@ -14,8 +14,7 @@ import sys
 
 from tpmsim.model import image, machine
 from tpmsim.model.player import Player
-from tpmsim.standard import lines
-from tpmsim.standard.commands import CC
+from tpmsim.standard import CC, lines
 from refusals import Refusals
 from shims import HERE, Ending, fail
 
@@ -25,13 +24,7 @@ CODE = slice(12, 20)
 
 # The commands that may be answered MEMORY, and the script that has each of them at each size at
 # which a list grows, and all other commands.
-GROWING = {
-    CC.StartAuthSession,
-    CC.CreatePrimary,
-    CC.Load,
-    CC.NV_DefineSpace,
-    CC.EvictControl,
-}
+GROWING = {CC.StartAuthSession, CC.CreatePrimary, CC.Load, CC.NV_DefineSpace, CC.EvictControl}
 SCRIPT = (HERE / "growing.tpm").read_bytes()
 LINES = SCRIPT.splitlines()
 

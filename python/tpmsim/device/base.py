@@ -30,9 +30,9 @@ def line_in_bytes(buffer: bytes) -> str:
 
 
 def line(buffer: bytes) -> str:
-    """The same in words, where some say just these bytes."""
+    """The same in words, where some say just these bytes; that of the empty buffer ends in a space."""
     words = lines.line_of(buffer)
-    return line_in_bytes(buffer) if words is None else f"do {words}"
+    return f"cmd {buffer.hex()}" if words is None else f"do {words}"
 
 
 class Transport(ABC):

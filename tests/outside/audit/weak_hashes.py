@@ -20,9 +20,7 @@ from tpmsim.audit.log import Log
 from tpmsim.model import player
 from tpmsim.policies import policy_texts, written
 from tpmsim.policies.policy_file import PolicyFile
-from tpmsim.standard import policy
-from tpmsim.standard.frames import SHA1, SHA256
-from tpmsim.standard.sessions import digest
+from tpmsim.standard import SHA1, SHA256, digest, policy
 import cases
 
 # What TPM2_PolicyLocality of locality 0 is hashed by, behind the digest of a start.

@@ -19,8 +19,7 @@ from tpmsim.model import machine, player, policy_state
 from tpmsim.model.general import Refusal
 from tpmsim.model.machine import Model
 from tpmsim.model.protection import Lockout
-from tpmsim.standard import frames, policy
-from tpmsim.standard.commands import CC
+from tpmsim.standard import CC, frames, policy
 
 TESTS = pathlib.Path(__file__).resolve().parents[2]
 
@@ -153,11 +152,7 @@ WRONG = (
     ("PCR 16 is saved too", "startup_state", in_device("restore_pcrs", restores_16_too)),
     ("a counter begins at 1", "nv_counters", in_rows(CC.NV_Increment, counts_from_1)),
     ("guesses are not counted", "lockout", in_lockout("count", lambda self, touched: None)),
-    (
-        "guesses are no guesses",
-        "lockout",
-        in_device("touched", lambda self, entry, handle: None),
-    ),
+    ("guesses are no guesses", "lockout", in_device("touched", lambda self, entry, handle: None)),
 )
 
 

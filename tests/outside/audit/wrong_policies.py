@@ -24,8 +24,7 @@ from tpmsim.audit.uses import Uses
 from tpmsim.model import player, policy_state
 from tpmsim.model.general import Answer
 from tpmsim.policies.policy_file import PolicyFile
-from tpmsim.standard import policy
-from tpmsim.standard.commands import CC
+from tpmsim.standard import CC, policy
 
 LOST, WRITTEN = "lost_grounds", "written_policies"
 

@@ -8,10 +8,7 @@ sized buffer of it holds a structure.
 
 from dataclasses import dataclass
 
-from tpmsim.standard import frames, lines
-from tpmsim.standard.commands import CC
-from tpmsim.standard.frames import ALG_NULL, KEYEDHASH, number
-from tpmsim.standard.sessions import digest_bytes
+from tpmsim.standard import ALG_NULL, CC, KEYEDHASH, digest_bytes, frames, lines, number
 
 
 @dataclass(frozen=True)

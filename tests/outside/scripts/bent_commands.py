@@ -1,4 +1,3 @@
-#!/usr/bin/env python3
 """Writes tests/bent_commands.tpm, and bent_nv_commands.tpm, bent_object_commands.tpm and
 bent_state_commands.tpm: the commands that cut_commands.py, and the like, have, each bent.
 """
@@ -8,7 +7,7 @@ import cut_commands
 import cut_nv_commands
 import cut_object_commands
 import cut_state_commands
-from tpmsim.standard.commands import CC
+from tpmsim.standard import CC
 from looks import LookingScript
 
 HEAD = (

@@ -3,9 +3,7 @@ or turned, and at times a byte of its text changed. And bent images.
 """
 
 from tpmsim.model.image import BODY_AT, DIGEST_AT_END, HEAD_BYTES
-from tpmsim.standard import frames
-from tpmsim.standard.commands import CC
-from tpmsim.standard.sessions import digest
+from tpmsim.standard import CC, digest, frames
 from expected import buffer_of
 from script import line
 

@@ -1,4 +1,3 @@
-#!/usr/bin/env python3
 """Checks the `do` lines of all scripts under tests/ and examples/:
 
     tools/python.sh tests/outside/scripts/check_lines.py
@@ -13,8 +12,7 @@ import sys
 
 import paths
 from tpmsim.model import general
-from tpmsim.standard import frames, lines
-from tpmsim.standard.reading import Fields
+from tpmsim.standard import Fields, frames, lines
 
 AS_BYTES = "All commands stand as bytes"
 

@@ -1,13 +1,9 @@
-#!/usr/bin/env python3
 """Writes tests/clear.tpm: TPM2_Clear, what it takes away and what it leaves."""
 
-from tpmsim.caller.entries import wrong
-from tpmsim.caller.knowledge import STATE
-from tpmsim.caller.templates import BY_OWNER, BY_PLATFORM, BY_VALUE, area, counter, sealed
-from tpmsim.caller.templates import storage_key
-from tpmsim.standard.commands import CC
-from tpmsim.standard.frames import RH_ENDORSEMENT, RH_LOCKOUT, RH_NULL, RH_OWNER, RH_PLATFORM
-from tpmsim.standard.frames import SHA256, command, number, on_handle
+from tpmsim.caller import BY_OWNER, BY_PLATFORM, BY_VALUE, STATE, area, counter, sealed
+from tpmsim.caller import storage_key, wrong
+from tpmsim.standard import CC, RH_ENDORSEMENT, RH_LOCKOUT, RH_NULL, RH_OWNER, RH_PLATFORM, SHA256
+from tpmsim.standard import command, number, on_handle
 from tpmsim.standard.nv import Attribute
 from script_caller import FIRST, SECOND, ScriptCaller, THIRD
 from script import Script

@@ -1,12 +1,8 @@
-#!/usr/bin/env python3
 """Writes tests/clear_control.tpm: TPM2_ClearControl, and TPM2_Clear where it is disabled."""
 
-from tpmsim.caller.entries import wrong
-from tpmsim.caller.knowledge import STATE
-from tpmsim.standard import frames
-from tpmsim.standard.commands import CC
-from tpmsim.standard.frames import CONTINUE_SESSION, DECRYPT, ENCRYPT, RH_ENDORSEMENT, RH_LOCKOUT
-from tpmsim.standard.frames import RH_NULL, RH_OWNER, RH_PLATFORM, command, number, on_handle
+from tpmsim.caller import STATE, wrong
+from tpmsim.standard import CC, CONTINUE_SESSION, DECRYPT, ENCRYPT, RH_ENDORSEMENT, RH_LOCKOUT
+from tpmsim.standard import RH_NULL, RH_OWNER, RH_PLATFORM, command, frames, number, on_handle
 from script_caller import ScriptCaller
 from script import Script
 
@@ -112,11 +108,7 @@ def wrong_control(session):
 
 def order():
     script.chapter("DISABLED is the check of the command itself, behind all others.")
-    says(
-        "A byte behind the handle",
-        "SIZE",
-        *(on_handle(CC.Clear, it, b"\0") for it in BOTH),
-    )
+    says("A byte behind the handle", "SIZE", *(on_handle(CC.Clear, it, b"\0") for it in BOTH))
     wrong_password = [frames.entry(hmac=b"x")]
     says(
         "A wrong password of the platform",

@@ -1,10 +1,7 @@
-#!/usr/bin/env python3
 """Writes tests/clock.tpm: TPM2_ReadClock, the times and the counts of starts."""
 
-from tpmsim.caller.knowledge import CLEAR, STATE
-from tpmsim.standard import frames
-from tpmsim.standard.commands import CC
-from tpmsim.standard.frames import command, number
+from tpmsim.caller import CLEAR, STATE
+from tpmsim.standard import CC, command, frames, number
 from script_caller import ScriptCaller
 from script import Script
 

@@ -1,16 +1,11 @@
-#!/usr/bin/env python3
 """Writes tests/create.tpm: TPM2_Create, which wraps a new object for its parent."""
 
-from tpmsim.caller.entries import Use
-from tpmsim.caller.templates import HERE, OPEN, STORES, hmac_key, sealed, storage_key
+from tpmsim.caller import HERE, OPEN, STORES, Use, hmac_key, sealed, storage_key
 from tpmsim.model import object_rules
-from tpmsim.standard import aes, frames
-from tpmsim.standard.commands import CC
-from tpmsim.standard.frames import ALG_NULL, CONTINUE_SESSION, DECRYPT, ENCRYPT, RH_ENDORSEMENT
-from tpmsim.standard.frames import RH_NULL, RH_OWNER, RH_PLATFORM, SHA1, SHA256, SYMCIPHER, number
+from tpmsim.standard import ALG_NULL, CC, CONTINUE_SESSION, DECRYPT, ENCRYPT, Fields
+from tpmsim.standard import RH_ENDORSEMENT, RH_NULL, RH_OWNER, RH_PLATFORM, SHA1, SHA256, SYMCIPHER
+from tpmsim.standard import aes, digest, frames, mac, number
 from tpmsim.standard.objects import Attribute, Public
-from tpmsim.standard.reading import Fields
-from tpmsim.standard.sessions import digest, mac
 from script_caller import ScriptCaller
 from script import Script
 
@@ -101,7 +96,7 @@ caller.says("With the same random bytes it is the same", "SUCCESS", again, again
 
 script.chapter(
     "The random bytes are drawn from the front: a key, where none is given, then the seed, and "
-    "then the first block of the cipher, which stands in the private area. Here they are 00 to ff.",
+    "then the first block of the cipher, which stands in the private area. Here they are 00 to ff."
 )
 script.entropy(bytes(range(256)))
 RANDOM = bytes(range(256))
@@ -111,12 +106,7 @@ for what, public, data, key_bytes in (
     ("An HMAC key of SHA-256", hmac_key(attributes=HERE | OPEN | ORIGIN), b"", 32),
     ("Of SHA-1", hmac_key(attributes=HERE | OPEN | ORIGIN, scheme=SHA1), b"", 20),
     ("Of scheme NULL", hmac_key(attributes=HERE | OPEN | ORIGIN, scheme=ALG_NULL), b"", 32),
-    (
-        "Of scheme NULL, and nameAlg SHA-1",
-        hmac_key(SHA1, HERE | OPEN | ORIGIN, ALG_NULL),
-        b"",
-        20,
-    ),
+    ("Of scheme NULL, and nameAlg SHA-1", hmac_key(SHA1, HERE | OPEN | ORIGIN, ALG_NULL), b"", 20),
     ("Of SHA-256, and nameAlg SHA-1", hmac_key(SHA1, HERE | OPEN | ORIGIN), b"", 32),
     ("A storage key", storage_key(), b"", 16),
     ("A storage key, and nameAlg SHA-1", storage_key(SHA1), b"", 16),
@@ -140,7 +130,7 @@ long = [
 ]
 script.chapter(
     "A key of 32 bytes, a seed of 32, the first block, and three nonces of 32: 176 random bytes "
-    "are the most that are drawn. What is answered is the longest of a creation, too.",
+    "are the most that are drawn. What is answered is the longest of a creation, too."
 )
 script.entropy(RANDOM)
 prepared = caller.child(
@@ -210,17 +200,13 @@ caller.create(
     data=b"d" * 128,
     outside_info=b"o" * 34,
 )
-refused(
-    "129 bytes of data", "SIZE/p1", caller.child(parent, sealed(), data=bytes(129))
-)
+refused("129 bytes of data", "SIZE/p1", caller.child(parent, sealed(), data=bytes(129)))
 refused(
     "35 bytes of outsideInfo",
     "SIZE/p3",
     caller.child(parent, sealed(), data=b"x", outside_info=bytes(35)),
 )
-refused(
-    "17 banks", "SIZE/p4", caller.child(parent, sealed(), data=b"x", pcrs=17 * [(SHA1, [])])
-)
+refused("17 banks", "SIZE/p4", caller.child(parent, sealed(), data=b"x", pcrs=17 * [(SHA1, [])]))
 whole = under(parent)
 refused("A byte behind creationPCR", "SIZE", whole.but(parameters=whole.parameters + b"\0"))
 script.write()

@@ -1,14 +1,11 @@
-#!/usr/bin/env python3
 """Writes tests/cut_object_commands.tpm: the commands of objects, cut to every shorter length."""
 
 import cuts
-from tpmsim.caller.templates import hmac_key, sealed, storage_key
+from tpmsim.caller import hmac_key, sealed, storage_key
 from tpmsim.model import object_rules
 from tpmsim.model.machine import MANUFACTURED
 from tpmsim.model.state import SECRET_BYTES
-from tpmsim.standard import frames
-from tpmsim.standard.commands import CC
-from tpmsim.standard.frames import SHA256, command, entry, number, on_handle, sized
+from tpmsim.standard import CC, SHA256, command, entry, frames, number, on_handle, sized
 from cuts import AREA, HANDLE
 
 HEAD = (
@@ -99,12 +96,7 @@ COMMANDS = [
         [(14, "within objectHandle", "INSUFFICIENT/h1")],
         "SUCCESS",
     ),
-    (
-        "TPM2_Unseal",
-        on_object(CC.Unseal, CHILD),
-        [HANDLE, AREA_ABC],
-        "SUCCESS",
-    ),
+    ("TPM2_Unseal", on_object(CC.Unseal, CHILD), [HANDLE, AREA_ABC], "SUCCESS"),
     (
         "TPM2_FlushContext of it",
         command(CC.FlushContext, number(CHILD, 4)),

@@ -1,11 +1,8 @@
-#!/usr/bin/env python3
 """Writes tests/dictionary_attack_commands.tpm: the two commands, and all that refuses them."""
 
-from tpmsim.caller.entries import Use
-from tpmsim.standard import frames
-from tpmsim.standard.commands import CC
-from tpmsim.standard.frames import DECRYPT, ENCRYPT, RH_LOCKOUT, RH_NULL, RH_OWNER, RH_PLATFORM
-from tpmsim.standard.frames import command, number, on_handle
+from tpmsim.caller import Use
+from tpmsim.standard import CC, DECRYPT, ENCRYPT, RH_LOCKOUT, RH_NULL, RH_OWNER, RH_PLATFORM
+from tpmsim.standard import command, frames, number, on_handle
 from script_caller import ScriptCaller
 from script import Script
 

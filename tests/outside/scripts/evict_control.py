@@ -1,13 +1,9 @@
-#!/usr/bin/env python3
 """Writes tests/evict_control.tpm: persistent objects, how they come, stay and go."""
 
-from tpmsim.caller.entries import Use, wrong
-from tpmsim.caller.knowledge import STATE
-from tpmsim.caller.templates import HERE, OPEN, STORES, area, hmac_key, sealed, storage_key
-from tpmsim.standard import frames
-from tpmsim.standard.commands import CC
-from tpmsim.standard.frames import RH_ENDORSEMENT, RH_LOCKOUT, RH_NULL, RH_OWNER, RH_PLATFORM
-from tpmsim.standard.frames import SHA256, command, number, on_handles
+from tpmsim.caller import HERE, OPEN, STATE, STORES, Use, area, hmac_key, sealed, storage_key
+from tpmsim.caller import wrong
+from tpmsim.standard import CC, RH_ENDORSEMENT, RH_LOCKOUT, RH_NULL, RH_OWNER, RH_PLATFORM, SHA256
+from tpmsim.standard import command, frames, number, on_handles
 from tpmsim.standard.objects import Attribute
 from script_caller import ScriptCaller
 from script import Script

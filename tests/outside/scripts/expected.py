@@ -1,4 +1,3 @@
-#!/usr/bin/env python3
 """Writes the expected output NAME.out beside scripts NAME.tpm, without running the simulator; and
 NAME.trace, which `--trace` prints, where there is such a file already, be it an empty one.
 

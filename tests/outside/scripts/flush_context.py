@@ -1,9 +1,7 @@
-#!/usr/bin/env python3
 """Writes tests/flush_context.tpm: TPM2_FlushContext, which ends sessions."""
 
-from tpmsim.standard import frames
-from tpmsim.standard.commands import CC
-from tpmsim.standard.frames import RH_NULL, RH_OWNER, RS_PW, SHA1, area, command, entry, number
+from tpmsim.standard import CC, RH_NULL, RH_OWNER, RS_PW, SHA1, area, command, entry, frames
+from tpmsim.standard import number
 from script_caller import ScriptCaller
 from script import Script
 

@@ -1,12 +1,9 @@
-#!/usr/bin/env python3
 """Writes tests/flush_objects.tpm: TPM2_FlushContext of transient objects."""
 
 from dataclasses import replace
 
-from tpmsim.caller.templates import hmac_key, sealed, storage_key
-from tpmsim.standard import frames
-from tpmsim.standard.commands import CC
-from tpmsim.standard.frames import RH_NULL, RH_OWNER, command, number
+from tpmsim.caller import hmac_key, sealed, storage_key
+from tpmsim.standard import CC, RH_NULL, RH_OWNER, command, frames, number
 from script_caller import ScriptCaller
 from script import Script
 
@@ -47,9 +44,7 @@ script.command(
     "AUTH_CONTEXT",
     command(CC.FlushContext, frames.area(frames.entry()) + number(parent, 4), frames.SESSIONS),
 )
-script.command(
-    "Three bytes of a handle", "INSUFFICIENT/p1", command(CC.FlushContext, b"\x80\0\0")
-)
+script.command("Three bytes of a handle", "INSUFFICIENT/p1", command(CC.FlushContext, b"\x80\0\0"))
 script.command("A byte behind it", "SIZE", command(CC.FlushContext, number(parent, 4) + b"\0"))
 
 script.chapter("In any order. The lowest place that is free is taken first.")

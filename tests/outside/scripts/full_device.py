@@ -1,14 +1,10 @@
-#!/usr/bin/env python3
 """Writes tests/full_device.tpm: a device that is filled up to each of its limits."""
 
-from tpmsim.caller.knowledge import STATE
-from tpmsim.caller.templates import BY_OWNER, BY_PLATFORM, BY_POLICY, BY_VALUE, HERE, OPEN, area
-from tpmsim.caller.templates import bits, counter, extended, hmac_key, sealed, storage_key
+from tpmsim.caller import BY_OWNER, BY_PLATFORM, BY_POLICY, BY_VALUE, HERE, OPEN, STATE, area, bits
+from tpmsim.caller import counter, extended, hmac_key, sealed, storage_key
 from tpmsim.model import nv_commands
-from tpmsim.standard import frames, policy
-from tpmsim.standard.commands import CC
-from tpmsim.standard.frames import ALG_NULL, RH_ENDORSEMENT, RH_LOCKOUT, RH_NULL, RH_OWNER
-from tpmsim.standard.frames import RH_PLATFORM, SE_HMAC, SE_POLICY, SE_TRIAL, SHA1, SHA256
+from tpmsim.standard import ALG_NULL, CC, RH_ENDORSEMENT, RH_LOCKOUT, RH_NULL, RH_OWNER
+from tpmsim.standard import RH_PLATFORM, SE_HMAC, SE_POLICY, SE_TRIAL, SHA1, SHA256, frames, policy
 from tpmsim.standard.nv import Attribute as NvAttribute
 from tpmsim.standard.objects import Attribute
 from script_caller import ScriptCaller

@@ -1,13 +1,9 @@
-#!/usr/bin/env python3
 """Writes tests/get_capability.tpm: TPM2_GetCapability, each capability at its borders."""
 
-from tpmsim.caller.entries import wrong
-from tpmsim.caller.templates import BY_VALUE, area, storage_key
+from tpmsim.caller import BY_VALUE, area, storage_key, wrong
 from tpmsim.model.capability import command_attributes
-from tpmsim.standard import frames
-from tpmsim.standard.commands import CC
-from tpmsim.standard.frames import CONTINUE_SESSION, DECRYPT, ENCRYPT, RH_OWNER, SE_HMAC, SE_POLICY
-from tpmsim.standard.frames import SE_TRIAL, command, number
+from tpmsim.standard import CC, CONTINUE_SESSION, DECRYPT, ENCRYPT, RH_OWNER, SE_HMAC, SE_POLICY
+from tpmsim.standard import SE_TRIAL, command, frames, number
 from script_caller import ScriptCaller
 from script import Script
 

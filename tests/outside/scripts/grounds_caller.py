@@ -2,12 +2,10 @@
 indices, whose value is "pin", and the policies that they have.
 """
 
-from tpmsim.caller.templates import HERE, area, sealed
+from tpmsim.caller import HERE, area, sealed
 from tpmsim.model.capability import LOCKOUT_COUNTER, PROPERTIES
-from tpmsim.standard import frames, policy
-from tpmsim.standard.commands import CC
-from tpmsim.standard.frames import RH_OWNER, RH_PLATFORM, SHA256, number
-from tpmsim.standard.sessions import digest, digest_bytes
+from tpmsim.standard import CC, RH_OWNER, RH_PLATFORM, SHA256, digest, digest_bytes, frames, number
+from tpmsim.standard import policy
 from script_caller import ScriptCaller
 
 OWNER, PIN, SECRET, DATA = b"owner", b"pin", b"secret", b"8 bytes."
@@ -17,9 +15,7 @@ AT_LOCALITY_1 = 0b10
 # The digest that a session starts with, and those behind one assertion.
 ZEROS = bytes(32)
 AFTER_AUTH_VALUE = policy.after_auth_value(SHA256, ZEROS)
-AFTER_PCR_16 = policy.after_pcr(
-    SHA256, ZEROS, frames.selection(*PCR_16), digest(SHA256, bytes(32))
-)
+AFTER_PCR_16 = policy.after_pcr(SHA256, ZEROS, frames.selection(*PCR_16), digest(SHA256, bytes(32)))
 AFTER_LOCALITY_1 = policy.after_locality(SHA256, ZEROS, AT_LOCALITY_1)
 
 

@@ -1,13 +1,9 @@
-#!/usr/bin/env python3
 """Writes tests/hmac_keys.tpm: TPM2_HMAC by keys of each scheme."""
 
-from tpmsim.caller.templates import HERE, OPEN, hmac_key, sealed, storage_key
-from tpmsim.standard import frames
-from tpmsim.standard.commands import CC
-from tpmsim.standard.frames import ALG_NULL, RH_NULL, RH_OWNER, SHA1, SHA256, SYMCIPHER, number
-from tpmsim.standard.frames import sized
+from tpmsim.caller import HERE, OPEN, hmac_key, sealed, storage_key
+from tpmsim.standard import ALG_NULL, CC, RH_NULL, RH_OWNER, SHA1, SHA256, SYMCIPHER, frames, mac
+from tpmsim.standard import number, sized
 from tpmsim.standard.objects import Attribute, Public
-from tpmsim.standard.sessions import mac
 from script_caller import ScriptCaller
 from script import Script
 

@@ -1,10 +1,7 @@
-#!/usr/bin/env python3
 """Writes tests/hmac_sessions.tpm: commands that HMAC sessions authorize."""
 
-from tpmsim.caller.entries import Use, flipped
-from tpmsim.standard import frames
-from tpmsim.standard.commands import CC
-from tpmsim.standard.frames import RH_ENDORSEMENT, RH_OWNER, SHA1, SHA256, sized
+from tpmsim.caller import Use, flipped
+from tpmsim.standard import CC, RH_ENDORSEMENT, RH_OWNER, SHA1, SHA256, frames, sized
 from script_caller import ScriptCaller
 from script import Script
 
@@ -79,7 +76,7 @@ for bind, words in (
     for algorithm in (SHA1, SHA256):
         script.chapter(
             f"A session of {NAMES[algorithm]}, bound {words}, on TPM2_HierarchyChangeAuth of "
-            'TPM_RH_OWNER, which sets "owner" again.',
+            'TPM_RH_OWNER, which sets "owner" again.'
         )
         session = caller.start("TPM2_StartAuthSession", bind, algorithm)
         right = caller.change_auth(RH_OWNER, AUTH, session)

@@ -5,16 +5,16 @@ is not looked at.
 import copy
 from dataclasses import replace
 
-from tpmsim.caller.templates import BY_OWNER, HERE, area, bits, counter, extended, hmac_key, sealed
-from tpmsim.caller.templates import storage_key
+from tpmsim.caller import BY_OWNER, HERE, area, bits, counter, extended, hmac_key, sealed
+from tpmsim.caller import storage_key
 from tpmsim.model import nv_commands
 from tpmsim.model.image import BODY_AT, DIGEST_AT_END, VERSION_2, framed, image
 from tpmsim.model.machine import Model
 from tpmsim.model.object_rules import DATA_BYTES, NAME_BYTES, Object, Sensitive
 from tpmsim.model.persistent import PERSISTENT_OBJECTS
 from tpmsim.model.state import SAVED_PCRS, Saved
+from tpmsim.standard import RH_ENDORSEMENT, RH_LOCKOUT, RH_NULL, RH_OWNER, RH_PLATFORM, SHA1
 from tpmsim.standard import frames
-from tpmsim.standard.frames import RH_ENDORSEMENT, RH_LOCKOUT, RH_NULL, RH_OWNER, RH_PLATFORM, SHA1
 from tpmsim.standard.nv import Attribute, of_type
 from tpmsim.standard.objects import Attribute as ObjectAttribute
 import full_device

@@ -4,7 +4,7 @@ NV indices alone.
 
 from dataclasses import dataclass
 
-from tpmsim.caller.templates import area
+from tpmsim.caller import area
 from tpmsim.model import nv_commands
 from tpmsim.model.image import VERSION_2, image
 from tpmsim.model.machine import Model

@@ -8,7 +8,7 @@ from dataclasses import dataclass
 
 from tpmsim.model import image, persistent
 from tpmsim.model.state import Saved
-from tpmsim.standard.frames import RH_LOCKOUT, number
+from tpmsim.standard import RH_LOCKOUT, number
 
 # Of a SYMCIPHER's cipher and of the scheme of a KEYEDHASH, each number has so many bytes.
 DETAIL_BYTES = 2

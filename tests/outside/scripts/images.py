@@ -1,4 +1,3 @@
-#!/usr/bin/env python3
 """Prints images of a device's persistent state, as hex:
 
     tools/python.sh tests/outside/scripts/images.py                    of some devices, each behind its name
@@ -15,7 +14,7 @@ import sys
 import image_bodies
 from tpmsim.model.image import fault_of, image, open_image
 from tpmsim.model.machine import Model
-from tpmsim.standard.frames import number
+from tpmsim.standard import number
 from expected import played_by
 
 

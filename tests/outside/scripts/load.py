@@ -1,14 +1,11 @@
-#!/usr/bin/env python3
 """Writes tests/load.tpm: TPM2_Load, which takes what TPM2_Create gave."""
 
 from dataclasses import replace
 
-from tpmsim.caller.templates import HERE, OPEN, STORES, hmac_key, sealed, storage_key
-from tpmsim.standard import frames
-from tpmsim.standard.commands import CC
-from tpmsim.standard.frames import RH_ENDORSEMENT, RH_NULL, RH_OWNER, SHA1, SHA256, number, sized
+from tpmsim.caller import HERE, OPEN, STORES, hmac_key, sealed, storage_key
+from tpmsim.standard import CC, RH_ENDORSEMENT, RH_NULL, RH_OWNER, SHA1, SHA256, frames, mac
+from tpmsim.standard import number, sized
 from tpmsim.standard.objects import Attribute
-from tpmsim.standard.sessions import mac
 from script_caller import ScriptCaller
 from script import Script
 
@@ -49,9 +46,7 @@ refused(
     "REFERENCE_H0",
     *(caller.loading(it, made) for it in (0x8000_0001, 0x8000_0008, 0x80FF_FFFF)),
 )
-refused(
-    "A persistent object", "HANDLE/h1", caller.loading(0x8100_0000, made)
-)
+refused("A persistent object", "HANDLE/h1", caller.loading(0x8100_0000, made))
 script.command(
     "It has to be authorized: no sessions (tag 8001)",
     "AUTH_MISSING",
@@ -108,10 +103,7 @@ for what, changes in (
     ("An authPolicy", {"auth_policy": bytes(32)}),
     ("Another unique", {"unique": bytes(32)}),
     ("Without unique", {"unique": b""}),
-    (
-        "An HMAC key",
-        {"attributes": HERE | OPEN | Attribute.SIGN, "scheme": SHA256},
-    ),
+    ("An HMAC key", {"attributes": HERE | OPEN | Attribute.SIGN, "scheme": SHA256}),
     ("A storage key", {"kind": frames.SYMCIPHER, "attributes": HERE | OPEN | STORES}),
 ):
     refused(what, "INTEGRITY/p1", with_public(**changes))

@@ -1,10 +1,7 @@
-#!/usr/bin/env python3
 """Writes tests/lockout.tpm: wrong tries are counted, lock, and are forgiven."""
 
-from tpmsim.caller.templates import BY_VALUE, HERE, area, sealed
-from tpmsim.standard import policy
-from tpmsim.standard.commands import CC
-from tpmsim.standard.frames import RH_OWNER, SHA256
+from tpmsim.caller import BY_VALUE, HERE, area, sealed
+from tpmsim.standard import CC, RH_OWNER, SHA256, policy
 from tpmsim.standard.nv import Attribute as NvAttribute
 from tpmsim.standard.objects import Attribute
 from script_caller import FIRST, SECOND, ScriptCaller, THIRD
@@ -291,9 +288,7 @@ def order():
     caller.fails(
         "An index that its value may not write", "AUTH_UNAVAILABLE", caller.writing(SECOND, b"x")
     )
-    caller.fails(
-        "One that has no policy", "AUTH_UNAVAILABLE", caller.reading(SECOND, 8, session)
-    )
+    caller.fails("One that has no policy", "AUTH_UNAVAILABLE", caller.reading(SECOND, 8, session))
     caller.fails(
         "A policy session whose digest is another",
         "POLICY_FAIL/s1",

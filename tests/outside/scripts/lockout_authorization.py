@@ -1,11 +1,7 @@
-#!/usr/bin/env python3
 """Writes tests/lockout_authorization.tpm: wrong entries that are a try at lockoutAuth."""
 
-from tpmsim.caller.entries import wrong
-from tpmsim.caller.templates import BY_VALUE, area
-from tpmsim.standard import frames
-from tpmsim.standard.commands import CC
-from tpmsim.standard.frames import RH_LOCKOUT, RH_OWNER, on_handle, sized
+from tpmsim.caller import BY_VALUE, area, wrong
+from tpmsim.standard import CC, RH_LOCKOUT, RH_OWNER, frames, on_handle, sized
 from script_caller import FIRST, ScriptCaller
 from script import Script
 
@@ -101,9 +97,7 @@ caller.refused(
     "Of TPM2_StartAuthSession, as the second",
     "AUTH_FAIL/s2",
     wrong(
-        caller.prepare(
-            CC.StartAuthSession, *frames.start_auth_session(bytes(16)), to_owner, bound
-        ),
+        caller.prepare(CC.StartAuthSession, *frames.start_auth_session(bytes(16)), to_owner, bound),
         2,
     ),
 )

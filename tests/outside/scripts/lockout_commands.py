@@ -1,12 +1,8 @@
-#!/usr/bin/env python3
 """Writes tests/lockout_commands.tpm: a try by each command that a protected entity authorizes."""
 
-from tpmsim.caller.entries import Use, wrong
-from tpmsim.caller.templates import BY_POLICY, BY_VALUE, HERE, STORES, area, bits, counter
-from tpmsim.caller.templates import extended, hmac_key, sealed, storage_key
-from tpmsim.standard import policy
-from tpmsim.standard.commands import CC
-from tpmsim.standard.frames import RH_OWNER, SHA256
+from tpmsim.caller import BY_POLICY, BY_VALUE, HERE, STORES, Use, area, bits, counter, extended
+from tpmsim.caller import hmac_key, sealed, storage_key, wrong
+from tpmsim.standard import CC, RH_OWNER, SHA256, policy
 from tpmsim.standard.nv import Attribute as NvAttribute
 from tpmsim.standard.objects import Attribute
 from script_caller import FIRST, FOURTH, SECOND, ScriptCaller, THIRD

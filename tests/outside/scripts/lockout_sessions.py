@@ -1,13 +1,10 @@
-#!/usr/bin/env python3
 """Writes tests/lockout_sessions.tpm: which entries are a try at a protected value."""
 
 from dataclasses import dataclass
 from typing import Callable
 
-from tpmsim.caller.entries import Use, wrong
-from tpmsim.caller.templates import BY_POLICY, BY_VALUE, HERE, area, sealed
-from tpmsim.standard import policy
-from tpmsim.standard.frames import RH_LOCKOUT, RH_OWNER, SHA256
+from tpmsim.caller import BY_POLICY, BY_VALUE, HERE, Use, area, sealed, wrong
+from tpmsim.standard import RH_LOCKOUT, RH_OWNER, SHA256, policy
 from tpmsim.standard.nv import Attribute as NvAttribute
 from tpmsim.standard.objects import Attribute
 from script_caller import FIRST, SECOND, ScriptCaller
@@ -179,7 +176,9 @@ def lasting():
     caller.refused("It is locked", "LOCKOUT", caller.reset(bound))
     unlock()
     caller.define(
-        "The index again, with TPMA_NV_NO_DA", area(SECOND, BY_VALUE | NvAttribute.NO_DA), OWNER,
+        "The index again, with TPMA_NV_NO_DA",
+        area(SECOND, BY_VALUE | NvAttribute.NO_DA),
+        OWNER,
         auth=PIN,
     )
     free = caller.start("A session that is bound to it now", SECOND)

@@ -1,10 +1,6 @@
-#!/usr/bin/env python3
 """Writes tests/long_policy.tpm: a policy of all assertions, in a trial and a policy session."""
 
-from tpmsim.standard import frames, policy
-from tpmsim.standard.commands import CC
-from tpmsim.standard.frames import RH_OWNER, SHA1, SHA256
-from tpmsim.standard.sessions import digest, name_of
+from tpmsim.standard import CC, RH_OWNER, SHA1, SHA256, digest, frames, name_of, policy
 from script_caller import HASHES, ScriptCaller, zeros
 from script import Script
 

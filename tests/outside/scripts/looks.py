@@ -5,10 +5,8 @@ at the state of the device, which is as before.
 import copy
 
 from tpmsim.model import capability
-from tpmsim.standard import frames, handle_kinds
-from tpmsim.standard.commands import CC
-from tpmsim.standard.frames import HMAC_SESSION, NV, PERSISTENT, RH_OWNER, SHA1, SHA256, TRANSIENT
-from tpmsim.standard.frames import command, number, on_handles
+from tpmsim.standard import CC, HMAC_SESSION, NV, PERSISTENT, RH_OWNER, SHA1, SHA256, TRANSIENT
+from tpmsim.standard import command, frames, handle_kinds, number, on_handles
 from tpmsim.standard.nv import Attribute
 from script import Script
 

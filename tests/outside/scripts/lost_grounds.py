@@ -1,16 +1,11 @@
-#!/usr/bin/env python3
 """Writes tests/lost_grounds.tpm: each way in which a ground of tests/grounds.tpm is lost."""
 
-from tpmsim.caller.entries import Use, flipped
-from tpmsim.caller.templates import BY_OWNER, BY_POLICY, BY_VALUE, HERE, sealed
-from tpmsim.standard import frames, policy
-from tpmsim.standard.commands import CC
-from tpmsim.standard.frames import RH_ENDORSEMENT, RH_LOCKOUT, RH_NULL, RH_OWNER, RH_PLATFORM, SHA1
-from tpmsim.standard.frames import SHA256, digests
+from tpmsim.caller import BY_OWNER, BY_POLICY, BY_VALUE, HERE, Use, flipped, sealed
+from tpmsim.standard import CC, RH_ENDORSEMENT, RH_LOCKOUT, RH_NULL, RH_OWNER, RH_PLATFORM, SHA1
+from tpmsim.standard import SHA256, digests, frames, name_of, policy
 from tpmsim.standard.nv import Attribute
 from tpmsim.standard.objects import Attribute as ObjectAttribute
 from tpmsim.standard.policy import ALL_LOCALITIES, AUTH_VALUE, PASSWORD
-from tpmsim.standard.sessions import name_of
 from grounds_caller import AFTER_AUTH_VALUE, AFTER_LOCALITY_1, AFTER_PCR_16, AT_LOCALITY_1, DATA
 from grounds_caller import OWNER, PCR_16, PIN, SECRET, ZEROS, GroundsCaller, after_code
 from grounds_caller import after_equal_data, after_secret

@@ -1,4 +1,3 @@
-#!/usr/bin/env python3
 """Writes images of version 1 that are not there yet, and compares those that are:
 
     tools/python.sh tests/outside/scripts/make_version_1.py PROGRAM

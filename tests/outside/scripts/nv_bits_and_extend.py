@@ -1,11 +1,8 @@
-#!/usr/bin/env python3
 """Writes tests/nv_bits_and_extend.tpm: indices of bits, and indices that are extended."""
 
-from tpmsim.caller.templates import BY_OWNER, bits, extended
-from tpmsim.standard import frames
-from tpmsim.standard.frames import RH_OWNER, SHA1, number
+from tpmsim.caller import BY_OWNER, bits, extended
+from tpmsim.standard import RH_OWNER, SHA1, digest, digest_bytes, frames, number
 from tpmsim.standard.nv import Attribute
-from tpmsim.standard.sessions import digest, digest_bytes
 from script_caller import FIRST, HASHES, SECOND, ScriptCaller, THIRD
 from script import Script
 
@@ -43,9 +40,10 @@ set_bits("No bit is set, and it is written", SECOND, 0, 0)
 set_bits("TPM2_NV_SetBits of 8", SECOND, 8, 8)
 wrong = caller.setting(SECOND, 0, by=RH_OWNER)
 caller.fails(
-    "Seven bytes, and none", "INSUFFICIENT/p1", wrong.but(parameters=bytes(7)), wrong.but(
-        parameters=b""
-    )
+    "Seven bytes, and none",
+    "INSUFFICIENT/p1",
+    wrong.but(parameters=bytes(7)),
+    wrong.but(parameters=b""),
 )
 caller.fails("Nine bytes", "SIZE", wrong.but(parameters=bytes(9)))
 
@@ -58,9 +56,9 @@ for index, (algorithm, name) in zip((THIRD, THIRD + 1), HASHES):
         extended(index, BY_OWNER, algorithm=algorithm),
     )
     caller.fails(
-        "TPM2_NV_Read before the first", "NV_UNINITIALIZED", caller.reading(
-            index, size, by=RH_OWNER
-        )
+        "TPM2_NV_Read before the first",
+        "NV_UNINITIALIZED",
+        caller.reading(index, size, by=RH_OWNER),
     )
     value = zeros
     for what, data in (
@@ -87,9 +85,7 @@ script.chapter("At the next start the first is as it was, and the second is not 
 script.power()
 script.startup()
 caller.read("TPM2_NV_Read of the first", FIRST, b"\xff" * 8, by=RH_OWNER)
-caller.fails(
-    "Of the second", "NV_UNINITIALIZED", caller.reading(SECOND, 8, by=RH_OWNER)
-)
+caller.fails("Of the second", "NV_UNINITIALIZED", caller.reading(SECOND, 8, by=RH_OWNER))
 set_bits("TPM2_NV_SetBits of 2 in the second", SECOND, 2, 2)
 caller.read("The last one goes on", THIRD + 1, value, by=RH_OWNER)
 caller.does('TPM2_NV_Extend by "next"', caller.extending(THIRD + 1, b"next", by=RH_OWNER))

@@ -1,15 +1,10 @@
-#!/usr/bin/env python3
 """Writes tests/nv_change_auth.tpm: the authorization value of an index, changed by a policy."""
 
-from tpmsim.caller.entries import Use
-from tpmsim.caller.templates import BY_OWNER, BY_POLICY, BY_VALUE, area
-from tpmsim.standard import policy
-from tpmsim.standard.commands import CC
-from tpmsim.standard.frames import CONTINUE_SESSION, DECRYPT, RH_OWNER, RH_PLATFORM, SHA1, SHA256
-from tpmsim.standard.frames import number, sized
+from tpmsim.caller import BY_OWNER, BY_POLICY, BY_VALUE, Use, area
+from tpmsim.standard import CC, CONTINUE_SESSION, DECRYPT, RH_OWNER, RH_PLATFORM, SHA1, SHA256
+from tpmsim.standard import digest_bytes, number, policy, sized
 from tpmsim.standard.nv import Attribute
 from tpmsim.standard.policy import AUTH_VALUE, PASSWORD
-from tpmsim.standard.sessions import digest_bytes
 from script_caller import FIRST, HASHES, SECOND, ScriptCaller, THIRD, zeros
 from script import Script
 
@@ -100,18 +95,14 @@ caller.does(
 )
 says("TPM2_PolicyAuthValue", caller.auth_value_told(session))
 caller.fails(
-    "TPM2_NV_ChangeAuth", "POLICY_FAIL/s1", caller.changing_auth(
-        FIRST, b"new", Use(session, demand=AUTH_VALUE)
-    )
+    "TPM2_NV_ChangeAuth",
+    "POLICY_FAIL/s1",
+    caller.changing_auth(FIRST, b"new", Use(session, demand=AUTH_VALUE)),
 )
 undefine(FIRST)
 caller.define(
     "One whose policy is TPM2_PolicyCommandCode of TPM2_NV_Write",
-    area(
-        FIRST,
-        BY_POLICY,
-        auth_policy=policy.after_command_code(SHA256, bytes(32), CC.NV_Write),
-    ),
+    area(FIRST, BY_POLICY, auth_policy=policy.after_command_code(SHA256, bytes(32), CC.NV_Write)),
 )
 says("TPM2_PolicyRestart", caller.restart(session))
 says("TPM2_PolicyCommandCode of TPM2_NV_Write", caller.command_code(session, CC.NV_Write))
@@ -120,9 +111,7 @@ caller.does("TPM2_NV_Write", caller.writing(FIRST, b"x", session))
 undefine(FIRST)
 caller.define("One without a policy", area(FIRST, BY_VALUE))
 told(session)
-caller.fails(
-    "TPM2_NV_ChangeAuth", "AUTH_UNAVAILABLE", caller.changing_auth(FIRST, b"new", session)
-)
+caller.fails("TPM2_NV_ChangeAuth", "AUTH_UNAVAILABLE", caller.changing_auth(FIRST, b"new", session))
 says("TPM2_PolicyRestart", caller.restart(session))
 undefine(FIRST)
 

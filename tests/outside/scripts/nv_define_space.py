@@ -1,13 +1,10 @@
-#!/usr/bin/env python3
 """Writes tests/nv_define_space.tpm: what an index can be defined with, and how many can be."""
 
-from tpmsim.caller.templates import BY_OWNER, area, bits, counter, extended
+from tpmsim.caller import BY_OWNER, area, bits, counter, extended
 from tpmsim.model import nv_commands
-from tpmsim.standard import frames, nv
-from tpmsim.standard.frames import RH_ENDORSEMENT, RH_LOCKOUT, RH_NULL, RH_OWNER, RH_PLATFORM, SHA1
-from tpmsim.standard.frames import number, sized
+from tpmsim.standard import RH_ENDORSEMENT, RH_LOCKOUT, RH_NULL, RH_OWNER, RH_PLATFORM, SHA1
+from tpmsim.standard import digest_bytes, frames, number, nv, sized
 from tpmsim.standard.nv import Attribute, Type
-from tpmsim.standard.sessions import digest_bytes
 from script_caller import FIRST, HASHES, ScriptCaller
 from script import Script
 
@@ -275,9 +272,7 @@ def limit_of_bytes():
         if index == FIRST + 1:
             continue
         for half in (0, 1024):
-            what = "The others read as written" if (index, half) == (
-                FIRST, 0
-            ) else ""
+            what = "The others read as written" if (index, half) == (FIRST, 0) else ""
             caller.read(what, index, values[index][half : half + 1024], offset=half)
     caller.does("The last one is undefined", caller.undefining(FIRST + 9))
     unfitting("One of 1,025 bytes", "NV_SPACE", area(FIRST + 9, size=1025))

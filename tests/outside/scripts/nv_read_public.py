@@ -1,12 +1,9 @@
-#!/usr/bin/env python3
 """Writes tests/nv_read_public.tpm: public areas of indices, and the Names that change with them."""
 
-from tpmsim.caller.entries import Use
-from tpmsim.caller.templates import BY_OWNER, BY_VALUE, area, counter, extended
-from tpmsim.standard import frames
-from tpmsim.standard.frames import CONTINUE_SESSION, ENCRYPT, RH_NULL, RH_OWNER, number, sized
+from tpmsim.caller import BY_OWNER, BY_VALUE, Use, area, counter, extended
+from tpmsim.standard import CONTINUE_SESSION, ENCRYPT, RH_NULL, RH_OWNER, digest, digest_bytes
+from tpmsim.standard import frames, number, sized
 from tpmsim.standard.nv import Attribute
-from tpmsim.standard.sessions import digest, digest_bytes
 from script_caller import FIRST, HASHES, SECOND, ScriptCaller
 from script import Script
 

@@ -1,13 +1,9 @@
-#!/usr/bin/env python3
 """Writes examples/nv_secret.tpm: a secret behind a password, that is read once at each start."""
 
 import hashlib
 
-from tpmsim.caller.entries import Use
-from tpmsim.caller.templates import area
-from tpmsim.standard import frames
-from tpmsim.standard.commands import CC
-from tpmsim.standard.frames import CONTINUE_SESSION, DECRYPT, ENCRYPT, RH_OWNER
+from tpmsim.caller import Use, area
+from tpmsim.standard import CC, CONTINUE_SESSION, DECRYPT, ENCRYPT, RH_OWNER, frames
 from tpmsim.standard.nv import Attribute
 from script_caller import ScriptCaller
 from script import Script
@@ -90,7 +86,7 @@ caller.is_now(
 caller.auth_values[SECRET_INDEX] = b"battery staple"
 session = bound_session(
     "Somebody mistypes the password. TPM2_StartAuthSession takes it, as the device does not learn "
-    "it: its session's key is made of the right one",
+    "it: its session's key is made of the right one"
 )
 caller.fails(
     "TPM2_NV_Read: the hmac is wrong. As the index has no NO_DA, it is protected from guessing",

@@ -1,12 +1,8 @@
-#!/usr/bin/env python3
 """Writes tests/nv_sessions.tpm: commands on indices by HMAC sessions."""
 
-from tpmsim.caller.entries import Use, flipped
-from tpmsim.caller.templates import BY_OWNER, BY_VALUE, area, bits, counter, extended
+from tpmsim.caller import BY_OWNER, BY_VALUE, Use, area, bits, counter, extended, flipped
+from tpmsim.standard import CC, CONTINUE_SESSION, DECRYPT, ENCRYPT, RH_NULL, RH_OWNER, SHA1, SHA256
 from tpmsim.standard import frames
-from tpmsim.standard.commands import CC
-from tpmsim.standard.frames import CONTINUE_SESSION, DECRYPT, ENCRYPT, RH_NULL, RH_OWNER, SHA1
-from tpmsim.standard.frames import SHA256
 from tpmsim.standard.nv import Attribute
 from script_caller import FIRST, FOURTH, SECOND, ScriptCaller, THIRD
 from script import Script
@@ -55,9 +51,9 @@ def unbound():
             caller.does("The second", change())
             wrong = change()
             caller.fails(
-                "A wrong hmac", "AUTH_FAIL/s1", wrong.but_entry(
-                    1, hmac=flipped(wrong.entries[0].hmac)
-                )
+                "A wrong hmac",
+                "AUTH_FAIL/s1",
+                wrong.but_entry(1, hmac=flipped(wrong.entries[0].hmac)),
             )
             caller.fails("None", "AUTH_FAIL/s1", wrong.but_entry(1, hmac=b""))
             caller.does("TPM2_NV_Read", caller.reading(index, 8, session))
@@ -97,7 +93,7 @@ def names():
 def bound():
     script.chapter(
         "A session that is bound to an index before its first write. The command's hmac is without "
-        "the value; as the Name is another then, the response's has it in its key.",
+        "the value; as the Name is another then, the response's has it in its key."
     )
     caller.define("An index", area(FIRST, BY_VALUE | LOCKS), auth=b"a")
     session = caller.start("A session that is bound to it", bind=FIRST)
@@ -144,9 +140,9 @@ def bound():
         caller.undefining(FIRST, session).but_entry(1, hmac=bytes(32)),
     )
     caller.fails(
-        "And by the second", "BAD_AUTH/s1", caller.undefining(FIRST, other).but_entry(
-            1, hmac=bytes(32)
-        )
+        "And by the second",
+        "BAD_AUTH/s1",
+        caller.undefining(FIRST, other).but_entry(1, hmac=bytes(32)),
     )
     caller.fails("A wrong password of the second", "BAD_AUTH/s1", caller.reading(SECOND, 1, b"x"))
     caller.fails("Of the first", "AUTH_FAIL/s1", caller.reading(FIRST, 1, b"x"))
@@ -173,9 +169,7 @@ def encryption():
             f"TPM2_NV_Write with its data encrypted by {name}",
             caller.writing(FIRST, DATA, Use(use, DECRYPTS)),
         )
-        caller.read(
-            "TPM2_NV_Read with its answer encrypted", FIRST, DATA, Use(use, ENCRYPTS)
-        )
+        caller.read("TPM2_NV_Read with its answer encrypted", FIRST, DATA, Use(use, ENCRYPTS))
         caller.does("TPM2_NV_Extend", caller.extending(SECOND, DATA, Use(use, DECRYPTS)))
         caller.is_now("TPM2_NV_ReadPublic", SECOND, Use(use, ENCRYPTS))
     caller.does(
@@ -186,9 +180,7 @@ def encryption():
     caller.read(
         "One session authorizes, another encrypts", FIRST, b"8 others", plain, Use(owner, ENCRYPTS)
     )
-    caller.does(
-        "No bytes to encrypt", caller.writing(FIRST, b"", Use(session, DECRYPTS), offset=3)
-    )
+    caller.does("No bytes to encrypt", caller.writing(FIRST, b"", Use(session, DECRYPTS), offset=3))
     whole = bytes(range(256)) * 4
     caller.define(
         "An index of 1,024 bytes",
@@ -264,9 +256,7 @@ def others():
     caller.accepted(
         "TPM2_PolicySecret: it has another Name", caller.secret(secret, session, of=FIRST)
     )
-    caller.fails(
-        "A wrong password", "AUTH_FAIL/s1", caller.secret(secret, b"x", of=FIRST)
-    )
+    caller.fails("A wrong password", "AUTH_FAIL/s1", caller.secret(secret, b"x", of=FIRST))
     flush(session, secret)
     only = area(SECOND, BY_OWNER | Attribute.AUTHWRITE)
     caller.define("An index that its value can only write", only, auth=b"a")
@@ -283,7 +273,7 @@ def others():
 def sent_again():
     script.chapter(
         "A buffer that is sent again. The index has the attributes 00040004, eight bytes and the "
-        'value "a", and is written once by the password.',
+        'value "a", and is written once by the password.'
     )
     caller.define("TPM2_NV_DefineSpace", area(FIRST, BY_VALUE), auth=b"a")
     caller.does("TPM2_NV_Write by the password", caller.writing(FIRST, DATA))

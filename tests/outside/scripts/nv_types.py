@@ -1,9 +1,7 @@
-#!/usr/bin/env python3
 """Writes tests/nv_types.tpm: indices of each type, and the commands that do not fit it."""
 
-from tpmsim.caller.templates import BY_OWNER, area, bits, counter, extended
-from tpmsim.standard.frames import RH_OWNER, number
-from tpmsim.standard.sessions import digest
+from tpmsim.caller import BY_OWNER, area, bits, counter, extended
+from tpmsim.standard import RH_OWNER, digest, number
 from script_caller import FIRST, ScriptCaller
 from script import Script
 

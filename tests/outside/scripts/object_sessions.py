@@ -1,12 +1,8 @@
-#!/usr/bin/env python3
 """Writes tests/object_sessions.tpm: HMAC sessions that authorize objects, or are bound to them."""
 
-from tpmsim.caller.entries import Use
-from tpmsim.caller.templates import HERE, hmac_key, sealed, storage_key
-from tpmsim.standard import policy
-from tpmsim.standard.commands import CC
-from tpmsim.standard.frames import ALG_NULL, RH_ENDORSEMENT, RH_OWNER, SHA1, SHA256, command
-from tpmsim.standard.frames import number, policy_secret, start_auth_session
+from tpmsim.caller import HERE, Use, hmac_key, sealed, storage_key
+from tpmsim.standard import ALG_NULL, CC, RH_ENDORSEMENT, RH_OWNER, SHA1, SHA256, command, number
+from tpmsim.standard import policy, policy_secret, start_auth_session
 from tpmsim.standard.objects import Attribute
 from script_caller import ScriptCaller, zeros
 from script import Script
@@ -230,9 +226,9 @@ for algorithm, hash_name in ((SHA256, "SHA-256"), (SHA1, "SHA-1")):
     caller.flush_objects("The key is flushed", key)
     caller.unseal("TPM2_Unseal: what was shown counts", target, SECRET, session)
     caller.says(
-        "The key is no more", "REFERENCE_H0", caller.prepare(
-            CC.PolicySecret, [key, session.handle], policy_secret(), b""
-        )
+        "The key is no more",
+        "REFERENCE_H0",
+        caller.prepare(CC.PolicySecret, [key, session.handle], policy_secret(), b""),
     )
     caller.flush_objects("The object is flushed", target)
     for each in (session, bound):

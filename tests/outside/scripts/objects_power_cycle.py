@@ -1,10 +1,8 @@
-#!/usr/bin/env python3
 """Writes tests/objects_power_cycle.tpm: what a power cycle leaves of objects."""
 
-from tpmsim.caller.templates import hmac_key, sealed, storage_key
-from tpmsim.standard import frames
-from tpmsim.standard.commands import CC
-from tpmsim.standard.frames import RH_ENDORSEMENT, RH_NULL, RH_OWNER, RH_PLATFORM, SHA1, number
+from tpmsim.caller import hmac_key, sealed, storage_key
+from tpmsim.standard import CC, RH_ENDORSEMENT, RH_NULL, RH_OWNER, RH_PLATFORM, SHA1, frames
+from tpmsim.standard import number
 from script_caller import ScriptCaller
 from script import Script
 

@@ -1,11 +1,8 @@
-#!/usr/bin/env python3
 """Writes examples/one_command.tpm: a policy that lets one command through, by its cpHash."""
 
-from tpmsim.caller.templates import area
-from tpmsim.standard import policy
-from tpmsim.standard.frames import RH_OWNER, SHA256
+from tpmsim.caller import area
+from tpmsim.standard import RH_OWNER, SHA256, command_hash, name_of, policy
 from tpmsim.standard.nv import Attribute
-from tpmsim.standard.sessions import command_hash, name_of
 from script_caller import FIRST, ScriptCaller
 from script import Script
 
@@ -23,7 +20,7 @@ caller = ScriptCaller(script)
 script.chapter("THE ADMINISTRATOR SETS IT UP, once.")
 script.startup()
 caller.does(
-    "TPM2_HierarchyChangeAuth: ownerAuth is \"administrator\"",
+    'TPM2_HierarchyChangeAuth: ownerAuth is "administrator"',
     caller.change_auth(RH_OWNER, OWNER_AUTH, b""),
 )
 by_owner = policy.after_secret(SHA256, bytes(32), name_of(RH_OWNER), b"")
@@ -86,9 +83,7 @@ caller.accepted(
 )
 before = caller.cp_hash_told(session, approved)
 caller.says("TPM2_PolicyCpHash of what was approved before", "CPHASH", before)
-caller.says(
-    "Of what is approved now", "SUCCESS", caller.cp_hash_told(session, hash_of(write(OLD)))
-)
+caller.says("Of what is approved now", "SUCCESS", caller.cp_hash_told(session, hash_of(write(OLD))))
 caller.fails(
     "The cpHash holds, and the digest is another now. No authPolicy of the index can be that one: "
     "it is in the index's Name, and the Name is in cpHash. TPM2_NV_Write",

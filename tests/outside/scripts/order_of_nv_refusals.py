@@ -1,12 +1,9 @@
-#!/usr/bin/env python3
 """Writes tests/order_of_nv_refusals.tpm: many faults at once, repaired one by one."""
 
-from tpmsim.caller.entries import Use
-from tpmsim.caller.templates import BY_OWNER, BY_POLICY, BY_VALUE, area, bits, counter, extended
-from tpmsim.standard import frames, handle_kinds, policy
-from tpmsim.standard.commands import CC
-from tpmsim.standard.frames import DECRYPT, Entry, RH_LOCKOUT, RH_OWNER, RH_PLATFORM, SHA1
-from tpmsim.standard.frames import area as entries_area, command, number, sized
+from tpmsim.caller import BY_OWNER, BY_POLICY, BY_VALUE, Use, area, bits, counter, extended
+from tpmsim.standard import CC, DECRYPT, Entry, RH_LOCKOUT, RH_OWNER, RH_PLATFORM, SHA1
+from tpmsim.standard import area as entries_area, command, frames, handle_kinds, number, policy
+from tpmsim.standard import sized
 from tpmsim.standard.nv import Attribute
 from script_caller import ScriptCaller
 from script import Script
@@ -254,11 +251,7 @@ def change_auth():
         "ATTRIBUTES/s1",
         wrong(prepared(cut, Use(trial, shows_empty_key=True), hides, index=ORDINARY), 1, 2),
     )
-    refused(
-        "A password",
-        "AUTH_UNAVAILABLE",
-        wrong(prepared(cut, VALUE, hides), 1, 2),
-    )
+    refused("A password", "AUTH_UNAVAILABLE", wrong(prepared(cut, VALUE, hides), 1, 2))
     refused(
         "A policy session, on an index without a policy",
         "AUTH_UNAVAILABLE",
@@ -266,9 +259,7 @@ def change_auth():
     )
     caller.says("TPM2_PolicyPCR of no PCRs", "SUCCESS", caller.pcrs(told, []))
     caller.says(
-        "TPM2_PolicyCommandCode of TPM2_NV_Write",
-        "SUCCESS",
-        caller.command_code(told, CC.NV_Write),
+        "TPM2_PolicyCommandCode of TPM2_NV_Write", "SUCCESS", caller.command_code(told, CC.NV_Write)
     )
     caller.says("TPM2_PolicyLocality of locality 1", "SUCCESS", caller.locality(told, 2))
     caller.does("A PCR is extended", caller.event(b"", b""))
@@ -279,9 +270,7 @@ def change_auth():
     refused("A PCR has changed, and another code is recorded", "PCR_CHANGED", all_wrong())
     caller.says("TPM2_PolicyRestart", "SUCCESS", caller.restart(told))
     caller.says(
-        "TPM2_PolicyCommandCode of TPM2_NV_Write",
-        "SUCCESS",
-        caller.command_code(told, CC.NV_Write),
+        "TPM2_PolicyCommandCode of TPM2_NV_Write", "SUCCESS", caller.command_code(told, CC.NV_Write)
     )
     caller.says("TPM2_PolicyLocality of locality 1", "SUCCESS", caller.locality(told, 2))
     refused("Another code, and another locality", "POLICY_CC/s1", all_wrong())
@@ -304,9 +293,9 @@ def change_auth():
     )
     refused("Both hmacs are wrong", "BAD_AUTH/s1", all_wrong())
     refused(
-        "The last one is", "BAD_AUTH/s2", wrong(
-            prepared(cut, Use(told, shows_empty_key=True), hides), 2
-        )
+        "The last one is",
+        "BAD_AUTH/s2",
+        wrong(prepared(cut, Use(told, shows_empty_key=True), hides), 2),
     )
     for what, outcome, parameters in (
         ("newAuth is cut", "INSUFFICIENT/p1", cut),

@@ -1,12 +1,8 @@
-#!/usr/bin/env python3
 """Writes tests/order_of_object_refusals.tpm: many faults at once, repaired one by one."""
 
-from tpmsim.caller.entries import Use
-from tpmsim.caller.templates import HERE, OPEN, hmac_key, sealed, storage_key
-from tpmsim.standard import frames
-from tpmsim.standard.commands import CC
-from tpmsim.standard.frames import ALG_NULL, DECRYPT, Entry, RH_LOCKOUT, RH_OWNER, SHA1, SHA256
-from tpmsim.standard.frames import area, command, number, sized
+from tpmsim.caller import HERE, OPEN, Use, hmac_key, sealed, storage_key
+from tpmsim.standard import ALG_NULL, CC, DECRYPT, Entry, RH_LOCKOUT, RH_OWNER, SHA1, SHA256, area
+from tpmsim.standard import command, frames, number, sized
 from tpmsim.standard.objects import Attribute
 from script_caller import ScriptCaller
 from script import Script
@@ -53,14 +49,10 @@ def general_refusals(code, handle, other_handle, cut, uses):
         )
     if code != CC.ReadPublic:
         script.command(
-            "No sessions",
-            "AUTH_MISSING",
-            raw(number(handle, 4), cut, tag=frames.NO_SESSIONS),
+            "No sessions", "AUTH_MISSING", raw(number(handle, 4), cut, tag=frames.NO_SESSIONS)
         )
     script.command(
-        "An area of eight bytes",
-        "AUTHSIZE",
-        raw(number(handle, 4), area(bytes(8)) + cut),
+        "An area of eight bytes", "AUTHSIZE", raw(number(handle, 4), area(bytes(8)) + cut)
     )
     prepared = caller.prepare(code, [handle], cut, *uses)
     last = len(uses)

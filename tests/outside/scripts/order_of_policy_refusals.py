@@ -1,11 +1,8 @@
-#!/usr/bin/env python3
 """Writes tests/order_of_policy_refusals.tpm: policy commands with many faults."""
 
-from tpmsim.caller.entries import Use, flipped
-from tpmsim.standard import frames
-from tpmsim.standard.commands import CC
-from tpmsim.standard.frames import CONTINUE_SESSION, DECRYPT, ENCRYPT, Entry, RH_LOCKOUT, RH_NULL
-from tpmsim.standard.frames import RH_OWNER, SHA256, number, selection, sized
+from tpmsim.caller import Use, flipped
+from tpmsim.standard import CC, CONTINUE_SESSION, DECRYPT, ENCRYPT, Entry, RH_LOCKOUT, RH_NULL
+from tpmsim.standard import RH_OWNER, SHA256, frames, number, selection, sized
 from script_caller import ScriptCaller
 from script import Script
 
@@ -250,9 +247,7 @@ caller.refused(
 
 def by_right(what, outcome, *texts):
     """By the right password, and the policy session itself decrypts nonceTPM."""
-    caller.refused(
-        what, outcome, *(secret(it, b"lockout", Use(policy, DECRYPTS)) for it in texts)
-    )
+    caller.refused(what, outcome, *(secret(it, b"lockout", Use(policy, DECRYPTS)) for it in texts))
 
 
 NONCE = bytes(16)

@@ -1,11 +1,8 @@
-#!/usr/bin/env python3
 """Writes tests/order_of_session_refusals.tpm: commands with sessions and many faults."""
 
-from tpmsim.caller.entries import Use, flipped
-from tpmsim.standard import frames
-from tpmsim.standard.commands import CC
-from tpmsim.standard.frames import CONTINUE_SESSION, DECRYPT, ENCRYPT, Entry, RH_NULL, RH_OWNER
-from tpmsim.standard.frames import number, sized
+from tpmsim.caller import Use, flipped
+from tpmsim.standard import CC, CONTINUE_SESSION, DECRYPT, ENCRYPT, Entry, RH_NULL, RH_OWNER
+from tpmsim.standard import frames, number, sized
 from script_caller import ScriptCaller
 from script import Script
 
@@ -34,7 +31,7 @@ second = caller.start("Another one", RH_OWNER, aes=True)
 
 script.chapter(
     "TPM2_StartAuthSession with two sessions that decrypt and encrypt; its first parameter is cut, "
-    "and the hmacs of both are wrong.",
+    "and the hmacs of both are wrong."
 )
 
 
@@ -200,9 +197,7 @@ caller.refused("The nonce, which is cut", "INSUFFICIENT/p1", start(NULLS, cut, *
 caller.refused(
     "It has 33 bytes once it is whole", "SIZE/p1", start(NULLS, masked(WRONG_HASH, 33), *uses)
 )
-caller.refused(
-    "sessionType 02", "VALUE/p3", start(NULLS, masked(WRONG_HASH, kind=b"\2"), *uses)
-)
+caller.refused("sessionType 02", "VALUE/p3", start(NULLS, masked(WRONG_HASH, kind=b"\2"), *uses))
 caller.refused(
     "A hash that is none, and no authHash", "HASH/p4", start(NULLS, masked(WRONG_HASH), *uses)
 )

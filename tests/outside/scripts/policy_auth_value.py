@@ -1,8 +1,6 @@
-#!/usr/bin/env python3
 """Writes tests/policy_auth_value.tpm: TPM2_PolicyAuthValue and TPM2_PolicyPassword."""
 
-from tpmsim.standard import policy
-from tpmsim.standard.commands import CC
+from tpmsim.standard import CC, policy
 from script_caller import ScriptCaller, zeros
 from script import Script
 

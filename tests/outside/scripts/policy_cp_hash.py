@@ -1,16 +1,11 @@
-#!/usr/bin/env python3
 """Writes tests/policy_cp_hash.tpm: TPM2_PolicyCpHash, and policies for one command."""
 
 import hashlib
 
-from tpmsim.caller.entries import Use, flipped
-from tpmsim.caller.templates import BY_OWNER, BY_POLICY, HERE, area, sealed, storage_key
-from tpmsim.standard import policy
-from tpmsim.standard.commands import CC
-from tpmsim.standard.frames import CONTINUE_SESSION, DECRYPT, RH_ENDORSEMENT, RH_OWNER, SHA1
-from tpmsim.standard.frames import SHA256, number, sized
+from tpmsim.caller import BY_OWNER, BY_POLICY, HERE, Use, area, flipped, sealed, storage_key
+from tpmsim.standard import CC, CONTINUE_SESSION, DECRYPT, RH_ENDORSEMENT, RH_OWNER, SHA1, SHA256
+from tpmsim.standard import command_hash, digest_bytes, name_of, number, policy, sized
 from tpmsim.standard.objects import Attribute
-from tpmsim.standard.sessions import command_hash, digest_bytes, name_of
 from script_caller import FIRST, ScriptCaller, is_trial, zeros
 from script import Script
 
@@ -135,7 +130,7 @@ WRONG = (
 )
 caller.says("TPM2_PolicyLocality of locality 1", "SUCCESS", caller.locality(session, 2))
 caller.fails("TPM2_NV_Write from locality 0", "LOCALITY", writes())
-says("The cpHash of TPM2_NV_Write of \"data\" at 0", "SUCCESS", session, RIGHT)
+says('The cpHash of TPM2_NV_Write of "data" at 0', "SUCCESS", session, RIGHT)
 caller.fails("TPM2_NV_Write of it: the cpHash holds, the locality does not", "LOCALITY", writes())
 caller.fails(
     "Of other data, or at another offset, from this locality too",
@@ -151,7 +146,7 @@ for words, other in WRONG:
         caller.locality(session, 2),
     )
     says(f"The cpHash {words}", "SUCCESS", session, other)
-    caller.fails("TPM2_NV_Write of \"data\" at 0", "POLICY_FAIL/s1", writes())
+    caller.fails('TPM2_NV_Write of "data" at 0', "POLICY_FAIL/s1", writes())
 script.locality_is(1)
 caller.fails("From locality 1", "POLICY_FAIL/s1", writes())
 caller.says("TPM2_PolicyRestart", "SUCCESS", caller.restart(session))

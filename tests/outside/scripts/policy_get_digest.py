@@ -1,8 +1,6 @@
-#!/usr/bin/env python3
 """Writes tests/policy_get_digest.tpm: what a policy session's digest is."""
 
-from tpmsim.standard import policy
-from tpmsim.standard.commands import CC
+from tpmsim.standard import CC, policy
 from script_caller import ScriptCaller, zeros
 from script import Script
 

@@ -1,8 +1,6 @@
-#!/usr/bin/env python3
 """Writes tests/policy_locality.tpm: TPM2_PolicyLocality, and how its localities become fewer."""
 
-from tpmsim.standard import policy
-from tpmsim.standard.commands import CC
+from tpmsim.standard import CC, policy
 from script_caller import ScriptCaller, zeros
 from script import Script
 
@@ -27,9 +25,7 @@ for session in caller.each_session():
         "RANGE/p1",
         *(session, 0x20, 0x21, 0x3F, 0x40, 0x5F, 0x80, 0x81, 0xE0, 0xFF),
     )
-    caller.says(
-        "No parameter", "INSUFFICIENT/p1", caller.told(CC.PolicyLocality, session, b"")
-    )
+    caller.says("No parameter", "INSUFFICIENT/p1", caller.told(CC.PolicyLocality, session, b""))
     caller.says(
         "A byte behind it, also where it is 0",
         "SIZE",

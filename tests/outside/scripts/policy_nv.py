@@ -1,14 +1,10 @@
-#!/usr/bin/env python3
 """Writes tests/policy_nv.tpm: TPM2_PolicyNV, its comparisons, and what it is hashed of."""
 
 import hashlib
 
-from tpmsim.caller.entries import Use
-from tpmsim.caller.templates import BY_OWNER, BY_PLATFORM, BY_POLICY, BY_VALUE, area, bits, counter
-from tpmsim.caller.templates import extended
-from tpmsim.standard import frames, policy
-from tpmsim.standard.commands import CC
-from tpmsim.standard.frames import RH_OWNER, RH_PLATFORM, SHA1, SHA256, number, sized
+from tpmsim.caller import BY_OWNER, BY_PLATFORM, BY_POLICY, BY_VALUE, Use, area, bits, counter
+from tpmsim.caller import extended
+from tpmsim.standard import CC, RH_OWNER, RH_PLATFORM, SHA1, SHA256, frames, number, policy, sized
 from tpmsim.standard.nv import Attribute
 from script_caller import FIRST, FOURTH, SECOND, ScriptCaller, THIRD, is_trial, zeros
 from script import Script
@@ -230,9 +226,14 @@ def sizes_and_offsets():
     )
     holds("", session, LT, b"\0\x80\0", 1, index=THIRD)
     fails(
-        "Past the end", session, EQ, b"\x3b\0", bytes(
-            32
-        ), offset=63, index=THIRD, outcome="NV_RANGE"
+        "Past the end",
+        session,
+        EQ,
+        b"\x3b\0",
+        bytes(32),
+        offset=63,
+        index=THIRD,
+        outcome="NV_RANGE",
     )
     fails(
         "One byte, and none, behind it",
@@ -320,9 +321,7 @@ def refusals():
         caller.digest_is("Its digest", trial, old)
     script.chapter("But the authorization does, and so do handles and parameters.")
     right = caller.comparing(trial, THIRD, b"x")
-    caller.fails(
-        "A wrong password", "AUTH_FAIL/s1", caller.comparing(trial, THIRD, b"x", b"wrong")
-    )
+    caller.fails("A wrong password", "AUTH_FAIL/s1", caller.comparing(trial, THIRD, b"x", b"wrong"))
     caller.define(
         "An index that its value cannot read", area(FOURTH, BY_OWNER | BY_POLICY), auth=b"a"
     )
@@ -387,9 +386,7 @@ def sessions(session, trial):
     )
     caller.digest_is("The digest is zeros", session, zeros(session))
     caller.says("TPM2_PolicyAuthValue", "SUCCESS", caller.auth_value_told(session))
-    caller.does(
-        "To the trial session", caller.comparing(trial, 0x0100_0005, b"x", by_value())
-    )
+    caller.does("To the trial session", caller.comparing(trial, 0x0100_0005, b"x", by_value()))
     caller.fails(
         "By the trial session", "ATTRIBUTES/s1", caller.comparing(trial, 0x0100_0005, b"x", trial)
     )

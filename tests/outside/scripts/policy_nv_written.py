@@ -1,16 +1,12 @@
-#!/usr/bin/env python3
 """Writes tests/policy_nv_written.tpm: TPM2_PolicyNvWritten, and indices that are written once."""
 
 import hashlib
 
-from tpmsim.caller.entries import Use, flipped
-from tpmsim.caller.templates import BY_OWNER, BY_POLICY, HERE, area, counter, sealed, storage_key
-from tpmsim.standard import frames, policy
-from tpmsim.standard.commands import CC
-from tpmsim.standard.frames import RH_OWNER, SHA1, SHA256
+from tpmsim.caller import BY_OWNER, BY_POLICY, HERE, Use, area, counter, flipped, sealed
+from tpmsim.caller import storage_key
+from tpmsim.standard import CC, RH_OWNER, SHA1, SHA256, command_hash, frames, policy
 from tpmsim.standard.nv import Attribute
 from tpmsim.standard.objects import Attribute as ObjectAttribute
-from tpmsim.standard.sessions import command_hash
 from script_caller import FIRST, FOURTH, SECOND, ScriptCaller, THIRD, zeros
 from script import Script
 
@@ -125,9 +121,7 @@ for _ in range(2):
     caller.fails("Once more", "POLICY_FAIL/s1", caller.incrementing(FIFTH, session))
     caller.says("TPM2_PolicyRestart", "SUCCESS", caller.restart(session))
     caller.does("It is undefined", caller.undefining(FIFTH))
-    caller.define(
-        "And defined again", counter(FIFTH, BY_OWNER | BY_POLICY, auth_policy=unwritten)
-    )
+    caller.define("And defined again", counter(FIFTH, BY_OWNER | BY_POLICY, auth_policy=unwritten))
 
 script.chapter(
     "What is no NV index is neither written nor not: an object whose policy is the same refuses "
@@ -213,9 +207,7 @@ changes = policy.after_nv_written(SHA256, bytes(32), NO)
 SEVENTH = 0x0100_0007
 caller.define("An index", area(SEVENTH, BY_OWNER | BY_POLICY, auth_policy=changes))
 says("0, and no command code", "SUCCESS", session, NO)
-caller.fails(
-    "TPM2_NV_ChangeAuth", "POLICY_FAIL/s1", caller.changing_auth(SEVENTH, b"new", session)
-)
+caller.fails("TPM2_NV_ChangeAuth", "POLICY_FAIL/s1", caller.changing_auth(SEVENTH, b"new", session))
 caller.does("TPM2_NV_Write, in the role USER", caller.writing(SEVENTH, b"data", session))
 
 script.chapter("With an hmac, and by a session that ends.")

@@ -1,10 +1,7 @@
-#!/usr/bin/env python3
 """Writes tests/policy_pcr.tpm: TPM2_PolicyPCR, its selections, and PCRs that change behind it."""
 
-from tpmsim.standard import frames, policy
-from tpmsim.standard.commands import CC
-from tpmsim.standard.frames import RH_NULL, SHA1, SHA256, number, selection, sized
-from tpmsim.standard.sessions import digest
+from tpmsim.standard import CC, RH_NULL, SHA1, SHA256, digest, frames, number, policy, selection
+from tpmsim.standard import sized
 from script_caller import ScriptCaller, is_trial, zeros
 from script import Script
 
@@ -155,9 +152,7 @@ for session in caller.each_session():
     caller.says("Once more, and nothing has changed", "SUCCESS", caller.pcrs(session, zero))
     value = digest(SHA256, b"more")
     extend = frames.digests((SHA256, value))
-    caller.accepted(
-        "TPM2_PCR_Extend of PCR 0", caller.prepare(CC.PCR_Extend, [0], extend, b"")
-    )
+    caller.accepted("TPM2_PCR_Extend of PCR 0", caller.prepare(CC.PCR_Extend, [0], extend, b""))
     changed("TPM2_PolicyPCR again", session, zero)
     changed("And of PCRs that are as they were, or of none", session, [(SHA256, [1])])
     changed("", session, [])

@@ -1,11 +1,7 @@
-#!/usr/bin/env python3
 """Writes tests/policy_restart.tpm: TPM2_PolicyRestart, by which a session forgets its policy."""
 
-from tpmsim.caller.entries import Use
-from tpmsim.standard import frames, policy
-from tpmsim.standard.commands import CC
-from tpmsim.standard.frames import RH_OWNER, SHA1, SHA256
-from tpmsim.standard.sessions import digest_bytes
+from tpmsim.caller import Use
+from tpmsim.standard import CC, RH_OWNER, SHA1, SHA256, digest_bytes, frames, policy
 from script_caller import ScriptCaller, is_trial, zeros
 from script import Script
 
@@ -74,8 +70,7 @@ for algorithm in (SHA1, SHA256):
     )
     caller.says("TPM2_PolicyRestart", "SUCCESS", caller.restart(session))
     caller.accepted(
-        "TPM2_PolicySecret with its nonceTPM",
-        caller.secret(session, nonce_tpm=session.nonce_tpm),
+        "TPM2_PolicySecret with its nonceTPM", caller.secret(session, nonce_tpm=session.nonce_tpm)
     )
     caller.accepted("TPM2_PolicyRestart by its own hmac", caller.restart(session, session))
     caller.digest_is("The digest is zeros", session, zeros(session))

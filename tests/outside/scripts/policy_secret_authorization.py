@@ -1,10 +1,8 @@
-#!/usr/bin/env python3
 """Writes tests/policy_secret_authorization.tpm: by what entries TPM2_PolicySecret is authorized."""
 
-from tpmsim.caller.entries import Use, flipped
-from tpmsim.standard import policy
-from tpmsim.standard.frames import RH_ENDORSEMENT, RH_LOCKOUT, RH_OWNER, RH_PLATFORM, SHA1, SHA256
-from tpmsim.standard.sessions import name_of
+from tpmsim.caller import Use, flipped
+from tpmsim.standard import RH_ENDORSEMENT, RH_LOCKOUT, RH_OWNER, RH_PLATFORM, SHA1, SHA256
+from tpmsim.standard import name_of, policy
 from script_caller import HASHES, ScriptCaller, zeros
 from script import Script
 

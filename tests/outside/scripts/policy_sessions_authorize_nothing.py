@@ -1,11 +1,8 @@
-#!/usr/bin/env python3
 """Writes tests/policy_sessions_authorize_nothing.tpm: policy sessions as the first entry."""
 
-from tpmsim.caller.entries import Use, flipped
-from tpmsim.standard import frames
-from tpmsim.standard.commands import CC
-from tpmsim.standard.frames import CONTINUE_SESSION, DECRYPT, Entry, RH_ENDORSEMENT, RH_LOCKOUT
-from tpmsim.standard.frames import RH_NULL, RH_OWNER, RH_PLATFORM
+from tpmsim.caller import Use, flipped
+from tpmsim.standard import CC, CONTINUE_SESSION, DECRYPT, Entry, RH_ENDORSEMENT, RH_LOCKOUT
+from tpmsim.standard import RH_NULL, RH_OWNER, RH_PLATFORM, frames
 from script_caller import ScriptCaller, zeros
 from script import Script
 

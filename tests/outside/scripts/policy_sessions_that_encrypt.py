@@ -1,12 +1,8 @@
-#!/usr/bin/env python3
 """Writes tests/policy_sessions_that_encrypt.tpm: policy sessions that authorize nothing."""
 
-from tpmsim.caller.entries import Use, flipped
-from tpmsim.standard import frames, policy
-from tpmsim.standard.commands import CC
-from tpmsim.standard.frames import CONTINUE_SESSION, DECRYPT, ENCRYPT, RH_ENDORSEMENT, RH_LOCKOUT
-from tpmsim.standard.frames import RH_OWNER, SE_POLICY, SE_TRIAL, SHA1
-from tpmsim.standard.sessions import digest, name_of
+from tpmsim.caller import Use, flipped
+from tpmsim.standard import CC, CONTINUE_SESSION, DECRYPT, ENCRYPT, RH_ENDORSEMENT, RH_LOCKOUT
+from tpmsim.standard import RH_OWNER, SE_POLICY, SE_TRIAL, SHA1, digest, frames, name_of, policy
 from script_caller import HASHES, KINDS, ScriptCaller, zeros
 from script import Script
 
@@ -54,9 +50,7 @@ for algorithm, hash_name in HASHES:
         caller.accepted(
             "TPM2_GetRandom, which it encrypts", caller.random(20, Use(session, ENCRYPTS))
         )
-        caller.accepted(
-            "TPM2_GetRandom that it does not encrypt", caller.random(20, hmac, session)
-        )
+        caller.accepted("TPM2_GetRandom that it does not encrypt", caller.random(20, hmac, session))
         caller.digest_is("Its digest is as it was", session, told)
         encrypted = caller.get_digest(session, Use(session, ENCRYPTS))
         caller.accepted("TPM2_PolicyGetDigest, which it encrypts itself", encrypted)
@@ -88,9 +82,7 @@ for algorithm, hash_name in HASHES:
             "TPM2_PolicyPCR whose digest it decrypts itself|and its digest is of the plain one",
             caller.pcrs(session, [], digest(algorithm, b""), [Use(session, DECRYPTS)]),
         )
-        told = policy.after_pcr(
-            algorithm, told, frames.selection(), digest(algorithm, b"")
-        )
+        told = policy.after_pcr(algorithm, told, frames.selection(), digest(algorithm, b""))
         caller.digest_is("Its digest", session, told)
         caller.accepted(
             "TPM2_PolicySecret, of which it decrypts nonceTPM itself: the one of before",
@@ -220,9 +212,7 @@ caller.refused(
     caller.pcrs(plain, [], b"", [Use(plain, DECRYPTS)]),
     caller.get_digest(plain, Use(plain, ENCRYPTS)),
 )
-caller.refused(
-    "Behind a password", "SYMMETRIC/s2", caller.event(b"a", b"", Use(plain, DECRYPTS))
-)
+caller.refused("Behind a password", "SYMMETRIC/s2", caller.event(b"a", b"", Use(plain, DECRYPTS)))
 
 script.chapter("Started beside others, and with others beside it.")
 first = caller.policy("A policy session, with AES", bind=RH_OWNER, aes=True)

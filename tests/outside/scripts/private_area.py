@@ -1,14 +1,11 @@
-#!/usr/bin/env python3
 """Writes tests/private_area.tpm: private areas that were changed, or that were made outside."""
 
-from tpmsim.caller.entries import Made, flipped
-from tpmsim.caller.templates import HERE, OPEN, STORES, hmac_key, sealed, storage_key
+from tpmsim.caller import HERE, Made, OPEN, STORES, flipped, hmac_key, sealed, storage_key
 from tpmsim.model import object_rules
 from tpmsim.model.object_rules import Sensitive
-from tpmsim.standard import aes
-from tpmsim.standard.frames import KEYEDHASH, RH_OWNER, SHA1, SHA256, SYMCIPHER, number, sized
+from tpmsim.standard import KEYEDHASH, RH_OWNER, SHA1, SHA256, SYMCIPHER, aes, digest, digest_bytes
+from tpmsim.standard import kdfa, mac, number, sized
 from tpmsim.standard.objects import Public
-from tpmsim.standard.sessions import digest, digest_bytes, kdfa, mac
 from script_caller import ScriptCaller
 from script import Script
 
@@ -139,10 +136,7 @@ for algorithm, hash_name in ((SHA1, "SHA-1"), (SHA256, "SHA-256")):
         "Another type than that of the public area",
         parent,
         public,
-        *(
-            forge(parent, public, sensitive(kind=it))
-            for it in (SYMCIPHER, 0, 1, 0x0010, 0xFFFF)
-        ),
+        *(forge(parent, public, sensitive(kind=it)) for it in (SYMCIPHER, 0, 1, 0x0010, 0xFFFF)),
     )
     text = sensitive(auth=b"a")
     content = text[2:]
@@ -187,9 +181,9 @@ for algorithm, hash_name in ((SHA1, "SHA-1"), (SHA256, "SHA-256")):
 
     script.chapter("What is not made by TPM2_Create, and is loaded none the less.")
     for what, auth, given in (
-        ("The value is \"a\" and two zeros, which count for nothing", b"a\0\0", b"a"),
+        ('The value is "a" and two zeros, which count for nothing', b"a\0\0", b"a"),
         ("It is 32 zeros, the empty one", bytes(32), b""),
-        ("It is a zero and \"a\"", b"\0a", b"\0a"),
+        ('It is a zero and "a"', b"\0a", b"\0a"),
     ):
         private = forge(parent, public, sensitive(auth=auth))
         handle = caller.load(f"{what}: TPM2_Load", parent, Made(private, public, given))

@@ -14,13 +14,10 @@ from dataclasses import replace
 
 from tpmsim.model import general, nv_commands, persistent, state
 from tpmsim.model.machine import Model
-from tpmsim.standard import frames, handle_kinds, nv, policy, reading, sessions
-from tpmsim.standard.commands import CC, Fact, HandleKind
-from tpmsim.standard.frames import AES, ALG_NULL, CONTINUE_SESSION, DECRYPT, ENCRYPT, Entry
-from tpmsim.standard.frames import KEYEDHASH, RH_NULL, RS_PW, SHA1, SHA256, SYMCIPHER, XOR, number
-from tpmsim.standard.frames import sized
+from tpmsim.standard import AES, ALG_NULL, CC, CONTINUE_SESSION, DECRYPT, ENCRYPT, Entry, Fact
+from tpmsim.standard import HandleKind, KEYEDHASH, RH_NULL, RS_PW, SHA1, SHA256, SYMCIPHER, Short
+from tpmsim.standard import XOR, frames, handle_kinds, number, nv, policy, reading, sessions, sized
 from tpmsim.standard.objects import Attribute, Public
-from tpmsim.standard.reading import Short
 from outputs import POWER, Played, write_outputs
 from script import line
 
@@ -145,9 +142,7 @@ class Writer(random.Random):
             public = replace(public, attributes=attributes)
         user_auth = self.choice(AUTH_VALUES) + bytes(self.randrange(2))
         sensitive = frames.sensitive_create(user_auth, data)
-        return frames.creation(
-            sensitive, sized(public.text), self.some_bytes(34), self.selection()
-        )
+        return frames.creation(sensitive, sized(public.text), self.some_bytes(34), self.selection())
 
     # NV indices.
 
@@ -396,10 +391,7 @@ class Writer(random.Random):
         CC.PolicyOR: (3, policy_or),
         CC.PolicyAuthValue: (4, told),
         CC.PolicyPassword: (4, told),
-        CC.PolicyCommandCode: (
-            6,
-            lambda w: w.told(number(w.choice((*USES, *NV_USES, 0x999)), 4)),
-        ),
+        CC.PolicyCommandCode: (6, lambda w: w.told(number(w.choice((*USES, *NV_USES, 0x999)), 4))),
         CC.PolicyCpHash: (4, policy_cp_hash),
         CC.PolicyNvWritten: (6, policy_nv_written),
         CC.PolicyLocality: (3, lambda w: w.told(number(w.choice((0, 1, 3, 31, 31, 32)), 1))),
@@ -416,10 +408,7 @@ class Writer(random.Random):
         CC.NV_ReadPublic: (4, lambda w: ([w.index()], b"")),
         CC.NV_Write: (14, nv_write),
         CC.NV_Increment: (6, lambda w: (w.asked(nv.Type.COUNTER), b"")),
-        CC.NV_SetBits: (
-            4,
-            lambda w: (w.asked(nv.Type.BITS), number(1 << w.randrange(64), 8)),
-        ),
+        CC.NV_SetBits: (4, lambda w: (w.asked(nv.Type.BITS), number(1 << w.randrange(64), 8))),
         CC.NV_Extend: (
             4,
             lambda w: (w.asked(nv.Type.EXTEND), sized(w.some_bytes(w.choice((4, 64, 1024))))),
@@ -531,9 +520,7 @@ class Writer(random.Random):
     def code(self):
         """Of a command that is served. Where it is locked, mostly soon of one that unlocks."""
         if self.device.lockout.is_locked() and self.happens(0.1):
-            return self.choice(
-                (CC.DictionaryAttackLockReset, CC.DictionaryAttackParameters)
-            )
+            return self.choice((CC.DictionaryAttackLockReset, CC.DictionaryAttackParameters))
         codes = list(self.COMMANDS)
         (code,) = self.choices(codes, [self.COMMANDS[it][0] for it in codes])
         return code

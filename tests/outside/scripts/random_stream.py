@@ -2,8 +2,7 @@
 
 from tpmsim.model import state, streams
 from tpmsim.model.image import Fault, VERSION_1, image, open_image
-from tpmsim.standard import frames
-from tpmsim.standard.commands import CC
+from tpmsim.standard import CC, frames
 from bent_script import bent_image
 from random_script import MOST_TRIES, Writer
 
@@ -57,7 +56,17 @@ class StreamWriter(Writer):
 
     def with_wrong_size(self, buffer):
         size = len(buffer)
-        wrong = 0, 6, 9, 4097, 2**32 - 1, max(0, size - 1), size + 1, 2 * size, self.randrange(4097)
+        wrong = (
+            0,
+            6,
+            9,
+            4097,
+            2**32 - 1,
+            max(0, size - 1),
+            size + 1,
+            2 * size,
+            self.randrange(4097),
+        )
         return buffer[:2] + frames.number(self.choice(wrong), 4) + buffer[6:]
 
     def command(self):

@@ -1,11 +1,7 @@
-#!/usr/bin/env python3
 """Writes tests/read_public.tpm: TPM2_ReadPublic, and the Names that it answers."""
 
-from tpmsim.caller.entries import Use
-from tpmsim.caller.templates import hmac_key, sealed, storage_key
-from tpmsim.standard.commands import CC
-from tpmsim.standard.frames import ENCRYPT, RH_NULL, RH_OWNER, SHA1, SHA256, command, number
-from tpmsim.standard.sessions import digest
+from tpmsim.caller import Use, hmac_key, sealed, storage_key
+from tpmsim.standard import CC, ENCRYPT, RH_NULL, RH_OWNER, SHA1, SHA256, command, digest, number
 from script_caller import ScriptCaller
 from script import Script
 
@@ -35,9 +31,7 @@ script.command(
     *map(read, (0x8000_0000, 0x8000_0007, 0x8000_0008, 0x80FF_FFFF)),
 )
 script.command(
-    "A persistent object, while there is none",
-    "HANDLE/h1",
-    *map(read, (0x8100_0000, 0x81FF_FFFF)),
+    "A persistent object, while there is none", "HANDLE/h1", *map(read, (0x8100_0000, 0x81FF_FFFF))
 )
 script.command("Three bytes of a handle", "INSUFFICIENT/h1", command(CC.ReadPublic, b"\x80\0\0"))
 

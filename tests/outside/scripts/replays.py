@@ -1,15 +1,10 @@
-#!/usr/bin/env python3
 """Writes tests/replays.tpm: commands that were accepted, and are sent again byte for byte."""
 
 from dataclasses import replace
 
-from tpmsim.caller.entries import Use
-from tpmsim.caller.knowledge import CLEAR, STATE
-from tpmsim.caller.templates import BY_POLICY, BY_VALUE
-from tpmsim.standard import frames
-from tpmsim.standard.commands import CC
-from tpmsim.standard.frames import CONTINUE_SESSION, DECRYPT, ENCRYPT, RH_ENDORSEMENT, RH_LOCKOUT
-from tpmsim.standard.frames import RH_NULL, RH_OWNER, SE_HMAC, SE_POLICY, SHA256
+from tpmsim.caller import BY_POLICY, BY_VALUE, CLEAR, STATE, Use
+from tpmsim.standard import CC, CONTINUE_SESSION, DECRYPT, ENCRYPT, RH_ENDORSEMENT, RH_LOCKOUT
+from tpmsim.standard import RH_NULL, RH_OWNER, SE_HMAC, SE_POLICY, SHA256, frames
 from tpmsim.standard.nv import Attribute
 from tpmsim.standard.policy import AUTH_VALUE, PASSWORD
 from script_caller import FIRST
@@ -135,10 +130,7 @@ def not_counted(session, to_endorsement):
             "TPM2_HierarchyChangeAuth of the owner",
             lambda: caller.change_auth(RH_OWNER, OWNER, session),
         ),
-        (
-            "TPM2_PCR_Event by a session with a key",
-            lambda: caller.event(b"event", to_endorsement),
-        ),
+        ("TPM2_PCR_Event by a session with a key", lambda: caller.event(b"event", to_endorsement)),
     ):
         again("The same again", "BAD_AUTH/s1", accepted(what, prepare()))
     caller.tries_are("There is no failed try", 0)
@@ -147,9 +139,7 @@ def not_counted(session, to_endorsement):
 def counted_otherwise(session):
     script.chapter("LOCKOUTAUTH. A wrong entry closes it for lockoutRecovery.")
     caller.does('It is "lockout"', caller.change_auth(RH_LOCKOUT, LOCKOUT_AUTH, b""))
-    first = accepted(
-        "TPM2_DictionaryAttackLockReset by the session", caller.lock_reset(session)
-    )
+    first = accepted("TPM2_DictionaryAttackLockReset by the session", caller.lock_reset(session))
     again("The same again", "AUTH_FAIL/s1", first)
     caller.tries_are("It is no failed try", 0)
     again("But lockoutAuth is closed: the same again", "LOCKOUT", first)

@@ -1,13 +1,8 @@
-#!/usr/bin/env python3
 """Writes tests/saved_state.tpm: which commands cancel what TPM2_Shutdown(STATE) saved."""
 
-from tpmsim.caller.entries import Use, wrong
-from tpmsim.caller.knowledge import CLEAR, STATE
-from tpmsim.caller.templates import BY_OWNER, BY_VALUE, area, bits, counter, extended, hmac_key
-from tpmsim.caller.templates import sealed, storage_key
-from tpmsim.standard import frames, policy
-from tpmsim.standard.commands import CC, Fact
-from tpmsim.standard.frames import RH_ENDORSEMENT, RH_OWNER, RH_PLATFORM, SHA256
+from tpmsim.caller import BY_OWNER, BY_VALUE, CLEAR, STATE, Use, area, bits, counter, extended
+from tpmsim.caller import hmac_key, sealed, storage_key, wrong
+from tpmsim.standard import CC, Fact, RH_ENDORSEMENT, RH_OWNER, RH_PLATFORM, SHA256, frames, policy
 from tpmsim.standard.nv import Attribute
 from script_caller import FIRST, FOURTH, SECOND, ScriptCaller, THIRD
 from script import Script

@@ -4,9 +4,9 @@ import hashlib
 import textwrap
 
 import paths
+from tpmsim.device.base import line, line_in_bytes
 from tpmsim.model.machine import Model
-from tpmsim.standard import frames, lines
-from tpmsim.standard.commands import CC
+from tpmsim.standard import CC, frames
 from outputs import POWER, Played, write_outputs
 
 COLUMNS = 100
@@ -14,17 +14,6 @@ RANDOM_BYTES = 256
 
 # So many bytes of each command's `entropy` line that no two nonces of a command are the same.
 SEED_BYTES = 7
-
-
-def line(buffer):
-    """The script's line that executes a buffer: in words, where some say just these bytes."""
-    words = lines.line_of(buffer)
-    return f"cmd {buffer.hex()}" if words is None else f"do {words}"
-
-
-def line_in_bytes(buffer):
-    """The same as bytes, be there words or not; that of the empty buffer is `cmd` alone."""
-    return f"cmd {buffer.hex()}".rstrip()
 
 
 class Script:
@@ -102,9 +91,7 @@ class Script:
 
     def startup(self):
         return self.command(
-            "TPM2_Startup(CLEAR)",
-            "SUCCESS",
-            frames.command(CC.Startup, frames.number(0, 2)),
+            "TPM2_Startup(CLEAR)", "SUCCESS", frames.command(CC.Startup, frames.number(0, 2))
         )
 
     def allow_tries(self):

@@ -4,17 +4,13 @@ each response, and stops where one is not what it computes itself.
 
 import hashlib
 
-from tpmsim.caller.entries import Made, Use
-from tpmsim.caller.knowledge import CLEAR, NONCE_BYTES
+from tpmsim.caller import CLEAR, Made, NONCE_BYTES, Use
 from tpmsim.caller.prepared_commands import PreparedCommands
-from tpmsim.standard import frames
-from tpmsim.standard.commands import CC
-from tpmsim.standard.frames import AES, ALG_NULL, RH_NULL, RH_OWNER, SE_HMAC, SE_POLICY, SE_TRIAL
-from tpmsim.standard.frames import SHA1, SHA256, XOR, sized
+from tpmsim.standard import AES, ALG_NULL, CC, Fields, RH_NULL, RH_OWNER, SE_HMAC, SE_POLICY
+from tpmsim.standard import SE_TRIAL, SHA1, SHA256, XOR, digest, digest_bytes, frames, sized
+from tpmsim.standard import trimmed
 from tpmsim.standard.nv import Attribute
 from tpmsim.standard.objects import Public
-from tpmsim.standard.reading import Fields
-from tpmsim.standard.sessions import digest, digest_bytes, trimmed
 
 HASHES = ((SHA1, "SHA-1"), (SHA256, "SHA-256"))
 KINDS = ((SE_POLICY, "policy"), (SE_TRIAL, "trial"))

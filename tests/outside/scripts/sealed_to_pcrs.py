@@ -1,12 +1,8 @@
-#!/usr/bin/env python3
 """Writes tests/sealed_to_pcrs.tpm: data that are given out while a PCR has the value of then."""
 
-from tpmsim.caller.templates import HERE, sealed, storage_key
-from tpmsim.standard import policy
-from tpmsim.standard.commands import CC
-from tpmsim.standard.frames import RH_NULL, RH_OWNER, SHA256, digests, selection
+from tpmsim.caller import HERE, sealed, storage_key
+from tpmsim.standard import CC, RH_NULL, RH_OWNER, SHA256, digest, digests, policy, selection
 from tpmsim.standard.objects import Attribute
-from tpmsim.standard.sessions import digest
 from script_caller import ScriptCaller, zeros
 from script import Script
 

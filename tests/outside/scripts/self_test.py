@@ -1,10 +1,7 @@
-#!/usr/bin/env python3
 """Writes tests/self_test.tpm: TPM2_SelfTest, which finds nothing, and what refuses it."""
 
-from tpmsim.caller.entries import wrong
-from tpmsim.standard import frames
-from tpmsim.standard.commands import CC
-from tpmsim.standard.frames import CONTINUE_SESSION, DECRYPT, ENCRYPT, command, number
+from tpmsim.caller import wrong
+from tpmsim.standard import CC, CONTINUE_SESSION, DECRYPT, ENCRYPT, command, frames, number
 from script_caller import ScriptCaller
 from script import Script
 

@@ -1,11 +1,8 @@
-#!/usr/bin/env python3
 """Writes tests/session_encryption.tpm: first parameters and first answers that sessions encrypt."""
 
-from tpmsim.caller.entries import Use, flipped
-from tpmsim.standard import frames
-from tpmsim.standard.commands import CC
-from tpmsim.standard.frames import CONTINUE_SESSION, DECRYPT, ENCRYPT, RH_ENDORSEMENT, RH_OWNER
-from tpmsim.standard.frames import SHA1, SHA256, sized
+from tpmsim.caller import Use, flipped
+from tpmsim.standard import CC, CONTINUE_SESSION, DECRYPT, ENCRYPT, RH_ENDORSEMENT, RH_OWNER, SHA1
+from tpmsim.standard import SHA256, frames, sized
 from script_caller import ScriptCaller
 from script import Script
 
@@ -160,7 +157,7 @@ caller.accepted("Without", caller.random(32, session, Use(third, ENCRYPTS)))
 
 script.chapter(
     "TPM2_StartAuthSession has a sized buffer in both directions. The new session's key is of the "
-    "nonces in plain, and its nonce is drawn before the others'.",
+    "nonces in plain, and its nonce is drawn before the others'."
 )
 other = caller.start("Another session, bound to TPM_RH_ENDORSEMENT", RH_ENDORSEMENT, aes=True)
 for words, uses in (

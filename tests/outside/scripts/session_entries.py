@@ -1,11 +1,8 @@
-#!/usr/bin/env python3
 """Writes tests/session_entries.tpm: what is refused of entries before any hmac is looked at."""
 
-from tpmsim.caller.entries import Use
-from tpmsim.standard import frames
-from tpmsim.standard.commands import CC
-from tpmsim.standard.frames import CONTINUE_SESSION, DECRYPT, ENCRYPT, Entry, RH_OWNER, RS_PW
-from tpmsim.standard.frames import SHA256, number, sized
+from tpmsim.caller import Use
+from tpmsim.standard import CC, CONTINUE_SESSION, DECRYPT, ENCRYPT, Entry, RH_OWNER, RS_PW, SHA256
+from tpmsim.standard import frames, number, sized
 from script_caller import ScriptCaller
 from script import Script
 
@@ -215,7 +212,7 @@ caller.refused(
 
 script.chapter(
     "The order within an entry: one fault after the other is repaired. The command is "
-    "TPM2_PCR_Event with a right entry before.",
+    "TPM2_PCR_Event with a right entry before."
 )
 right = caller.event(b"abc", aes)
 

@@ -1,14 +1,9 @@
-#!/usr/bin/env python3
 """Writes tests/sha1_parent.tpm: parents with nameAlg SHA-1, and what parents hand on."""
 
-from tpmsim.caller.templates import OPEN, STORES, hmac_key, sealed, storage_key
-from tpmsim.standard import policy
-from tpmsim.standard.commands import CC
-from tpmsim.standard.frames import RH_ENDORSEMENT, RH_NULL, RH_OWNER, RH_PLATFORM, SHA1, SHA256
-from tpmsim.standard.frames import number
+from tpmsim.caller import OPEN, STORES, hmac_key, sealed, storage_key
+from tpmsim.standard import CC, Fields, RH_ENDORSEMENT, RH_NULL, RH_OWNER, RH_PLATFORM, SHA1
+from tpmsim.standard import SHA256, digest, digest_bytes, number, policy
 from tpmsim.standard.objects import Attribute
-from tpmsim.standard.reading import Fields
-from tpmsim.standard.sessions import digest, digest_bytes
 from script_caller import ScriptCaller
 from script import Script
 
@@ -140,9 +135,7 @@ caller.says(
     "ATTRIBUTES/p2",
     caller.child(child, sealed(), data=b"leaf"),
 )
-leaf = caller.create(
-    "With neither of them", child, sealed(attributes=OPEN), data=b"leaf"
-)
+leaf = caller.create("With neither of them", child, sealed(attributes=OPEN), data=b"leaf")
 handle = caller.load("TPM2_Load", child, leaf)
 caller.unseal("TPM2_Unseal", handle, b"leaf")
 caller.flush_objects("They are flushed", primary, child, handle)

@@ -1,11 +1,8 @@
-#!/usr/bin/env python3
 """Writes tests/shutdown.tpm: TPM2_Shutdown, what refuses it, and what it is to the next start."""
 
-from tpmsim.caller.entries import Use, wrong
-from tpmsim.caller.knowledge import CLEAR, STATE
-from tpmsim.standard import frames
-from tpmsim.standard.commands import CC
-from tpmsim.standard.frames import CONTINUE_SESSION, DECRYPT, ENCRYPT, RH_OWNER, command, number
+from tpmsim.caller import CLEAR, STATE, Use, wrong
+from tpmsim.standard import CC, CONTINUE_SESSION, DECRYPT, ENCRYPT, RH_OWNER, command, frames
+from tpmsim.standard import number
 from script_caller import ScriptCaller
 from script import Script
 

@@ -1,12 +1,9 @@
-#!/usr/bin/env python3
 """Writes tests/start_auth_session.tpm: TPM2_StartAuthSession, its faults and its sessions."""
 
-from tpmsim.caller.entries import Use
-from tpmsim.standard import frames
-from tpmsim.standard.commands import CC
-from tpmsim.standard.frames import ALG_NULL, RH_ENDORSEMENT, RH_LOCKOUT, RH_NULL, RH_OWNER
-from tpmsim.standard.frames import RH_PLATFORM, RS_PW, SHA1, SHA256, area, command, entry, number
-from tpmsim.standard.frames import sized
+from tpmsim.caller import Use
+from tpmsim.standard import ALG_NULL, CC, RH_ENDORSEMENT, RH_LOCKOUT, RH_NULL, RH_OWNER
+from tpmsim.standard import RH_PLATFORM, RS_PW, SHA1, SHA256, area, command, entry, frames, number
+from tpmsim.standard import sized
 from script_caller import ScriptCaller
 from script import Script
 

@@ -1,10 +1,7 @@
-#!/usr/bin/env python3
 """Writes tests/startup_state.tpm: what TPM2_Startup(STATE) restores, and what a restart does."""
 
-from tpmsim.caller.knowledge import CLEAR, STATE
-from tpmsim.caller.templates import BY_OWNER, BY_VALUE, area, storage_key
-from tpmsim.standard.frames import RH_NULL, RH_OWNER, RH_PLATFORM, SE_HMAC, SE_POLICY, SE_TRIAL
-from tpmsim.standard.frames import SHA256
+from tpmsim.caller import BY_OWNER, BY_VALUE, CLEAR, STATE, area, storage_key
+from tpmsim.standard import RH_NULL, RH_OWNER, RH_PLATFORM, SE_HMAC, SE_POLICY, SE_TRIAL, SHA256
 from tpmsim.standard.nv import Attribute
 from script_caller import FIRST, FOURTH, SECOND, ScriptCaller, THIRD
 from script import Script

@@ -1,9 +1,7 @@
-#!/usr/bin/env python3
 """Writes tests/state_vectors.tpm: commands and answers whose bytes were written down by hand."""
 
-from tpmsim.caller.templates import BY_VALUE, area, sealed, storage_key
-from tpmsim.standard import frames
-from tpmsim.standard.frames import RH_NULL
+from tpmsim.caller import BY_VALUE, area, sealed, storage_key
+from tpmsim.standard import RH_NULL, frames
 from tpmsim.standard.objects import Attribute
 from script_caller import FIRST, ScriptCaller
 from script import Script
@@ -54,10 +52,7 @@ def clock_and_capabilities():
         "8001 00000023 00000000 0000000000000005 0000000000000005 00000001 00000000 01",
     )
     answered(
-        "With an authorization area",
-        "AUTH_CONTEXT",
-        f"8002 00000017 00000181 {PW}",
-        code(0x145),
+        "With an authorization area", "AUTH_CONTEXT", f"8002 00000017 00000181 {PW}", code(0x145)
     )
     answered(
         "TPM2_GetCapability of one command from 131 on: TPM2_CreatePrimary has one handle, and "

@@ -1,11 +1,9 @@
-#!/usr/bin/env python3
 """Writes examples/suspend_resume.tpm: a laptop sleeps, and its TPM loses power and comes back."""
 
 import hashlib
 
-from tpmsim.caller.knowledge import CLEAR, STATE
-from tpmsim.caller.templates import HERE, sealed, storage_key
-from tpmsim.standard.frames import RH_OWNER, SHA256
+from tpmsim.caller import CLEAR, HERE, STATE, sealed, storage_key
+from tpmsim.standard import RH_OWNER, SHA256
 from tpmsim.standard.objects import Attribute
 from script_caller import ScriptCaller
 from script import Script

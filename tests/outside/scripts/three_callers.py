@@ -1,4 +1,3 @@
-#!/usr/bin/env python3
 """Writes three scripts of three callers of one device, of which each does one thing: the first
 measures into PCR 10 and reads it; the second has data unsealed by a policy on PCR 10; and the third
 writes an NV index in an HMAC session, and sends one command again. They take turns, or take them
@@ -14,14 +13,11 @@ compared with what its history tells of it, and so is the answer to TPM2_PCR_Rea
 
 import copy
 
-from tpmsim.caller.templates import HERE, area, sealed, storage_key
+from tpmsim.caller import HERE, area, sealed, storage_key
 from tpmsim.model.history import History
-from tpmsim.standard import policy
-from tpmsim.standard.commands import CC
-from tpmsim.standard.frames import RH_NULL, RH_OWNER, SHA256, digests, selection
+from tpmsim.standard import CC, RH_NULL, RH_OWNER, SHA256, digest, digests, policy, selection
 from tpmsim.standard.nv import Attribute
 from tpmsim.standard.objects import Attribute as ObjectAttribute
-from tpmsim.standard.sessions import digest
 from script_caller import ScriptCaller
 from script import Script
 

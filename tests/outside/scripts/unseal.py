@@ -1,10 +1,7 @@
-#!/usr/bin/env python3
 """Writes tests/unseal.tpm: TPM2_Unseal, which gives out what is sealed."""
 
-from tpmsim.caller.templates import HERE, OPEN, hmac_key, sealed, storage_key
-from tpmsim.standard import frames
-from tpmsim.standard.commands import CC
-from tpmsim.standard.frames import RH_NULL, RH_OWNER, SHA1, SHA256, SYMCIPHER, number
+from tpmsim.caller import HERE, OPEN, hmac_key, sealed, storage_key
+from tpmsim.standard import CC, RH_NULL, RH_OWNER, SHA1, SHA256, SYMCIPHER, frames, number
 from tpmsim.standard.objects import Attribute, Public
 from script_caller import ScriptCaller
 from script import Script
@@ -57,9 +54,7 @@ for what, value, passwords, wrong in (
         "SUCCESS",
         *(caller.unsealing(handle, it) for it in passwords),
     )
-    refused(
-        "By others", "BAD_AUTH/s1", *(caller.unsealing(handle, it) for it in wrong)
-    )
+    refused("By others", "BAD_AUTH/s1", *(caller.unsealing(handle, it) for it in wrong))
     caller.flush_objects("It is flushed", handle)
 guarded = sealed(attributes=HERE | Attribute.USER_WITH_AUTH)
 made = caller.create("Without noDA", parent, guarded, data=b"secret")

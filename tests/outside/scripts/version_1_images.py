@@ -1,4 +1,3 @@
-#!/usr/bin/env python3
 """Has a program open the images of version 1 that are kept in tests/version_1:
 
     tools/python.sh tests/outside/scripts/version_1_images.py PROGRAM
@@ -14,14 +13,11 @@ import os
 import sys
 import tempfile
 
-from tpmsim.caller.knowledge import CLEAR, STATE
-from tpmsim.caller.templates import BY_OWNER, area, counter, sealed, storage_key
+from tpmsim.caller import BY_OWNER, CLEAR, STATE, area, counter, sealed, storage_key
 from tpmsim.model import image, nv_commands, streams
 from tpmsim.model.capability import HANDLES, PROPERTIES
-from tpmsim.standard import frames, lines, nv
-from tpmsim.standard.commands import CC
-from tpmsim.standard.frames import ALG_NULL, NV, PERSISTENT, RH_ENDORSEMENT, RH_LOCKOUT, RH_NULL
-from tpmsim.standard.frames import RH_OWNER, RH_PLATFORM, SHA256, SYMCIPHER, TRANSIENT
+from tpmsim.standard import ALG_NULL, CC, NV, PERSISTENT, RH_ENDORSEMENT, RH_LOCKOUT, RH_NULL
+from tpmsim.standard import RH_OWNER, RH_PLATFORM, SHA256, SYMCIPHER, TRANSIENT, frames, lines, nv
 from tpmsim.standard.handle_kinds import first_byte
 from tpmsim.standard.objects import Attribute
 import serving
@@ -130,14 +126,10 @@ def changes(device):
     yield line("PCR_Event", "00000005", "pw:-", "6576656e74")
     for hierarchy in WITH_VALUES:
         entries = by(device, hierarchy)
-        yield frames.on_handle(
-            CC.HierarchyChangeAuth, hierarchy, frames.sized(b"new"), entries
-        )
+        yield frames.on_handle(CC.HierarchyChangeAuth, hierarchy, frames.sized(b"new"), entries)
     for handle in sorted(it for it in device.objects if first_byte(it) == PERSISTENT):
         yield line("Unseal", f"{handle:08x}", "pw:77726f6e67")
-    yield frames.on_handle(
-        CC.DictionaryAttackLockReset, RH_LOCKOUT, entries=by(device, RH_LOCKOUT)
-    )
+    yield frames.on_handle(CC.DictionaryAttackLockReset, RH_LOCKOUT, entries=by(device, RH_LOCKOUT))
     yield line("DictionaryAttackLockReset", "LOCKOUT", "pw:77726f6e67")
 
 

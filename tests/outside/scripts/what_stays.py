@@ -1,10 +1,8 @@
-#!/usr/bin/env python3
 """Writes tests/what_stays.tpm: what a device still knows of sessions and counters that are gone."""
 
-from tpmsim.caller.templates import counter
+from tpmsim.caller import counter
 from tpmsim.model.history import History
-from tpmsim.standard.commands import CC
-from tpmsim.standard.frames import RH_LOCKOUT, SHA256, number
+from tpmsim.standard import CC, RH_LOCKOUT, SHA256, number
 from script_caller import FIRST, SECOND, ScriptCaller, zeros
 from script import Script
 

@@ -1,17 +1,13 @@
-#!/usr/bin/env python3
 """Writes tests/written_policies.tpm: uses of entities by policies that have branches, and by other
 ones, and what is refused of them. tests/policy_audit.sh has these policies in words.
 """
 
-from tpmsim.caller.entries import Use
-from tpmsim.caller.templates import BY_OWNER, HERE
-from tpmsim.standard import policy
-from tpmsim.standard.commands import CC
-from tpmsim.standard.frames import RH_ENDORSEMENT, RH_OWNER, SHA1, SHA256, number, selection
+from tpmsim.caller import BY_OWNER, HERE, Use
+from tpmsim.standard import CC, RH_ENDORSEMENT, RH_OWNER, SHA1, SHA256, digest, name_of, number
+from tpmsim.standard import policy, selection
 from tpmsim.standard.nv import Attribute
 from tpmsim.standard.objects import Attribute as ObjectAttribute
 from tpmsim.standard.policy import AUTH_VALUE, PASSWORD
-from tpmsim.standard.sessions import digest, name_of
 from grounds_caller import AFTER_AUTH_VALUE, PIN, SECRET, ZEROS, GroundsCaller, after_code
 from script import Script
 
