@@ -28,10 +28,7 @@ script = Script(
     "platform's stays.",
 )
 caller = ScriptCaller(script)
-
-
-def says(what, outcome, *buffers):
-    script.command(what, outcome, *buffers)
+says = script.command
 
 
 def listed(what, wanted, *handles):

@@ -16,10 +16,7 @@ script = Script(
     "enables it again (NO, 00), which only the platform may.",
 )
 caller = ScriptCaller(script)
-
-
-def says(what, outcome, *buffers):
-    script.command(what, outcome, *buffers)
+says = script.command
 
 
 def control(handle, disables):

@@ -14,10 +14,7 @@ script = Script(
     "The numbers of eight bytes end far beyond what a script can wait for.",
 )
 caller = ScriptCaller(script)
-
-
-def says(what, outcome, *buffers):
-    script.command(what, outcome, *buffers)
+says = script.command
 
 
 def is_now(what, time, clock, resets, restarts):

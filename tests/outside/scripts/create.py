@@ -17,10 +17,7 @@ script = Script(
     "load. Nothing of it stays in the device.",
 )
 caller = ScriptCaller(script)
-
-
-def refused(what, outcome, *prepared):
-    caller.says(what, outcome, *prepared)
+refused = caller.says
 
 
 def under(handle, *uses):

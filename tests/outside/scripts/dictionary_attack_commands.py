@@ -16,11 +16,7 @@ script = Script(
     "refuses them. TPM_RH_LOCKOUT authorizes them, by a password or an HMAC session.",
 )
 caller = ScriptCaller(script)
-
-
-def says(what, outcome, *buffers):
-    script.command(what, outcome, *buffers)
-
+says = script.command
 
 says(
     "Before TPM2_Startup",

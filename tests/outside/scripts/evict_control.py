@@ -26,10 +26,7 @@ script = Script(
     "as the transient one was.",
 )
 caller = ScriptCaller(script)
-
-
-def says(what, outcome, *buffers):
-    script.command(what, outcome, *buffers)
+says = script.command
 
 
 def evict(asker, handle, wanted):

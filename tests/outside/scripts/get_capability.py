@@ -21,10 +21,7 @@ script = Script(
     "more behind them.",
 )
 caller = ScriptCaller(script)
-
-
-def says(what, outcome, *buffers):
-    script.command(what, outcome, *buffers)
+says = script.command
 
 
 def answer(capability, elements, more):

@@ -13,10 +13,7 @@ script = Script(
     "of its scheme, or with scheme NULL of the one that the command names.",
 )
 caller = ScriptCaller(script)
-
-
-def refused(what, outcome, *prepared):
-    caller.says(what, outcome, *prepared)
+refused = caller.says
 
 
 def is_hmac(what, handle, key, data, asked, algorithm):

@@ -14,11 +14,7 @@ script = Script(
     "TPM2_Load takes a private and a public area that TPM2_Create gave for this parent.",
 )
 caller = ScriptCaller(script)
-
-
-def refused(what, outcome, *prepared):
-    caller.says(what, outcome, *prepared)
-
+refused = caller.says
 
 script.startup()
 parent = caller.create_primary(

@@ -11,11 +11,7 @@ script = Script(
     "has none that could fail.",
 )
 caller = ScriptCaller(script)
-
-
-def says(what, outcome, *buffers):
-    script.command(what, outcome, *buffers)
-
+says = script.command
 
 BOTH = [command(CC.SelfTest, number(it, 1)) for it in (0, 1)]
 says("Before TPM2_Startup", "INITIALIZE", *BOTH)

@@ -12,10 +12,7 @@ script = Script(
     "anyway, CLEAR (0000), or PCR 0 to 15, STATE (0001).",
 )
 caller = ScriptCaller(script)
-
-
-def says(what, outcome, *buffers):
-    script.command(what, outcome, *buffers)
+says = script.command
 
 
 def shutdown(kind):

@@ -10,11 +10,7 @@ script = Script(
     "tests/unseal.tpm", "TPM2_Unseal gives out the data of a sealed object, by its authorization."
 )
 caller = ScriptCaller(script)
-
-
-def refused(what, outcome, *prepared):
-    caller.says(what, outcome, *prepared)
-
+refused = caller.says
 
 script.startup()
 refused(
