@@ -76,9 +76,9 @@ class Commands(Held):
             nv_commands.start_up(self.indices)
         if was_saved == Saved.STATE:
             self.restart_count = min(self.restart_count + 1, LAST_COUNT)
-        else:
-            self.reset(request.random)
-        return Answer()
+            return Answer()
+        self.reset(request.random)
+        return Answer(drawn=2 * SECRET_BYTES)
 
     def restore_pcrs(self) -> None:
         for algorithm, values in self.saved_banks.items():

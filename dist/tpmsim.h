@@ -1,0 +1,140 @@
+/* libtpmsim: a TPM 2.0 in this process.
+
+   A device is held by a `tpmsim`, the handle. A handle begins as zeros, `tpmsim device = {0};`, and
+   has no device then; every call takes such a handle too. A process may hold as many as it likes,
+   and they share nothing: the library has no variable data, starts no thread and takes no lock.
+
+       tpmsim device = {0};
+       uint8_t random[256], response[4096];
+       tpmsim_answered answered;
+
+       getrandom(random, sizeof random, 0);
+       if (tpmsim_manufacture(&device, random) != TPMSIM_DONE)
+           return 1;
+       getrandom(random, sizeof random, 0);
+       tpmsim_execute(&device, startup, sizeof startup, 0, 0, random, response, &answered);
+       tpmsim_free(&device);
+
+   What a caller owes, and nothing looks at. Without it a call's behaviour is undefined:
+
+   - One call at a time works on a handle. Calls on different handles may run at once, in any
+     threads, and a handle may be handed from one thread to another, in an order that both see.
+   - A handle is not copied: a copy of its bytes is no device of its own. It is not changed but by
+     these calls, and its last call is tpmsim_free, or its memory is lost.
+   - No pointer is NULL, not even with a size of 0. What a pointer leads to has the bytes that are
+     said here, lies there during the call alone, and does not overlap what another one leads to,
+     nor the handle.
+   - There are 64 KB of stack for each call.
+   - malloc, realloc and free are the C library's, or others that keep its promises, of one
+     allocator. A device takes some 45 KB, once. No call is made from a signal handler, nor
+     in a forked child of a process with threads.
+
+   Numbers are in the byte order of the machine; commands, responses and images are texts of bytes. */
+#ifndef TPMSIM_H
+#define TPMSIM_H
+
+#include <stddef.h>
+#include <stdint.h>
+
+#ifdef __cplusplus
+extern "C" {
+#endif
+
+/* The version of this header, as tpmsim_version answers it: 65,536 times the number before the
+   first point, 256 times the one behind it, and the last one. */
+#define TPMSIM_VERSION_NUMBER 0x000100
+
+/* A handle. Its member is the library's own: NULL where it has no device. */
+typedef struct tpmsim {
+    void *private_;
+} tpmsim;
+
+/* What a call answers. Where that is not TPMSIM_DONE the call did nothing: the handle has the device
+   that it had, as it was, and nothing was written. */
+enum tpmsim_told {
+    TPMSIM_DONE = 0,
+    /* The handle has no device. */
+    TPMSIM_NO_DEVICE = 1,
+    /* A locality is 0 to 4. */
+    TPMSIM_NO_LOCALITY = 2,
+    /* malloc gave no memory. */
+    TPMSIM_NO_MEMORY = 3,
+    /* Why bytes are no image, in the order in which it is looked for: fewer than 42 bytes; they do
+       not begin with TPMI; another version than 1 and 2; not as many bytes as they say; the last 32
+       are not the SHA-256 of those before; what stands between spells no state within the limits of
+       the version. */
+    TPMSIM_IMAGE_SHORT = 4,
+    TPMSIM_IMAGE_MAGIC = 5,
+    TPMSIM_IMAGE_VERSION = 6,
+    TPMSIM_IMAGE_LENGTH = 7,
+    TPMSIM_IMAGE_DIGEST = 8,
+    TPMSIM_IMAGE_BODY = 9
+};
+
+/* What a command is told beside its response. */
+typedef struct tpmsim_answered {
+    /* How many bytes the response has, 10 to 4,096. */
+    size_t size;
+    /* How many of the 256 random bytes the command drew, from their front: none where it was
+       refused. The bytes after them were not used, and may be handed in again. */
+    size_t drawn;
+    /* The number of the command, TPM_CC; 0 where none was found. */
+    uint32_t code;
+    /* The number of the check that refused the command, 0 where none did: n for the general check
+       Gn, 20 + n for the command's own check An, 255 for memory, which is never refused here. */
+    uint8_t check;
+} tpmsim_answered;
+
+/* The version of the library. */
+uint32_t tpmsim_version(void);
+
+/* Makes a new device, whose seeds and proofs are these random bytes, in place of the handle's own,
+   which is freed. It awaits TPM2_Startup. The same bytes make the same device: who is to have
+   secrets hands in bytes of the system's.
+
+   TPMSIM_DONE, TPMSIM_NO_MEMORY. */
+uint8_t tpmsim_manufacture(tpmsim *device, const uint8_t random[256]);
+
+/* Executes a command: `size` bytes at `buffer`, whichever they are, from a locality of 0 to 4,
+   `elapsed_ms` milliseconds after the command before it. A buffer of more than 4,096 bytes is
+   answered as one of a bad size.
+
+   `random` are the random bytes that the command may draw, new for each command; `drawn` says how
+   many it drew. A caller who hands in the same bytes again has the same nonces again.
+
+   The response is written to the front of `response`, whose other bytes stay, and `answered` says
+   how many bytes it has. A command that the device refuses has a response too, and is done.
+
+   TPMSIM_DONE, TPMSIM_NO_LOCALITY, TPMSIM_NO_DEVICE. */
+uint8_t tpmsim_execute(tpmsim *device, const uint8_t *buffer, size_t size, uint8_t locality,
+                       uint32_t elapsed_ms, const uint8_t random[256], uint8_t response[4096],
+                       tpmsim_answered *answered);
+
+/* Takes power away and gives it back: the device has what it keeps without power, and awaits
+   TPM2_Startup.
+
+   TPMSIM_DONE, TPMSIM_NO_DEVICE. */
+uint8_t tpmsim_power_cycle(tpmsim *device);
+
+/* Saves the device: its image, which is what it keeps without power, is written to the front of
+   `room`, if that has room for all of it; else nothing is written. The device stays as it is.
+
+   How many bytes the image has, written or not, at most 28,361; 0 where there is no device. So a
+   result above `size` says how much room is wanted. */
+size_t tpmsim_save(tpmsim *device, uint8_t *room, size_t size);
+
+/* Opens a device from the image of one: it is that device after a power cycle, in place of the
+   handle's own, which is freed.
+
+   TPMSIM_DONE; TPMSIM_IMAGE_SHORT to TPMSIM_IMAGE_BODY where the bytes are no image, and
+   TPMSIM_NO_MEMORY where they are one. */
+uint8_t tpmsim_open(tpmsim *device, const uint8_t *image, size_t size);
+
+/* Frees the device, if there is one. The handle has none then, and may be used again. */
+void tpmsim_free(tpmsim *device);
+
+#ifdef __cplusplus
+}
+#endif
+
+#endif
