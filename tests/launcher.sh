@@ -62,6 +62,23 @@ ship() {
     rm -r "$copy/crates/tpmsim/out"
 }
 
+# Puts a stand-in for the library into dist/, as if it had been built.
+ship_library() (
+    PATH=$room/rt:$room/tools
+    cd "$copy" || exit 1
+    . tools/proved.sh
+    mkdir library
+    for file in library/tpmsim.h library/tpmsim.pc "$archive" "$shared"; do
+        echo "a stand-in for $file" >"$file"
+    done
+    cp library/* dist/
+    {
+        echo "library sources: $(sources_checksum tpmsim_library)"
+        echo "library archive: $(checksum <"$archive")"
+        echo "library shared object: $(checksum <"$shared")"
+    } >>"$proved"
+)
+
 # changed FILE LABEL: starts it with a byte more in a file that keeps its time, and as it was again.
 changed() {
     cp -p "$1" "$kept"
@@ -74,6 +91,7 @@ changed() {
 
 start - 'nothing is shipped, and there is no rt'
 ship "$program"
+ship_library
 start - 'it is shipped'
 start no_checksum 'at the next start no checksum is computed'
 ln -s "$copy/tpmsim" "$room/link"
@@ -133,6 +151,10 @@ with rt 'the gate, with other sources' "$copy/tools/dist.sh" --check
 with rt 'made anew' "$copy/tools/dist.sh"
 with rt 'the gate' "$copy/tools/dist.sh" --check
 with failing 'the gate, with another kit' "$copy/tools/dist.sh" --check
+cp -p "$copy/dist/libtpmsim.a" "$kept"
+echo >>"$copy/dist/libtpmsim.a"
+with rt 'the gate, with another archive' "$copy/tools/dist.sh" --check
+cp -p "$kept" "$copy/dist/libtpmsim.a"
 echo >>"$copy/crates/tpmsim/out/tpmsim"
 with rt 'the gate, with other bytes' "$copy/tools/dist.sh" --check
 echo >>"$lib"
